@@ -1,0 +1,137 @@
+-- Histories: what the master was asked, in order, each with its answer; which of them are legal, and which answer a list of steps.
+use Rattle.std.specs.Prelude.{◌≡◌, ℕ, ◌+◌, ◌%◌, ◌<◌, ◌≤◌, Bool, true, false, List, [], ◌∷◌, ◌++◌, map, All, sum_by, count_by, max, fold, replicate, None}
+use Rattle.std.specs.List.{flat_map, list_all}
+use Rattle.requirement_table.specs.declared.entry.Entry.{Entry}
+use Rattle.requirement_table.specs.declared.entry.Placed.{Placed}
+use Rattle.requirement_table.specs.Instances.{cost_of, released_mask}
+use Rattle.fttcan_top.specs.declared.input.steps.Step.{Step}
+use Rattle.fttcan_top.specs.declared.input.steps.Step.TheVariants.{Cycle, Add}
+use Rattle.fttcan_top.specs.declared.history.Verdict.{Verdict}
+use Rattle.fttcan_top.specs.declared.history.Verdict.TheVariants.{Accepted, TooHeavy, Horizon}
+use Rattle.fttcan_top.specs.declared.history.Event.{Event}
+use Rattle.fttcan_top.specs.declared.history.Event.TheVariants.{Submit, Open}
+
+-- Placed entries
+
+-- an entry as a change that starts at `start` places it, without an end
+abbrev pub placed_at : ℕ → Entry → Placed
+placed_at start entry = record { entry = entry; origin = start; end = None }
+
+-- whether the change was accepted
+abbrev pub is_accepted : Verdict → Bool
+is_accepted (Accepted first length) = true
+is_accepted (TooHeavy sum window) = false
+is_accepted (Horizon from walked) = false
+
+-- what a change with this verdict places
+abbrev pub placed_by : Verdict → Placed → List Placed
+placed_by (Accepted first length) placed = placed ∷ []
+placed_by (TooHeavy sum window) placed = []
+placed_by (Horizon from walked) placed = []
+
+-- what one event places
+abbrev pub placed_of_event : Event → List Placed
+placed_of_event (Submit caller start entry from verdict) = placed_by verdict (placed_at start entry)
+placed_of_event (Open cycle mask) = []
+
+-- *Placed entries*: those of the accepted changes of a history, in their order
+abbrev pub placed_of : List Event → List Placed
+placed_of history = flat_map placed_of_event history
+
+-- Verdicts
+
+-- the number of cycles within which a recurrence has to be found
+abbrev pub horizon : ℕ
+horizon = 10000
+
+-- the worst lengths of all entries together, in bit times
+abbrev pub total_cost : List Placed → ℕ
+total_cost placed = sum_by (λ p. cost_of p.entry.length) placed
+
+-- the periods of the entries, in cycles
+abbrev pub periods_of : List Placed → List ℕ
+periods_of placed = map (λ p. p.entry.period) placed
+
+-- the first cycle from `from` on by which each entry has begun: the greatest of `from` and of each entry's origin and phase together
+abbrev pub settled_from : ℕ → List Placed → ℕ
+settled_from from placed = fold max from (map (λ p. p.origin + p.entry.phase) placed)
+
+-- a number above 0 that each period divides
+pub record IsCommonMultiple (periods : List ℕ) (multiple : ℕ) : Type 0 where
+  pub positive : 0 < multiple
+  pub divided : All (λ period. multiple % period ≡ 0) periods
+
+-- the least of them; it is 1 where there is no period
+pub record IsLeastCommonMultiple (periods : List ℕ) (multiple : ℕ) : Type 0 where
+  pub common : IsCommonMultiple periods multiple
+  pub least : (other : ℕ) → IsCommonMultiple periods other → multiple ≤ other
+
+-- the verdict on a change that makes this list of placed entries, planned from the cycle `from` in a window of so many bit times:
+-- the first of too heavy, beyond the horizon, and accepted
+abbrev pub IsVerdict : ℕ → List Placed → ℕ → Verdict → Type 0
+IsVerdict window placed from (TooHeavy sum limit) =
+    (sum ≡ total_cost placed) × (limit ≡ window) × (window < total_cost placed)
+IsVerdict window placed from (Horizon first walked) =
+    (total_cost placed ≤ window) × (first ≡ from) × (walked ≡ horizon)
+    × ((multiple : ℕ) → IsCommonMultiple (periods_of placed) multiple → from + horizon < settled_from from placed + multiple)
+IsVerdict window placed from (Accepted first length) =
+    (total_cost placed ≤ window) × (first ≡ settled_from from placed) × IsLeastCommonMultiple (periods_of placed) length
+    × (first + length ≤ from + horizon)
+
+-- Legal histories
+
+-- whether the event opens a cycle
+abbrev pub is_open : Event → Bool
+is_open (Submit caller start entry from verdict) = false
+is_open (Open cycle mask) = true
+
+-- the next cycle to be opened after a history: the number of cycles that it opened
+abbrev pub next_of : List Event → ℕ
+next_of history = count_by is_open history
+
+-- the event is right after the events before it: a change is planned from the next cycle and has the verdict on the list with its
+-- entry; an opening is of the next cycle and flags the slots with an instance released in it
+abbrev pub IsRight : ℕ → List Event → Event → Type 0
+IsRight window before (Submit caller start entry from verdict) =
+    (from ≡ next_of before) × IsVerdict window (placed_of before ++ placed_at start entry ∷ []) from verdict
+IsRight window before (Open cycle mask) =
+    (cycle ≡ next_of before) × (mask ≡ released_mask (placed_of before) cycle)
+
+-- each of the events is right after those before it
+abbrev pub AreRight : ℕ → List Event → List Event → Type 0
+AreRight window before [] = Unit {0}
+AreRight window before (event ∷ later) = IsRight window before event × AreRight window (before ++ event ∷ []) later
+
+-- *Legal history*: each event is right at its place
+abbrev pub IsLegal : ℕ → List Event → Type 0
+IsLegal window history = AreRight window [] history
+
+-- What was asked
+
+-- what the master is asked: to take an entry, or to open a cycle
+pub data Asked : Type 0 where
+  change : ℕ → ℕ → Entry → Asked
+  opening : Asked
+
+-- what an event answers
+abbrev pub asked_by_event : Event → Asked
+asked_by_event (Submit caller start entry from verdict) = change caller start entry
+asked_by_event (Open cycle mask) = opening
+
+-- what a step asks: one change, or so many openings
+abbrev pub asked_by_step : Step → List Asked
+asked_by_step (Cycle count) = replicate count opening
+asked_by_step (Add caller start entry) = change caller start entry ∷ []
+
+-- the events answer what the steps ask, in their order, each once
+abbrev pub AnswersSteps : List Event → List Step → Type 0
+AnswersSteps history steps = map asked_by_event history ≡ flat_map asked_by_step steps
+
+-- whether the event refuses no change
+abbrev pub refuses_nothing : Event → Bool
+refuses_nothing (Submit caller start entry from verdict) = is_accepted verdict
+refuses_nothing (Open cycle mask) = true
+
+-- whether each change of the history was accepted
+abbrev pub all_accepted : List Event → Bool
+all_accepted history = list_all refuses_nothing history

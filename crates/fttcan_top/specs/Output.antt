@@ -1,0 +1,107 @@
+-- The headline's definitions: what the words and the files ask for, what a run of it is, and how a call ends.
+use Rattle.std.specs.Prelude.{◌≡◌, ℕ, ⊤, ◌⊎◌, List, [], ◌∷◌, ◌++◌, length, codes, if◌then◌else◌, nat_le, Option, Some, None, Result, Ok, Err}
+use Rattle.can_frame.specs.declared.TimedFrame.{TimedFrame}
+use Rattle.ftt_io.specs.Files.{NamedFiles}
+use Rattle.fttcan_top.specs.declared.input.system.System.{System}
+use Rattle.fttcan_top.specs.declared.input.steps.Step.{Step}
+use Rattle.fttcan_top.specs.declared.history.Event.{Event}
+use Rattle.fttcan_top.specs.declared.status.Status.{Status}
+use Rattle.fttcan_top.specs.declared.status.Status.TheVariants.{Done, Refused, Words, Input, Read, Write, Memory}
+use Rattle.fttcan_top.specs.SystemFile.{system_of}
+use Rattle.fttcan_top.specs.StepsFile.{steps_of}
+use Rattle.fttcan_top.specs.Words.{Command, replay, command_of}
+use Rattle.fttcan_top.specs.History.{AnswersSteps, all_accepted}
+use Rattle.fttcan_top.specs.Kept.{Kept}
+
+-- What is asked
+
+-- the files that a command reads
+pub data Source : Type 0 where
+  system : Source
+  steps : Source
+
+-- why a call has no run: the words are no command's, a file is refused, or a file is not there
+pub data Stop : Type 0 where
+  no_command : Stop
+  refused : Source → Stop
+  absent : Stop
+
+-- a run that is asked for: the system and the steps
+pub record Job : Type 0 where
+  pub system : System
+  pub steps : List Step
+
+-- the greatest number of bytes of a file
+abbrev pub file_limit : ℕ
+file_limit = 4194304
+
+infixl 10 ◌>>=◌
+-- what the second gives for the value of the first; the first that stops decides
+abbrev pub ◌>>=◌ : {A B : Type 0} → Result A Stop → (A → Result B Stop) → Result B Stop
+Ok value >>= next = next value
+Err stop >>= next = Err stop
+
+-- the bytes of a file that is there and within the limit
+abbrev pub within_limit : Source → Option (List ℕ) → Result (List ℕ) Stop
+within_limit source None = Err absent
+within_limit source (Some bytes) = if nat_le (length bytes) file_limit then Ok bytes else Err (refused source)
+
+-- what a text means, where it keeps to its format
+abbrev pub taken : {A : Type 0} → Source → Option A → Result A Stop
+taken source None = Err (refused source)
+taken source (Some value) = Ok value
+
+-- the system and the steps in the files of these names: first the system's file and its text, then the steps'
+abbrev pub job_in : NamedFiles → List ℕ → List ℕ → Result Job Stop
+job_in files system_name steps_name =
+    within_limit system (files system_name) >>= λ bytes.
+    taken system (system_of bytes) >>= λ of_system.
+    within_limit steps (files steps_name) >>= λ rows.
+    taken steps (steps_of of_system.nodes rows) >>= λ of_steps.
+    Ok (record { system = of_system; steps = of_steps })
+
+-- what a command asks of the files
+abbrev pub asked_by : NamedFiles → Option Command → Result Job Stop
+asked_by files None = Err no_command
+asked_by files (Some (replay system_name steps_name)) = job_in files system_name steps_name
+
+-- *Input meaning*: what the words ask of the files
+abbrev pub asked : List (List ℕ) → NamedFiles → Result Job Stop
+asked words files = asked_by files (command_of words)
+
+-- What is run
+
+-- a run of the job: the history answers its steps, and history and trace keep what is promised
+pub record IsRunOf (job : Job) (history : List Event) (trace : List TimedFrame) : Type 0 where
+  pub answers : AnswersSteps history job.steps
+  pub kept : Kept job.system.layout history trace
+
+-- how a run ends: refused where some change was refused
+abbrev pub status_of : List Event → Status
+status_of history = if all_accepted history then Done else Refused
+
+-- How a call ends
+
+-- whether the run was done
+abbrev pub IsDone : Status → Type 0
+IsDone Done = ⊤
+IsDone Refused = ⊤
+IsDone _ = ⊥
+
+-- whether the call ended without a run
+abbrev pub IsStopped : Status → Type 0
+IsStopped Words = ⊤
+IsStopped Input = ⊤
+IsStopped Read = ⊤
+IsStopped _ = ⊥
+
+-- the status is a true answer to what was asked, where `shelf_rose` and `out_rose` say that the shelf's and the output's count of faults
+-- rose in this call; memory may run out in any call
+abbrev pub IsAnswer : Result Job Stop → Type 0 → Type 0 → Status → Type 0
+IsAnswer asked_for shelf_rose out_rose Done = (job : Job) × (asked_for ≡ Ok job)
+IsAnswer asked_for shelf_rose out_rose Refused = (job : Job) × (asked_for ≡ Ok job)
+IsAnswer asked_for shelf_rose out_rose Words = asked_for ≡ Err no_command
+IsAnswer asked_for shelf_rose out_rose Input = (source : Source) × (asked_for ≡ Err (refused source))
+IsAnswer asked_for shelf_rose out_rose Read = shelf_rose ⊎ (asked_for ≡ Err absent)
+IsAnswer asked_for shelf_rose out_rose Write = out_rose × ((job : Job) × (asked_for ≡ Ok job))
+IsAnswer asked_for shelf_rose out_rose Memory = ⊤

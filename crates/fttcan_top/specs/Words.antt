@@ -1,0 +1,27 @@
+-- The words of a call, the program's name left out: which command they ask for.
+use Rattle.std.specs.Prelude.{ℕ, List, [], ◌∷◌, Bool, false, not, ◌&&◌, ◌==◌, Option, Some, None, if◌then◌else◌, codes}
+use Rattle.std.specs.Str.{bytes_eq}
+
+-- a command, with the names of its files
+pub data Command : Type 0 where
+  replay : List ℕ → List ℕ → Command
+
+-- a word that begins with `-` is no file's name
+abbrev pub is_option : List ℕ → Bool
+is_option [] = false
+is_option (byte ∷ rest) = byte == 45
+
+-- the command that the words ask for: `replay SYSTEM STEPS`; `None` where they are no row of the table of commands
+abbrev pub command_of : List (List ℕ) → Option Command
+command_of (word ∷ system ∷ steps ∷ []) =
+    if bytes_eq word (codes "replay") && (not (is_option system) && not (is_option steps)) then Some (replay system steps) else None
+command_of _ = None
+
+-- the number of files that a command names
+abbrev pub files_named : Option Command → ℕ
+files_named None = 0
+files_named (Some (replay system steps)) = 2
+
+-- the number of files that the words name
+abbrev pub file_count : List (List ℕ) → ℕ
+file_count words = files_named (command_of words)

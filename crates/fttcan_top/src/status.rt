@@ -1,0 +1,40 @@
+//! How a call ends.
+
+ghost use Rattle.std.specs.Prelude.{◌≡◌};
+ghost use Rattle.fttcan_top.specs.Status.{code_of};
+
+/// How a call of the program ended.
+#[derive(Clone, Copy, PartialEq, Eq, Debug)]
+pub enum Status {
+    /// What was asked was done, and no change was refused.
+    Done,
+    /// The run was done, and some change was refused.
+    Refused,
+    /// The words are those of no command.
+    Words,
+    /// A file is too long, or its text breaks a rule of its format.
+    Input,
+    /// A file could not be read.
+    Read,
+    /// The output could not be written.
+    Write,
+    /// Memory ran out.
+    Memory,
+}
+
+impl Status {
+    /// The exit status of the process, from 0 to 6.
+    pub fn code(self) -> u8
+        ensures code { result ≡ code_of self }
+    {
+        match self {
+            Status::Done => 0,
+            Status::Refused => 1,
+            Status::Words => 2,
+            Status::Input => 3,
+            Status::Read => 4,
+            Status::Write => 5,
+            Status::Memory => 6,
+        }
+    }
+}
