@@ -1,0 +1,62 @@
+-- How what one call did and what the next one did join.
+use Rattle.std.proofs.Common.{◌≡◌, ℕ, ◌+◌, ◌≤◌, List, [], ◌++◌, take, drop, Option, Some, refl, ap, sym, ◌∙◌, append_assoc, arith}
+use Rattle.std.proofs.lemmas.List.{append-nil, take-append-drop}
+use Rattle.ftt_io.specs.Counts.{next_count, count_after, Rose}
+use Rattle.ftt_io.specs.Puts.{Puts, PutsPrefix}
+
+-- a count that rose in the first of two calls rose over both
+pub Rose-first : (before between now : ℕ) → Rose before between → between ≤ now → Rose before now
+Rose-first before between now rose stays = omega arith
+
+-- a count that rose in the second of two calls rose over both
+pub Rose-second : (before between now : ℕ) → before ≤ between → Rose between now → Rose before now
+Rose-second before between now stays rose = omega arith
+
+-- events after events
+pub count_after-count_after : (count first second : ℕ) → count_after (count_after count first) second ≡ count_after count (first + second)
+count_after-count_after count first second = omega arith
+
+-- a sink that is as before took nothing
+pub Puts-nothing : {old new : Option (List ℕ)} → new ≡ old → Puts old new []
+Puts-nothing same = record { behind = λ taken is. same ∙ is ∙ ap Some (sym (append-nil taken)) }
+
+-- bytes after bytes
+pub Puts-append : {old between new : Option (List ℕ)} {first second : List ℕ} → Puts old between first → Puts between new second → Puts old new (first ++ second)
+Puts-append {first = first} {second = second} p q = record { behind = λ taken is. q.behind (taken ++ first) (p.behind taken is) ∙ ap Some (append_assoc taken first second) }
+
+-- a sink that is as before took a prefix of any bytes
+pub PutsPrefix-nothing : {old new : Option (List ℕ)} (bytes : List ℕ) → new ≡ old → PutsPrefix old new bytes
+PutsPrefix-nothing bytes same = record { front = []; rest = bytes; split = refl; puts = Puts-nothing same }
+
+-- all of the bytes are a prefix of them
+pub PutsPrefix-all : {old new : Option (List ℕ)} {bytes : List ℕ} → Puts old new bytes → PutsPrefix old new bytes
+PutsPrefix-all {bytes = bytes} p = record { front = bytes; rest = []; split = sym (append-nil bytes); puts = p }
+
+-- a prefix after bytes
+pub PutsPrefix-append : {old between new : Option (List ℕ)} {first second : List ℕ} → Puts old between first → PutsPrefix between new second → PutsPrefix old new (first ++ second)
+PutsPrefix-append {first = first} p q = record {
+  front = first ++ q.front;
+  rest = q.rest;
+  split = ap (λ bytes. first ++ bytes) q.split ∙ sym (append_assoc first q.front q.rest);
+  puts = Puts-append p q.puts;
+}
+
+-- a prefix of the first bytes is one of those with more behind them
+pub PutsPrefix-longer : {old new : Option (List ℕ)} {first : List ℕ} (second : List ℕ) → PutsPrefix old new first → PutsPrefix old new (first ++ second)
+PutsPrefix-longer second p = record {
+  front = p.front;
+  rest = p.rest ++ second;
+  split = ap (λ bytes. bytes ++ second) p.split ∙ append_assoc p.front p.rest second;
+  puts = p.puts;
+}
+
+-- the next bytes of the rest, and what is left of it
+pub PutsPrefix-more : {old between new : Option (List ℕ)} {bytes rest left : List ℕ} (n : ℕ) (p : PutsPrefix old between bytes) → p.rest ≡ rest → Puts between new (take n rest) → left ≡ drop n rest → (q : PutsPrefix old new bytes) × (q.rest ≡ left)
+PutsPrefix-more {rest = rest} {left = left} n p same more is_left =
+    let cut : rest ≡ take n rest ++ left = sym (take-append-drop n rest) ∙ ap (λ back. take n rest ++ back) (sym is_left) in
+    (record {
+      front = p.front ++ take n rest;
+      rest = left;
+      split = p.split ∙ ap (λ back. p.front ++ back) (same ∙ cut) ∙ sym (append_assoc p.front (take n rest) left);
+      puts = Puts-append p.puts more;
+    }, refl)

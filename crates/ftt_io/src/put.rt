@@ -1,0 +1,51 @@
+//! Putting bytes to a sink.
+ghost use Rattle.std.specs.Prelude.{◌≡◌, ℕ, ◌<◌, ◌≤◌, List, length, take, IfOk, OnOk, OnErr, Option};
+ghost use Rattle.ftt_io.specs.Counts.{Rose};
+ghost use Rattle.ftt_io.specs.Puts.{Puts, PutsPrefix};
+
+use thiserror::Error;
+
+/// A sink counted a fault and took nothing of the piece.
+#[derive(Clone, Copy, Debug, PartialEq, Eq, Error)]
+#[error("the bytes can't be written")]
+pub struct Failed;
+
+/// Takes bytes, piece by piece.
+pub trait Sink {
+    /// The bytes taken so far, where the sink tells them.
+    ghost told_bytes: { Self → Option (List ℕ) };
+
+    /// The count of faults.
+    ghost faults: { Self → ℕ };
+
+    /// Takes the first bytes of the piece, at least one, and answers how many.
+    fn put(&mut self, piece: &[u8]) -> Result<usize, Failed>
+        requires { 0 < length piece.now }
+        ensures faults_never_fall { faults self.old ≤ faults self.new }
+
+        // At `Ok`.
+        ensures some { IfOk result (λ n. 0 < n) }
+        ensures within { IfOk result (λ n. n ≤ length piece.now) }
+        ensures puts { IfOk result
+            (λ n. Puts (told_bytes self.old) (told_bytes self.new) (take n piece.now)) }
+
+        // At `Failed`.
+        ensures failed { OnErr result (Rose (faults self.old) (faults self.new)) }
+        ensures nothing { OnErr result (told_bytes self.new ≡ told_bytes self.old) };
+}
+
+/// Puts all of the bytes, in as many pieces as the sink wants.
+pub fn write_all<O: Sink>(sink: &mut O, bytes: &[u8]) -> Result<(), Failed>
+    ensures faults_never_fall { O.faults sink.old ≤ O.faults sink.new }
+    ensures all { OnOk result (Puts (O.told_bytes sink.old) (O.told_bytes sink.new) bytes.now) }
+    ensures failed { OnErr result (Rose (O.faults sink.old) (O.faults sink.new)) }
+    ensures prefix { OnErr result
+        (PutsPrefix (O.told_bytes sink.old) (O.told_bytes sink.new) bytes.now) }
+{
+    let mut rest = bytes;
+    while !rest.is_empty() {
+        let taken = sink.put(rest)?;
+        rest = &rest[taken..];
+    }
+    Ok(())
+}
