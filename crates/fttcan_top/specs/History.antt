@@ -108,24 +108,24 @@ IsLegal window history = AreRight window [] history
 
 -- What was asked
 
--- what the master is asked: to take an entry, or to open a cycle
-pub data Asked : Type 0 where
-  change : ℕ → ℕ → Entry → Asked
-  opening : Asked
+-- what the master is called for: to take an entry, or to open the next cycle
+pub data Call : Type 0 where
+  change : ℕ → ℕ → Entry → Call
+  opening : Call
 
--- what an event answers
-abbrev pub asked_by_event : Event → Asked
-asked_by_event (Submit caller start entry from verdict) = change caller start entry
-asked_by_event (Open cycle mask) = opening
+-- the call that an event answers
+abbrev pub call_of_event : Event → Call
+call_of_event (Submit caller start entry from verdict) = change caller start entry
+call_of_event (Open cycle mask) = opening
 
--- what a step asks: one change, or so many openings
-abbrev pub asked_by_step : Step → List Asked
-asked_by_step (Cycle count) = replicate count opening
-asked_by_step (Add caller start entry) = change caller start entry ∷ []
+-- the calls that a step makes: one change, or so many openings
+abbrev pub calls_of_step : Step → List Call
+calls_of_step (Cycle count) = replicate count opening
+calls_of_step (Add caller start entry) = change caller start entry ∷ []
 
--- the events answer what the steps ask, in their order, each once
+-- the events answer the calls of the steps, in their order, each once
 abbrev pub AnswersSteps : List Event → List Step → Type 0
-AnswersSteps history steps = map asked_by_event history ≡ flat_map asked_by_step steps
+AnswersSteps history steps = map call_of_event history ≡ flat_map calls_of_step steps
 
 -- whether the event refuses no change
 abbrev pub refuses_nothing : Event → Bool

@@ -5,6 +5,8 @@ use Rattle.ftt_io.specs.Files.{NamedFiles}
 use Rattle.fttcan_top.specs.declared.input.system.System.{System}
 use Rattle.fttcan_top.specs.declared.input.steps.Step.{Step}
 use Rattle.fttcan_top.specs.declared.history.Event.{Event}
+use Rattle.fttcan_top.specs.declared.load.Source.{Source}
+use Rattle.fttcan_top.specs.declared.load.Source.TheVariants as Source
 use Rattle.fttcan_top.specs.declared.status.Status.{Status}
 use Rattle.fttcan_top.specs.declared.status.Status.TheVariants.{Done, Refused, Words, Input, Read, Write, Memory}
 use Rattle.fttcan_top.specs.SystemFile.{system_of}
@@ -15,19 +17,14 @@ use Rattle.fttcan_top.specs.Kept.{Kept}
 
 -- What is asked
 
--- the files that a command reads
-pub data Source : Type 0 where
-  system : Source
-  steps : Source
-
 -- why a call has no run: the words are no command's, a file is refused, or a file is not there
-pub data Stop : Type 0 where
-  no_command : Stop
-  refused : Source → Stop
-  absent : Stop
+pub data Stopped : Type 0 where
+  no_command : Stopped
+  refused : Source → Stopped
+  absent : Stopped
 
 -- a run that is asked for: the system and the steps
-pub record Job : Type 0 where
+pub record Asked : Type 0 where
   pub system : System
   pub steps : List Step
 
@@ -37,42 +34,44 @@ file_limit = 4194304
 
 infixl 10 ◌>>=◌
 -- what the second gives for the value of the first; the first that stops decides
-abbrev pub ◌>>=◌ : {A B : Type 0} → Result A Stop → (A → Result B Stop) → Result B Stop
+abbrev pub ◌>>=◌ : {A B : Type 0} → Result A Stopped → (A → Result B Stopped) → Result B Stopped
 Ok value >>= next = next value
-Err stop >>= next = Err stop
+Err why >>= next = Err why
 
 -- the bytes of a file that is there and within the limit
-abbrev pub within_limit : Source → Option (List ℕ) → Result (List ℕ) Stop
+abbrev pub within_limit : Source → Option (List ℕ) → Result (List ℕ) Stopped
 within_limit source None = Err absent
 within_limit source (Some bytes) = if nat_le (length bytes) file_limit then Ok bytes else Err (refused source)
 
 -- what a text means, where it keeps to its format
-abbrev pub taken : {A : Type 0} → Source → Option A → Result A Stop
+abbrev pub taken : {A : Type 0} → Source → Option A → Result A Stopped
 taken source None = Err (refused source)
 taken source (Some value) = Ok value
 
--- the system and the steps in the files of these names: first the system's file and its text, then the steps'
-abbrev pub job_in : NamedFiles → List ℕ → List ℕ → Result Job Stop
-job_in files system_name steps_name =
-    within_limit system (files system_name) >>= λ bytes.
-    taken system (system_of bytes) >>= λ of_system.
-    within_limit steps (files steps_name) >>= λ rows.
-    taken steps (steps_of of_system.nodes rows) >>= λ of_steps.
-    Ok (record { system = of_system; steps = of_steps })
+-- the system in the file of this name
+abbrev pub system_in : NamedFiles → List ℕ → Result System Stopped
+system_in files name = within_limit Source.System (files name) >>= λ bytes. taken Source.System (system_of bytes)
 
--- what a command asks of the files
-abbrev pub asked_by : NamedFiles → Option Command → Result Job Stop
+-- the steps in the file of this name, for so many nodes
+abbrev pub steps_in : NamedFiles → List ℕ → ℕ → Result (List Step) Stopped
+steps_in files name nodes = within_limit Source.Steps (files name) >>= λ bytes. taken Source.Steps (steps_of nodes bytes)
+
+-- what a command asks of the files: first the system's file and its text, then the steps'
+abbrev pub asked_by : NamedFiles → Option Command → Result Asked Stopped
 asked_by files None = Err no_command
-asked_by files (Some (replay system_name steps_name)) = job_in files system_name steps_name
+asked_by files (Some (replay system_name steps_name)) =
+    system_in files system_name >>= λ system.
+    steps_in files steps_name system.nodes >>= λ steps.
+    Ok (record { system = system; steps = steps })
 
 -- *Input meaning*: what the words ask of the files
-abbrev pub asked : List (List ℕ) → NamedFiles → Result Job Stop
+abbrev pub asked : List (List ℕ) → NamedFiles → Result Asked Stopped
 asked words files = asked_by files (command_of words)
 
 -- What is run
 
 -- a run of the job: the history answers its steps, and history and trace keep what is promised
-pub record IsRunOf (job : Job) (history : List Event) (trace : List TimedFrame) : Type 0 where
+pub record IsRunOf (job : Asked) (history : List Event) (trace : List TimedFrame) : Type 0 where
   pub answers : AnswersSteps history job.steps
   pub kept : Kept job.system.layout history trace
 
@@ -97,11 +96,11 @@ IsStopped _ = ⊥
 
 -- the status is a true answer to what was asked, where `shelf_rose` and `out_rose` say that the shelf's and the output's count of faults
 -- rose in this call; memory may run out in any call
-abbrev pub IsAnswer : Result Job Stop → Type 0 → Type 0 → Status → Type 0
-IsAnswer asked_for shelf_rose out_rose Done = (job : Job) × (asked_for ≡ Ok job)
-IsAnswer asked_for shelf_rose out_rose Refused = (job : Job) × (asked_for ≡ Ok job)
+abbrev pub IsAnswer : Result Asked Stopped → Type 0 → Type 0 → Status → Type 0
+IsAnswer asked_for shelf_rose out_rose Done = (job : Asked) × (asked_for ≡ Ok job)
+IsAnswer asked_for shelf_rose out_rose Refused = (job : Asked) × (asked_for ≡ Ok job)
 IsAnswer asked_for shelf_rose out_rose Words = asked_for ≡ Err no_command
 IsAnswer asked_for shelf_rose out_rose Input = (source : Source) × (asked_for ≡ Err (refused source))
 IsAnswer asked_for shelf_rose out_rose Read = shelf_rose ⊎ (asked_for ≡ Err absent)
-IsAnswer asked_for shelf_rose out_rose Write = out_rose × ((job : Job) × (asked_for ≡ Ok job))
+IsAnswer asked_for shelf_rose out_rose Write = out_rose × ((job : Asked) × (asked_for ≡ Ok job))
 IsAnswer asked_for shelf_rose out_rose Memory = ⊤

@@ -1,0 +1,16 @@
+-- What the loading of files says to the calls above it.
+use Rattle.std.specs.Prelude.{◌≡◌, ⊤, ◌⊎◌, Result, Err}
+use Rattle.fttcan_top.specs.declared.load.Job.{Job}
+use Rattle.fttcan_top.specs.declared.load.Stop.{Stop}
+use Rattle.fttcan_top.specs.declared.load.Stop.TheVariants.{Input, Read, Memory}
+use Rattle.fttcan_top.specs.Output.{Stopped, refused, absent, Asked}
+
+-- the reason is that of what was asked, or a fault of the shelf where its count rose; memory may run out at any time
+abbrev pub Explains : {A : Type 0} → Result A Stopped → Type 0 → Stop → Type 0
+Explains asked_for rose (Input source) = asked_for ≡ Err (refused source)
+Explains asked_for rose Read = rose ⊎ (asked_for ≡ Err absent)
+Explains asked_for rose Memory = ⊤
+
+-- a job as what was asked
+abbrev pub asked_of : Job → Asked
+asked_of job = record { system = job.system; steps = job.steps.items }

@@ -1,0 +1,35 @@
+//! Writing a text row by row.
+
+ghost use Rattle.std.specs.Prelude.{◌≡◌, ◌<◌, ◌≤◌, length, OnOk, OnErr};
+ghost use Rattle.ftt_io.specs.Counts.{Rose};
+ghost use Rattle.ftt_io.specs.Puts.{Puts, PutsPrefix};
+
+use ftt_io::{Failed, Sink, write_all};
+
+/// The number of bytes of the first row of a text, its line feed included.
+fn row_len(text: &[u8]) -> usize
+    requires { 0 < length text.now }
+    ensures some { 0 < result }
+    ensures within { result ≤ length text.now }
+{
+    match text.iter().position(|byte| *byte == b'\n') {
+        Some(place) => place + 1,
+        None => text.len(),
+    }
+}
+
+/// Puts the text, each row of it by a call of its own.
+pub fn put_rows<O: Sink>(out: &mut O, text: &[u8]) -> Result<(), Failed>
+    ensures faults_never_fall { O.faults out.old ≤ O.faults out.new }
+    ensures all { OnOk result (Puts (O.told_bytes out.old) (O.told_bytes out.new) text.now) }
+    ensures failed { OnErr result (Rose (O.faults out.old) (O.faults out.new)) }
+    ensures prefix { OnErr result (PutsPrefix (O.told_bytes out.old) (O.told_bytes out.new) text.now) }
+{
+    let mut rest = text;
+    while !rest.is_empty() {
+        let end = row_len(rest);
+        write_all(out, &rest[..end])?;
+        rest = &rest[end..];
+    }
+    Ok(())
+}
