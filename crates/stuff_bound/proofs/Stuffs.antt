@@ -1,8 +1,8 @@
 -- What a sender puts on the wire is stuffed, and nothing else is, both newest first.
-use Rattle.std.proofs.Common.{◌≡◌, ℕ, ◌+◌, ◌*◌, ◌<◌, ◌≤◌, Bool, true, false, not, cond, leb, List, [], ◌∷◌, length, reverse, refl, sym, ap, subst, ◌∙◌, inl, inr, arith}
+use Rattle.std.proofs.Common.{◌≡◌, ℕ, ◌+◌, ◌*◌, ◌<◌, ◌≤◌, Bool, true, false, not, cond, leb, List, [], ◌∷◌, length, get_or, take, reverse, refl, sym, ap, subst, ◌∙◌, inl, inr, arith}
 use Rattle.std.specs.Bool.{beq}
-use Rattle.std.proofs.lemmas.Bool.{cases_lt}
-use Rattle.std.proofs.lemmas.List.{reverse-reverse, length-reverse}
+use Rattle.std.proofs.lemmas.Bool.{cases_lt, cond-true, cond-false}
+use Rattle.std.proofs.lemmas.List.{reverse-reverse, length-reverse, reverse-append, take_more}
 use Rattle.std.proofs.lemmas.Bool.Decides.{nat_tests}
 use Rattle.stuff_bound.specs.Stuffing.{last_bit, run, at_stuff_place, HasNoSix, without_stuff, Stuffs, with_opposite, with_stuff, stuffed}
 
@@ -142,3 +142,14 @@ pub length-stuffed-most : (plain : List Bool) → 0 < length plain → 4 * lengt
 length-stuffed-most plain some =
     let there : 0 < length (reverse plain) = omega (arith, length-reverse plain) in
     omega (arith, length-with_stuff-most (reverse plain), run-with_stuff_positive (reverse plain) there, length-reverse plain, length-reverse (with_stuff (reverse plain)))
+
+-- a loop over the bits to be sent: one more bit, with its opposite or without
+reverse-take_more : (bits : List Bool) (i : ℕ) (d : Bool) → i < length bits → reverse (take (i + 1) bits) ≡ get_or bits i d ∷ reverse (take i bits)
+reverse-take_more bits i d inside =
+    ap reverse (take_more bits i d inside) ∙ reverse-append (take i bits) (get_or bits i d ∷ [])
+
+pub with_stuff_more-full : (bits : List Bool) (i : ℕ) (d : Bool) → i < length bits → at_stuff_place (get_or bits i d ∷ with_stuff (reverse (take i bits))) ≡ true → with_stuff (reverse (take (i + 1) bits)) ≡ not (get_or bits i d) ∷ get_or bits i d ∷ with_stuff (reverse (take i bits))
+with_stuff_more-full bits i d inside full = ap with_stuff (reverse-take_more bits i d inside) ∙ cond-true _ _ _ full
+
+pub with_stuff_more-below : (bits : List Bool) (i : ℕ) (d : Bool) → i < length bits → at_stuff_place (get_or bits i d ∷ with_stuff (reverse (take i bits))) ≡ false → with_stuff (reverse (take (i + 1) bits)) ≡ get_or bits i d ∷ with_stuff (reverse (take i bits))
+with_stuff_more-below bits i d inside below = ap with_stuff (reverse-take_more bits i d inside) ∙ cond-false _ _ _ below
