@@ -1,1 +1,2 @@
 mod Stuffs
+mod Faults

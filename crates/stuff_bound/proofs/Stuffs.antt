@@ -144,7 +144,7 @@ length-stuffed-most plain some =
     omega (arith, length-with_stuff-most (reverse plain), run-with_stuff_positive (reverse plain) there, length-reverse plain, length-reverse (with_stuff (reverse plain)))
 
 -- a loop over the bits to be sent: one more bit, with its opposite or without
-reverse-take_more : (bits : List Bool) (i : ℕ) (d : Bool) → i < length bits → reverse (take (i + 1) bits) ≡ get_or bits i d ∷ reverse (take i bits)
+pub reverse-take_more : (bits : List Bool) (i : ℕ) (d : Bool) → i < length bits → reverse (take (i + 1) bits) ≡ get_or bits i d ∷ reverse (take i bits)
 reverse-take_more bits i d inside =
     ap reverse (take_more bits i d inside) ∙ reverse-append (take i bits) (get_or bits i d ∷ [])
 
