@@ -1,2 +1,3 @@
 mod Stuffs
 mod Faults
+mod Places

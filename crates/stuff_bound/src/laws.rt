@@ -1,6 +1,6 @@
 //! What follows from the definitions, each as the contract of a function that does nothing.
 
-ghost use Rattle.std.specs.Prelude.{◌≡◌, ℕ, ◌+◌, ◌*◌, ◌<◌, ◌≤◌, ◌↔◌, Bool, List, length};
+ghost use Rattle.std.specs.Prelude.{◌≡◌, ℕ, ◌+◌, ◌*◌, ◌<◌, ◌≤◌, ◌↔◌, Bool, List, length, IsTrue};
 ghost use Rattle.stuff_bound.specs.Stuffing.{Stuffs, stuffed};
 ghost use Rattle.stuff_bound.specs.StuffFault.{HasFirstSixth, EndsInFive};
 ghost use Rattle.stuff_bound.specs.ByPlace.{bit_at, are_equal, StuffsByPlace, HasFirstSixthByPlace, EndsInFiveByPlace};
@@ -17,5 +17,22 @@ pub fn lengths()
     ensures at_least { (plain : List Bool) → length plain ≤ length (stuffed plain) }
     ensures at_most { (plain : List Bool) → 0 < length plain
         → 4 * length (stuffed plain) + 1 ≤ 5 * length plain }
+{
+}
+
+/// What `are_equal` tests: that many neighbours are there, and each is the first one.
+pub fn equal_neighbours()
+    ensures equal_neighbours { (wire : List Bool) (start count : ℕ) → IsTrue (are_equal wire start count)
+        ↔ ((start + count ≤ length wire)
+            × ((k : ℕ) → k < count → bit_at wire (start + k) ≡ bit_at wire start)) }
+{
+}
+
+/// The definitions, which look at what was sent newest first, say what the same words say by places in
+/// the order of sending.
+pub fn by_place()
+    ensures stuffs { (wire plain : List Bool) → Stuffs wire plain ↔ StuffsByPlace wire plain }
+    ensures sixth { (wire : List Bool) (place : ℕ) → HasFirstSixth wire place ↔ HasFirstSixthByPlace wire place }
+    ensures five { (wire : List Bool) → EndsInFive wire ↔ EndsInFiveByPlace wire }
 {
 }
