@@ -1,6 +1,6 @@
 //! What follows from the definitions, each as the contract of a function that does nothing.
 
-ghost use Rattle.std.specs.Prelude.{◌≡◌, ℕ, ◌+◌, ◌*◌, ◌<◌, ◌≤◌, ◌↔◌, Bool, List, length, IsTrue};
+ghost use Rattle.std.specs.Prelude.{◌≡◌, ℕ, ◌+◌, ◌*◌, ◌<◌, ◌≤◌, ◌↔◌, ◌⊎◌, Bool, List, length, IsTrue};
 ghost use Rattle.stuff_bound.specs.Stuffing.{Stuffs, stuffed};
 ghost use Rattle.stuff_bound.specs.StuffFault.{HasFirstSixth, EndsInFive};
 ghost use Rattle.stuff_bound.specs.ByPlace.{bit_at, are_equal, StuffsByPlace, HasFirstSixthByPlace, EndsInFiveByPlace};
@@ -17,6 +17,19 @@ pub fn lengths()
     ensures at_least { (plain : List Bool) → length plain ≤ length (stuffed plain) }
     ensures at_most { (plain : List Bool) → 0 < length plain
         → 4 * length (stuffed plain) + 1 ≤ 5 * length plain }
+{
+}
+
+/// Each list of bits stuffs some list, or has a first sixth equal bit, or ends with five equal bits,
+/// and no two of these hold.
+pub fn one_answer()
+    ensures some { (wire : List Bool) → ((plain : List Bool) × Stuffs wire plain)
+        ⊎ (((place : ℕ) × HasFirstSixth wire place) ⊎ EndsInFive wire) }
+    ensures plain_or_sixth { (wire plain : List Bool) (place : ℕ) → Stuffs wire plain → ¬ HasFirstSixth wire place }
+    ensures plain_or_five { (wire plain : List Bool) → Stuffs wire plain → ¬ EndsInFive wire }
+    ensures sixth_or_five { (wire : List Bool) (place : ℕ) → HasFirstSixth wire place → ¬ EndsInFive wire }
+    ensures one_sixth { (wire : List Bool) (first second : ℕ) → HasFirstSixth wire first
+        → HasFirstSixth wire second → first ≡ second }
 {
 }
 
