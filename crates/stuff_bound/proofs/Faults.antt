@@ -1,5 +1,5 @@
 -- A list of bits has one answer: some list is stuffed by it, or it has one first sixth equal bit, or it ends with five equal bits.
-use Rattle.std.proofs.Common.{◌≡◌, ℕ, zero, suc, ◌+◌, ◌<◌, ◌≤◌, Bool, true, false, leb, List, [], ◌∷◌, ◌++◌, length, get_or, take, drop, reverse, refl, sym, ap, subst, ◌∙◌, ◌⊎◌, inl, inr, add-one, le_refl, arith}
+use Rattle.std.proofs.Common.{◌≡◌, ℕ, zero, suc, ◌+◌, ◌<◌, ◌≤◌, Bool, true, false, leb, List, [], ◌∷◌, ◌++◌, length, get_or, take, drop, reverse, sym, ap, subst, ◌∙◌, ◌⊎◌, inl, inr, add-one, le_refl, arith}
 use Rattle.std.proofs.lemmas.Bool.{cases_lt, cases_order, leb-true, le-leb}
 use Rattle.std.proofs.lemmas.List.{reverse-append, reverse-reverse, take-append-drop, take-take, take_all}
 use Rattle.stuff_bound.specs.Stuffing.{run, HasNoSix, without_stuff, Stuffs}
@@ -39,10 +39,10 @@ not_before wire first second h k before =
 pub first_sixth_only : (wire : List Bool) (first second : ℕ) → HasFirstSixth wire first → HasFirstSixth wire second → first ≡ second
 first_sixth_only wire first second h k =
     elim (cases_order first second) [
-        inl same ↦ same
+      | inl same ↦ same
       | inr apart ↦
           elim apart [
-              inl before ↦ absurd (not_before wire first second h k before)
+            | inl before ↦ absurd (not_before wire first second h k before)
             | inr behind ↦ absurd (not_before wire second first k h behind)
           ]
     ]
@@ -52,7 +52,7 @@ pub first_sixth : (wire : List Bool) (place : ℕ) → place < length wire → H
 first_sixth wire place inside none_before six = record {
   inside = inside;
   none_before = none_before;
-  sixth = rw (reverse-take_more wire place false inside) (leb-true 6 _ six)
+  sixth = rw (reverse-take_more wire place false inside) (leb-true 6 _ six);
 }
 
 -- six equal neighbours are found, or there are none
@@ -60,10 +60,10 @@ sixth_or_none : (wire : List Bool) (n : ℕ) → n ≤ length wire → HasNoSix 
 sixth_or_none wire zero inside = inl tt
 sixth_or_none wire (suc n) inside =
     elim (sixth_or_none wire n (omega arith)) [
-        inl none ↦
+      | inl none ↦
           let more : reverse (take (suc n) wire) ≡ get_or wire n false ∷ reverse (take n wire) = rw (← add-one) (reverse-take_more wire n false (omega arith)) in
           elim (cases_lt (run (get_or wire n false ∷ reverse (take n wire))) 6) [
-              inl below ↦ inl (rw more (below, none))
+            | inl below ↦ inl (rw more (below, none))
             | inr six ↦ inr (n, first_sixth wire n (omega arith) none (le-leb 6 _ six))
           ]
       | inr six ↦ inr six
@@ -73,12 +73,12 @@ sixth_or_none wire (suc n) inside =
 pub some_answer : (wire : List Bool) → ((plain : List Bool) × Stuffs wire plain) ⊎ (((place : ℕ) × HasFirstSixth wire place) ⊎ EndsInFive wire)
 some_answer wire =
     elim (sixth_or_none wire (length wire) (le_refl (length wire))) [
-        inl none ↦
+      | inl none ↦
           let all : take (length wire) wire ≡ wire = take_all (length wire) wire (le_refl (length wire)) in
           let no_six : HasNoSix (reverse wire) = rw all at none in
           let left = without_stuff (reverse wire) in
           elim (cases_lt (run (reverse wire)) 5) [
-              inl below ↦ inl (reverse left, record { no_six = no_six; ended = below; left = sym (reverse-reverse left) })
+            | inl below ↦ inl (reverse left, record { no_six = no_six; ended = below; left = sym (reverse-reverse left) })
             | inr five ↦ inr (inr (record { no_six = no_six; five = omega (arith, run-below_six (reverse wire) no_six, five) }))
           ]
       | inr six ↦ inr (inl six)

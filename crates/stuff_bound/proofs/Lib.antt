@@ -1,3 +1,3 @@
-mod Stuffs
-mod Faults
-mod Places
+pub mod Stuffs
+pub mod Faults
+pub mod Places

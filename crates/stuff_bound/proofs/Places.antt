@@ -1,8 +1,8 @@
 -- The recursion over what was sent and the form by places say the same.
-use Rattle.std.proofs.Common.{◌≡◌, ℕ, zero, suc, ◌+◌, ◌-◌, ◌<◌, ◌≤◌, Bool, true, false, not, ◌&&◌, cond, leb, List, [], ◌∷◌, ◌++◌, length, get_or, take, map, reverse, refl, sym, ap, subst, ◌∙◌, inl, inr, arith, add-one, le_refl}
+use Rattle.std.proofs.Common.{◌≡◌, ℕ, zero, suc, ◌+◌, ◌-◌, ◌<◌, ◌≤◌, Bool, true, false, not, cond, leb, List, [], ◌∷◌, ◌++◌, length, take, map, reverse, refl, sym, ap, subst, ◌∙◌, inl, inr, arith, add-one, le_refl}
 use Rattle.std.specs.Bool.{beq}
 use Rattle.std.specs.List.{list_all, range_with_len, filter}
-use Rattle.std.proofs.lemmas.Bool.{cases_lt, cases_Bool, and_parts, and_from, leb-true, le-leb, false_from_ne_true}
+use Rattle.std.proofs.lemmas.Bool.{cases_lt, and_parts, and_from, leb-true, le-leb, false_from_ne_true}
 use Rattle.std.proofs.lemmas.Bool.Decides.{same_from_decides}
 use Rattle.std.proofs.lemmas.List.{length-reverse, length-take-le, take-take, take_all, append-nil, reverse-append, reverse-reverse, map-append}
 use Rattle.std.proofs.lemmas.List.Elements.{filter-append}
@@ -18,7 +18,7 @@ each_in_range p a zero all k low high = absurd (omega arith)
 each_in_range p a (suc n) all k low high =
     let here : p a ≡ true = (and_parts (p a) _ all).0 in
     elim (cases_lt a k) [
-        inl above ↦ each_in_range p (a + 1) n (and_parts (p a) _ all).1 k (omega arith) (omega arith)
+      | inl above ↦ each_in_range p (a + 1) n (and_parts (p a) _ all).1 k (omega arith) (omega arith)
       | inr not_above ↦ let same : k ≡ a = omega arith in rw same here
     ]
 
@@ -116,7 +116,7 @@ equal_from_run wire start (suc (suc n)) end at inside long k below =
     let shorter : suc n ≤ run_at wire (start + n + 1) = omega (arith, run_at-same wire (start + n) (omega arith) last, there) in
     let before : Equal wire start (suc n) = equal_from_run wire start (suc n) (start + n + 1) (omega arith) (omega arith) shorter in
     elim (cases_lt k (suc n)) [
-        inl earlier ↦ before k earlier
+      | inl earlier ↦ before k earlier
       | inr not_earlier ↦ let place : start + k ≡ start + n + 1 = omega arith in rw place (last ∙ before n (omega arith))
     ]
 
@@ -146,31 +146,32 @@ run_at-below_six wire n p before no_six =
 pub no_six_up_to : (wire : List Bool) (n : ℕ) → HasNoSix (reverse (take n wire)) → (start : ℕ) → start + 6 ≤ n → are_equal wire start 6 ≡ false
 no_six_up_to wire n no_six start before =
     false_from_ne_true _ (λ test.
-      omega (arith, (run_from_test wire start 6 (start + 6) refl test).1, run_at-below_six wire n (start + 6) before no_six))
+    omega (arith, (run_from_test wire start 6 (start + 6) refl test).1, run_at-below_six wire n (start + 6) before no_six))
 
 pub no_six_from_places : (wire : List Bool) (n : ℕ) → n ≤ length wire → ((start : ℕ) → start + 6 ≤ n → are_equal wire start 6 ≡ false) → HasNoSix (reverse (take n wire))
 no_six_from_places wire n inside none =
     HasNoSix_from_runs wire n inside (λ p before.
-      elim (cases_lt (run_at wire p) 6) [
-          inl below ↦ below
-        | inr long ↦
-            let enough : 6 ≤ p = omega (arith, run_at-le wire p (omega arith), long) in
-            let six : are_equal wire (p - 6) 6 ≡ true = test_from_run wire (p - 6) 6 p (omega arith) (omega arith) long in
-            let not_six : are_equal wire (p - 6) 6 ≡ false = none (p - 6) (omega arith) in
-            absurd (cc)
-      ])
+    elim (cases_lt (run_at wire p) 6) [
+      | inl below ↦ below
+      | inr long ↦
+          let enough : 6 ≤ p = omega (arith, run_at-le wire p (omega arith), long) in
+          let six : are_equal wire (p - 6) 6 ≡ true = test_from_run wire (p - 6) 6 p (omega arith) (omega arith) long in
+          let not_six : are_equal wire (p - 6) 6 ≡ false = none (p - 6) (omega arith) in
+          absurd (cc)
+    ])
 
 -- a place is a stuff place in both forms
 stuff_place_is : (wire : List Bool) (n : ℕ) → n ≤ length wire → at_stuff_place (reverse (take n wire)) ≡ is_stuff_place wire n
 stuff_place_is wire n inside =
     let Five : Type 0 = 5 ≤ run_at wire n in
-    same_from_decides {P = Five} _ _ (leb-true 5 _, le-leb 5 _)
-    (λ test.
-        let parts = and_parts (leb 5 n) (are_equal wire (n - 5) 5) test in
-        (run_from_test wire (n - 5) 5 n (omega (arith, leb-true 5 n parts.0)) parts.1).1,
+    same_from_decides {P = Five} _ _ (leb-true 5 _, le-leb 5 _) (
+      λ test.
+          let parts = and_parts (leb 5 n) (are_equal wire (n - 5) 5) test in
+          (run_from_test wire (n - 5) 5 n (omega (arith, leb-true 5 n parts.0)) parts.1).1,
       λ five.
-        let enough : 5 ≤ n = omega (arith, run_at-le wire n inside, five) in
-        and_from _ _ (le-leb 5 n enough) (test_from_run wire (n - 5) 5 n (omega arith) inside five))
+          let enough : 5 ≤ n = omega (arith, run_at-le wire n inside, five) in
+          and_from _ _ (le-leb 5 n enough) (test_from_run wire (n - 5) 5 n (omega arith) inside five),
+    )
 
 range-more : (a n last : ℕ) → a + n ≡ last → range_with_len a (suc n) ≡ range_with_len a n ++ last ∷ []
 range-more a zero last at = let same : a ≡ last = omega arith in ap (λ x. x ∷ []) same
@@ -192,7 +193,7 @@ left_up_to wire (suc n) inside =
     let more : reverse (take (suc n) wire) ≡ bit_at wire n ∷ seen = rw (← add-one) (reverse-take_more wire n false (omega arith)) in
     let step = left_more (at_stuff_place seen) (bit_at wire n) (without_stuff seen) (bit_at wire) places n refl (left_up_to wire n (omega arith)) in
     let range : filter is_other (range_with_len 0 (suc n)) ≡ places ++ cond (is_other n) (n ∷ []) [] =
-      ap (filter is_other) (range-more 0 n n (omega arith)) ∙ filter-append is_other (range_with_len 0 n) (n ∷ [])
+    ap (filter is_other) (range-more 0 n n (omega arith)) ∙ filter-append is_other (range_with_len 0 n) (n ∷ [])
     in
     ap (λ sent. reverse (without_stuff sent)) more ∙ step
     ∙ ap (λ stuff. map (bit_at wire) (places ++ cond (not stuff) (n ∷ []) [])) (stuff_place_is wire n (omega arith))
@@ -206,9 +207,9 @@ no_six_places : (wire : List Bool) → HasNoSix (reverse wire) → (start : ℕ)
 no_six_places wire no_six start =
     let all : HasNoSix (reverse (take (length wire) wire)) = rw taken no_six in
     false_from_ne_true _ (λ test.
-      let inside = (run_from_test wire start 6 (start + 6) refl test).0 in
-      let none = no_six_up_to wire (length wire) all start inside in
-      cc)
+    let inside = (run_from_test wire start 6 (start + 6) refl test).0 in
+    let none = no_six_up_to wire (length wire) all start inside in
+    cc)
 
 no_six_bits : (wire : List Bool) → ((start : ℕ) → are_equal wire start 6 ≡ false) → HasNoSix (reverse wire)
 no_six_bits wire none = rw taken at (no_six_from_places wire (length wire) (le_refl (length wire)) (λ start _. none start))
@@ -233,18 +234,18 @@ pub StuffsByPlace_from_Stuffs : (wire plain : List Bool) → Stuffs wire plain �
 StuffsByPlace_from_Stuffs wire plain h = record {
   no_six = no_six_places wire h.no_six;
   ended = λ start end. false_from_ne_true _ (λ five. omega (arith, h.ended, run_of_last_five wire start end five));
-  left = sym (left_of_all wire) ∙ ap reverse h.left ∙ reverse-reverse plain
+  left = sym (left_of_all wire) ∙ ap reverse h.left ∙ reverse-reverse plain;
 }
 
 pub Stuffs_from_StuffsByPlace : (wire plain : List Bool) → StuffsByPlace wire plain → Stuffs wire plain
 Stuffs_from_StuffsByPlace wire plain h = record {
   no_six = no_six_bits wire h.no_six;
   ended =
-    elim (cases_lt (run (reverse wire)) 5) [
-        inl below ↦ below
-      | inr five ↦ let last = last_five wire five in let not_five = h.ended last.0 last.1 in let is_five = last.2 in absurd (cc)
-    ];
-  left = sym (reverse-reverse (without_stuff (reverse wire))) ∙ ap reverse (left_of_all wire ∙ h.left)
+      elim (cases_lt (run (reverse wire)) 5) [
+        | inl below ↦ below
+        | inr five ↦ let last = last_five wire five in let not_five = h.ended last.0 last.1 in let is_five = last.2 in absurd (cc)
+      ];
+  left = sym (reverse-reverse (without_stuff (reverse wire))) ∙ ap reverse (left_of_all wire ∙ h.left);
 }
 
 pub EndsInFiveByPlace_from_EndsInFive : (wire : List Bool) → EndsInFive wire → EndsInFiveByPlace wire
@@ -255,7 +256,7 @@ EndsInFive_from_EndsInFiveByPlace wire h =
     let no_six = no_six_bits wire h.no_six in
     record {
       no_six = no_six;
-      five = omega (arith, run_of_last_five wire h.five.0 h.five.1 h.five.2, run-below_six (reverse wire) no_six)
+      five = omega (arith, run_of_last_five wire h.five.0 h.five.1 h.five.2, run-below_six (reverse wire) no_six);
     }
 
 pub HasFirstSixthByPlace_from_HasFirstSixth : (wire : List Bool) (place : ℕ) → HasFirstSixth wire place → HasFirstSixthByPlace wire place
@@ -264,7 +265,7 @@ HasFirstSixthByPlace_from_HasFirstSixth wire place h =
     let enough : 5 ≤ place = omega (arith, run_at-le wire (place + 1) (omega arith), h.sixth) in
     record {
       sixth = (place - 5, omega arith, test_from_run wire (place - 5) 6 (place + 1) (omega arith) (omega arith) h.sixth);
-      first = λ start before. no_six_up_to wire place h.none_before start (omega arith)
+      first = λ start before. no_six_up_to wire place h.none_before start (omega arith);
     }
 
 pub HasFirstSixth_from_HasFirstSixthByPlace : (wire : List Bool) (place : ℕ) → HasFirstSixthByPlace wire place → HasFirstSixth wire place
@@ -274,5 +275,5 @@ HasFirstSixth_from_HasFirstSixthByPlace wire place h =
     record {
       inside = omega (arith, said.0);
       none_before = no_six_from_places wire place (omega (arith, said.0)) (λ start before. h.first start (omega arith));
-      sixth = said.1
+      sixth = said.1;
     }

@@ -5,5 +5,5 @@ pub returns : goal.returns
 returns c = record {
   stuffs = λ wire plain. (StuffsByPlace_from_Stuffs wire plain, Stuffs_from_StuffsByPlace wire plain);
   sixth = λ wire place. (HasFirstSixthByPlace_from_HasFirstSixth wire place, HasFirstSixth_from_HasFirstSixthByPlace wire place);
-  five = λ wire. (EndsInFiveByPlace_from_EndsInFive wire, EndsInFive_from_EndsInFiveByPlace wire)
+  five = λ wire. (EndsInFiveByPlace_from_EndsInFive wire, EndsInFive_from_EndsInFiveByPlace wire);
 }

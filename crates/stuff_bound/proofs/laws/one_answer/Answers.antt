@@ -8,5 +8,5 @@ returns c = record {
   plain_or_sixth = λ wire plain place h six. not_with_sixth wire place six h.no_six;
   plain_or_five = λ wire plain h end. omega (arith, h.ended, end.five);
   sixth_or_five = λ wire place six end. not_with_sixth wire place six end.no_six;
-  one_sixth = first_sixth_only
+  one_sixth = first_sixth_only;
 }
