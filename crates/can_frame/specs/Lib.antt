@@ -1,0 +1,2 @@
+pub mod DataFrame
+pub mod FrameFault
