@@ -2,6 +2,8 @@
 //! sequence and the bits that they are on the wire, in both directions.
 #![tactic(auto)]
 
+mod bit_list;
+mod crc;
 mod data_frame;
 
 pub use data_frame::{Frame, FrameFault, MAX_BYTES, MAX_IDENTIFIER, TimedFrame};
