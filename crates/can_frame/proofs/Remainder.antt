@@ -191,12 +191,12 @@ power_step d r false h is = IsRemainder-high d r (2 * r) h refl (ltb-false (2 * 
 -- nothing leaves nothing
 pub IsRemainder-zero : IsRemainder 0 0
 unfolding product
-IsRemainder-zero = record { quotient = []; division = refl; below = lit< tt; }
+IsRemainder-zero = record { quotient = []; division = refl; below = lit< tt }
 
 -- x^k modulo the generator is what division leaves of x^k
 pub IsRemainder-power : (k : ℕ) → IsRemainder (2 ^ k) (power k)
 unfolding product power
-IsRemainder-power zero = record { quotient = []; division = refl; below = lit< tt; }
+IsRemainder-power zero = record { quotient = []; division = refl; below = lit< tt }
 IsRemainder-power (suc k) =
     let twice : 2 ^ suc k ≡ 2 * 2 ^ k = pow-suc 2 k ∙ mul_comm (2 ^ k) 2 in
     rw twice (power_step (2 ^ k) (power k) _ (IsRemainder-power k) refl)
@@ -207,7 +207,7 @@ number-from start [] = omega arith
 number-from start (bit ∷ field) =
     let all = number-from (2 * start + bit_number bit) field in
     let rest : number (bit ∷ field) ≡ bit_number bit * 2 ^ length field + number field =
-        ap (λ from. fold (λ value bit. 2 * value + bit_number bit) from field) (zero-add (bit_number bit)) ∙ number-from (bit_number bit) field in
+    ap (λ from. fold (λ value bit. 2 * value + bit_number bit) from field) (zero-add (bit_number bit)) ∙ number-from (bit_number bit) field in
     rw (pow-suc 2 (length field)) (omega arith)
 
 -- the number of a field by its most significant bit
@@ -249,6 +249,6 @@ unfolding sequence_of
 IsSequence-sequence_of [] = IsRemainder-zero
 IsSequence-sequence_of (bit ∷ covered) =
     let is : number (bit ∷ covered) * 2 ^ 15 ≡ bit_xor (part bit (2 ^ (15 + length covered))) (number covered * 2 ^ 15) =
-        ap (λ n. n * 2 ^ 15) (number-cons bit covered) ∙ highest bit (number covered) (length covered) (number-below covered) in
+    ap (λ n. n * 2 ^ 15) (number-cons bit covered) ∙ highest bit (number covered) (length covered) (number-below covered) in
     let P : ℕ → Type 0 = λ d. IsRemainder d (sequence_of (bit ∷ covered)) in
     subst P (sym is) (IsRemainder-xor _ _ _ _ (IsRemainder-part bit (15 + length covered)) (IsSequence-sequence_of covered))

@@ -9,6 +9,7 @@ use std::marker::Model;
 const ROOM: usize = 98;
 
 /// Up to 98 bits, in the order of sending.
+#[derive(Drop)]
 pub struct BitList {
     places: [bool; 98],
     len: usize,
@@ -28,6 +29,7 @@ impl BitList {
     /// No bits.
     pub fn new() -> Self
         ensures value { result ≡ [] }
+        ensures len { length result ≡ 0 }
     {
         BitList {
             places: [false; 98],
@@ -39,6 +41,7 @@ impl BitList {
     pub fn push(&mut self, bit: bool)
         requires room { length self.old < 98 }
         ensures value { self.new ≡ self.old ++ bit ∷ [] }
+        ensures len { length self.new ≡ length self.old + 1 }
     {
         self.places[self.len] = bit;
         self.len += 1;
@@ -49,6 +52,7 @@ impl BitList {
         requires narrow { width ≤ 16 }
         requires room { length self.old + width ≤ 98 }
         ensures value { self.new ≡ self.old ++ bits width value }
+        ensures len { length self.new ≡ length self.old + width }
     {
         for place in (0..width).rev() {
             self.push((value >> place) & 1 == 1);

@@ -3,7 +3,9 @@
 #![tactic(auto)]
 
 mod bit_list;
-mod crc;
 mod data_frame;
+mod register;
+mod wire_bits;
 
 pub use data_frame::{Frame, FrameFault, MAX_BYTES, MAX_IDENTIFIER, TimedFrame};
+pub use wire_bits::{crc, wire, wire_len};

@@ -2,10 +2,10 @@
 use Rattle.std.proofs.Common.{rules, lit<}
 use Rattle.std.proofs.lemmas.List.{take_all}
 use Rattle.can_frame.proofs.Remainder.{IsRemainder-zero, IsRemainder-one, IsSequence-sequence_of}
-use Rattle.can_frame.proofs.crc.sequence.Goals as goal
+use Rattle.can_frame.proofs.register.sequence.Goals as goal
 
 pub loop-bit-init : goal.loop-bit-init
-loop-bit-init c = record { range = lit< tt; sequence = IsRemainder-zero; }
+loop-bit-init c = record { range = lit< tt; sequence = IsRemainder-zero }
 
 pub returns-clause-value : goal.returns-clause-value
 returns-clause-value c =

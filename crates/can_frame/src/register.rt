@@ -14,7 +14,11 @@ fn shifted(register: u16, bit: bool) -> u16
 {
     let fed = register ^ (u16::from(bit) << 14);
     let doubled = fed << 1;
-    if doubled < 0x8000 { doubled } else { doubled ^ GENERATOR }
+    if doubled < 0x8000 {
+        doubled
+    } else {
+        doubled ^ GENERATOR
+    }
 }
 
 /// The CRC sequence of the covered bits, which are those from the start of frame to the end of data.

@@ -3,7 +3,7 @@ use Rattle.std.proofs.Common.{◌≡◌, ℕ, ◌*◌, ◌%◌, ◌^◌, ◌<◌
 use Rattle.std.proofs.lemmas.Nat.{xor_lt}
 use mir.Val.{bool_byte}
 use Rattle.can_frame.proofs.Remainder.{bit_number, bit_small, top-xor, IsSequence-low, IsSequence-high}
-use Rattle.can_frame.proofs.crc.shifted.Goals as goal
+use Rattle.can_frame.proofs.register.shifted.Goals as goal
 
 -- the bit at x^14, as the code shifts it there
 fed : (bit : Bool) (b : ℕ) → b ≡ bool_byte bit → b * 16384 % 65536 ≡ bit_number bit * 2 ^ 14

@@ -1,7 +1,7 @@
 -- The register is the CRC sequence of the bits so far.
 use Rattle.std.proofs.Common.{◌^◌, ◌<◌, take}
 use Rattle.can_frame.specs.Crc.{IsSequence}
-use Rattle.can_frame.proofs.crc.sequence.Given as goal
+use Rattle.can_frame.proofs.register.sequence.Given as goal
 
 abbrev pub invariant-loop-bit : goal.invariant-loop-bit
 invariant-loop-bit l = record {
