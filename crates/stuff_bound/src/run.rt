@@ -1,7 +1,7 @@
 //! The run of equal bits that a sender or a reader of stuffed bits keeps.
 
 ghost use Rattle.std.specs.Prelude.{◌≡◌, Bool, ◌∷◌, [], List, not, nat_le};
-ghost use Rattle.stuff_bound.specs.Stuffing.{Tracks, at_stuff_place, run};
+ghost use Rattle.stuff_bound.specs.Stuffing.{Tracks, at_stuff_place, last_bit, run};
 
 use std::marker::Model;
 
@@ -67,7 +67,7 @@ impl Run {
 
     /// The opposite of the bit that was sent last, which is what a sender puts at a stuff place.
     pub fn opposite(self) -> bool
-        ensures opposite { (sent : List Bool) (bit : Bool) → Tracks self (bit ∷ sent) → result ≡ not bit }
+        ensures opposite { (sent : List Bool) → Tracks self sent → result ≡ not (last_bit sent) }
     {
         !self.last
     }

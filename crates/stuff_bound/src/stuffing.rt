@@ -54,8 +54,9 @@ pub fn stuff(alloc: Global, bits: &[bool]) -> Result<Vec<bool>, AllocError>
         wire.push(*bit)?;
         run = run.then(*bit);
         if run.is_full() {
-            wire.push(run.opposite())?;
-            run = run.then(run.opposite());
+            let opposite = run.opposite();
+            wire.push(opposite)?;
+            run = run.then(opposite);
         }
     }
     Ok(wire)
