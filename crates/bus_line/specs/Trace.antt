@@ -1,8 +1,9 @@
 -- Traces of a CAN bus, and which of them arbitration decides (CAN 2.0 Part A, arbitration).
 -- A trace is a list of timed frames. Times are whole bit times from 0.
 use Rattle.std.specs.Prelude.{◌≡◌, ℕ, ◌+◌, ◌<◌, ◌≤◌, List, [], ◌∷◌, ◌++◌, All, AllPairs, Any, filter, nat_lt}
-use Rattle.can_frame.specs.Frame.{DataFrame, wire_length}
-use Rattle.can_frame.specs.declared.TimedFrame.{TimedFrame}
+use Rattle.can_frame.specs.DataFrame.{DataFrame}
+use Rattle.can_frame.specs.Wire.{wire_length}
+use Rattle.can_frame.specs.declared.data_frame.TimedFrame.{TimedFrame}
 
 -- the first time at which the bus is free again after the frame
 abbrev pub end_of : TimedFrame → ℕ
