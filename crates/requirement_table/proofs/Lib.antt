@@ -1,1 +1,3 @@
 pub mod SlotSets
+pub mod Arithmetic
+pub mod Existence
