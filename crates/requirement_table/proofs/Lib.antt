@@ -1,3 +1,4 @@
 pub mod SlotSets
 pub mod Arithmetic
 pub mod Existence
+pub mod FreeSlots

@@ -6,8 +6,10 @@
 
 mod entries;
 mod instances;
+mod lists;
 mod slots;
 
 pub use entries::{Entry, Order, Placed, PlacedList};
 pub use instances::{cost, current, due, releases};
+pub use lists::well_placed;
 pub use slots::{Mask, SLOTS};
