@@ -1,4 +1,5 @@
-pub mod SlotSets
-pub mod Arithmetic
-pub mod Existence
+pub mod Bytes
 pub mod FreeSlots
+pub mod Latest
+pub mod SlotInstances
+pub mod SlotSets

@@ -1,9 +1,10 @@
-//! The instances that a placed entry releases, by arithmetic.
+//! The instances that a placed entry releases, by arithmetic, and the bytes that they carry.
 
-ghost use Rattle.std.specs.Prelude.{◌≡◌, ℕ, ◌+◌, ◌*◌, ◌^◌, ◌<◌, ◌≤◌, Some, IfSome, MatchOption};
-ghost use Rattle.requirement_table.specs.Instance.{worst, release_of, exists, IsReleasedIn, MaySend, released_by, instance_of};
+ghost use Rattle.std.specs.Prelude.{◌≡◌, ℕ, ◌+◌, ◌*◌, ◌^◌, ◌<◌, ◌≤◌, Some, IfSome, MatchOption, length};
+ghost use Rattle.requirement_table.specs.Instance.{worst, release_of, exists, payload, IsLastCycle, IsReleasedIn, MaySend, released_by, instance_of};
 
 use crate::entries::Placed;
+use std::marker::Model;
 
 /// The worst length of a frame with `length` data bytes, in bit times: its bits, with every stuff
 /// bit that they may need, and the intermission.
@@ -50,7 +51,7 @@ pub fn due(placed: &Placed, k: u64) -> (u64, u64)
     requires period { placed.now.entry.deadline ≤ placed.now.entry.period }
     requires release { release_of placed.now k < 2 ^ 42 }
     ensures release { result.0 ≡ release_of placed.now k }
-    ensures last { result.1 + 1 ≡ release_of placed.now k + placed.now.entry.deadline }
+    ensures last { IsLastCycle placed.now k result.1 }
 {
     let deadline = placed.entry.deadline;
     let phase = u64::from(placed.entry.phase);
@@ -71,4 +72,43 @@ pub fn current(placed: &Placed, cycle: u64) -> Option<u64>
     let age = since % period;
     let in_time = age < u64::from(placed.entry.deadline);
     (in_time && exists(placed, cycle - age)).then_some(since / period)
+}
+
+/// The data bytes of an instance's frame: the low bytes of its number, most significant first.
+/// Contracts see the list of bytes.
+#[derive(Drop, Debug)]
+pub struct Payload {
+    number: [u8; 8],
+    size: u8,
+}
+
+impl Model for Payload {
+    ghost use Rattle.std.specs.Prelude.{ℕ, ◌-◌, ◌≤◌, ◌≡◌, List, length, drop};
+
+    ghost Value = { List ℕ };
+
+    ghost view = { λ p. drop (8 - p.size) p.number };
+
+    ghost invariant = { λ p. p.size ≤ 8 };
+}
+
+impl Payload {
+    /// The low `size` bytes of `number`, at most 8.
+    pub fn of(size: u8, number: u64) -> Payload
+        requires { size ≤ 8 }
+        ensures bytes { result ≡ payload size number }
+        ensures count { length result ≡ size }
+    {
+        Payload {
+            number: number.to_be_bytes(),
+            size,
+        }
+    }
+
+    /// The bytes, the first one first.
+    pub fn as_slice(&self) -> &[u8]
+        ensures bytes { result.now ≡ self.now }
+    {
+        &self.number[8 - usize::from(self.size)..]
+    }
 }

@@ -6,10 +6,11 @@
 
 mod entries;
 mod instances;
+pub mod laws;
 mod lists;
 mod slots;
 
 pub use entries::{Entry, Order, Placed, PlacedList};
-pub use instances::{cost, current, due, releases};
+pub use instances::{Payload, cost, current, due, releases};
 pub use lists::well_placed;
 pub use slots::{Mask, SLOTS};

@@ -1,8 +1,7 @@
 use Rattle.std.proofs.Common.{◌+◌, ◌-◌, arith}
 use Rattle.std.proofs.lemmas.Grind.{common_steps}
 use Rattle.requirement_table.specs.Instance.{release_of}
-use Rattle.requirement_table.proofs.Arithmetic.{div-since, period-parts}
-use Rattle.requirement_table.proofs.Existence.{exists-true}
+use Rattle.requirement_table.proofs.Latest.{div-since, period-parts, exists-true}
 use Rattle.requirement_table.proofs.instances.current.Goals as goal
 
 pub returns-clause-each : goal.returns-clause-each
