@@ -1,8 +1,8 @@
 -- How what one call did and what the next one did join.
-use Rattle.std.proofs.Common.{◌≡◌, ℕ, ◌+◌, ◌≤◌, List, [], ◌++◌, take, drop, Option, Some, refl, ap, sym, ◌∙◌, append_assoc, arith}
+use Rattle.std.proofs.Common.{◌≡◌, ℕ, ◌+◌, ◌≤◌, List, [], ◌++◌, take, drop, Option, Some, None, refl, ap, sym, ◌∙◌, append_assoc, arith}
 use Rattle.std.proofs.lemmas.List.{append-nil, take-append-drop}
 use Rattle.ftt_io.specs.Counts.{next_count, count_after, Rose}
-use Rattle.ftt_io.specs.Puts.{Puts, PutsPrefix}
+use Rattle.ftt_io.specs.Puts.{told_after, Puts, PutsPrefix}
 
 -- a count that rose in the first of two calls rose over both
 pub Rose-first : (before between now : ℕ) → Rose before between → between ≤ now → Rose before now
@@ -16,29 +16,39 @@ Rose-second before between now stays rose = omega arith
 pub count_after-count_after : (count first second : ℕ) → count_after (count_after count first) second ≡ count_after count (first + second)
 count_after-count_after count first second = omega arith
 
--- a sink that is as before took nothing
-pub Puts-nothing : {old new : Option (List ℕ)} → new ≡ old → Puts old new []
-Puts-nothing same = record { behind = λ taken is. same ∙ is ∙ ap Some (sym (append-nil taken)) }
+-- no bytes
+pub told_after-nil : (told : Option (List ℕ)) → told_after told [] ≡ told
+told_after-nil None = refl
+told_after-nil (Some taken) = ap Some (append-nil taken)
 
 -- bytes after bytes
-pub Puts-append : {old between new : Option (List ℕ)} {first second : List ℕ} → Puts old between first → Puts between new second → Puts old new (first ++ second)
-Puts-append {first = first} {second = second} p q = record { behind = λ taken is. q.behind (taken ++ first) (p.behind taken is) ∙ ap Some (append_assoc taken first second) }
+pub told_after-told_after : (told : Option (List ℕ)) (first second : List ℕ) → told_after (told_after told first) second ≡ told_after told (first ++ second)
+told_after-told_after None first second = refl
+told_after-told_after (Some taken) first second = ap Some (append_assoc taken first second)
+
+-- a sink that is as before took nothing
+pub Puts-nothing : {old new : Option (List ℕ)} → new ≡ old → Puts old new []
+Puts-nothing {old} same = same ∙ sym (told_after-nil old)
+
+-- bytes after bytes
+pub Puts-append : (old between new : Option (List ℕ)) (first second : List ℕ) → Puts old between first → Puts between new second → Puts old new (first ++ second)
+Puts-append old between new first second p q = q ∙ ap (λ told. told_after told second) p ∙ told_after-told_after old first second
 
 -- a sink that is as before took a prefix of any bytes
 pub PutsPrefix-nothing : {old new : Option (List ℕ)} (bytes : List ℕ) → new ≡ old → PutsPrefix old new bytes
 PutsPrefix-nothing bytes same = record { front = []; rest = bytes; split = refl; puts = Puts-nothing same }
 
 -- all of the bytes are a prefix of them
-pub PutsPrefix-all : {old new : Option (List ℕ)} {bytes : List ℕ} → Puts old new bytes → PutsPrefix old new bytes
-PutsPrefix-all {bytes = bytes} p = record { front = bytes; rest = []; split = sym (append-nil bytes); puts = p }
+pub PutsPrefix-all : (old new : Option (List ℕ)) (bytes : List ℕ) → Puts old new bytes → PutsPrefix old new bytes
+PutsPrefix-all old new bytes p = record { front = bytes; rest = []; split = sym (append-nil bytes); puts = p }
 
 -- a prefix after bytes
-pub PutsPrefix-append : {old between new : Option (List ℕ)} {first second : List ℕ} → Puts old between first → PutsPrefix between new second → PutsPrefix old new (first ++ second)
-PutsPrefix-append {first = first} p q = record {
+pub PutsPrefix-append : {old between new : Option (List ℕ)} (first : List ℕ) {second : List ℕ} → Puts old between first → PutsPrefix between new second → PutsPrefix old new (first ++ second)
+PutsPrefix-append first p q = record {
   front = first ++ q.front;
   rest = q.rest;
   split = ap (λ bytes. first ++ bytes) q.split ∙ sym (append_assoc first q.front q.rest);
-  puts = Puts-append p q.puts;
+  puts = Puts-append _ _ _ _ _ p q.puts;
 }
 
 -- a prefix of the first bytes is one of those with more behind them
@@ -50,6 +60,12 @@ PutsPrefix-longer second p = record {
   puts = p.puts;
 }
 
+-- a prefix of the second bytes, where more are to come behind them
+pub PutsPrefix-within : {old between new : Option (List ℕ)} (first second third : List ℕ) {bytes : List ℕ} → bytes ≡ first ++ (second ++ third) → Puts old between first → PutsPrefix between new second → PutsPrefix old new bytes
+PutsPrefix-within {old} {between} {new} first second third is p q =
+    let all : PutsPrefix old new (first ++ (second ++ third)) = PutsPrefix-append first p (PutsPrefix-longer third q) in
+    record { front = all.front; rest = all.rest; split = is ∙ all.split; puts = all.puts }
+
 -- the next bytes of the rest, and what is left of it
 pub PutsPrefix-more : {old between new : Option (List ℕ)} {bytes rest left : List ℕ} (n : ℕ) (p : PutsPrefix old between bytes) → p.rest ≡ rest → Puts between new (take n rest) → left ≡ drop n rest → (q : PutsPrefix old new bytes) × (q.rest ≡ left)
 PutsPrefix-more {rest = rest} {left = left} n p same more is_left =
@@ -58,5 +74,8 @@ PutsPrefix-more {rest = rest} {left = left} n p same more is_left =
       front = p.front ++ take n rest;
       rest = left;
       split = p.split ∙ ap (λ back. p.front ++ back) (same ∙ cut) ∙ sym (append_assoc p.front (take n rest) left);
-      puts = Puts-append p.puts more;
+      puts = Puts-append _ _ _ _ _ p.puts more;
     }, refl)
+
+-- what joins the calls of a sink, for `grind (arith, chaining)`
+pub ruleset chaining = (told_after-nil, told_after-told_after)

@@ -7,11 +7,11 @@
 #![tactic(auto)]
 
 mod fetch;
-//mod memory;
+mod memory;
 mod put;
 //mod system;
 
 pub use fetch::{FetchFault, Shelf};
-//pub use memory::{MemShelf, MemSink};
+pub use memory::{MemShelf, MemSink};
 pub use put::{Failed, Sink, write_all};
 //pub use system::{FileShelf, StdSink};
