@@ -1,0 +1,2 @@
+mod StepsText
+mod StepsRows
