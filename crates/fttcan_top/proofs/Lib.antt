@@ -1,2 +1,9 @@
-mod StepsText
-mod StepsRows
+mod SlotSums
+mod Pending
+mod WindowLemmas
+mod Joining
+mod Flagged
+mod Width
+mod Filters
+mod Runs
+mod Served

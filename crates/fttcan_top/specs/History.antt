@@ -1,11 +1,13 @@
 -- Histories: what the master was asked, in order, each with its answer; which of them are legal, and which answer a list of steps.
 use Rattle.std.specs.Prelude.{◌≡◌, ℕ, ◌+◌, ◌%◌, ◌<◌, ◌≤◌, Bool, true, false, List, [], ◌∷◌, ◌++◌, map, All, sum_by, count_by, max, fold, replicate, None}
 use Rattle.std.specs.List.{flat_map, list_all}
-use Rattle.requirement_table.specs.declared.entry.Entry.{Entry}
-use Rattle.requirement_table.specs.declared.entry.Placed.{Placed}
-use Rattle.requirement_table.specs.Instances.{cost_of, released_mask}
+use Rattle.requirement_table.specs.declared.entries.Entry.{Entry}
+use Rattle.requirement_table.specs.declared.entries.Placed.{Placed}
+use Rattle.requirement_table.specs.Table.{released_in}
 use Rattle.fttcan_top.specs.declared.input.steps.Step.{Step}
 use Rattle.fttcan_top.specs.declared.input.steps.Step.TheVariants.{Cycle, Add}
+use Rattle.fttcan_top.specs.Entries.{total_cost}
+use Rattle.fttcan_top.specs.declared.verdict.TheConstants.{HORIZON}
 use Rattle.fttcan_top.specs.declared.history.Verdict.{Verdict}
 use Rattle.fttcan_top.specs.declared.history.Verdict.TheVariants.{Accepted, TooHeavy, Horizon}
 use Rattle.fttcan_top.specs.declared.history.Event.{Event}
@@ -40,43 +42,31 @@ placed_of history = flat_map placed_of_event history
 
 -- Verdicts
 
--- the number of cycles within which a recurrence has to be found
-abbrev pub horizon : ℕ
-horizon = 10000
-
--- the worst lengths of all entries together, in bit times
-abbrev pub total_cost : List Placed → ℕ
-total_cost placed = sum_by (λ p. cost_of p.entry.length) placed
-
--- the periods of the entries, in cycles
-abbrev pub periods_of : List Placed → List ℕ
-periods_of placed = map (λ p. p.entry.period) placed
-
 -- the first cycle from `from` on by which each entry has begun: the greatest of `from` and of each entry's origin and phase together
 abbrev pub settled_from : ℕ → List Placed → ℕ
 settled_from from placed = fold max from (map (λ p. p.origin + p.entry.phase) placed)
 
--- a number above 0 that each period divides
-pub record IsCommonMultiple (periods : List ℕ) (multiple : ℕ) : Type 0 where
+-- a number above 0 that the period of each entry divides
+pub record IsCommonPeriod (placed : List Placed) (multiple : ℕ) : Type 0 where
   pub positive : 0 < multiple
-  pub divided : All (λ period. multiple % period ≡ 0) periods
+  pub divided : All (λ p. multiple % p.entry.period ≡ 0) placed
 
--- the least of them; it is 1 where there is no period
-pub record IsLeastCommonMultiple (periods : List ℕ) (multiple : ℕ) : Type 0 where
-  pub common : IsCommonMultiple periods multiple
-  pub least : (other : ℕ) → IsCommonMultiple periods other → multiple ≤ other
+-- the least of them; it is 1 where there is no entry
+pub record IsLeastCommonPeriod (placed : List Placed) (multiple : ℕ) : Type 0 where
+  pub common : IsCommonPeriod placed multiple
+  pub least : (other : ℕ) → IsCommonPeriod placed other → multiple ≤ other
 
--- the verdict on a change that makes this list of placed entries, planned from the cycle `from` in a window of so many bit times:
+-- the verdict on a change that makes this list of placed entries, planned from the cycle `from` in windows of at most `window` bit times:
 -- the first of too heavy, beyond the horizon, and accepted
 abbrev pub IsVerdict : ℕ → List Placed → ℕ → Verdict → Type 0
 IsVerdict window placed from (TooHeavy sum limit) =
     (sum ≡ total_cost placed) × (limit ≡ window) × (window < total_cost placed)
 IsVerdict window placed from (Horizon first walked) =
-    (total_cost placed ≤ window) × (first ≡ from) × (walked ≡ horizon)
-    × ((multiple : ℕ) → IsCommonMultiple (periods_of placed) multiple → from + horizon < settled_from from placed + multiple)
+    (total_cost placed ≤ window) × (first ≡ from) × (walked ≡ HORIZON)
+    × ((multiple : ℕ) → IsCommonPeriod placed multiple → from + HORIZON < settled_from from placed + multiple)
 IsVerdict window placed from (Accepted first length) =
-    (total_cost placed ≤ window) × (first ≡ settled_from from placed) × IsLeastCommonMultiple (periods_of placed) length
-    × (first + length ≤ from + horizon)
+    (total_cost placed ≤ window) × (first ≡ settled_from from placed) × IsLeastCommonPeriod placed length
+    × (first + length ≤ from + HORIZON)
 
 -- Legal histories
 
@@ -95,7 +85,7 @@ abbrev pub IsRight : ℕ → List Event → Event → Type 0
 IsRight window before (Submit caller start entry from verdict) =
     (from ≡ next_of before) × IsVerdict window (placed_of before ++ placed_at start entry ∷ []) from verdict
 IsRight window before (Open cycle mask) =
-    (cycle ≡ next_of before) × (mask ≡ released_mask (placed_of before) cycle)
+    (cycle ≡ next_of before) × (mask ≡ released_in (placed_of before) cycle)
 
 -- each of the events is right after those before it
 abbrev pub AreRight : ℕ → List Event → List Event → Type 0

@@ -1,7 +1,13 @@
+pub mod Entries
 pub mod Words
 pub mod Status
+pub mod Chain
+pub mod StepsFile
+pub mod SystemFile
 pub mod History
-pub mod Offered
-pub mod Kept
-pub mod Log
 pub mod Output
+pub mod Loads
+pub mod Offered
+pub mod Window
+pub mod Kept
+pub mod Running

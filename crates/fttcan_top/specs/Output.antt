@@ -13,7 +13,6 @@ use Rattle.fttcan_top.specs.SystemFile.{system_of}
 use Rattle.fttcan_top.specs.StepsFile.{steps_of}
 use Rattle.fttcan_top.specs.Words.{Command, replay, command_of}
 use Rattle.fttcan_top.specs.History.{AnswersSteps, all_accepted}
-use Rattle.fttcan_top.specs.Kept.{Kept}
 
 -- What is asked
 
@@ -69,11 +68,6 @@ abbrev pub asked : List (List ℕ) → NamedFiles → Result Asked Stopped
 asked words files = asked_by files (command_of words)
 
 -- What is run
-
--- a run of the job: the history answers its steps, and history and trace keep what is promised
-pub record IsRunOf (job : Asked) (history : List Event) (trace : List TimedFrame) : Type 0 where
-  pub answers : AnswersSteps history job.steps
-  pub kept : Kept job.system.layout history trace
 
 -- how a run ends: refused where some change was refused
 abbrev pub status_of : List Event → Status

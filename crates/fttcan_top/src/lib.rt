@@ -1,7 +1,13 @@
 //! The top of fttcan: the commands, from the bytes of the files that the words name to the bytes that are written.
 #![tactic(auto)]
 
+mod history;
+pub mod input;
+mod load;
+mod rows;
 mod status;
+mod verdict;
 mod words;
 
+pub use history::{Event, Verdict};
 pub use status::Status;

@@ -8,7 +8,9 @@ ghost use Rattle.fttcan_top.specs.Loads.{Explains, asked_of};
 ghost use Rattle.fttcan_top.specs.StepsFile.{AreSteps};
 ghost use Rattle.fttcan_top.specs.Words.{replay};
 
-use crate::input::{InputFault, Step, System, read_steps, read_system};
+use crate::input::InputFault;
+use crate::input::steps::{Step, read_steps};
+use crate::input::system::{System, read_system};
 use ftt_io::{FetchFault, Shelf};
 use std::alloc::Global;
 

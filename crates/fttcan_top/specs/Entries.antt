@@ -1,0 +1,17 @@
+-- The entries of the table, all without an end: what is in range, and what they cost together.
+use Rattle.std.specs.Prelude.{◌≡◌, ℕ, ◌<◌, ◌≤◌, List, None, sum_by}
+use Rattle.requirement_table.specs.declared.entries.Placed.{Placed}
+use Rattle.requirement_table.specs.declared.slots.TheConstants.{SLOTS}
+use Rattle.requirement_table.specs.Instance.{worst}
+
+-- an entry without an end, within its ranges
+pub record IsLive (p : Placed) : Type 0 where
+  pub known : p.entry.slot < SLOTS
+  pub few : p.entry.length ≤ 8
+  pub some_time : 1 ≤ p.entry.deadline
+  pub deadline : p.entry.deadline ≤ p.entry.period
+  pub no_end : p.end ≡ None
+
+-- the worst lengths of all entries together, in bit times
+abbrev pub total_cost : List Placed → ℕ
+total_cost placed = sum_by (λ p. worst p.entry.length) placed
