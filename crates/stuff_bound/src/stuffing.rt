@@ -25,7 +25,10 @@ pub enum StuffFault {
 impl fmt::Display for StuffFault {
     fn fmt<W: fmt::Write>(&self, f: &mut fmt::Formatter<W>) -> fmt::Result {
         match self {
-            StuffFault::SixEqual { place } => write!(f, "the sixth of six equal bits at place {place}"),
+            StuffFault::SixEqual { place } => write!(
+                f,
+                "the sixth of six equal bits at place {place}"
+            ),
             StuffFault::Ends { len } => write!(f, "five equal bits end the list of {len} bits"),
             StuffFault::Memory => write!(f, "out of memory"),
         }

@@ -1,7 +1,6 @@
-use Rattle.std.proofs.Common.{arith, ◌≡◌, ℕ, Bool, List, Err, Ok, sym, ap, ◌∙◌}
-use Rattle.stuff_bound.specs.Stuffing.{Stuffs}
-use Rattle.stuff_bound.specs.StuffFault.{HasFirstSixth, EndsInFive}
-use Rattle.stuff_bound.specs.declared.stuffing.StuffFault.TheVariants.{SixEqual, Ends, Memory}
+use Rattle.std.proofs.Common.{arith, ◌≡◌, Err, sym, ap, ◌∙◌}
+use Rattle.stuff_bound.specs.StuffFault.{HasFirstSixth}
+use Rattle.stuff_bound.specs.declared.stuffing.StuffFault.TheVariants.{SixEqual}
 use Rattle.stuff_bound.proofs.Faults.{not_with_sixth, first_sixth_only, first_sixth, not_once_read}
 use Rattle.stuff_bound.proofs.stuffing.unstuff.Goals as goal
 
