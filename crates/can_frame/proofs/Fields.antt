@@ -1,10 +1,9 @@
 -- The bits of a number in a field, and the number of a field's bits.
-use Rattle.std.proofs.Common.{◌≡◌, ℕ, zero, suc, ◌+◌, ◌-◌, ◌*◌, ◌/◌, ◌%◌, ◌^◌, ◌<◌, ◌≤◌, ◌==◌, Bool, true, false, List, [], ◌∷◌, ◌++◌, length, bit_and, nat_eq, append_assoc, refl, sym, ap, ◌∙◌, arith}
+use Rattle.std.proofs.Common.{◌≡◌, ℕ, zero, suc, ◌+◌, ◌-◌, ◌/◌, ◌%◌, ◌^◌, ◌<◌, ◌≤◌, Bool, List, [], ◌∷◌, ◌++◌, length, bit_and, nat_eq, append_assoc, refl, sym, ap, ◌∙◌, arith}
 use Rattle.std.proofs.Math.Nat.{div-div-eq-div-mul, pow-suc, sub_self}
 use Rattle.std.proofs.lemmas.List.{append-nil, length-append}
-use Rattle.std.proofs.lemmas.List.Sums.{fold_push}
 use Rattle.std.proofs.lemmas.Nat.{and_mask}
-use Rattle.can_frame.specs.Number.{bits, number}
+use Rattle.can_frame.specs.Number.{bits}
 
 -- before the first bit of a field was put behind a list
 pub bits-none : (sent : List Bool) (width value : ℕ) → sent ≡ sent ++ bits (width - width) value

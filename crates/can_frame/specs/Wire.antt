@@ -13,17 +13,19 @@ dominant = false
 abbrev pub recessive : Bool
 recessive = true
 
--- the bits that the CRC sequence covers, in the order of sending: start of frame, identifier, RTR, r1, r0, data length code,
--- and each data byte
-unfoldable pub covered : DataFrame → List Bool
-covered frame =
+-- start of frame, identifier, RTR, r1, r0 and data length code, in the order of sending
+unfoldable pub header : ℕ → ℕ → List Bool
+header identifier code =
     (dominant ∷ [])
-    ++ bits 11 frame.identifier
+    ++ bits 11 identifier
     ++ (dominant ∷ [])
     ++ (dominant ∷ [])
     ++ (dominant ∷ [])
-    ++ bits 4 (length frame.bytes)
-    ++ flat_map (bits 8) frame.bytes
+    ++ bits 4 code
+
+-- the bits that the CRC sequence covers: those fields, and each data byte
+unfoldable pub covered : DataFrame → List Bool
+covered frame = header frame.identifier (length frame.bytes) ++ flat_map (bits 8) frame.bytes
 
 -- the bits that are stuffed, where the CRC sequence is this one
 unfoldable pub with_sequence : DataFrame → ℕ → List Bool

@@ -5,6 +5,8 @@
 mod bit_list;
 mod data_frame;
 mod register;
+#[cfg(test)]
+mod tests;
 mod wire_bits;
 
 pub use data_frame::{Frame, FrameFault, MAX_BYTES, MAX_IDENTIFIER, TimedFrame};

@@ -19,7 +19,7 @@ const TRAILER_LEN: usize = 13;
 
 /// The bits behind the stuffed part: CRC delimiter, acknowledgement slot, acknowledgement delimiter,
 /// seven bits of end of frame and three of intermission (CAN 2.0 Part A, data frame and interframe space).
-const TRAILER: [bool; 13] = [
+pub const TRAILER: [bool; 13] = [
     true, false, true, true, true, true, true, true, true, true, true, true, true,
 ];
 
@@ -78,7 +78,8 @@ pub fn wire_len(frame: &Frame) -> u32
 pub fn wire(alloc: Global, frame: &Frame) -> Result<Vec<bool>, AllocError>
     ensures value { IfOk result (λ bits. bits.items ≡ wire_of frame.now) }
 {
-    let mut bits = stuff(alloc, plain_bits(frame).as_slice())?;
+    let list = plain_bits(frame);
+    let mut bits = stuff(alloc, list.as_slice())?;
     bits.extend_from_slice(&TRAILER)?;
     Ok(bits)
 }
