@@ -2,8 +2,10 @@
 //! something is offered, the offered frame with the least identifier is sent whole. All times are bit times.
 #![tactic(auto)]
 
+mod laws;
 mod line;
 mod stations;
 
+pub use laws::{Offering, trace_laws};
 pub use line::run_until;
 pub use stations::Stations;
