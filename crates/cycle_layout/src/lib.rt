@@ -175,6 +175,15 @@ mod tests {
             Layout::new(100_000, 0, 16_384),
             Err(LayoutFault::WindowRange)
         );
+        let narrow = LayoutFault::TooNarrow {
+            need: 435,
+            have: 400,
+        };
+        let text = format!(in rt.alloc(); "{narrow}")?;
+        assert_eq!(rt;
+            text.as_str(),
+            "435 bit times are needed, and the cycle has 400"
+        );
         let layout = Layout::new(435, 0, 300)?;
         assert_eq!(rt;
             (layout.cycle(), layout.turnaround(), layout.window()),
