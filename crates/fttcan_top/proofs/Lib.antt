@@ -1,2 +1,3 @@
 mod StepsText
 mod StepsRows
+mod StepsTogether

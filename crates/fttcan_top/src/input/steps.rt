@@ -5,7 +5,7 @@
 //! zeros are allowed. The counts of all rows sum to at most 20,000, START is at least the sum of
 //! the counts above it, and no SLOT stands in two rows.
 
-ghost use Rattle.std.specs.Prelude.{◌≡◌, ◌^◌, ◌<◌, ◌-◌, IfOk, Some, None, Err, map, IfSome, nat_le, option_and_then, option_map, reverse};
+ghost use Rattle.std.specs.Prelude.{◌≡◌, ◌^◌, ◌<◌, ◌≤◌, ◌-◌, IfOk, Some, None, Err, map, IfSome, nat_le, option_and_then, option_map, reverse};
 ghost use Rattle.std.specs.Char.{is_ascii_digit};
 ghost use Rattle.std.specs.List.{list_all};
 ghost use Rattle.std.specs.Range.{range_inclusive_start, range_inclusive_end};
@@ -214,12 +214,13 @@ fn run_few_cycles(steps: &[Step]) -> bool
 
 // Whether no step starts before the cycles that the steps above it run.
 fn all_start_in_time(steps: &[Step]) -> bool
+    requires { cycles_of steps.now ≤ 20000 }
     ensures { result ≡ start_in_time 0 steps.now }
 {
     let mut run = 0u64;
     for step in steps {
         match step {
-            Step::Cycle { count } => run = run.saturating_add(*count),
+            Step::Cycle { count } => run += *count,
             Step::Add { start, .. } => {
                 if *start < run {
                     return false;
