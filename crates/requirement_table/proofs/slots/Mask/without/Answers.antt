@@ -1,0 +1,6 @@
+use Rattle.std.proofs.Common.{arith}
+use Rattle.requirement_table.proofs.SlotSets.{contains_slot-without}
+use Rattle.requirement_table.proofs.slots.Mask.without.Goals as goal
+
+pub returns : goal.returns
+returns c = record { slots = λ s. rw c.self.view_is (contains_slot-without c.args.self c.args.slot s (omega arith) (omega arith)) }

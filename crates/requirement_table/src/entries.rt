@@ -1,0 +1,82 @@
+//! Entries of the table, placed entries, and the order of one cycle.
+
+ghost use Rattle.std.specs.Prelude.{◌≡◌};
+
+use crate::slots::Mask;
+use std::marker::Model;
+
+/// A synchronous requirement: one frame of a slot in each period.
+///
+/// Phase, period and deadline are counted in elementary cycles.
+#[derive(Clone, Copy, PartialEq, Eq, Debug)]
+pub struct Entry {
+    /// The slot, 0 to 39. Its frames have the identifier 0x100 + slot.
+    pub slot: u8,
+    /// The node that sends the frames.
+    pub node: u8,
+    /// The number of data bytes of a frame, 0 to 8.
+    pub length: u8,
+    /// The cycles from the origin to the first release.
+    pub phase: u16,
+    /// The cycles from one release to the next, at least 1.
+    pub period: u16,
+    /// The number of cycles in which an instance may be sent, 1 to the period; the first of them is
+    /// that of its release.
+    pub deadline: u16,
+    /// The first tie break of every policy; the least goes first.
+    pub priority: u8,
+}
+
+/// An entry in its place in time.
+#[derive(Clone, Copy, PartialEq, Eq, Debug)]
+pub struct Placed {
+    pub entry: Entry,
+    /// The cycle from which phase and periods are counted.
+    pub origin: u64,
+    /// The cycle from which nothing more is released. Without an end the entry is live.
+    pub end: Option<u64>,
+}
+
+/// A list of placed entries that a value holds. Contracts see the list.
+#[derive(Drop, Debug)]
+pub struct PlacedList {
+    entries: Vec<Placed>,
+}
+
+impl Model for PlacedList {
+    ghost use Rattle.std.specs.Prelude.{List};
+    ghost use Rattle.requirement_table.specs.declared.entries.Placed.{Placed};
+
+    ghost Value = { List Placed };
+
+    ghost view = { λ l. l.entries.items };
+}
+
+impl PlacedList {
+    /// The list of the vector's items.
+    pub fn of(entries: Vec<Placed>) -> PlacedList
+        ensures list { result ≡ entries.items }
+    {
+        PlacedList { entries }
+    }
+
+    /// The list as a slice.
+    pub fn as_slice(&self) -> &[Placed]
+        ensures list { result.now ≡ self.now }
+    {
+        self.entries.as_slice()
+    }
+}
+
+/// What the master orders for one elementary cycle.
+#[derive(Drop, Debug)]
+pub struct Order {
+    /// The cycle, from 0.
+    pub cycle: u64,
+    /// The flagged slots, whose frames are sent in this cycle's synchronous window.
+    pub mask: Mask,
+    /// The length of the synchronous window in bit times.
+    pub l: u32,
+    /// The placed entries that the nodes learn before this cycle, where they changed.
+    pub learned: Option<PlacedList>,
+}

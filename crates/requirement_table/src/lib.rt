@@ -1,0 +1,16 @@
+//! The table of synchronous requirements of an FTT-CAN master: entries and how they are placed, the
+//! instances that a placed entry releases, and sets of slots.
+//!
+//! Time is counted in elementary cycles from 0. A cycle number handed to any call is below 2^42.
+#![tactic(auto)]
+
+mod entries;
+mod instances;
+pub mod laws;
+mod lists;
+mod slots;
+
+pub use entries::{Entry, Order, Placed, PlacedList};
+pub use instances::{Payload, cost, current, due, releases};
+pub use lists::well_placed;
+pub use slots::{Mask, SLOTS};

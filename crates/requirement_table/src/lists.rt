@@ -1,0 +1,56 @@
+//! Lists of placed entries.
+
+ghost use Rattle.std.specs.Prelude.{◌≡◌, ℕ, ◌+◌, ◌^◌, ◌<◌, ◌≤◌, ◌↔◌, IsTrue, Some, IsSomeAnd, All};
+ghost use Rattle.requirement_table.specs.Table.{IsInRange, IsFreeAt, IsWellPlaced};
+
+use crate::entries::Placed;
+use crate::slots::SLOTS;
+
+/// Whether the list is well placed: all fields are in range, no end is below its entry's origin, and
+/// in each slot the entries stand in order, each free before the next one's origin, with at most the
+/// last one live.
+///
+/// The range of an origin and of an end is that of a cycle number, below 2^42. A node has no range.
+pub fn well_placed(placed: &[Placed]) -> bool
+    ensures well_placed { IsTrue result ↔ IsWellPlaced placed.now }
+{
+    // The cycle from which each slot is free; nothing while it has a live entry.
+    let mut free_from = [Some(0); SLOTS as usize];
+    for p in placed {
+        if !is_in_range(p) || !is_free(free_from[usize::from(p.entry.slot)], p.origin) {
+            return false;
+        }
+        free_from[usize::from(p.entry.slot)] = free_after(p);
+    }
+    true
+}
+
+/// Whether all fields of a placed entry are in range.
+fn is_in_range(p: &Placed) -> bool
+    ensures { IsTrue result ↔ IsInRange p.now }
+{
+    let entry = &p.entry;
+    entry.slot < SLOTS
+        && entry.length <= 8
+        && (1..=entry.period).contains(&entry.deadline)
+        && p.origin < CYCLES
+        && p.end.is_none_or(|end| p.origin <= end && end < CYCLES)
+}
+
+/// Whether a slot that is free from a cycle on, where it is, is free at `cycle`.
+fn is_free(free_from: Option<u64>, cycle: u64) -> bool
+    ensures { IsTrue result ↔ IsSomeAnd free_from (λ from. from ≤ cycle) }
+{
+    free_from.is_some_and(|from| from <= cycle)
+}
+
+/// The cycle from which the slot of a placed entry is free again: end + deadline - 1.
+fn free_after(p: &Placed) -> Option<u64>
+    requires { IsInRange p.now }
+    ensures { (c : ℕ) → IsSomeAnd result (λ from. from ≤ c) ↔ IsFreeAt p.now c }
+{
+    p.end.map(|end| end + u64::from(p.entry.deadline) - 1)
+}
+
+/// Cycle numbers are below this.
+const CYCLES: u64 = 1 << 42;
