@@ -1,0 +1,225 @@
+//! The layout of an elementary cycle: the trigger, the turnaround, the asynchronous window and the synchronous window
+//! that ends the cycle. All lengths and times are bit times.
+#![tactic(auto)]
+
+ghost use Rattle.std.specs.Prelude.{◌≡◌, ℕ, ◌+◌, ◌*◌, ◌/◌, ◌^◌, ◌<◌, ◌≤◌, ◌↔◌, IfErr, IfOk, IsTrue};
+ghost use Rattle.cycle_layout.specs.Layout.{IsAllowed, IsLayout, async_open, sync_start};
+ghost use Rattle.cycle_layout.specs.LayoutFault.{Refuses};
+
+use std::error::Error;
+use std::fmt;
+use std::marker::Model;
+use stuff_bound::bound;
+
+/// The number of data bytes of a trigger message.
+const TRIGGER_BYTES: u8 = 8;
+
+/// The lengths that are the same in every cycle: those of the cycle itself, of the turnaround behind the trigger and
+/// of the largest synchronous window.
+#[derive(Clone, Copy, Debug, PartialEq, Eq)]
+pub struct Layout {
+    cycle: u32,
+    turnaround: u32,
+    window: u32,
+}
+
+impl Model for Layout {
+    ghost use Rattle.cycle_layout.specs.Layout.{CycleLayout, IsLayout};
+
+    ghost Value = { CycleLayout };
+
+    ghost view = { λ l. record { cycle = l.cycle; turnaround = l.turnaround; window = l.window } };
+
+    ghost invariant = { λ l. IsLayout (record { cycle = l.cycle; turnaround = l.turnaround; window = l.window }) };
+
+    ghost inverse = { λ l. record { cycle = l.cycle; turnaround = l.turnaround; window = l.window } };
+}
+
+/// Why three numbers are no layout.
+#[derive(Clone, Copy, Debug, PartialEq, Eq)]
+pub enum LayoutFault {
+    /// The cycle is not 400 to 100,000 bit times long.
+    CycleRange,
+    /// The turnaround is above 1,000 bit times.
+    TurnRange,
+    /// The largest synchronous window is not 55 to 16,383 bit times long.
+    WindowRange,
+    /// The longest trigger, the turnaround and the largest synchronous window need more than the cycle has.
+    TooNarrow { need: u32, have: u32 },
+}
+
+impl fmt::Display for LayoutFault {
+    fn fmt<W: fmt::Write>(&self, f: &mut fmt::Formatter<W>) -> fmt::Result {
+        match self {
+            LayoutFault::CycleRange => write!(f, "the cycle is not 400 to 100000 bit times long"),
+            LayoutFault::TurnRange => write!(f, "the turnaround is above 1000 bit times"),
+            LayoutFault::WindowRange => {
+                write!(f, "the window is not 55 to 16383 bit times long")
+            }
+            LayoutFault::TooNarrow { need, have } => {
+                write!(f, "{need} bit times are needed, and the cycle has {have}")
+            }
+        }
+    }
+}
+
+impl Error for LayoutFault {}
+
+impl Layout {
+    /// The layout with cycles of `e` bit times, the turnaround `r` and synchronous windows of at most `w` bit times.
+    ///
+    /// A cycle out of its range is refused first, then a turnaround, then a window, then a cycle that is too narrow.
+    pub fn new(e: u32, r: u32, w: u32) -> Result<Layout, LayoutFault>
+        ensures layout { IfOk result (λ l. l ≡ record { cycle = e; turnaround = r; window = w }) }
+        ensures known { IfOk result IsLayout }
+        ensures fault { IfErr result (Refuses e r w) }
+    {
+        if !(400..=100_000).contains(&e) {
+            return Err(LayoutFault::CycleRange);
+        }
+        if r > 1_000 {
+            return Err(LayoutFault::TurnRange);
+        }
+        if !(55..=16_383).contains(&w) {
+            return Err(LayoutFault::WindowRange);
+        }
+        let need = bound(TRIGGER_BYTES) + r + w;
+        if need > e {
+            return Err(LayoutFault::TooNarrow { need, have: e });
+        }
+        Ok(Layout {
+            cycle: e,
+            turnaround: r,
+            window: w,
+        })
+    }
+
+    /// The length of a cycle.
+    pub fn cycle(&self) -> u32
+        ensures value { result ≡ self.now.cycle }
+        ensures known { IsLayout self.now }
+    {
+        self.cycle
+    }
+
+    /// The turnaround: the time that nodes have between the longest trigger and the asynchronous window.
+    pub fn turnaround(&self) -> u32
+        ensures value { result ≡ self.now.turnaround }
+        ensures known { IsLayout self.now }
+    {
+        self.turnaround
+    }
+
+    /// The length of the largest synchronous window.
+    pub fn window(&self) -> u32
+        ensures value { result ≡ self.now.window }
+        ensures known { IsLayout self.now }
+    {
+        self.window
+    }
+
+    /// The start of the asynchronous window of a cycle.
+    pub fn async_open(&self, cycle: u64) -> u64
+        requires { cycle < 2 ^ 42 }
+        ensures value { result ≡ async_open self.now cycle }
+    {
+        cycle * u64::from(self.cycle) + u64::from(bound(TRIGGER_BYTES) + self.turnaround)
+    }
+
+    /// The start of the synchronous window of a cycle, where that window has the length `l`.
+    pub fn sync_start(&self, cycle: u64, l: u32) -> u64
+        requires cycle { cycle < 2 ^ 42 }
+        requires window { l ≤ self.now.window }
+        ensures value { result ≡ sync_start self.now cycle l }
+    {
+        (cycle + 1) * u64::from(self.cycle) - u64::from(l)
+    }
+
+    /// Whether a frame of `dlc` data bytes may start at the time `at`, where the synchronous window of that cycle has
+    /// the length `l`: the asynchronous window has opened, and the longest frame of so many bytes ends before the
+    /// synchronous window.
+    pub fn fits(&self, at: u64, dlc: u8, l: u32) -> bool
+        requires bytes { dlc ≤ 8 }
+        requires window { l ≤ self.now.window }
+        ensures allowed { IsTrue result ↔ IsAllowed self.now dlc at (at / self.now.cycle) l }
+    {
+        let into = at % u64::from(self.cycle);
+        let opened = u64::from(bound(TRIGGER_BYTES) + self.turnaround);
+        let closed = u64::from(self.cycle - l);
+        opened <= into && into + u64::from(bound(dlc)) <= closed
+    }
+}
+
+#[cfg(test)]
+mod tests {
+    use super::*;
+    use std::test::Fail;
+
+    #[test]
+    fn layout_limits(rt: HostRuntime) -> Result<(), Fail> {
+        assert_eq!(rt;
+            Layout::new(400, 0, 300),
+            Err(LayoutFault::TooNarrow {
+                need: 435,
+                have: 400
+            })
+        );
+        assert_eq!(rt; Layout::new(399, 0, 300), Err(LayoutFault::CycleRange));
+        assert_eq!(rt;
+            Layout::new(100_001, 1_001, 54),
+            Err(LayoutFault::CycleRange)
+        );
+        assert_eq!(rt; Layout::new(400, 1_001, 54), Err(LayoutFault::TurnRange));
+        assert_eq!(rt; Layout::new(400, 1_000, 54), Err(LayoutFault::WindowRange));
+        assert_eq!(rt;
+            Layout::new(100_000, 0, 16_384),
+            Err(LayoutFault::WindowRange)
+        );
+        let narrow = LayoutFault::TooNarrow {
+            need: 435,
+            have: 400,
+        };
+        let text = format!(in rt.alloc(); "{narrow}")?;
+        assert_eq!(rt;
+            text.as_str(),
+            "435 bit times are needed, and the cycle has 400"
+        );
+        let layout = Layout::new(435, 0, 300)?;
+        assert_eq!(rt;
+            (layout.cycle(), layout.turnaround(), layout.window()),
+            (435, 0, 300)
+        );
+        Ok(())
+    }
+
+    #[test]
+    fn fits_at_the_edges(rt: HostRuntime) -> Result<(), Fail> {
+        let layout = Layout::new(1_000, 30, 135)?;
+        assert_eq!(rt; layout.async_open(1), 1_165);
+        assert_eq!(rt; layout.sync_start(1, 135), 1_865);
+        let table = [
+            (0, 0, 0, false),
+            (164, 8, 0, false),
+            (165, 8, 0, true),
+            (730, 8, 135, true),
+            (731, 8, 135, false),
+            (810, 0, 135, true),
+            (811, 0, 135, false),
+            (865, 8, 0, true),
+            (866, 8, 0, false),
+            (945, 0, 0, true),
+            (946, 0, 0, false),
+            (1_164, 0, 0, false),
+            (1_165, 0, 0, true),
+        ];
+        for (at, bytes, window, want) in table {
+            assert!(rt; bytes <= 8 && window <= layout.window());
+            assert_eq!(rt;
+                layout.fits(at, bytes, window),
+                want,
+                "{bytes} bytes at {at}"
+            );
+        }
+        Ok(())
+    }
+}

@@ -1,0 +1,4 @@
+//! Stand-in root.
+#![tactic(auto)]
+
+pub mod input;

@@ -1,0 +1,2 @@
+mod Stuffs
+mod Faults
