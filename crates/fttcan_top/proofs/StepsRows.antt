@@ -1,16 +1,17 @@
 -- The records of a text, one after the other, and the steps that they ask for.
-use Rattle.std.proofs.Common.{◌≡◌, ℕ, ◌+◌, ◌<◌, ◌≤◌, Bool, true, false, not, ◌==◌, ◌&&◌, ◌||◌, cond, List, [], ◌∷◌, ◌++◌, length, map, Option, Some, None, option_map, option_and_then, zero, suc, refl, sym, ap, ◌∙◌, arith, append_assoc, inl, inr, ◌⊎◌, ◌-◌, lit≤, add-one}
+use Rattle.std.proofs.Common.{Bor, ◌≡◌, ℕ, ◌+◌, ◌<◌, ◌≤◌, Bool, true, false, not, ◌==◌, ◌&&◌, ◌||◌, cond, List, [], ◌∷◌, ◌++◌, length, map, Option, Some, None, option_map, option_and_then, zero, suc, refl, sym, ap, ◌∙◌, arith, append_assoc, inl, inr, ◌⊎◌, ◌-◌, lit≤, add-one}
 use Rattle.std.proofs.lemmas.Bool.{cases_Bool, false≢true}
 use Rattle.std.proofs.lemmas.Option.{none-some, same_Some}
 use Rattle.std.proofs.lemmas.List.{append-nil}
 use Rattle.csv.specs.Machine.{Read, after_end, ends_at_end, ends_with, field_after, fields_after, in_field, is_end, next_record, start_field, start_record, step}
 use Rattle.csv.proofs.ReadFacts.{rows-more}
-use Rattle.csv.specs.Reading.{Reached, ReadRecord, default_config, records_from, records_next, source_of}
+use Rattle.csv.specs.Reading.{Reached, ReadRecord, Ready, default_config, records_from, records_next, source_of}
 use Rattle.csv.specs.declared.reader.Reader.{Reader}
+use Rattle.csv.specs.declared.reader.Trim.TheVariants as trim
 use Rattle.csv.specs.declared.parser.Action.{Action}
 use Rattle.csv.specs.declared.parser.State.{State}
 use Rattle.csv.specs.declared.parser.State.TheVariants as st
-use Rattle.fttcan_top.specs.StepsFile.{step_of_row, steps_of_rows, trimmed}
+use Rattle.fttcan_top.specs.StepsFile.{rows_of, step_of_row, steps_of_rows, trimmed}
 use Rattle.fttcan_top.specs.declared.input.steps.Step.{Step}
 
 -- the reader stands between two records
@@ -160,3 +161,13 @@ unfolding Reached
 read_one rem a b fields left config source read =
     let m = rows-more rem a b fields default_config a.state left left [] config source (refl, refl) read in
     (m.0, m.1, m.2.1 ∙ ap Some (same_read m.2.0 fields b.state m.0 m.2.2 m.2.3.0 m.2.3.1))
+
+-- how a reader stands between two rows: it has these bytes left, and the steps so far, and then those of the rows left, are those of all rows
+pub record Reads (nodes : ℕ) (bytes : List ℕ) (reader : Reader (Bor (List ℕ))) (steps : List Step) : Type 0 where
+  pub trim : reader.trim ≡ trim.None
+  pub ready : Ready reader
+  pub config : reader.config ≡ default_config
+  pub between : Between reader.state
+  pub left : List ℕ
+  pub source : source_of (λ s. Some s.now) reader ≡ Some left
+  pub rows : steps_of_rows nodes (rows_of bytes) ≡ and_then_steps steps (steps_left nodes reader.state left)

@@ -1,15 +1,18 @@
 -- What holds of all steps of a file together, one step after the other.
-use Rattle.std.proofs.Common.{◌≡◌, ℕ, ◌+◌, ◌<◌, ◌≤◌, Bool, true, false, not, ◌&&◌, ◌||◌, List, [], ◌∷◌, ◌++◌, length, get_or, take, drop, nat_eq, nat_le, refl, sym, ap, ◌∙◌, arith, add-zero, set, ◌≢◌, inl, inr}
-use Rattle.std.proofs.lemmas.Bool.Decides.{nat_tests}
+use Rattle.std.proofs.Common.{All, IfSome, ◌≡◌, ℕ, ◌+◌, ◌<◌, ◌≤◌, Bool, true, false, not, ◌&&◌, ◌||◌, List, [], ◌∷◌, ◌++◌, length, get_or, take, drop, nat_eq, nat_le, refl, sym, ap, ◌∙◌, arith, add-zero, inl, inr}
+use Rattle.std.proofs.lemmas.Bool.Decides.{Decides-eqb, nat_tests}
 use Rattle.std.proofs.lemmas.Bool.{and_parts, cases_Bool, false≢true, or_parts}
-use Rattle.std.proofs.Math.Bool.{and-false, or-false, or-true}
+use Rattle.std.proofs.Math.Bool.{and-false, or_comm, or-false, or-true}
 use Rattle.std.proofs.lemmas.List.Elements.{filter_map-append}
 use Rattle.std.proofs.lemmas.List.Folds.{list_any-append}
-use Rattle.std.specs.List.{list_any}
-use Rattle.std.proofs.lemmas.List.{drop_more, get_or-set_other, get_or-set_same, take-append-drop, take_more}
-use Rattle.std.proofs.lemmas.List.Sums.{sum_by_more, sum_by-take-le}
-use Rattle.requirement_table.specs.declared.entry.Entry.{Entry}
-use Rattle.fttcan_top.specs.StepsFile.{are_distinct, count_of, cycles_of, slot_of, slots_of, start_in_time}
+use Rattle.std.specs.List.{AllByRecursion, IsDistinct, list_any}
+use Rattle.std.proofs.lemmas.List.{drop_more, take-append-drop, take_more}
+use Rattle.std.proofs.lemmas.List.Sums.{sum_by_more, sum_by-cons}
+use Rattle.std.proofs.lemmas.Map.Made.{AllPairs-from_IsDistinct, IsDistinct-from_AllPairs}
+use Rattle.requirement_table.specs.Slots.{contains_slot}
+use Rattle.requirement_table.specs.declared.slots.TheConstants.{SLOTS}
+use Rattle.requirement_table.specs.declared.entries.Entry.{Entry}
+use Rattle.fttcan_top.specs.StepsFile.{FitTogether, are_distinct, count_of, fit_together, cycles_of, slot_of, slots_of, start_in_time, starts_after}
 use Rattle.fttcan_top.specs.declared.input.steps.Step.{Step}
 use Rattle.fttcan_top.specs.declared.input.steps.Step.TheVariants.{Cycle, Add}
 
@@ -57,19 +60,10 @@ distinct-more (y ∷ xs) x before fresh =
     let other : nat_eq y x ≡ false = grind (arith, nat_tests) in
     rw (list_any-append (nat_eq y) xs (x ∷ []), none, other, distinct-more xs x rest there)
 
--- a slot that is marked stands in the list, and each other mark is as before
-pub marks-more : (seen : List Bool) (slots : List ℕ) (slot : ℕ) → slot < length seen
-    → ((n : ℕ) → n < length seen → get_or seen n false ≡ list_any (nat_eq n) slots)
-    → (n : ℕ) → n < length seen → get_or (set seen slot true) n false ≡ list_any (nat_eq n) (slots ++ slot ∷ [])
-marks-more seen slots slot inside marks n within =
-    elim (cases_Bool (nat_eq n slot)) [
-      | inl same ↦
-          let at : n ≡ slot = grind (arith, nat_tests) in
-          rw (list_any-append (nat_eq n) slots (slot ∷ []), same, or-true (list_any (nat_eq n) slots), at, get_or-set_same)
-      | inr other ↦
-          let apart : n ≢ slot = grind (arith, nat_tests) in
-          rw (list_any-append (nat_eq n) slots (slot ∷ []), other, or-false (list_any (nat_eq n) slots), get_or-set_other) (marks n within)
-    ]
+-- a set that holds the slots of a list, and one slot more
+pub contains-more : (old new : ℕ) (slots : List ℕ) (slot : ℕ) → ((n : ℕ) → contains_slot old n ≡ list_any (nat_eq n) slots)
+    → ((n : ℕ) → contains_slot new n ≡ (nat_eq n slot || contains_slot old n)) → (n : ℕ) → contains_slot new n ≡ list_any (nat_eq n) (slots ++ slot ∷ [])
+contains-more old new slots slot before after n = rw (after n, before n, list_any-append (nat_eq n) slots (slot ∷ []), or-false (nat_eq n slot)) (or_comm (nat_eq n slot) (list_any (nat_eq n) slots))
 
 -- the slots so far with one more step
 pub slots_more : (steps : List Step) (i : ℕ) (d step : Step) → i < length steps → get_or steps i d ≡ step → slots_of (take (i + 1) steps) ≡ slots_of (take i steps) ++ slots_of (step ∷ [])
@@ -81,3 +75,67 @@ pub slots_split : (steps : List Step) (i : ℕ) (d : Step) (caller start : ℕ) 
 slots_split steps i d caller start entry h is =
     ap slots_of (sym (take-append-drop i steps) ∙ ap (λ s. take i steps ++ s) (next_step steps i d (Add caller start entry) h is))
     ∙ filter_map-append slot_of (take i steps) (Add caller start entry ∷ drop (i + 1) steps)
+
+-- the slot of a step, where each slot of a list is a known one
+pub known_slot : (steps : List Step) (i : ℕ) (d : Step) (caller start : ℕ) (entry : Entry) → All (λ step. IfSome (slot_of step) (λ slot. slot < SLOTS)) steps
+    → i < length steps → get_or steps i d ≡ Add caller start entry → entry.slot < SLOTS
+known_slot steps i d caller start entry each h is = rw is at (each i d h)
+
+in_time_at : (run : ℕ) (above below : List Step) (caller start : ℕ) (entry : Entry) → start_in_time run (above ++ Add caller start entry ∷ below) ≡ true → run + cycles_of above ≤ start
+in_time_at run [] below caller start entry h =
+    let (here, later) = and_parts (nat_le run start) (start_in_time (run + 0) below) h in
+    grind (arith, nat_tests)
+in_time_at run (step ∷ above) below caller start entry h =
+    let (here, later) = and_parts (starts_after run step) (start_in_time (run + count_of step) (above ++ Add caller start entry ∷ below)) h in
+    omega (arith, in_time_at (run + count_of step) above below caller start entry later, sum_by-cons count_of step above)
+
+in_time_from : (run : ℕ) (steps : List Step)
+    → ((above below : List Step) (caller start : ℕ) (entry : Entry) → steps ≡ above ++ Add caller start entry ∷ below → run + cycles_of above ≤ start)
+    → start_in_time run steps ≡ true
+in_time_from run [] h = refl
+in_time_from run (Cycle count ∷ below) h =
+    in_time_from (run + count) below (λ above rest caller start entry e.
+      omega (arith, h (Cycle count ∷ above) rest caller start entry (ap (λ s. Cycle count ∷ s) e), sum_by-cons count_of (Cycle count) above))
+in_time_from run (Add caller start entry ∷ below) h =
+    let here : nat_le run start ≡ true = grind (arith, nat_tests, h [] below caller start entry refl) in
+    rw here (in_time_from (run + 0) below (λ above rest c s e same.
+      omega (arith, h (Add caller start entry ∷ above) rest c s e (ap (λ s. Add caller start entry ∷ s) same), sum_by-cons count_of (Add caller start entry) above)))
+
+none_of : (x : ℕ) (xs : List ℕ) → list_any (nat_eq x) xs ≡ false → AllByRecursion (λ y. nat_eq x y ≡ false) xs
+none_of x [] h = tt
+none_of x (y ∷ xs) h = let (here, more) = or_parts (nat_eq x y) (list_any (nat_eq x) xs) h in (here, none_of x xs more)
+
+is_distinct : (xs : List ℕ) → are_distinct xs ≡ true → IsDistinct nat_eq xs
+unfolding IsDistinct
+is_distinct [] h = tt
+is_distinct (x ∷ xs) h =
+    let (here, more) = and_parts (not (list_any (nat_eq x) xs)) (are_distinct xs) h in
+    let none : list_any (nat_eq x) xs ≡ false = grind arith in
+    (none_of x xs none, is_distinct xs more)
+
+none_from : (x : ℕ) (xs : List ℕ) → AllByRecursion (λ y. nat_eq x y ≡ false) xs → list_any (nat_eq x) xs ≡ false
+none_from x [] h = refl
+none_from x (y ∷ xs) h = rw (h.0) (none_from x xs h.1)
+
+distinct_from : (xs : List ℕ) → IsDistinct nat_eq xs → are_distinct xs ≡ true
+unfolding IsDistinct
+distinct_from [] h = refl
+distinct_from (x ∷ xs) h = rw (none_from x xs h.0) (distinct_from xs h.1)
+
+-- the test of steps says what holds of them
+pub fit_together_means : (steps : List Step) → fit_together steps ≡ true → FitTogether steps
+fit_together_means steps h =
+    let (two, distinct) = and_parts (nat_le (cycles_of steps) 20000 && start_in_time 0 steps) (are_distinct (slots_of steps)) h in
+    let (few, in_time) = and_parts (nat_le (cycles_of steps) 20000) (start_in_time 0 steps) two in
+    record {
+      few_cycles = grind (arith, nat_tests);
+      in_time = λ above below caller start entry e. omega (arith, in_time_at 0 above below caller start entry (rw e at in_time));
+      distinct_slots = AllPairs-from_IsDistinct Decides-eqb (slots_of steps) (is_distinct (slots_of steps) distinct);
+    }
+
+pub fit_together_from : (steps : List Step) → FitTogether steps → fit_together steps ≡ true
+fit_together_from steps h =
+    let few : nat_le (cycles_of steps) 20000 ≡ true = grind (arith, nat_tests, h.few_cycles) in
+    let in_time : start_in_time 0 steps ≡ true = in_time_from 0 steps (λ above below caller start entry e. omega (arith, h.in_time above below caller start entry e)) in
+    let distinct : are_distinct (slots_of steps) ≡ true = distinct_from (slots_of steps) (IsDistinct-from_AllPairs Decides-eqb (slots_of steps) h.distinct_slots) in
+    rw (few, in_time, distinct)
