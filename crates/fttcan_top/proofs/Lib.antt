@@ -7,3 +7,6 @@ mod Width
 mod Filters
 mod Runs
 mod Served
+mod StepsText
+mod StepsRows
+mod StepsTogether

@@ -7,6 +7,8 @@ use Rattle.std.specs.Str.Parse.{digits_value}
 use Rattle.csv.specs.Reading.{default_config, records, strip_bom}
 use Rattle.csv.specs.Records.{field_at}
 use Rattle.requirement_table.specs.declared.entries.Entry.{Entry}
+use Rattle.requirement_table.specs.declared.entries.Placed.{Placed}
+use Rattle.requirement_table.specs.Table.{IsInRange}
 use Rattle.fttcan_top.specs.Chain.{◌>>=◌}
 use Rattle.fttcan_top.specs.declared.input.steps.Step.{Step}
 use Rattle.fttcan_top.specs.declared.input.steps.Step.TheVariants.{Cycle, Add}
@@ -135,25 +137,30 @@ steps_of nodes bytes = steps_of_rows nodes (rows_of bytes) >>= fitting
 abbrev pub StartInTime : List Step → Type 0
 StartInTime steps = (above below : List Step) (caller start : ℕ) (entry : Entry) → steps ≡ above ++ Add caller start entry ∷ below → cycles_of above ≤ start
 
--- an entry that the rows can describe: each number in its range, and the node below their number
-pub record IsEntry (nodes : ℕ) (entry : Entry) : Type 0 where
-  pub slot : entry.slot < 40
-  pub node : entry.node < nodes
-  pub len : entry.length ≤ 8
-  pub phase : entry.phase ≤ 65535
-  pub period : entry.period ≤ 65535
-  pub some_time : 1 ≤ entry.deadline
-  pub deadline : entry.deadline ≤ entry.period
-  pub priority : entry.priority ≤ 255
+-- an entry in its place from a start on, without an end
+abbrev pub placed_from : ℕ → Entry → Placed
+placed_from start entry = record { entry = entry; origin = start; end = None }
 
--- a step with each number in its range
+-- an `add` step with each number in its range, for this many nodes
+pub record IsAdd (nodes caller start : ℕ) (entry : Entry) : Type 0 where
+  pub some_caller : 1 ≤ caller
+  pub known_caller : caller ≤ 8
+  pub early_start : start < 2 ^ 40
+  pub known_node : entry.node < nodes
+  pub in_range : IsInRange (placed_from start entry)
+
+-- a step with each number in its range, for this many nodes
 abbrev pub IsStep : ℕ → Step → Type 0
 IsStep nodes (Cycle count) = count ≤ 20000
-IsStep nodes (Add caller start entry) = (1 ≤ caller) × (caller ≤ 8) × (start < 2 ^ 40) × IsEntry nodes entry
+IsStep nodes (Add caller start entry) = IsAdd nodes caller start entry
 
--- what holds of the steps of a file
-pub record AreSteps (nodes : ℕ) (steps : List Step) : Type 0 where
-  pub in_range : All (IsStep nodes) steps
+-- what holds of all steps of a file together, as the test of it says
+pub record FitTogether (steps : List Step) : Type 0 where
   pub few_cycles : cycles_of steps ≤ 20000
   pub in_time : StartInTime steps
   pub distinct_slots : AllPairs ◌≢◌ (slots_of steps)
+
+-- what holds of the steps of a file
+pub record AreSteps (nodes : ℕ) (steps : List Step) : Type 0 where
+  pub each : All (IsStep nodes) steps
+  pub together : FitTogether steps

@@ -5,16 +5,18 @@
 //! zeros are allowed. The counts of all rows sum to at most 20,000, START is at least the sum of
 //! the counts above it, and no SLOT stands in two rows.
 
-ghost use Rattle.std.specs.Prelude.{◌≡◌, ◌^◌, ◌<◌, ◌-◌, IfOk, Some, None, Err, map, IfSome, nat_le, option_and_then, option_map, reverse};
+ghost use Rattle.std.specs.Prelude.{◌≡◌, ℕ, ◌^◌, ◌<◌, ◌≤◌, ◌-◌, IfOk, Some, None, Err, map, IfSome, nat_le, option_and_then, option_map, reverse, All, List, true, ◌↔◌};
+ghost use Rattle.requirement_table.specs.declared.slots.TheConstants.{SLOTS};
 ghost use Rattle.std.specs.Char.{is_ascii_digit};
 ghost use Rattle.std.specs.List.{list_all};
 ghost use Rattle.std.specs.Range.{range_inclusive_start, range_inclusive_end};
 ghost use Rattle.csv.specs.Records.{field_at, fields_of};
-ghost use Rattle.fttcan_top.specs.StepsFile.{without_leading_spaces, trimmed, number_of, within, number_at, entry_of_row, cycle_row, add_fields, add_row, step_of_row, steps_of_rows, rows_of, cycles_of, start_in_time, are_distinct, slots_of, fit_together, AreSteps, steps_of};
+ghost use Rattle.fttcan_top.specs.StepsFile.{without_leading_spaces, trimmed, number_of, within, number_at, entry_of_row, cycle_row, add_fields, add_row, step_of_row, steps_of_rows, rows_of, cycles_of, start_in_time, are_distinct, slot_of, slots_of, fit_together, FitTogether, placed_from, IsStep, AreSteps, steps_of};
+ghost use Rattle.requirement_table.specs.Table.{IsInRange};
 
 use super::InputFault;
 use csv::{ByteRecord, ReaderBuilder};
-use requirement_table::Entry;
+use requirement_table::{Entry, Mask};
 use std::alloc::Global;
 use std::ops::RangeInclusive;
 use std::str;
@@ -98,7 +100,8 @@ fn field_of(row: &ByteRecord, place: usize) -> Option<&[u8]>
 
 // The number in the field at this place of a row, where it is in the range.
 fn number(row: &ByteRecord, place: usize, range: RangeInclusive<u64>) -> Option<u64>
-    ensures { result ≡ number_at (map trimmed (fields_of row.now)) place (range_inclusive_start range) (range_inclusive_end range) }
+    ensures value { result ≡ number_at (map trimmed (fields_of row.now)) place (range_inclusive_start range) (range_inclusive_end range) }
+    ensures within { IfSome result (λ number. (range_inclusive_start range ≤ number) × (number ≤ range_inclusive_end range)) }
 {
     let field = field_of(row, place)?;
     let number = read_number(field)?;
@@ -111,7 +114,8 @@ fn number(row: &ByteRecord, place: usize, range: RangeInclusive<u64>) -> Option<
 
 // The entry that the fields from SLOT to PRIORITY describe.
 fn read_entry(row: &ByteRecord) -> Option<Entry>
-    ensures { result ≡ entry_of_row (map trimmed (fields_of row.now)) }
+    ensures value { result ≡ entry_of_row (map trimmed (fields_of row.now)) }
+    ensures valid { IfSome result (λ entry. IsInRange (placed_from 0 entry)) }
 {
     let slot = number(row, 3, 0..=39)?;
     let node = number(row, 4, 0..=255)?;
@@ -133,7 +137,8 @@ fn read_entry(row: &ByteRecord) -> Option<Entry>
 
 // The step of the row `cycle,COUNT`.
 fn read_cycle(row: &ByteRecord) -> Option<Step>
-    ensures { result ≡ cycle_row (map trimmed (fields_of row.now)) }
+    ensures value { result ≡ cycle_row (map trimmed (fields_of row.now)) }
+    ensures valid { (nodes : ℕ) → IfSome result (IsStep nodes) }
 {
     if row.len() != 2 {
         return None;
@@ -144,7 +149,8 @@ fn read_cycle(row: &ByteRecord) -> Option<Step>
 
 // The step of a row `add,..` at this many nodes.
 fn read_add(row: &ByteRecord, nodes: u8) -> Option<Step>
-    ensures { result ≡ add_row nodes (map trimmed (fields_of row.now)) }
+    ensures value { result ≡ add_row nodes (map trimmed (fields_of row.now)) }
+    ensures valid { IfSome result (IsStep nodes) }
 {
     if row.len() != 10 {
         return None;
@@ -164,7 +170,8 @@ fn read_add(row: &ByteRecord, nodes: u8) -> Option<Step>
 
 // The step of a row at this many nodes.
 fn read_step(row: &ByteRecord, nodes: u8) -> Option<Step>
-    ensures { result ≡ step_of_row nodes (map trimmed (fields_of row.now)) }
+    ensures value { result ≡ step_of_row nodes (map trimmed (fields_of row.now)) }
+    ensures valid { IfSome result (IsStep nodes) }
 {
     let word = field_of(row, 0)?;
     if word == b"cycle".as_slice() {
@@ -179,6 +186,7 @@ fn read_step(row: &ByteRecord, nodes: u8) -> Option<Step>
 // The steps of all rows, each looked at alone.
 fn read_rows(alloc: Global, bytes: &[u8], nodes: u8) -> Result<Vec<Step>, InputFault>
     ensures ok { IfOk result (λ steps. steps_of_rows nodes (rows_of bytes.now) ≡ Some steps.items) }
+    ensures valid { IfOk result (λ steps. All (IsStep nodes) steps.items) }
     ensures refused { result ≡ Err InputFault.Refused → steps_of_rows nodes (rows_of bytes.now) ≡ None }
 {
     let reader = ReaderBuilder::new()
@@ -214,12 +222,13 @@ fn run_few_cycles(steps: &[Step]) -> bool
 
 // Whether no step starts before the cycles that the steps above it run.
 fn all_start_in_time(steps: &[Step]) -> bool
+    requires { cycles_of steps.now ≤ 20000 }
     ensures { result ≡ start_in_time 0 steps.now }
 {
     let mut run = 0u64;
     for step in steps {
         match step {
-            Step::Cycle { count } => run = run.saturating_add(*count),
+            Step::Cycle { count } => run += *count,
             Step::Add { start, .. } => {
                 if *start < run {
                     return false;
@@ -232,33 +241,51 @@ fn all_start_in_time(steps: &[Step]) -> bool
 
 // Whether no slot stands in two steps.
 fn all_slots_differ(steps: &[Step]) -> bool
+    requires { All (λ step. IfSome (slot_of step) (λ slot. slot < SLOTS)) steps.now }
     ensures { result ≡ are_distinct (slots_of steps.now) }
 {
-    let mut seen = [false; 256];
+    let mut seen = Mask::empty();
     for step in steps {
         if let Step::Add { entry, .. } = step {
-            let slot = entry.slot as usize;
-            if seen[slot] {
+            if seen.has(entry.slot) {
                 return false;
             }
-            seen[slot] = true;
+            seen = seen.with(entry.slot);
         }
     }
     true
 }
 
+// Whether the steps fit together.
+fn all_fit(steps: &[Step]) -> bool
+    requires { All (λ step. IfSome (slot_of step) (λ slot. slot < SLOTS)) steps.now }
+    ensures { result ≡ fit_together steps.now }
+{
+    run_few_cycles(steps) && all_start_in_time(steps) && all_slots_differ(steps)
+}
+
 /// Reads a steps file, at a system of so many nodes.
+///
+/// # Errors
+///
+/// `Refused` where the bytes are outside the format, and `Memory` where memory ran out.
+#[tactic(auto, using(crate::proofs::StepsTogether::fit_together_means), unfolding(crate::specs::StepsFile::steps_of))]
 pub fn read_steps(alloc: Global, bytes: &[u8], nodes: u8) -> Result<Vec<Step>, InputFault>
     ensures ok { IfOk result (λ steps. steps_of nodes bytes.now ≡ Some steps.items) }
     ensures valid { IfOk result (λ steps. AreSteps nodes steps.items) }
     ensures refused { result ≡ Err InputFault.Refused → steps_of nodes bytes.now ≡ None }
 {
     let steps = read_rows(alloc, bytes, nodes)?;
-    if run_few_cycles(&steps) && all_start_in_time(&steps) && all_slots_differ(&steps) {
-        Ok(steps)
-    } else {
-        Err(InputFault::Refused)
+    if !all_fit(&steps) {
+        return Err(InputFault::Refused);
     }
+    Ok(steps)
+}
+
+/// Law: the test that a steps file has to pass says of its steps what has to hold of them.
+pub fn steps_that_fit()
+    ensures law { (steps : List Step) → (fit_together steps ≡ true) ↔ FitTogether steps }
+{
 }
 
 #[cfg(test)]
