@@ -2,8 +2,7 @@
 
 ghost use Rattle.std.specs.Prelude.{◌≡◌, ◌↔◌, ◌≤◌, ℕ, List, [], ◌++◌, max};
 ghost use Rattle.can_frame.specs.declared.data_frame.TimedFrame.{TimedFrame};
-ghost use Rattle.bus_line.specs.Trace.{Follows, IsDetermined, IsTrace, Offers};
-ghost use Rattle.bus_line.specs.Stations.{free_after};
+ghost use Rattle.bus_line.specs.Trace.{AgreeAlong, Follows, IsDetermined, IsTrace, Offers, free_after};
 
 use std::marker::Brand;
 
@@ -31,5 +30,13 @@ pub fn trace_laws<O: Offering>()
         → Follows O.offers past free middle front
         → Follows O.offers (past ++ front) (max middle (free_after free front)) until back
         → Follows O.offers past free until (front ++ back) }
+{
+}
+
+/// Offers that agree along some frames have these frames both. The function does nothing.
+pub fn same_along<One: Offering, Other: Offering>()
+    ensures { (past other_past : List TimedFrame) (free until : ℕ) (frames : List TimedFrame)
+        → AgreeAlong One.offers Other.offers past other_past free until frames
+        → Follows One.offers past free until frames → Follows Other.offers other_past free until frames }
 {
 }
