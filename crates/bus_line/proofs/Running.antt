@@ -2,8 +2,8 @@
 use Rattle.std.proofs.Common.{◌≡◌, ℕ, ◌+◌, ◌*◌, ◌<◌, ◌≤◌, List, [], ◌∷◌, ◌++◌, length, fold, refl, ap, sym, ◌∙◌, subst, arith, append_assoc, append-nil, length-append}
 use Rattle.std.proofs.lemmas.List.Sums.{fold-append}
 use Rattle.can_frame.specs.declared.data_frame.TimedFrame.{TimedFrame}
-use Rattle.bus_line.specs.Trace.{Follows, IsNext, NothingOffered, end_of}
-use Rattle.bus_line.specs.Stations.{Line, Ran, told, offers_of, free_after}
+use Rattle.bus_line.specs.Trace.{Follows, IsNext, NothingOffered, end_of, free_after}
+use Rattle.bus_line.specs.Stations.{Line, Ran, told, offers_of}
 
 -- what was sent so far, and how every continuation of it continues the run
 pub record Running {State : Type 0} (line : Line State) (before now : State) (from until : ℕ) (old new : List TimedFrame) (free : ℕ) : Type 0 where

@@ -1,11 +1,11 @@
 -- Laws of traces: the CAN trace in the words of its definition, and frame by frame.
-use Rattle.std.proofs.Common.{◌≡◌, ℕ, ◌+◌, ◌<◌, ◌≤◌, Bool, true, false, nat_lt, List, [], ◌∷◌, ◌++◌, length, All, AllPairs, Any, filter, cond, inl, inr, refl, sym, ap, ◌∙◌, subst, arith, append_assoc, append-nil, length-append, get_or}
-use Rattle.std.proofs.lemmas.Bool.{lt-ltb, le-ltb, cases_lt}
+use Rattle.std.proofs.Common.{◌≡◌, ℕ, ◌+◌, ◌<◌, ◌≤◌, Bool, true, false, max, nat_lt, List, [], ◌∷◌, ◌++◌, length, All, AllPairs, Any, filter, cond, ◌↔◌, inl, inr, refl, sym, ap, ◌∙◌, subst, arith, append_assoc, append-nil, length-append, get_or}
+use Rattle.std.proofs.lemmas.Bool.{lt-ltb, le-ltb, cases_lt, cases_order}
 use Rattle.std.proofs.lemmas.List.Elements.{All-nil, All-cons, All-head, All-tail, All-weaker}
 use Rattle.can_frame.specs.DataFrame.{DataFrame}
 use Rattle.can_frame.specs.Wire.{wire_of, wire_length}
 use Rattle.can_frame.specs.declared.data_frame.TimedFrame.{TimedFrame}
-use Rattle.bus_line.specs.Trace.{Offers, IsOrdered, IsTrace, IsLeastOffered, IsNext, IsDetermined, NothingOffered, Follows, started_before, end_of}
+use Rattle.bus_line.specs.Trace.{Offers, IsOrdered, IsTrace, IsLeastOffered, IsNext, IsDetermined, NothingOffered, Follows, started_before, end_of, free_after, AgreeAlong}
 use Rattle.bus_line.proofs.Lists.{AllPairs-head, AllPairs-tail, AllPairs-cons, Any-nil, Any-head, Any-tail, Any-cases, Any-none, filter-none}
 
 -- a frame takes some time on the bus: thirteen bits stand behind its stuffed part
@@ -137,3 +137,108 @@ module _ (offers : Offers) (until : ℕ) where
         least = rest.least;
         busy = λ at frame before offered. rest.busy at frame (omega arith) before offered;
       }
+
+abbrev made : ℕ → ℕ → DataFrame → TimedFrame
+made start len frame = record {start = start; len = len; frame = frame}
+
+-- a timed frame is its start, its length and its frame
+same_sent : (one other : TimedFrame) → one.start ≡ other.start → one.len ≡ other.len → one.frame ≡ other.frame → one ≡ other
+same_sent one other start len frame =
+    ap (λ at. made at one.len one.frame) start ∙ ap (λ n. made other.start n one.frame) len ∙ ap (λ x. made other.start other.len x) frame
+
+module _ (offers : Offers) where
+  -- the frame that is sent next is determined: another first start, or another identifier, is against its rule
+  same_next : IsDetermined offers → (past : List TimedFrame) (free until : ℕ) (one other : TimedFrame)
+      → IsNext offers past free until one → IsNext offers past free until other → one ≡ other
+  same_next determined past free until one other is_one is_other =
+      let start : one.start ≡ other.start = elim (cases_order one.start other.start) [
+          inl same ↦ same
+        | inr (inl earlier) ↦ absurd (is_other.first one.start one.frame is_one.when_free earlier is_one.least.offered)
+        | inr (inr later) ↦ absurd (is_one.first other.start other.frame is_other.when_free later is_other.least.offered)
+        ] in
+      let other_here = subst (λ at. offers past at other.frame) (sym start) is_other.least.offered in
+      let one_there = subst (λ at. offers past at one.frame) start is_one.least.offered in
+      let below = is_one.least.least other.frame other_here in
+      let above = is_other.least.least one.frame one_there in
+      let frame = determined past one.start one.frame other.frame is_one.least.offered other_here (omega arith) in
+      same_sent one other start (is_one.whole ∙ ap wire_length frame ∙ sym is_other.whole) frame
+
+  pub same_frames : IsDetermined offers → (past : List TimedFrame) (free until : ℕ) (one other : List TimedFrame)
+      → Follows offers past free until one → Follows offers past free until other → one ≡ other
+  same_frames determined past free until [] [] nothing also = refl
+  same_frames determined past free until [] (y ∷ ys) nothing (next, follows) =
+      absurd (nothing y.start y.frame next.when_free next.within next.least.offered)
+  same_frames determined past free until (x ∷ xs) [] (next, follows) nothing =
+      absurd (nothing x.start x.frame next.when_free next.within next.least.offered)
+  same_frames determined past free until (x ∷ xs) (y ∷ ys) (next, follows) (other_next, other_follows) =
+      let same = same_next determined past free until x y next other_next in
+      let behind_x = subst (λ sent. Follows offers (past ++ sent ∷ []) (end_of sent) until ys) (sym same) other_follows in
+      let rest = same_frames determined (past ++ x ∷ []) (end_of x) until xs ys follows behind_x in
+      cc
+
+  NothingOffered-joined : (past : List TimedFrame) (low middle high : ℕ) → NothingOffered offers past low middle → NothingOffered offers past middle high
+      → NothingOffered offers past low high
+  NothingOffered-joined past low middle high early late = λ at frame from before offered.
+      elim (cases_lt at middle) [ inl soon ↦ early at frame from soon offered | inr later ↦ late at frame later before offered ]
+
+  -- frames from a time on are those from an earlier time on, where nothing is offered between
+  Follows-earlier : (past : List TimedFrame) (free from until : ℕ) (back : List TimedFrame) → free ≤ from → NothingOffered offers past free from
+      → Follows offers past from until back → Follows offers past free until back
+  Follows-earlier past free from until [] order nothing also = NothingOffered-joined past free from until nothing also
+  Follows-earlier past free from until (sent ∷ later) order nothing (next, follows) = (record {
+    when_free = omega (arith, next.when_free);
+    within = next.within;
+    first = NothingOffered-joined past free from sent.start nothing next.first;
+    least = next.least;
+    whole = next.whole;
+  }, follows)
+
+  -- frames up to a time, and behind them those from that time or the first free one on
+  pub Follows-joined : (past : List TimedFrame) (free middle until : ℕ) (front back : List TimedFrame) → middle ≤ until
+      → Follows offers past free middle front → Follows offers (past ++ front) (max middle (free_after free front)) until back
+      → Follows offers past free until (front ++ back)
+  Follows-joined past free middle until [] back longer nothing after_it =
+      Follows-earlier past free (max middle free) until back (omega arith) (λ at frame after before. nothing at frame after (omega arith))
+          (subst (λ started. Follows offers started (max middle free) until back) (append-nil past) after_it)
+  Follows-joined past free middle until (sent ∷ later) back longer (next, follows) after_it = (record {
+    when_free = next.when_free;
+    within = omega (arith, next.within);
+    first = next.first;
+    least = next.least;
+    whole = next.whole;
+  }, Follows-joined (past ++ sent ∷ []) (end_of sent) middle until later back longer follows
+      (subst (λ started. Follows offers started (max middle (free_after (end_of sent) later)) until back) (sym (append_assoc past (sent ∷ []) later)) after_it))
+
+-- where offers agree along the frames, they have the same frames
+module _ (offers others : Offers) where
+  -- behind the empty front
+  agree_now : (past other_past : List TimedFrame) (free until : ℕ) (frames : List TimedFrame) → AgreeAlong offers others past other_past free until frames
+      → (at : ℕ) (frame : DataFrame) → free ≤ at → at < until → (offers past at frame) ↔ (others other_past at frame)
+  agree_now past other_past free until frames agree at frame from before =
+      let both = agree [] frames at frame refl from before in
+      (λ offered. subst (λ started. others started at frame) (append-nil other_past) (both.0 (subst (λ started. offers started at frame) (sym (append-nil past)) offered)),
+       λ offered. subst (λ started. offers started at frame) (append-nil past) (both.1 (subst (λ started. others started at frame) (sym (append-nil other_past)) offered)))
+
+  agree_behind : (past other_past : List TimedFrame) (free until : ℕ) (sent : TimedFrame) (later : List TimedFrame)
+      → AgreeAlong offers others past other_past free until (sent ∷ later)
+      → AgreeAlong offers others (past ++ sent ∷ []) (other_past ++ sent ∷ []) (end_of sent) until later
+  agree_behind past other_past free until sent later agree front back at frame split from before =
+      let both = agree (sent ∷ front) back at frame (ap (λ frames. sent ∷ frames) split) from before in
+      rw (append_assoc past (sent ∷ []) front, append_assoc other_past (sent ∷ []) front) both
+
+  pub Follows-along : (past other_past : List TimedFrame) (free until : ℕ) (frames : List TimedFrame) → AgreeAlong offers others past other_past free until frames
+      → Follows offers past free until frames → Follows others other_past free until frames
+  Follows-along past other_past free until [] agree nothing = λ at frame from before offered.
+      nothing at frame from before ((agree_now past other_past free until [] agree at frame from before).1 offered)
+  Follows-along past other_past free until (sent ∷ later) agree (next, follows) =
+      let now = agree_now past other_past free until (sent ∷ later) agree in
+      (record {
+        when_free = next.when_free;
+        within = next.within;
+        first = λ at frame from before offered. next.first at frame from before ((now at frame from (omega (arith, next.within))).1 offered);
+        least = record {
+          offered = (now sent.start sent.frame next.when_free next.within).0 next.least.offered;
+          least = λ frame offered. next.least.least frame ((now sent.start frame next.when_free next.within).1 offered);
+        };
+        whole = next.whole;
+      }, Follows-along (past ++ sent ∷ []) (other_past ++ sent ∷ []) (end_of sent) until later (agree_behind past other_past free until sent later agree) follows)

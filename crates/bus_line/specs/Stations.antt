@@ -1,9 +1,9 @@
 -- What stations on a bus offer, how that changes as frames are sent, and what a run of the bus over them is.
-use Rattle.std.specs.Prelude.{◌≡◌, ℕ, ◌+◌, ◌<◌, ◌≤◌, List, [], ◌∷◌, ◌++◌, Option, Some, None, Contains, fold}
+use Rattle.std.specs.Prelude.{◌≡◌, ℕ, ◌<◌, List, [], ◌++◌, Option, Some, None, Contains, fold}
 use Rattle.can_frame.specs.DataFrame.{DataFrame}
 use Rattle.can_frame.specs.Wire.{wire_length}
 use Rattle.can_frame.specs.declared.data_frame.TimedFrame.{TimedFrame}
-use Rattle.bus_line.specs.Trace.{Offers, Follows, end_of}
+use Rattle.bus_line.specs.Trace.{Offers, Follows, free_after}
 
 -- stations with these states: the distinct identifiers that they offer in a state at a time, the frame that stands
 -- behind an identifier then, and the state once a frame was sent
@@ -35,10 +35,6 @@ IsWake offered at (Some next) =
 pub record IsSending {State : Type 0} (line : Line State) (state : State) (sent : TimedFrame) : Type 0 where
   pub offered : IsOffered line state sent.start sent.frame
   pub whole : sent.len ≡ wire_length sent.frame
-
--- the first time, at or after `from`, at which the bus is free after these frames
-abbrev pub free_after : ℕ → List TimedFrame → ℕ
-free_after from frames = fold (λ _ sent. end_of sent) from frames
 
 -- a run of the bus over stations, from `from` to below `until`: the frames that arbitration decides were put behind
 -- `old`, the stations were told of these and of nothing else, and `free` is the first free time behind them

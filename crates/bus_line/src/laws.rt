@@ -2,34 +2,44 @@
 
 ghost use Rattle.std.specs.Prelude.{◌≡◌, ◌↔◌, ◌≤◌, ℕ, List, [], ◌++◌, max};
 ghost use Rattle.can_frame.specs.declared.data_frame.TimedFrame.{TimedFrame};
-ghost use Rattle.bus_line.specs.Trace.{Follows, IsDetermined, IsTrace, Offers};
-ghost use Rattle.bus_line.specs.Stations.{free_after};
+ghost use Rattle.bus_line.specs.Trace.{AgreeAlong, Follows, IsDetermined, IsTrace, Offers, free_after};
 
-use std::marker::Brand;
-
-/// Some offers on a bus, which a caller of `trace_laws` picks.
+/// A kind of offers on a bus, for the laws below: a crate that speaks of its own offers implements this for a type
+/// that stands for them.
 pub trait Offering {
-    ghost offers: { Offers };
-}
+    /// What the offers depend on.
+    ghost Setting: { Type 0 };
 
-impl Offering for Brand {
-    ghost offers = { λ _ _ _. ⊥ };
+    /// The offers in a setting.
+    ghost offers: { Setting → Offers };
 }
 
 /// What is true of the traces of any offers. The function does nothing.
 pub fn trace_laws<O: Offering>()
     // The CAN trace is given frame by frame, each the next one behind those before it.
-    ensures one_by_one { (until : ℕ) (trace : List TimedFrame)
-        → IsTrace O.offers until trace ↔ Follows O.offers [] 0 until trace }
+    ensures one_by_one { (setting : O.Setting) (until : ℕ) (trace : List TimedFrame)
+        → IsTrace (O.offers setting) until trace ↔ Follows (O.offers setting) [] 0 until trace }
 
     // There is at most one CAN trace.
-    ensures only_one { IsDetermined O.offers → (until : ℕ) (one other : List TimedFrame)
-        → IsTrace O.offers until one → IsTrace O.offers until other → one ≡ other }
+    ensures only_one { (setting : O.Setting) → IsDetermined (O.offers setting)
+        → (until : ℕ) (one other : List TimedFrame)
+        → IsTrace (O.offers setting) until one → IsTrace (O.offers setting) until other → one ≡ other }
 
-    // Frames up to a time, and behind them those that begin at that time or once the bus is free, are all frames.
-    ensures joined { (past : List TimedFrame) (free middle until : ℕ) (front back : List TimedFrame) → middle ≤ until
-        → Follows O.offers past free middle front
-        → Follows O.offers (past ++ front) (max middle (free_after free front)) until back
-        → Follows O.offers past free until (front ++ back) }
+    // Frames up to a time, and behind them those from that time or the first free one on, are all frames.
+    ensures joined { (setting : O.Setting) (past : List TimedFrame) (free middle until : ℕ)
+        → (front back : List TimedFrame) → middle ≤ until
+        → Follows (O.offers setting) past free middle front
+        → Follows (O.offers setting) (past ++ front) (max middle (free_after free front)) until back
+        → Follows (O.offers setting) past free until (front ++ back) }
+{
+}
+
+/// Two kinds of offers that agree along some frames have these frames both. The function does nothing.
+pub fn same_along<One: Offering, Other: Offering>()
+    ensures { (one : One.Setting) (other : Other.Setting) (past other_past : List TimedFrame)
+        → (free until : ℕ) (frames : List TimedFrame)
+        → AgreeAlong (One.offers one) (Other.offers other) past other_past free until frames
+        → Follows (One.offers one) past free until frames
+        → Follows (Other.offers other) other_past free until frames }
 {
 }

@@ -6,6 +6,6 @@ mod laws;
 mod line;
 mod stations;
 
-pub use laws::{Offering, trace_laws};
+pub use laws::{Offering, same_along, trace_laws};
 pub use line::run_until;
 pub use stations::Stations;

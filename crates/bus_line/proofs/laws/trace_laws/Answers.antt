@@ -1,6 +1,16 @@
-use Rattle.bus_line.proofs.Traces.{Follows-from_trace, trace_from_Follows}
+use Rattle.std.proofs.Common.{[]}
+use Rattle.bus_line.proofs.Traces.{Follows-from_trace, trace_from_Follows, same_frames, Follows-joined}
 use Rattle.bus_line.proofs.laws.trace_laws.Goals as goal
 
 pub returns-clause-one_by_one : goal.returns-clause-one_by_one
-returns-clause-one_by_one g c = λ until trace.
-    (Follows-from_trace g.O.Offering.offers until trace, trace_from_Follows g.O.Offering.offers until trace)
+returns-clause-one_by_one g c = λ setting until trace.
+    let offers = g.O.Offering.offers setting in
+    (Follows-from_trace offers until trace, trace_from_Follows offers until trace)
+
+pub returns-clause-only_one : goal.returns-clause-only_one
+returns-clause-only_one g c = λ setting determined until one other is_one is_other.
+    let offers = g.O.Offering.offers setting in
+    same_frames offers determined [] 0 until one other (Follows-from_trace offers until one is_one) (Follows-from_trace offers until other is_other)
+
+pub returns-clause-joined : goal.returns-clause-joined
+returns-clause-joined g c = λ setting. Follows-joined (g.O.Offering.offers setting)
