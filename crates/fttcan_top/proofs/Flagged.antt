@@ -12,7 +12,10 @@ use Rattle.requirement_table.specs.Table.{Instance, bytes_of, sendable, instance
 use Rattle.fttcan_top.specs.Offered.{Opening, bytes_in, slot_cost, width_of, slots}
 use Rattle.std.proofs.lemmas.Bool.{cond-false, ltb-true, leb-true}
 use Rattle.std.proofs.lemmas.List.Elements.{Contains-append_cases, Contains-push_cases, Contains-append_right}
+use Rattle.std.proofs.lemmas.Bool.{cases_order}
+use Rattle.std.proofs.lemmas.List.{get_or_default}
 use Rattle.std.specs.List.{cons_option}
+use Rattle.fttcan_top.specs.Entries.{AreDistinct}
 use Rattle.requirement_table.proofs.SlotSets.{contains_slot-set_of}
 
 -- Lists
@@ -30,6 +33,19 @@ Contains-head y ys = (0, omega arith, refl)
 
 pub Contains-tail : {X : Type 0} (y : X) (ys : List X) (x : X) → Contains ys x → Contains (y ∷ ys) x
 Contains-tail y ys x among = Contains-append_right (y ∷ []) ys x among
+
+-- two entries of one slot are one
+pub unique-placed : (placed : List Placed) (p q : Placed) → AreDistinct placed → Contains placed p → Contains placed q → p.entry.slot ≡ q.entry.slot → p ≡ q
+unique-placed placed p q distinct among_p among_q same =
+    elim (cases_order among_p.0 among_q.0) [
+    | inl here ↦ sym among_p.2 ∙ get_or_default placed among_p.0 p q among_p.1 ∙ ap (λ k. get_or placed k q) here ∙ among_q.2
+    | inr apart ↦ elim apart [
+      | inl before ↦ absurd (distinct among_p.0 among_q.0 p before among_q.1
+          (ap (λ x. x.entry.slot) among_p.2 ∙ same ∙ ap (λ x. x.entry.slot) (sym (get_or_default placed among_q.0 p q among_q.1 ∙ among_q.2))))
+      | inr after ↦ absurd (distinct among_q.0 among_p.0 q after among_p.1
+          (ap (λ x. x.entry.slot) among_q.2 ∙ sym same ∙ ap (λ x. x.entry.slot) (sym (get_or_default placed among_p.0 q p among_p.1 ∙ among_p.2))))
+      ]
+    ]
 
 -- Instances of a placed entry
 

@@ -4,6 +4,8 @@ use Rattle.std.specs.Prelude.{Contains, option_map, unwrap_or}
 use Rattle.std.specs.List.{All, AllByRecursion}
 use Rattle.std.proofs.lemmas.Bool.{cases_eq, cases_lt, eq-eqb, ne_eqb}
 use Rattle.std.proofs.lemmas.List.Elements.{All-push, All-append, All-contains, All-from_recursion, recursion_from_All, Contains-push, Contains-push_cases, Contains-append_left, filter-append}
+use Rattle.std.proofs.lemmas.List.Elements.{Contains-get_or}
+use Rattle.std.proofs.lemmas.List.Quantifiers.{all_pairs_push}
 use Rattle.std.proofs.lemmas.List.{append-nil}
 use Rattle.std.proofs.Math.Nat.{div-eq_of_lt-le, div-lt_iff_lt-mul, mul-le-mul_right}
 use Rattle.can_frame.specs.DataFrame.{DataFrame}
@@ -80,7 +82,7 @@ is_fit layout placed next short trigger good live light =
 pub IsRunning-start : (layout : CycleLayout) → IsRunning layout [] [] 0 []
 IsRunning-start layout = record {
   live = λ k d within. absurd (omega arith);
-  unique = λ p q among other same. absurd (let within = among.1 in omega arith);
+  distinct = λ i j d before within. absurd (omega arith);
   light = omega arith;
   opened = λ cycle before. absurd (omega arith);
   numbered = λ k d within. absurd (omega arith);
@@ -100,17 +102,7 @@ pub IsRunning-place : (layout : CycleLayout) (placed : List Placed) (openings : 
     → IsRunning layout (placed ++ p ∷ []) openings next trace
 IsRunning-place layout placed openings next trace p run live late other light = record {
   live = All-push IsLive placed p run.live live;
-  unique = λ q r among_q among_r same.
-    elim (Contains-push_cases placed p q among_q) [
-    | inl q_before ↦ elim (Contains-push_cases placed p r among_r) [
-      | inl r_before ↦ run.unique q r q_before r_before same
-      | inr r_is ↦ absurd (other q q_before (same ∙ ap (λ x. x.entry.slot) (sym r_is)))
-      ]
-    | inr q_is ↦ elim (Contains-push_cases placed p r among_r) [
-      | inl r_before ↦ absurd (other r r_before (sym same ∙ ap (λ x. x.entry.slot) (sym q_is)))
-      | inr r_is ↦ sym q_is ∙ r_is
-      ]
-    ];
+  distinct = all_pairs_push (λ q r. q.entry.slot ≡ r.entry.slot → ⊥) placed p run.distinct (λ k d within same. other (get_or placed k d) (Contains-get_or placed k d within) same);
   light = light;
   opened = run.opened;
   numbered = run.numbered;
@@ -230,7 +222,7 @@ IsRunning-open layout placed openings next trace frames short trigger good run f
     let longer : next * layout.cycle ≤ (next + 1) * layout.cycle = omega arith in
     record {
       live = run.live;
-      unique = run.unique;
+      distinct = run.distinct;
       light = run.light;
       opened = λ cycle below.
         elim (cases_eq cycle next) [

@@ -18,7 +18,7 @@ use Rattle.fttcan_top.specs.Kept.{cycle_of, frames_of, IsInWindow, IsServed, IsO
 use Rattle.fttcan_top.specs.Entries.{IsLive}
 use Rattle.fttcan_top.specs.Running.{frames_in, IsRunning}
 use Rattle.requirement_table.proofs.Latest.{instance_of-sent, released_by-released, IsReleasedIn-from_released_by}
-use Rattle.fttcan_top.proofs.Flagged.{MaySend-released, instance_in-only, Contains-cons_cases}
+use Rattle.fttcan_top.proofs.Flagged.{MaySend-released, instance_in-only, Contains-cons_cases, unique-placed}
 use Rattle.fttcan_top.proofs.Width.{IsReleasing, releasing-flagged, flagged-releasing}
 use Rattle.fttcan_top.proofs.Filters.{filter-same, filter-filter, Contains-filter, AllByRecursion-contains}
 
@@ -46,7 +46,7 @@ unflagged-after layout placed openings next trace opening p k run opened stands 
     let mask : opening.mask ≡ released_in opening.placed opening.cycle = All-contains (λ o. o.mask ≡ released_in o.placed o.cycle) openings opening run.masks opened in
     let r = releasing-flagged opening.placed opening.cycle p.entry.slot (subst (λ m. contains_slot m p.entry.slot ≡ true) mask flagged) in
     let among : Contains placed r.p = All-contains (λ o. (q : Placed) → Contains o.placed q → Contains placed q) openings opening run.subset opened r.p r.stands in
-    let same : r.p ≡ p = run.unique r.p p among stands r.of_slot in
+    let same : r.p ≡ p = unique-placed placed r.p p run.distinct among stands r.of_slot in
     let live = All-contains IsLive placed p run.live stands in
     let deadline = live.deadline in
     let released = IsReleasedIn-from_released_by p r.k opening.cycle (subst (λ q. released_by q opening.cycle ≡ Some r.k) same r.releases) in
@@ -118,7 +118,7 @@ all_served layout placed openings next trace some_time run p k last stands exist
     let sent = runs.each slot known flagged in
     let subset = All-contains (λ x. (q : Placed) → Contains x.placed q → Contains placed q) openings o run.subset is_open in
     let sends = instance_of-sent p k o.cycle deadline (MaySend-released p k o.cycle some released) in
-    let instance = instance_in-only o.placed slot o.cycle k p placed_then refl (λ q among same. run.unique q p (subset q among) stands same) sends in
+    let instance = instance_in-only o.placed slot o.cycle k p placed_then refl (λ q among same. unique-placed placed q p run.distinct (subset q among) stands same) sends in
     let bytes : Some (payload p.entry.length k) ≡ Some sent.sent.frame.bytes = sym (ap (option_map bytes_of) instance) ∙ sent.carries in
     let is_slot : TimedFrame → Bool = λ s. eqb s.frame.identifier (first_identifier + slot) in
     let in_cycles : TimedFrame → Bool = λ s. leb release (cycle_of layout s) && leb (cycle_of layout s) last in

@@ -7,7 +7,7 @@ use Rattle.requirement_table.specs.declared.entries.Placed.{Placed}
 use Rattle.requirement_table.specs.declared.slots.TheConstants.{SLOTS}
 use Rattle.can_frame.specs.Wire.{wire_length}
 use Rattle.trigger_codec.specs.Trigger.{trigger_frame}
-use Rattle.fttcan_top.specs.Entries.{IsLive, total_cost}
+use Rattle.fttcan_top.specs.Entries.{IsLive, AreDistinct, total_cost}
 use Rattle.requirement_table.specs.Table.{released_in}
 use Rattle.bus_line.specs.Trace.{end_of, Follows}
 use Rattle.fttcan_top.specs.Offered.{Opening, offered}
@@ -22,7 +22,7 @@ frames_in layout cycle trace = filter (λ sent. cycle_of layout sent == cycle) t
 pub record IsRunning (layout : CycleLayout) (placed : List Placed) (openings : List Opening) (next : ℕ) (trace : List TimedFrame) : Type 0 where
   -- the entries: one for a slot, and together they fit into the window
   pub live : All IsLive placed
-  pub unique : (p q : Placed) → Contains placed p → Contains placed q → p.entry.slot ≡ q.entry.slot → p ≡ q
+  pub distinct : AreDistinct placed
   pub light : total_cost placed ≤ layout.window
   -- the openings: one for each cycle, by the entries that were placed then, which are those of now with an origin up to the cycle, and others
   pub opened : (cycle : ℕ) → cycle < next → (opening : Opening) × Contains openings opening × (opening.cycle ≡ cycle)
