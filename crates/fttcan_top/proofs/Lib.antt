@@ -10,3 +10,4 @@ mod Served
 mod StepsText
 mod StepsRows
 mod StepsTogether
+mod Tables

@@ -10,4 +10,5 @@ pub mod Loads
 pub mod Offered
 pub mod Window
 pub mod Kept
+pub mod Table
 pub mod Running

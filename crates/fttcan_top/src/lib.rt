@@ -6,6 +6,7 @@ pub mod input;
 mod load;
 mod rows;
 mod status;
+mod table;
 mod verdict;
 mod words;
 
