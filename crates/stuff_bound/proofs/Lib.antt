@@ -1,0 +1,3 @@
+pub mod Stuffs
+pub mod Faults
+pub mod Places
