@@ -1,0 +1,6 @@
+pub mod DataFrame
+pub mod FrameFault
+pub mod Number
+pub mod Crc
+pub mod Wire
+pub mod Reading

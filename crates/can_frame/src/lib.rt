@@ -1,0 +1,16 @@
+//! Data frames of CAN Specification 2.0 Part A with 11-bit identifiers: their fields, their CRC
+//! sequence and the bits that they are on the wire, in both directions.
+#![tactic(auto)]
+
+mod bit_list;
+mod data_frame;
+pub mod laws;
+mod register;
+#[cfg(test)]
+mod tests;
+mod wire_bits;
+mod wire_fault;
+
+pub use data_frame::{Frame, FrameFault, MAX_BYTES, MAX_IDENTIFIER, TimedFrame};
+pub use wire_bits::{crc, wire, wire_len};
+pub use wire_fault::WireFault;
