@@ -1,2 +1,5 @@
+pub mod Carried
 pub mod Fields
+pub mod OneAnswer
+pub mod Plain
 pub mod Remainder

@@ -3,3 +3,4 @@ pub mod FrameFault
 pub mod Number
 pub mod Crc
 pub mod Wire
+pub mod Reading

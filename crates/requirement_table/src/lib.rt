@@ -12,5 +12,8 @@ mod slots;
 
 pub use entries::{Entry, Order, Placed, PlacedList};
 pub use instances::{Payload, cost, current, due, releases};
-pub use lists::well_placed;
+pub use lists::{released_in, well_placed};
 pub use slots::{Mask, SLOTS};
+
+#[cfg(test)]
+mod tests;

@@ -1,10 +1,14 @@
 //! Lists of placed entries.
 
 ghost use Rattle.std.specs.Prelude.{◌≡◌, ℕ, ◌+◌, ◌^◌, ◌<◌, ◌≤◌, ◌↔◌, IsTrue, Some, IsSomeAnd, All};
-ghost use Rattle.requirement_table.specs.Table.{IsInRange, IsFreeAt, IsWellPlaced};
+ghost use Rattle.requirement_table.specs.Table.{IsInRange, IsFreeAt, IsWellPlaced, released_in};
 
 use crate::entries::Placed;
-use crate::slots::SLOTS;
+use crate::instances::releases;
+use crate::slots::{Mask, SLOTS};
+
+/// Cycle numbers are below this.
+const CYCLES: u64 = 1 << 42;
 
 /// Whether the list is well placed: all fields are in range, no end is below its entry's origin, and
 /// in each slot the entries stand in order, each free before the next one's origin, with at most the
@@ -52,5 +56,17 @@ fn free_after(p: &Placed) -> Option<u64>
     p.end.map(|end| end + u64::from(p.entry.deadline) - 1)
 }
 
-/// Cycle numbers are below this.
-const CYCLES: u64 = 1 << 42;
+/// The set of the slots with an instance that is released in `cycle`.
+pub fn released_in(placed: &[Placed], cycle: u64) -> Mask
+    requires { IsWellPlaced placed.now }
+    ensures slots { result ≡ released_in placed.now cycle }
+{
+    let mut slots = Mask::empty();
+    for p in placed {
+        if releases(p, cycle).is_some() {
+            slots = slots.with(p.entry.slot);
+        }
+    }
+    slots.known();
+    slots
+}

@@ -1,5 +1,5 @@
--- Bit stuffing, as CAN 2.0 Part A says it ("Bit stream coding"): whenever a sender has sent five equal bits, it sends one
--- bit of the opposite level. A bit is a `Bool`: dominant is `false`, recessive is `true`.
+-- Bit stuffing, as CAN 2.0 Part A says it ("Bit stream coding"): whenever a sender has sent five equal bits in a row, stuff
+-- bits counted, it sends one bit of the opposite level. A bit is a `Bool`: dominant is `false`, recessive is `true`.
 --
 -- The words here look at what was sent newest first, so that the tail of such a list is what stood before its head.
 -- A list in the order of sending is turned round by `reverse` once. `ByPlace` says the same by places in the order of sending.

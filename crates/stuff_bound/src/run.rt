@@ -12,7 +12,7 @@ const FULL: u8 = 5;
 ///
 /// It is all that stuffing needs to know of the bits before a place. Its clauses speak of every list
 /// of bits sent, newest first, so a caller may keep that list, or only say in a proof which one it is.
-#[derive(Clone, Copy)]
+#[derive(Clone, Copy, Debug, Default, PartialEq, Eq)]
 pub struct Run {
     last: bool,
     count: u8,

@@ -19,7 +19,7 @@ pub enum StuffFault {
     /// There are no six, and the bits end with five equal ones without the opposite bit behind them;
     /// `len` is the number of bits.
     Ends { len: usize },
-    /// No memory for the bits that are left.
+    /// There was no memory for the answer.
     Memory,
 }
 
@@ -70,7 +70,7 @@ pub fn stuff(alloc: Global, bits: &[bool]) -> Result<Vec<bool>, AllocError>
 /// is the fault.
 pub fn unstuff(alloc: Global, bits: &[bool]) -> Result<Vec<bool>, StuffFault>
     ensures ok { IfOk result (λ plain. Stuffs bits.now plain.items) }
-    ensures ok_where { (plain : List Bool) → Stuffs bits.now plain → IsOkUnless result StuffFault.Memory }
+    ensures completes { (plain : List Bool) → Stuffs bits.now plain → IsOkUnless result StuffFault.Memory }
 
     // Want of memory may come in place of any answer.
     ensures six_equal { (place : ℕ) → result ≢ Err StuffFault.Memory
