@@ -11,3 +11,6 @@ mod StepsText
 mod StepsRows
 mod StepsTogether
 mod Tables
+mod Queues
+mod SlotEntries
+mod CycleRuns

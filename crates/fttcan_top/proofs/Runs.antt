@@ -14,12 +14,12 @@ use Rattle.cycle_layout.specs.Layout.{CycleLayout}
 use Rattle.requirement_table.specs.declared.entries.Placed.{Placed}
 use Rattle.requirement_table.specs.declared.slots.TheConstants.{SLOTS}
 use Rattle.can_frame.specs.Wire.{wire_length}
-use Rattle.trigger_codec.specs.Trigger.{trigger_frame}
+use Rattle.trigger_codec.specs.Bytes.{trigger_frame}
 use Rattle.requirement_table.specs.Slots.{contains_slot}
 use Rattle.requirement_table.specs.Instance.{worst, payload}
 use Rattle.requirement_table.specs.Table.{Instance, bytes_of, instance_in, released_in}
 use Rattle.bus_line.specs.Trace.{end_of, Follows, Offers}
-use Rattle.fttcan_top.specs.Offered.{Opening, slots, first_identifier, bytes_in, slot_cost, width_of, start_of, end_of_cycle, window_start, OffersTrigger, OffersSlot, offered_in, offered}
+use Rattle.fttcan_top.specs.Offered.{Opening, next_opening, slots, first_identifier, bytes_in, slot_cost, width_of, start_of, end_of_cycle, window_start, OffersTrigger, OffersSlot, offered_in, offered}
 use Rattle.fttcan_top.specs.Window.{IsFit, RunsCycle, IsSlotFrame}
 use Rattle.fttcan_top.specs.Kept.{cycle_of}
 use Rattle.fttcan_top.specs.Entries.{IsLive, total_cost}
@@ -39,10 +39,6 @@ pub record AreShort : Type 0 where
 pub record IsTriggerShort (cycle l mask : ℕ) : Type 0 where
   pub identifier : (trigger_frame cycle l mask).identifier ≡ 0
   pub few : length (trigger_frame cycle l mask).bytes ≡ 8
-
--- the next opening
-abbrev pub next_opening : List Placed → ℕ → Opening
-next_opening placed next = record { cycle = next; mask = released_in placed next; placed = placed }
 
 -- the bytes that a slot sends are at most eight
 few-bytes : (opening : Opening) (slot : ℕ) (frame : DataFrame) → All IsLive opening.placed → bytes_in opening slot ≡ Some frame.bytes → length frame.bytes ≤ 8

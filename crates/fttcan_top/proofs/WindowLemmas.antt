@@ -6,7 +6,7 @@ use Rattle.can_frame.specs.DataFrame.{DataFrame}
 use Rattle.can_frame.specs.declared.data_frame.TimedFrame.{TimedFrame}
 use Rattle.can_frame.specs.Wire.{wire_length}
 use Rattle.cycle_layout.specs.Layout.{CycleLayout}
-use Rattle.trigger_codec.specs.Trigger.{trigger_frame}
+use Rattle.trigger_codec.specs.Bytes.{trigger_frame}
 use Rattle.requirement_table.specs.Slots.{contains_slot, sum_where}
 use Rattle.bus_line.specs.Trace.{end_of, Follows, IsNext, IsLeastOffered, NothingOffered}
 use Rattle.fttcan_top.specs.Offered.{Opening, slots, first_identifier, bytes_in, slot_cost, width_of, start_of, end_of_cycle, window_start, IsUnsent, OffersTrigger, OffersSlot, offered_in}
@@ -35,7 +35,7 @@ offers_pending layout opening past slot at fit known pending late early =
     })
 
 -- an offered slot is pending
-pending-offered : (layout : CycleLayout) (opening : Opening) (past : List TimedFrame) (at slot : ℕ) (frame : DataFrame)
+pub pending-offered : (layout : CycleLayout) (opening : Opening) (past : List TimedFrame) (at slot : ℕ) (frame : DataFrame)
     → OffersSlot layout opening past at frame slot → is_pending layout opening past slot ≡ true
 pending-offered layout opening past at slot frame o =
     and_from _ _ o.flagged (not_from_false _ (was_sent-from_unsent layout opening past slot o.unsent))
@@ -165,7 +165,7 @@ sends_pending layout opening past free now (sent ∷ later) fit begun is_free in
     ]
 
 -- a slot of which nothing was sent in the cycle is pending where it is flagged
-is_pending-at_start : (layout : CycleLayout) (opening : Opening) (past : List TimedFrame) (sent : TimedFrame) (slot : ℕ)
+pub is_pending-at_start : (layout : CycleLayout) (opening : Opening) (past : List TimedFrame) (sent : TimedFrame) (slot : ℕ)
     → All (λ x. x.start < start_of layout opening) past → sent.frame.identifier ≡ 0
     → is_pending layout opening (past ++ sent ∷ []) slot ≡ contains_slot opening.mask slot
 is_pending-at_start layout opening past sent slot before trigger =

@@ -10,5 +10,7 @@ pub mod Loads
 pub mod Offered
 pub mod Window
 pub mod Kept
+pub mod Log
 pub mod Table
+pub mod Cycle
 pub mod Running

@@ -4,16 +4,20 @@ use Rattle.can_frame.specs.declared.data_frame.TimedFrame.{TimedFrame}
 use Rattle.cycle_layout.specs.Layout.{CycleLayout}
 use Rattle.requirement_table.specs.declared.entries.Placed.{Placed}
 use Rattle.requirement_table.specs.declared.slots.TheConstants.{SLOTS}
-use Rattle.trigger_codec.specs.Trigger.{trigger_frame}
+use Rattle.trigger_codec.specs.Bytes.{trigger_frame}
 use Rattle.requirement_table.specs.Slots.{contains_slot, sum_where}
 use Rattle.requirement_table.specs.Instance.{worst}
-use Rattle.requirement_table.specs.Table.{bytes_of, instance_in}
+use Rattle.requirement_table.specs.Table.{bytes_of, instance_in, released_in}
 use Rattle.bus_line.specs.Trace.{Offers}
 
 pub record Opening : Type 0 where
   pub cycle : ℕ
   pub mask : ℕ
   pub placed : List Placed
+
+-- the opening of a cycle by these entries: it flags the slots with an instance that is released in it
+abbrev pub next_opening : List Placed → ℕ → Opening
+next_opening placed cycle = record { cycle = cycle; mask = released_in placed cycle; placed = placed }
 
 -- the number of slots, and the identifier of slot 0
 abbrev pub slots : ℕ

@@ -6,7 +6,7 @@ use Rattle.cycle_layout.specs.Layout.{CycleLayout}
 use Rattle.requirement_table.specs.declared.entries.Placed.{Placed}
 use Rattle.requirement_table.specs.declared.slots.TheConstants.{SLOTS}
 use Rattle.can_frame.specs.Wire.{wire_length}
-use Rattle.trigger_codec.specs.Trigger.{trigger_frame}
+use Rattle.trigger_codec.specs.Bytes.{trigger_frame}
 use Rattle.fttcan_top.specs.Entries.{IsLive, AreDistinct, total_cost}
 use Rattle.requirement_table.specs.Table.{released_in}
 use Rattle.bus_line.specs.Trace.{end_of, Follows}

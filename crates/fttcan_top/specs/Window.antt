@@ -5,7 +5,7 @@ use Rattle.can_frame.specs.DataFrame.{DataFrame}
 use Rattle.can_frame.specs.declared.data_frame.TimedFrame.{TimedFrame}
 use Rattle.can_frame.specs.Wire.{wire_length}
 use Rattle.cycle_layout.specs.Layout.{CycleLayout}
-use Rattle.trigger_codec.specs.Trigger.{trigger_frame}
+use Rattle.trigger_codec.specs.Bytes.{trigger_frame}
 use Rattle.requirement_table.specs.Slots.{contains_slot, sum_where}
 use Rattle.bus_line.specs.Trace.{end_of}
 use Rattle.fttcan_top.specs.Offered.{Opening, slots, first_identifier, bytes_in, slot_cost, width_of, start_of, end_of_cycle, window_start}

@@ -12,7 +12,7 @@ pub const HORIZON: u64 = 10_000;
 
 /// The worst lengths of all entries together, in bit times.
 pub fn total_cost(placed: &[Placed]) -> u32
-    requires few { length placed.now ≤ 41 }
+    requires few { length placed.now ≤ 300 }
     requires live { All IsLive placed.now }
     ensures sum { result ≡ total_cost placed.now }
 {
@@ -76,7 +76,7 @@ fn common_period(placed: &[Placed], limit: u64) -> Option<u64>
 /// The verdict on a change that makes this list of placed entries, planned from the cycle `from`, where a synchronous window has at
 /// most `window` bit times.
 pub fn verdict(placed: &[Placed], window: u32, from: u64) -> Verdict
-    requires few { length placed.now ≤ 41 }
+    requires few { length placed.now ≤ 300 }
     requires live { All IsLive placed.now }
     requires origins { All (λ p. p.origin < 2 ^ 40) placed.now }
     requires from { from < 2 ^ 42 }
