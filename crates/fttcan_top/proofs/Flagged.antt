@@ -82,7 +82,7 @@ found-at slot c p i e =
 same_instance : (i : Instance) (p : Placed) (k : ℕ) → i.placed ≡ p → i.number ≡ k → i ≡ record { placed = p; number = k }
 same_instance i p k is number = ap (λ q. record { placed = q; number = i.number }) is ∙ ap (λ n. record { placed = p; number = n }) number
 
-option_cases : {X : Type 0} (o : Option X) → (o ≡ None) ⊎ ((x : X) × (o ≡ Some x))
+pub option_cases : {X : Type 0} (o : Option X) → (o ≡ None) ⊎ ((x : X) × (o ≡ Some x))
 option_cases None = inl refl
 option_cases (Some x) = inr (x, refl)
 

@@ -14,3 +14,5 @@ mod Tables
 mod Queues
 mod SlotEntries
 mod CycleRuns
+mod Histories
+mod StepsRun

@@ -11,6 +11,9 @@ pub mod Offered
 pub mod Window
 pub mod Kept
 pub mod Log
+pub mod Openings
+pub mod Promise
+pub mod Progress
 pub mod Table
 pub mod Cycle
 pub mod Running

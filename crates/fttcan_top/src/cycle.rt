@@ -5,6 +5,7 @@ ghost use Rattle.requirement_table.specs.Slots.{contains_slot, sum_where};
 ghost use Rattle.requirement_table.specs.Table.{released_in};
 ghost use Rattle.can_frame.specs.declared.data_frame.TimedFrame.{TimedFrame};
 ghost use Rattle.bus_line.specs.Trace.{Follows};
+ghost use Rattle.cycle_layout.specs.Layout.{IsLayout};
 ghost use Rattle.fttcan_top.specs.Entries.{IsLive, AreDistinct, total_cost};
 ghost use Rattle.fttcan_top.specs.Cycle.{frame_of, queued_from, queue_of};
 ghost use Rattle.fttcan_top.specs.Offered.{next_opening, slot_cost, width_of, offered_in};
@@ -231,6 +232,7 @@ pub fn run_cycle(
     requires cycle { cycle < 2 ^ 41 }
     requires room { 2128 ≤ vec_capacity segment.old }
     ensures mask { IfOk result (λ mask. mask ≡ released_in table.now cycle) }
+    ensures known { OnOk result (IsLayout layout.now) }
     ensures runs { OnOk result ((past : List TimedFrame) → All (λ sent. sent.start < cycle * layout.now.cycle) past
         → Follows (offered_in layout.now (next_opening table.now cycle)) past (cycle * layout.now.cycle) ((cycle + 1) * layout.now.cycle) segment.new.items) }
     ensures room { vec_capacity segment.old ≤ vec_capacity segment.new }

@@ -6,6 +6,7 @@ mod history;
 pub mod input;
 mod load;
 mod rows;
+mod run;
 mod status;
 mod table;
 mod verdict;
