@@ -16,3 +16,4 @@ mod SlotEntries
 mod CycleRuns
 mod Histories
 mod StepsRun
+mod EndLemmas

@@ -7,6 +7,7 @@ pub mod SystemFile
 pub mod History
 pub mod Output
 pub mod Loads
+pub mod Ends
 pub mod Offered
 pub mod Window
 pub mod Kept

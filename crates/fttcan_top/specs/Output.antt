@@ -1,7 +1,10 @@
 -- The headline's definitions: what the words and the files ask for, what a run of it is, and how a call ends.
-use Rattle.std.specs.Prelude.{◌≡◌, ℕ, ⊤, ◌⊎◌, List, [], ◌∷◌, ◌++◌, length, codes, if◌then◌else◌, nat_le, Option, Some, None, Result, Ok, Err}
+use Rattle.std.specs.Prelude.{◌≡◌, ℕ, ◌⊎◌, ⊤, List, [], ◌∷◌, ◌++◌, length, codes, if◌then◌else◌, nat_le, Option, Some, None, Result, Ok, Err}
 use Rattle.can_frame.specs.declared.TimedFrame.{TimedFrame}
 use Rattle.ftt_io.specs.Files.{NamedFiles}
+use Rattle.ftt_io.specs.Puts.{Puts, PutsPrefix}
+use Rattle.fttcan_top.specs.Promise.{Kept}
+use Rattle.fttcan_top.specs.Log.{log_text}
 use Rattle.fttcan_top.specs.declared.input.system.System.{System}
 use Rattle.fttcan_top.specs.declared.input.steps.Step.{Step}
 use Rattle.fttcan_top.specs.declared.history.Event.{Event}
@@ -69,27 +72,64 @@ asked words files = asked_by files (command_of words)
 
 -- What is run
 
+-- a run of what was asked: the history answers the steps, and history and trace keep what is promised
+pub record IsRunOf (job : Asked) (history : List Event) (trace : List TimedFrame) : Type 0 where
+  pub answers : AnswersSteps history job.steps
+  pub kept : Kept job.system.layout history trace
+
 -- how a run ends: refused where some change was refused
 abbrev pub status_of : List Event → Status
 status_of history = if all_accepted history then Done else Refused
 
+-- the log of a run was put to the output, and the status is that of the run
+pub record LogsRun (job : Asked) (status : Status) (old new : Option (List ℕ)) : Type 0 where
+  pub history : List Event
+  pub trace : List TimedFrame
+  pub run : IsRunOf job history trace
+  pub ended : status ≡ status_of history
+  pub puts : Puts old new (log_text history trace)
+
+-- the first bytes of the log of a run were put to the output, or nothing was
+pub record LogsFront (job : Asked) (old new : Option (List ℕ)) : Type 0 where
+  pub history : List Event
+  pub trace : List TimedFrame
+  pub run : IsRunOf job history trace
+  pub puts : PutsPrefix old new (log_text history trace)
+
 -- How a call ends
 
--- whether the run was done
+-- the run was done
 abbrev pub IsDone : Status → Type 0
 IsDone Done = ⊤
 IsDone Refused = ⊤
-IsDone _ = ⊥
+IsDone Words = ⊥
+IsDone Input = ⊥
+IsDone Read = ⊥
+IsDone Write = ⊥
+IsDone Memory = ⊥
 
--- whether the call ended without a run
+-- the run, or the writing of its log, was cut short
+abbrev pub IsCut : Status → Type 0
+IsCut Done = ⊥
+IsCut Refused = ⊥
+IsCut Words = ⊥
+IsCut Input = ⊥
+IsCut Read = ⊥
+IsCut Write = ⊤
+IsCut Memory = ⊤
+
+-- there was no run
 abbrev pub IsStopped : Status → Type 0
+IsStopped Done = ⊥
+IsStopped Refused = ⊥
 IsStopped Words = ⊤
 IsStopped Input = ⊤
 IsStopped Read = ⊤
-IsStopped _ = ⊥
+IsStopped Write = ⊥
+IsStopped Memory = ⊥
 
--- the status is a true answer to what was asked, where `shelf_rose` and `out_rose` say that the shelf's and the output's count of faults
--- rose in this call; memory may run out in any call
+-- the status is a true answer to what was asked, where `shelf_rose` and `out_rose` say that the shelf's and the output's count of
+-- faults rose in this call; memory may run out in any call
 abbrev pub IsAnswer : Result Asked Stopped → Type 0 → Type 0 → Status → Type 0
 IsAnswer asked_for shelf_rose out_rose Done = (job : Asked) × (asked_for ≡ Ok job)
 IsAnswer asked_for shelf_rose out_rose Refused = (job : Asked) × (asked_for ≡ Ok job)
@@ -98,3 +138,24 @@ IsAnswer asked_for shelf_rose out_rose Input = (source : Source) × (asked_for �
 IsAnswer asked_for shelf_rose out_rose Read = shelf_rose ⊎ (asked_for ≡ Err absent)
 IsAnswer asked_for shelf_rose out_rose Write = out_rose × ((job : Asked) × (asked_for ≡ Ok job))
 IsAnswer asked_for shelf_rose out_rose Memory = ⊤
+
+-- What is put to the error sink
+
+-- the line for a file that is refused
+abbrev pub refusal : Source → List ℕ
+refusal Source.System = codes "system: input\n"
+refusal Source.Steps = codes "steps: input\n"
+
+-- the lines of a status, where it is that of a refused file, of this one
+abbrev pub message_of : Status → Source → List ℕ
+message_of Done source = []
+message_of Refused source = []
+message_of Words source = codes "usage: fttcan replay SYSTEM STEPS [REQUESTS] [--tail N] [--report]\n"
+message_of Input source = refusal source
+message_of Read source = codes "read fault\n"
+message_of Write source = codes "write fault\n"
+message_of Memory source = codes "out of memory\n"
+
+-- the text was put to a sink, or its count of faults rose and the first bytes of the text were put
+abbrev pub Says : Option (List ℕ) → Option (List ℕ) → Type 0 → List ℕ → Type 0
+Says old new rose text = Puts old new text ⊎ (rose × PutsPrefix old new text)

@@ -5,6 +5,8 @@ mod cycle;
 mod history;
 pub mod input;
 mod load;
+mod log;
+mod program;
 mod rows;
 mod run;
 mod status;
@@ -12,5 +14,6 @@ mod table;
 mod verdict;
 mod words;
 
+pub use program::plain;
 pub use history::{Event, Verdict};
 pub use status::Status;
