@@ -1,7 +1,7 @@
 -- How what one call did and what the next one did join.
 use Rattle.std.proofs.Common.{◌≡◌, ℕ, ◌+◌, ◌≤◌, List, [], ◌++◌, take, drop, Option, Some, None, refl, ap, sym, ◌∙◌, append_assoc, arith}
 use Rattle.std.proofs.lemmas.List.{append-nil, take-append-drop}
-use Rattle.ftt_io.specs.Counts.{next_count, count_after, Rose}
+use Rattle.ftt_io.specs.Counts.{count_after, Rose}
 use Rattle.ftt_io.specs.Puts.{told_after, Puts, PutsPrefix}
 
 -- a count that rose in the first of two calls rose over both
@@ -69,13 +69,15 @@ PutsPrefix-within {old} {between} {new} first second third is p q =
 -- the next bytes of the rest, and what is left of it
 pub PutsPrefix-more : {old between new : Option (List ℕ)} {bytes rest left : List ℕ} (n : ℕ) (p : PutsPrefix old between bytes) → p.rest ≡ rest → Puts between new (take n rest) → left ≡ drop n rest → (q : PutsPrefix old new bytes) × (q.rest ≡ left)
 PutsPrefix-more {rest = rest} {left = left} n p same more is_left =
-    let cut : rest ≡ take n rest ++ left = sym (take-append-drop n rest) ∙ ap (λ back. take n rest ++ back) (sym is_left) in
-    (record {
-      front = p.front ++ take n rest;
-      rest = left;
-      split = p.split ∙ ap (λ back. p.front ++ back) (same ∙ cut) ∙ sym (append_assoc p.front (take n rest) left);
-      puts = Puts-append _ _ _ _ _ p.puts more;
-    }, refl)
+    let cut : rest ≡ take n rest ++ left = sym (take-append-drop n rest) ∙ ap (λ back. take n rest ++ back) (sym is_left) in (
+      record {
+        front = p.front ++ take n rest;
+        rest = left;
+        split = p.split ∙ ap (λ back. p.front ++ back) (same ∙ cut) ∙ sym (append_assoc p.front (take n rest) left);
+        puts = Puts-append _ _ _ _ _ p.puts more;
+      },
+      refl,
+    )
 
 -- what joins the calls of a sink, for `grind (arith, chaining)`
 pub ruleset chaining = (told_after-nil, told_after-told_after)
