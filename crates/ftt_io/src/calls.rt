@@ -28,6 +28,7 @@ impl Calls {
     pub fn next_fails(&mut self) -> bool
         ensures value { result ≡ is_failing self.old.failing.items self.old.made }
         ensures made { self.new.made ≡ next_count self.old.made }
+        ensures made_never_falls { self.old.made ≤ self.new.made }
         ensures failing_stays { self.new.failing.items ≡ self.old.failing.items }
         ensures faults_stay { self.new.faults ≡ self.old.faults }
     {
@@ -39,7 +40,7 @@ impl Calls {
     /// Counts a fault.
     pub fn fault(&mut self)
         ensures faults { self.new.faults ≡ next_count self.old.faults }
-        ensures never_fall { self.old.faults ≤ self.new.faults }
+        ensures faults_never_fall { self.old.faults ≤ self.new.faults }
         ensures made_stays { self.new.made ≡ self.old.made }
         ensures failing_stays { self.new.failing.items ≡ self.old.failing.items }
     {

@@ -43,6 +43,7 @@ pub trait Shelf {
         // What stays, and the counts.
         ensures files_stay { told_files self.new ≡ told_files self.old }
         ensures counted { fetches self.new ≡ next_count (fetches self.old) }
+        ensures fetches_never_fall { fetches self.old ≤ fetches self.new }
         ensures faults_never_fall { faults self.old ≤ faults self.new }
 
         // At `Ok`.

@@ -95,6 +95,7 @@ impl Shelf for MemShelf {
         ensures files_stay { self.new.files ≡ self.old.files }
         ensures failing_stays { self.new.failing ≡ self.old.failing }
         ensures counted { self.new.fetches ≡ next_count self.old.fetches }
+        ensures fetches_never_fall { self.old.fetches ≤ self.new.fetches }
         ensures faults_never_fall { self.old.faults ≤ self.new.faults }
         ensures raised { self.new.faults ≡ (if is_failing self.old.failing self.old.fetches
             then next_count self.old.faults else self.old.faults) }
