@@ -1,7 +1,7 @@
 -- How what one call did and what the next one did join.
-use Rattle.std.proofs.Common.{◌≡◌, ℕ, ◌+◌, ◌≤◌, List, [], ◌++◌, take, drop, Option, Some, None, refl, ap, sym, ◌∙◌, append_assoc, arith}
-use Rattle.std.proofs.lemmas.List.{append-nil, take-append-drop}
-use Rattle.ftt_io.specs.Counts.{next_count, count_after, Rose}
+use Rattle.std.proofs.Common.{◌≡◌, ℕ, ◌+◌, ◌≤◌, List, [], ◌++◌, Option, Some, None, refl, ap, sym, ◌∙◌, append_assoc, arith}
+use Rattle.std.proofs.lemmas.List.{append-nil}
+use Rattle.ftt_io.specs.Counts.{count_after, Rose}
 use Rattle.ftt_io.specs.Puts.{told_after, Puts, PutsPrefix}
 
 -- a count that rose in the first of two calls rose over both
@@ -60,22 +60,38 @@ PutsPrefix-longer second p = record {
   puts = p.puts;
 }
 
--- a prefix of the second bytes, where more are to come behind them
-pub PutsPrefix-within : {old between new : Option (List ℕ)} (first second third : List ℕ) {bytes : List ℕ} → bytes ≡ first ++ (second ++ third) → Puts old between first → PutsPrefix between new second → PutsPrefix old new bytes
-PutsPrefix-within {old} {between} {new} first second third is p q =
-    let all : PutsPrefix old new (first ++ (second ++ third)) = PutsPrefix-append first p (PutsPrefix-longer third q) in
-    record { front = all.front; rest = all.rest; split = is ∙ all.split; puts = all.puts }
+-- The sink took the bytes before `rest`: what a loop keeps that puts piece after piece.
+pub record PutsUpTo (old new : Option (List ℕ)) (bytes rest : List ℕ) : Type 0 where
+  pub front : List ℕ
+  pub split : bytes ≡ front ++ rest
+  pub puts : Puts old new front
 
--- the next bytes of the rest, and what is left of it
-pub PutsPrefix-more : {old between new : Option (List ℕ)} {bytes rest left : List ℕ} (n : ℕ) (p : PutsPrefix old between bytes) → p.rest ≡ rest → Puts between new (take n rest) → left ≡ drop n rest → (q : PutsPrefix old new bytes) × (q.rest ≡ left)
-PutsPrefix-more {rest = rest} {left = left} n p same more is_left =
-    let cut : rest ≡ take n rest ++ left = sym (take-append-drop n rest) ∙ ap (λ back. take n rest ++ back) (sym is_left) in
-    (record {
-      front = p.front ++ take n rest;
-      rest = left;
-      split = p.split ∙ ap (λ back. p.front ++ back) (same ∙ cut) ∙ sym (append_assoc p.front (take n rest) left);
-      puts = Puts-append _ _ _ _ _ p.puts more;
-    }, refl)
+-- before the first piece all bytes are to come
+pub PutsUpTo-start : {old new : Option (List ℕ)} (bytes : List ℕ) → new ≡ old → PutsUpTo old new bytes bytes
+PutsUpTo-start bytes same = record { front = []; split = refl; puts = Puts-nothing same }
+
+-- after the next piece, which the sink took whole
+pub PutsUpTo-next : {old between new : Option (List ℕ)} {bytes rest : List ℕ} (piece left : List ℕ) → PutsUpTo old between bytes rest → rest ≡ piece ++ left → Puts between new piece → PutsUpTo old new bytes left
+PutsUpTo-next piece left p next q = record {
+  front = p.front ++ piece;
+  split = p.split ∙ ap (λ rest. p.front ++ rest) next ∙ sym (append_assoc p.front piece left);
+  puts = Puts-append _ _ _ _ _ p.puts q;
+}
+
+-- after the next piece, of which the sink took a prefix
+pub PutsUpTo-stops : {old between new : Option (List ℕ)} {bytes rest : List ℕ} (piece left : List ℕ) → PutsUpTo old between bytes rest → rest ≡ piece ++ left → PutsPrefix between new piece → PutsPrefix old new bytes
+PutsUpTo-stops piece left p next q = record {
+  front = p.front ++ q.front;
+  rest = q.rest ++ left;
+  split = p.split ∙ ap (λ rest. p.front ++ rest) (next ∙ ap (λ taken. taken ++ left) q.split ∙ append_assoc q.front q.rest left) ∙ sym (append_assoc p.front q.front (q.rest ++ left));
+  puts = Puts-append _ _ _ _ _ p.puts q.puts;
+}
+
+-- with nothing to come the sink took all bytes
+pub PutsUpTo-end : {old new : Option (List ℕ)} {bytes rest : List ℕ} → PutsUpTo old new bytes rest → rest ≡ [] → Puts old new bytes
+PutsUpTo-end {old} {bytes = bytes} p none =
+    let all : bytes ≡ p.front = p.split ∙ ap (λ rest. p.front ++ rest) none ∙ append-nil p.front in
+    p.puts ∙ ap (λ taken. told_after old taken) (sym all)
 
 -- what joins the calls of a sink, for `grind (arith, chaining)`
 pub ruleset chaining = (told_after-nil, told_after-told_after)

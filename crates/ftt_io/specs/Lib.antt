@@ -1,4 +1,7 @@
+pub mod Calls
 pub mod Counts
+pub mod FileShelf
 pub mod Files
-pub mod Memory
+pub mod MemShelf
+pub mod MemSink
 pub mod Puts

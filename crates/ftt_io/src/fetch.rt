@@ -3,13 +3,13 @@ ghost use Rattle.std.specs.Prelude.{◌≡◌, ℕ, ◌<◌, ◌≤◌, ◌⊎�
 ghost use Rattle.ftt_io.specs.Counts.{next_count, Rose};
 ghost use Rattle.ftt_io.specs.Files.{NamedFiles, HasBytes, HasMoreThan, IsAbsent};
 
-use std::alloc::{AllocError, Global};
+use std::alloc::Global;
 use thiserror::Error;
 
 /// Why a fetch gave no bytes.
 #[derive(Clone, Copy, Debug, PartialEq, Eq, Error)]
 pub enum FetchFault {
-    /// The shelf counted a fault, or no file of the name is there.
+    /// The shelf counted a fault, or no file has the name.
     #[error("the file can't be read")]
     Failed,
     /// The file has more bytes than the limit.
@@ -34,12 +34,17 @@ pub trait Shelf {
     /// The number of bytes that the last fetch took.
     ghost last_fetch_len: { Self → ℕ };
 
-    /// Fetches the bytes under `name`, at most `limit` of them.
+    /// Fetches the bytes of the file with this name, at most `limit` of them.
+    ///
+    /// Where the files are told and no fault is counted, the answer is `Ok` exactly for a file of
+    /// at most `limit` bytes, `TooLong` for a longer one and `Failed` for one that isn't there; in
+    /// place of each it may be `Memory`.
     fn fetch(&mut self, alloc: Global, name: &str, limit: usize) -> Result<Vec<u8>, FetchFault>
-        // Whatever the answer.
+        // What stays, and the counts.
         ensures files_stay { told_files self.new ≡ told_files self.old }
-        ensures faults_never_fall { faults self.old ≤ faults self.new }
         ensures counted { fetches self.new ≡ next_count (fetches self.old) }
+        ensures fetches_never_fall { fetches self.old ≤ fetches self.new }
+        ensures faults_never_fall { faults self.old ≤ faults self.new }
 
         // At `Ok`.
         ensures told { IfOk result (λ bytes. HasBytes (told_files self.old) name.now bytes.items) }
@@ -47,9 +52,9 @@ pub trait Shelf {
         ensures taken { IfOk result (λ bytes. last_fetch_len self.new ≡ length bytes.items) }
 
         // At each fault.
-        ensures failed { IsErrOf result FetchFault.Failed →
-            Rose (faults self.old) (faults self.new) ⊎ IsAbsent (told_files self.old) name.now }
+        ensures failed { IsErrOf result FetchFault.Failed
+            → Rose (faults self.old) (faults self.new) ⊎ IsAbsent (told_files self.old) name.now }
         ensures too_long { IsErrOf result FetchFault.TooLong → limit < last_fetch_len self.new }
-        ensures too_long_told { IsErrOf result FetchFault.TooLong →
-            HasMoreThan (told_files self.old) name.now limit };
+        ensures too_long_told { IsErrOf result FetchFault.TooLong
+            → HasMoreThan (told_files self.old) name.now limit };
 }

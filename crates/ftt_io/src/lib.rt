@@ -1,17 +1,28 @@
 //! Reading named files and writing bytes, behind two small traits.
 //!
-//! A [`Shelf`] is fetched from by name and a [`Sink`] is put to. Each counts its own faults, so a
-//! program above them can say of each answer whether the outside world was at fault.
-//! [`MemShelf`] and [`MemSink`] are both of them in memory, with faults where a test wants them.
-//! [`FileShelf`] and [`StdSink`] are the real ones.
+//! A [`Shelf`] is fetched from by name and a [`Sink`] is put to. Each counts its faults, so a program
+//! above them can say of each answer whether the outside world was at fault. [`MemShelf`] and
+//! [`MemSink`] are both of them in memory, and fail where a test wants it. [`FileShelf`] and
+//! [`StdSink`] are the real ones.
+//!
+//! Each count is a `u64` that stays at its greatest value. It is said to have risen where it is
+//! higher than before, or stands there.
 #![tactic(auto)]
 
+mod calls;
 mod fetch;
-mod memory;
+mod file_shelf;
+mod mem_shelf;
+mod mem_sink;
 mod put;
-//mod system;
+mod std_sink;
 
 pub use fetch::{FetchFault, Shelf};
-pub use memory::{MemShelf, MemSink};
+pub use file_shelf::FileShelf;
+pub use mem_shelf::MemShelf;
+pub use mem_sink::MemSink;
 pub use put::{Failed, Sink, write_all};
-//pub use system::{FileShelf, StdSink};
+pub use std_sink::StdSink;
+
+#[cfg(test)]
+mod tests;

@@ -5,12 +5,12 @@ ghost use Rattle.ftt_io.specs.Puts.{Puts, PutsPrefix};
 
 use thiserror::Error;
 
-/// A sink counted a fault and took nothing of the piece.
+/// The sink counted a fault.
 #[derive(Clone, Copy, Debug, PartialEq, Eq, Error)]
 #[error("the bytes can't be written")]
 pub struct Failed;
 
-/// Takes bytes, piece by piece.
+/// What bytes are put to, piece by piece.
 pub trait Sink {
     /// The bytes taken so far, where the sink tells them.
     ghost told_bytes: { Self → Option (List ℕ) };
@@ -18,7 +18,8 @@ pub trait Sink {
     /// The count of faults.
     ghost faults: { Self → ℕ };
 
-    /// Takes the first bytes of the piece, at least one, and answers how many.
+    /// Takes the first bytes of a piece that isn't empty, at least one, and answers how many. At
+    /// `Failed` it took none.
     fn put(&mut self, piece: &[u8]) -> Result<usize, Failed>
         requires { 0 < length piece.now }
         ensures faults_never_fall { faults self.old ≤ faults self.new }
@@ -34,7 +35,8 @@ pub trait Sink {
         ensures nothing { OnErr result (told_bytes self.new ≡ told_bytes self.old) };
 }
 
-/// Puts all of the bytes, in as many pieces as the sink wants.
+/// Puts all of the bytes, in as many pieces as the sink makes of them. At `Failed` it put those
+/// before the piece that failed.
 pub fn write_all<O: Sink>(sink: &mut O, bytes: &[u8]) -> Result<(), Failed>
     ensures faults_never_fall { O.faults sink.old ≤ O.faults sink.new }
     ensures all { OnOk result (Puts (O.told_bytes sink.old) (O.told_bytes sink.new) bytes.now) }

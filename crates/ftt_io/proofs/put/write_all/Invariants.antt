@@ -1,10 +1,10 @@
-use Rattle.std.proofs.Common.{◌≡◌, ◌≤◌, length}
-use Rattle.ftt_io.specs.Puts.{PutsPrefix}
+use Rattle.std.proofs.Common.{◌≤◌, length}
+use Rattle.ftt_io.proofs.Chaining.{PutsUpTo}
 use Rattle.ftt_io.proofs.put.write_all.Given as goal
 
 abbrev pub invariant-loop-rest : goal.invariant-loop-rest
 invariant-loop-rest g l =
-    ((put : PutsPrefix (g.O.Sink.told_bytes l.initial.sink) (g.O.Sink.told_bytes l.sink) l.bytes) × (put.rest ≡ l.rest)) × (g.O.Sink.faults l.initial.sink ≤ g.O.Sink.faults l.sink)
+    PutsUpTo (g.O.Sink.told_bytes l.initial.sink) (g.O.Sink.told_bytes l.sink) l.bytes l.rest × (g.O.Sink.faults l.initial.sink ≤ g.O.Sink.faults l.sink)
 
 abbrev pub decreases-loop-rest : goal.decreases-loop-rest
 decreases-loop-rest g l = length l.rest
