@@ -33,7 +33,8 @@ pub fn arbitrate(ids: &[u16]) -> Option<usize>
 
 /// The first place at which the identifier stands.
 fn place_of(ids: &[u16], id: u16) -> Option<usize>
-    ensures { MatchOption result (All (λ other. other ≢ id) ids.now) (λ place. (place < length ids.now) × (slice_index ids.now place ≡ id)) }
+    ensures place { MatchOption result (All (λ other. other ≢ id) ids.now)
+        (λ place. (place < length ids.now) × (slice_index ids.now place ≡ id)) }
 {
     ids.iter().position(|other| *other == id)
 }
@@ -41,8 +42,10 @@ fn place_of(ids: &[u16], id: u16) -> Option<usize>
 /// The level of the bus at the bit `place`, where 0 is the least significant one: recessive (`true`) unless somebody
 /// sends dominant. `bus` has the levels of the more significant bits.
 fn bus_level(ids: &[u16], place: u32, bus: u16) -> bool
-    requires { place < 11 }
-    ensures { MatchBool result (All (λ id. ¬ SendsDominant place bus id) ids.now) (Any (SendsDominant place bus) ids.now) }
+    requires place { place < 11 }
+    ensures level { MatchBool result
+        (All (λ id. ¬ SendsDominant place bus id) ids.now)
+        (Any (SendsDominant place bus) ids.now) }
 {
     !ids.iter().any(|id| sends_dominant(*id, place, bus))
 }
@@ -50,8 +53,8 @@ fn bus_level(ids: &[u16], place: u32, bus: u16) -> bool
 /// Whether the sender of `id` still sends at the bit `place`, and sends dominant (0) there. It still sends where the
 /// bus had its own levels at the more significant bits: one that sent recessive and saw dominant has withdrawn.
 fn sends_dominant(id: u16, place: u32, bus: u16) -> bool
-    requires { place < 11 }
-    ensures { IsTrue result ↔ SendsDominant place bus id }
+    requires place { place < 11 }
+    ensures dominant { IsTrue result ↔ SendsDominant place bus id }
 {
     id >> (place + 1) == bus && (id >> place) & 1 == 0
 }

@@ -32,8 +32,8 @@ module _ {X : Type 0} (P : X → Type 0) where
   Any-none [] none any = Any-nil any
   Any-none (x ∷ xs) none any =
       elim (Any-cases x xs any) [
-        inl is ↦ All-head (λ y. P y → ⊥) x xs none is
-      | inr later ↦ Any-none xs (All-tail (λ y. P y → ⊥) x xs none) later
+        | inl is ↦ All-head (λ y. P y → ⊥) x xs none is
+        | inr later ↦ Any-none xs (All-tail (λ y. P y → ⊥) x xs none) later
       ]
 
 -- no element passes

@@ -31,15 +31,13 @@ pub fn trace_laws<O: Offering>()
         → Follows (O.offers setting) past free middle front
         → Follows (O.offers setting) (past ++ front) (max middle (free_after free front)) until back
         → Follows (O.offers setting) past free until (front ++ back) }
-{
-}
+{}
 
 /// Two kinds of offers that agree along some frames have these frames both. The function does nothing.
 pub fn same_along<One: Offering, Other: Offering>()
-    ensures { (one : One.Setting) (other : Other.Setting) (past other_past : List TimedFrame)
+    ensures along { (one : One.Setting) (other : Other.Setting) (past other_past : List TimedFrame)
         → (free until : ℕ) (frames : List TimedFrame)
         → AgreeAlong (One.offers one) (Other.offers other) past other_past free until frames
         → Follows (One.offers one) past free until frames
         → Follows (Other.offers other) other_past free until frames }
-{
-}
+{}

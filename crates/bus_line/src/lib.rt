@@ -9,3 +9,6 @@ mod stations;
 pub use laws::{Offering, same_along, trace_laws};
 pub use line::run_until;
 pub use stations::Stations;
+
+#[cfg(test)]
+mod tests;

@@ -17,14 +17,14 @@ pub trait Stations {
 
     /// Makes `ids` the list of the identifiers that are offered at a time: at most 32, distinct, from 0x000 to 0x7EF.
     fn offers(&self, at: u64, ids: &mut Contenders)
-        requires { at < 2 ^ 60 }
+        requires time { at < 2 ^ 60 }
         ensures offered { ids.new ≡ line.offered (state self.now) at }
         ensures range { All (λ id. id ≤ 0x7EF) ids.new };
 
     /// The least time after `at` at which an offer may appear while nothing is sent; `None` where none can.
     fn wake(&self, at: u64) -> Option<u64>
-        requires { at < 2 ^ 60 }
-        ensures { IsWake (line.offered (state self.now)) at result };
+        requires time { at < 2 ^ 60 }
+        ensures wake { IsWake (line.offered (state self.now)) at result };
 
     /// The frame that is offered at a time under an identifier.
     fn frame(&self, at: u64, id: u16) -> Frame
@@ -37,5 +37,5 @@ pub trait Stations {
     fn sent(&mut self, sent: &TimedFrame)
         requires time { sent.now.start < 2 ^ 60 }
         requires sending { IsSending line (state self.old) sent.now }
-        ensures { state self.new ≡ line.next (state self.old) sent.now };
+        ensures next { state self.new ≡ line.next (state self.old) sent.now };
 }

@@ -120,7 +120,7 @@ impl Layout {
 
     /// The start of the asynchronous window of a cycle.
     pub fn async_open(&self, cycle: u64) -> u64
-        requires { cycle < 2 ^ 42 }
+        requires cycle { cycle < 2 ^ 42 }
         ensures value { result ≡ async_open self.now cycle }
     {
         cycle * u64::from(self.cycle) + u64::from(bound(TRIGGER_BYTES) + self.turnaround)
