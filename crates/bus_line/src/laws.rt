@@ -3,6 +3,10 @@
 ghost use Rattle.std.specs.Prelude.{◌≡◌, ◌↔◌, ◌≤◌, ℕ, List, [], ◌++◌, max};
 ghost use Rattle.can_frame.specs.declared.data_frame.TimedFrame.{TimedFrame};
 ghost use Rattle.bus_line.specs.Trace.{AgreeAlong, Follows, IsDetermined, IsTrace, Offers, free_after};
+ghost use Rattle.bus_line.specs.Stations.{offers_of};
+
+use crate::stations::Stations;
+use std::marker::PhantomData;
 
 /// A kind of offers on a bus, for the laws below: a crate that speaks of its own offers implements this for a type
 /// that stands for them.
@@ -12,6 +16,17 @@ pub trait Offering {
 
     /// The offers in a setting.
     ghost offers: { Setting → Offers };
+}
+
+/// The offers of stations, which depend on the state in which a run finds them.
+pub struct StationOffers<S: Stations> {
+    stations: PhantomData<S>,
+}
+
+impl<S: Stations> Offering for StationOffers<S> {
+    ghost Setting = { S.State };
+
+    ghost offers = { λ state. offers_of S.line state };
 }
 
 /// What is true of the traces of any offers. The function does nothing.
