@@ -1,6 +1,6 @@
 -- Times at which stations offer nothing.
-use Rattle.std.proofs.Common.{◌≡◌, ℕ, ◌<◌, ◌≤◌, List, [], length, Option, Some, None, Contains, ⊎_elim, subst, inl, inr, arith}
-use Rattle.std.proofs.lemmas.Bool.{cases_lt, cases_order}
+use Rattle.std.proofs.Common.{◌≡◌, ℕ, ◌<◌, ◌≤◌, List, [], length, Some, None, Contains, subst, inl, inr, arith}
+use Rattle.std.proofs.lemmas.Bool.{cases_order}
 use Rattle.can_frame.specs.DataFrame.{DataFrame}
 use Rattle.bus_line.specs.Trace.{NothingOffered}
 use Rattle.bus_line.specs.Stations.{Line, IsOffered, IsWake, offers_of}

@@ -1,11 +1,11 @@
 -- Laws of traces: the CAN trace in the words of its definition, and frame by frame.
-use Rattle.std.proofs.Common.{◌≡◌, ℕ, ◌+◌, ◌<◌, ◌≤◌, Bool, true, false, max, nat_lt, List, [], ◌∷◌, ◌++◌, length, All, AllPairs, Any, filter, cond, ◌↔◌, inl, inr, refl, sym, ap, ◌∙◌, subst, arith, append_assoc, append-nil, length-append, get_or}
+use Rattle.std.proofs.Common.{◌≡◌, ℕ, ◌+◌, ◌<◌, ◌≤◌, max, nat_lt, List, [], ◌∷◌, ◌++◌, All, AllPairs, Any, ◌↔◌, inl, inr, refl, sym, ap, ◌∙◌, subst, arith, append_assoc, append-nil, length-append, get_or}
 use Rattle.std.proofs.lemmas.Bool.{lt-ltb, le-ltb, cases_lt, cases_order}
-use Rattle.std.proofs.lemmas.List.Elements.{All-nil, All-cons, All-head, All-tail, All-weaker}
+use Rattle.std.proofs.lemmas.List.Elements.{All-nil, All-cons, All-head, All-tail}
 use Rattle.can_frame.specs.DataFrame.{DataFrame}
 use Rattle.can_frame.specs.Wire.{wire_of, wire_length}
 use Rattle.can_frame.specs.declared.data_frame.TimedFrame.{TimedFrame}
-use Rattle.bus_line.specs.Trace.{Offers, IsOrdered, IsTrace, IsLeastOffered, IsNext, IsDetermined, NothingOffered, Follows, started_before, end_of, free_after, AgreeAlong}
+use Rattle.bus_line.specs.Trace.{Offers, IsTrace, IsLeastOffered, IsNext, IsDetermined, NothingOffered, Follows, started_before, end_of, free_after, AgreeAlong}
 use Rattle.bus_line.proofs.Lists.{AllPairs-head, AllPairs-tail, AllPairs-cons, Any-nil, Any-head, Any-tail, Any-cases, Any-none, filter-none}
 
 -- a frame takes some time on the bus: thirteen bits stand behind its stuffed part

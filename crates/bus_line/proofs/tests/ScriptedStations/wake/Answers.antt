@@ -1,9 +1,8 @@
-use Rattle.std.proofs.Common.{◌≡◌, ◌&&◌, ◌++◌, ◌∷◌, ◌<◌, ◌≤◌, ℕ, List, [], Bool, true, false, Contains, nat_le, nat_lt, if◌then◌else◌, refl, inl, inr, arith}
+use Rattle.std.proofs.Common.{◌≡◌, ◌&&◌, ◌++◌, ◌∷◌, ◌<◌, ℕ, List, [], Bool, true, false, Contains, nat_le, nat_lt, if◌then◌else◌, refl, inl, inr, arith}
 use Rattle.std.proofs.lemmas.Bool.{false≢true}
 use Rattle.std.proofs.lemmas.Bool.Decides.{nat_tests}
 use Rattle.std.proofs.lemmas.List.Elements.{Contains-append_left, Contains-append_right, Contains-append_cases}
 use Rattle.bus_line.specs.declared.tests.Station.{Station}
-use Rattle.bus_line.specs.declared.tests.Scripted.{Scripted}
 use Rattle.bus_line.proofs.tests.ScriptedStations.wake.Goals as goal
 
 abbrev offer : Station → ℕ → List ℕ
