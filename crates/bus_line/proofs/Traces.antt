@@ -5,7 +5,7 @@ use Rattle.std.proofs.lemmas.List.Elements.{All-nil, All-cons, All-head, All-tai
 use Rattle.can_frame.specs.DataFrame.{DataFrame}
 use Rattle.can_frame.specs.Wire.{wire_of, wire_length}
 use Rattle.can_frame.specs.declared.data_frame.TimedFrame.{TimedFrame}
-use Rattle.bus_line.specs.Trace.{Offers, IsTrace, IsLeastOffered, IsNext, IsDetermined, NothingOffered, Follows, started_before, end_of, free_after, AgreeAlong}
+use Rattle.bus_line.specs.Trace.{Offers, IsOrdered, IsTrace, IsLeastOffered, IsNext, IsDetermined, NothingOffered, Follows, started_before, end_of, free_after, AgreeAlong}
 use Rattle.bus_line.proofs.Lists.{AllPairs-head, AllPairs-tail, AllPairs-cons, Any-nil, Any-head, Any-tail, Any-cases, Any-none, filter-none}
 
 -- a frame takes some time on the bus: thirteen bits stand behind its stuffed part
@@ -139,6 +139,24 @@ module _ (offers : Offers) (until : ℕ) where
         least = rest.least;
         busy = λ at frame before offered. rest.busy at frame (omega arith) before offered;
       }
+
+  -- frames that follow one another are ordered, and start from the first free time on
+  pub IsOrdered-from_Follows : (past : List TimedFrame) (free : ℕ) (frames : List TimedFrame) → Follows offers past free until frames → IsOrdered frames
+  IsOrdered-from_Follows past free frames follows =
+      let rest = to_rest past free frames follows in record { lengths = rest.lengths; apart = rest.apart }
+
+  pub within_from_Follows : (past : List TimedFrame) (free : ℕ) (frames : List TimedFrame) → Follows offers past free until frames
+      → All (λ sent. (free ≤ sent.start) × (sent.start < until)) frames
+  within_from_Follows past free frames follows =
+      let rest = to_rest past free frames follows in λ k d within. (rest.when_free k d within, rest.within k d within)
+
+  -- what stands behind a front of the frames follows that front
+  pub Follows-behind : (past : List TimedFrame) (free : ℕ) (frames back : List TimedFrame) → Follows offers past free until (frames ++ back)
+      → Follows offers (past ++ frames) (free_after free frames) until back
+  Follows-behind past free [] back follows = subst (λ started. Follows offers started free until back) (sym (append-nil past)) follows
+  Follows-behind past free (sent ∷ later) back (next, follows) =
+      subst (λ started. Follows offers started (free_after (end_of sent) later) until back) (append_assoc past (sent ∷ []) later)
+      (Follows-behind (past ++ sent ∷ []) (end_of sent) later back follows)
 
 abbrev made : ℕ → ℕ → DataFrame → TimedFrame
 made start len frame = record { start = start; len = len; frame = frame }

@@ -1,5 +1,6 @@
-//! Frames one after the other on a CAN bus without errors (CAN 2.0 Part A, arbitration): whenever the bus is free and
-//! something is offered, the offered frame with the least identifier is sent whole. All times are bit times.
+//! Frames one after the other on a CAN bus without errors (CAN 2.0 Part A, arbitration): whenever
+//! the bus is free and something is offered, the offered frame with the least identifier is sent
+//! whole. All times are bit times.
 #![tactic(auto)]
 
 mod laws;

@@ -8,13 +8,13 @@ use crate::stations::Stations;
 use arbitration::{Contenders, arbitrate};
 use can_frame::{TimedFrame, wire_len};
 
-/// Runs the bus over the stations from `from` on, and puts the frames that start before `until` behind `out`, in
-/// order. Each is the offered frame with the least identifier at the first free time with an offer, and each is told
-/// to the stations once. The answer is the first time, at least `from`, at which the bus is free behind them; it may
-/// be after `until`.
+/// Runs the bus over the stations from `from` on, and puts the frames that start before `until`
+/// behind `out`, in order. Each is the offered frame with the least identifier at the first free
+/// time with an offer, and each is told to the stations once. The answer is the first time, at
+/// least `from`, at which the bus is free behind them; it may be after `until`.
 ///
-/// `out` needs spare room for one frame more than `(until - from) / 47`, since no frame is shorter than 47 bit times;
-/// the run takes no memory. Times are below 2^60.
+/// `out` needs spare room for one frame more than `(until - from) / 47`, since no frame is shorter
+/// than 47 bit times; the run takes no memory. Times are below 2^60.
 pub fn run_until<S: Stations>(
     stations: &mut S,
     from: u64,

@@ -12,8 +12,8 @@ use std::test::Fail;
 /// The greatest time.
 const GREATEST: u64 = u64::MAX;
 
-/// A station that offers an empty frame from one time to below another, and once that is sent, from `again` to below
-/// `again_until`.
+/// A station that offers an empty frame from one time to below another, and once that is sent, from
+/// `again` to below `again_until`.
 #[derive(Clone, Copy)]
 struct Station {
     id: u16,
@@ -29,7 +29,8 @@ impl Station {
         requires room { length ids.old < 32 }
         requires other { ¬ Contains ids.old self.now.id }
         ensures offer { ids.new ≡ ids.old
-            ++ (if nat_le self.now.from at && nat_lt at self.now.until then self.now.id ∷ [] else []) }
+            ++ (if nat_le self.now.from at && nat_lt at self.now.until
+            then self.now.id ∷ [] else []) }
     {
         if self.from <= at && at < self.until {
             ids.push(self.id);
@@ -38,7 +39,8 @@ impl Station {
 
     /// The time at which the offer appears, or the greatest time where it does not appear later.
     fn appears_after(&self, at: u64) -> u64
-        ensures appears { at < self.now.from → self.now.from < self.now.until → result ≤ self.now.from }
+        ensures appears { at < self.now.from → self.now.from < self.now.until
+            → result ≤ self.now.from }
         ensures later { at < GREATEST → at < result }
         ensures ends { self.now.until ≤ GREATEST }
     {
@@ -160,8 +162,9 @@ fn three_scripted_stations(rt: HostRuntime) -> Result<(), Fail> {
         },
     };
     let mut trace = Vec::with_capacity(rt.alloc(), 20)?;
-    // The two that begin together, the one that comes at the end of the first frame, the one that waits, and the one
-    // that comes while the bus is busy. The offer from 70 to 100 goes while the bus is busy.
+    // The two that begin together, the one that comes at the end of the first frame, the one that
+    // waits, and the one that comes while the bus is busy. The offer from 70 to 100 goes while the
+    // bus is busy.
     let by_hand = [
         (10, 51, 0x200),
         (61, 51, 0x100),
