@@ -1,5 +1,5 @@
 -- Lists by their first element: `All`, `AllPairs` and `Any`, which speak of places, and `filter`.
-use Rattle.std.proofs.Common.{◌≡◌, ℕ, zero, suc, ◌+◌, ◌<◌, ◌≤◌, Bool, true, false, List, [], ◌∷◌, length, All, AllPairs, Any, filter, ◌⊎◌, inl, inr, refl, sym, subst, arith}
+use Rattle.std.proofs.Common.{◌≡◌, zero, suc, Bool, false, List, [], ◌∷◌, All, AllPairs, Any, filter, ◌⊎◌, inl, inr, refl, sym, subst, arith}
 use Rattle.std.proofs.lemmas.List.Elements.{All-head, All-tail}
 
 module _ {X : Type 0} (R : X → X → Type 0) where
@@ -32,8 +32,8 @@ module _ {X : Type 0} (P : X → Type 0) where
   Any-none [] none any = Any-nil any
   Any-none (x ∷ xs) none any =
       elim (Any-cases x xs any) [
-        inl is ↦ All-head (λ y. P y → ⊥) x xs none is
-      | inr later ↦ Any-none xs (All-tail (λ y. P y → ⊥) x xs none) later
+        | inl is ↦ All-head (λ y. P y → ⊥) x xs none is
+        | inr later ↦ Any-none xs (All-tail (λ y. P y → ⊥) x xs none) later
       ]
 
 -- no element passes

@@ -1,6 +1,6 @@
 -- Times at which stations offer nothing.
-use Rattle.std.proofs.Common.{◌≡◌, ℕ, ◌<◌, ◌≤◌, List, [], length, Option, Some, None, Contains, ⊎_elim, subst, inl, inr, arith}
-use Rattle.std.proofs.lemmas.Bool.{cases_lt, cases_order}
+use Rattle.std.proofs.Common.{◌≡◌, ℕ, ◌<◌, ◌≤◌, List, [], length, Some, None, Contains, subst, inl, inr, arith}
+use Rattle.std.proofs.lemmas.Bool.{cases_order}
 use Rattle.can_frame.specs.DataFrame.{DataFrame}
 use Rattle.bus_line.specs.Trace.{NothingOffered}
 use Rattle.bus_line.specs.Stations.{Line, IsOffered, IsWake, offers_of}
@@ -15,9 +15,9 @@ module _ {State : Type 0} (line : Line State) (state : State) (free at : ℕ) (b
       → free ≤ later → IsOffered line state later frame → ⊥
   nothing_later later frame old from offered =
       elim (cases_order later at) [
-        inl same ↦ Contains-none (line.offered state at) frame.identifier none (subst (λ t. Contains (line.offered state t) frame.identifier) same offered.contends)
-      | inr (inl earlier) ↦ before later frame from earlier offered
-      | inr (inr behind) ↦ Contains-none (line.offered state at) frame.identifier none (old behind frame.identifier offered.contends)
+        | inl same ↦ Contains-none (line.offered state at) frame.identifier none (subst (λ t. Contains (line.offered state t) frame.identifier) same offered.contends)
+        | inr (inl earlier) ↦ before later frame from earlier offered
+        | inr (inr behind) ↦ Contains-none (line.offered state at) frame.identifier none (old behind frame.identifier offered.contends)
       ]
 
   pub quiet_until_wake : (next : ℕ) → IsWake (line.offered state) at (Some next) → NothingOffered (offers_of line state) [] free next

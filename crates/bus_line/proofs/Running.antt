@@ -1,5 +1,5 @@
 -- A run of the bus, as far as it has come.
-use Rattle.std.proofs.Common.{◌≡◌, ℕ, ◌+◌, ◌*◌, ◌<◌, ◌≤◌, List, [], ◌∷◌, ◌++◌, length, fold, refl, ap, sym, ◌∙◌, subst, arith, append_assoc, append-nil, length-append}
+use Rattle.std.proofs.Common.{◌≡◌, ℕ, ◌+◌, ◌*◌, ◌≤◌, List, [], ◌∷◌, ◌++◌, length, refl, ap, sym, ◌∙◌, subst, arith, append_assoc, append-nil, length-append}
 use Rattle.std.proofs.lemmas.List.Sums.{fold-append}
 use Rattle.can_frame.specs.declared.data_frame.TimedFrame.{TimedFrame}
 use Rattle.bus_line.specs.Trace.{Follows, IsNext, NothingOffered, end_of, free_after}
@@ -23,7 +23,7 @@ module _ {State : Type 0} (line : Line State) (before : State) (from until : ℕ
     when_free = is.when_free;
     within = is.within;
     first = is.first;
-    least = record {offered = is.least.offered; least = is.least.least};
+    least = record { offered = is.least.offered; least = is.least.least };
     whole = is.whole;
   }
 
@@ -48,7 +48,7 @@ module _ {State : Type 0} (line : Line State) (before : State) (from until : ℕ
     few = omega (arith, run.few, is.when_free, length-append run.frames (next ∷ []));
     goes_on = λ later follows.
         let along : Follows (offers_of line before) run.frames free until (next ∷ later) =
-            (IsNext-told run.frames free next (subst (λ state. IsNext (offers_of line state) [] free until next) run.told_of is), follows) in
+        (IsNext-told run.frames free next (subst (λ state. IsNext (offers_of line state) [] free until next) run.told_of is), follows) in
         rw append_assoc (run.goes_on (next ∷ later) along);
   }
 

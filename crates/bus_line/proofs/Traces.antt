@@ -1,7 +1,7 @@
 -- Laws of traces: the CAN trace in the words of its definition, and frame by frame.
-use Rattle.std.proofs.Common.{◌≡◌, ℕ, ◌+◌, ◌<◌, ◌≤◌, Bool, true, false, max, nat_lt, List, [], ◌∷◌, ◌++◌, length, All, AllPairs, Any, filter, cond, ◌↔◌, inl, inr, refl, sym, ap, ◌∙◌, subst, arith, append_assoc, append-nil, length-append, get_or}
+use Rattle.std.proofs.Common.{◌≡◌, ℕ, ◌+◌, ◌<◌, ◌≤◌, max, nat_lt, List, [], ◌∷◌, ◌++◌, All, AllPairs, Any, ◌↔◌, inl, inr, refl, sym, ap, ◌∙◌, subst, arith, append_assoc, append-nil, length-append, get_or}
 use Rattle.std.proofs.lemmas.Bool.{lt-ltb, le-ltb, cases_lt, cases_order}
-use Rattle.std.proofs.lemmas.List.Elements.{All-nil, All-cons, All-head, All-tail, All-weaker}
+use Rattle.std.proofs.lemmas.List.Elements.{All-nil, All-cons, All-head, All-tail}
 use Rattle.can_frame.specs.DataFrame.{DataFrame}
 use Rattle.can_frame.specs.Wire.{wire_of, wire_length}
 use Rattle.can_frame.specs.declared.data_frame.TimedFrame.{TimedFrame}
@@ -74,14 +74,14 @@ module _ (offers : Offers) (until : ℕ) where
         least = All-cons (λ x. IsLeastOffered offers (past ++ started_before x.start (sent ∷ later)) x.start x.frame) sent later
             (subst (λ started. IsLeastOffered offers started sent.start sent.frame) (sym (front past sent.start (sent ∷ later) (none_before sent.start sent later (omega arith) lasts rest.when_free))) next.least)
             (λ k d within. subst (λ started. IsLeastOffered offers started (get_or later k d).start (get_or later k d).frame)
-                (behind past (get_or later k d).start sent later (omega (arith, rest.when_free k d within))) (rest.least k d within));
+            (behind past (get_or later k d).start sent later (omega (arith, rest.when_free k d within))) (rest.least k d within));
         busy = λ at frame from before offered. elim (cases_lt at sent.start) [
-            inl early ↦ absurd (next.first at frame from early (subst (λ started. offers started at frame) (front past at (sent ∷ later) (none_before at sent later (omega arith) lasts rest.when_free)) offered))
+          | inl early ↦ absurd (next.first at frame from early (subst (λ started. offers started at frame) (front past at (sent ∷ later) (none_before at sent later (omega arith) lasts rest.when_free)) offered))
           | inr begun ↦ elim (cases_lt at (end_of sent)) [
-              inl covered ↦ Any-head (Covers at) sent later (begun, covered)
+            | inl covered ↦ Any-head (Covers at) sent later (begun, covered)
             | inr over ↦ Any-tail (Covers at) sent later (rest.busy at frame over before (subst (λ started. offers started at frame) (sym (behind past at sent later (omega arith))) offered))
-            ]
-          ];
+          ]
+        ];
       }
 
   from_rest : (past : List TimedFrame) (free : ℕ) (frames : List TimedFrame) → Rest offers until past free frames → Follows offers past free until frames
@@ -101,21 +101,23 @@ module _ (offers : Offers) (until : ℕ) where
         least = subst (λ started. IsLeastOffered offers started sent.start sent.frame) (front past sent.start (sent ∷ later) (none_before sent.start sent later (omega arith) lasts after))
             (All-head (λ x. IsLeastOffered offers (past ++ started_before x.start (sent ∷ later)) x.start x.frame) sent later rest.least);
         whole = whole;
-      } in
-      (next, from_rest (past ++ sent ∷ []) (end_of sent) later (record {
-        lengths = All-tail (λ x. x.len ≡ wire_length x.frame) sent later rest.lengths;
-        apart = AllPairs-tail (λ earlier x. end_of earlier ≤ x.start) sent later rest.apart;
-        when_free = after;
-        within = All-tail (λ x. x.start < until) sent later rest.within;
-        least = λ k d within. subst (λ started. IsLeastOffered offers started (get_or later k d).start (get_or later k d).frame)
-            (sym (behind past (get_or later k d).start sent later (omega (arith, after k d within))))
-            (All-tail (λ x. IsLeastOffered offers (past ++ started_before x.start (sent ∷ later)) x.start x.frame) sent later rest.least k d within);
-        busy = λ at frame from before offered. elim (Any-cases (Covers at) sent later
-            (rest.busy at frame (omega (arith, next.when_free)) before (subst (λ started. offers started at frame) (behind past at sent later (omega arith)) offered))) [
-            inl covered ↦ absurd (omega (arith, covered.1))
-          | inr found ↦ found
-          ];
-      }))
+      } in (
+        next,
+        from_rest (past ++ sent ∷ []) (end_of sent) later (record {
+          lengths = All-tail (λ x. x.len ≡ wire_length x.frame) sent later rest.lengths;
+          apart = AllPairs-tail (λ earlier x. end_of earlier ≤ x.start) sent later rest.apart;
+          when_free = after;
+          within = All-tail (λ x. x.start < until) sent later rest.within;
+          least = λ k d within. subst (λ started. IsLeastOffered offers started (get_or later k d).start (get_or later k d).frame)
+              (sym (behind past (get_or later k d).start sent later (omega (arith, after k d within))))
+              (All-tail (λ x. IsLeastOffered offers (past ++ started_before x.start (sent ∷ later)) x.start x.frame) sent later rest.least k d within);
+          busy = λ at frame from before offered. elim (Any-cases (Covers at) sent later
+              (rest.busy at frame (omega (arith, next.when_free)) before (subst (λ started. offers started at frame) (behind past at sent later (omega arith)) offered))) [
+                | inl covered ↦ absurd (omega (arith, covered.1))
+                | inr found ↦ found
+              ];
+        }),
+      )
 
   -- the CAN trace in the words of its definition is the CAN trace frame by frame
   pub Follows-from_trace : (trace : List TimedFrame) → IsTrace offers until trace → Follows offers [] 0 until trace
@@ -132,14 +134,32 @@ module _ (offers : Offers) (until : ℕ) where
   trace_from_Follows trace follows =
       let rest = to_rest [] 0 trace follows in
       record {
-        ordered = record {lengths = rest.lengths; apart = rest.apart};
+        ordered = record { lengths = rest.lengths; apart = rest.apart };
         within = rest.within;
         least = rest.least;
         busy = λ at frame before offered. rest.busy at frame (omega arith) before offered;
       }
 
+  -- frames that follow one another are ordered, and start from the first free time on
+  pub IsOrdered-from_Follows : (past : List TimedFrame) (free : ℕ) (frames : List TimedFrame) → Follows offers past free until frames → IsOrdered frames
+  IsOrdered-from_Follows past free frames follows =
+      let rest = to_rest past free frames follows in record { lengths = rest.lengths; apart = rest.apart }
+
+  pub within_from_Follows : (past : List TimedFrame) (free : ℕ) (frames : List TimedFrame) → Follows offers past free until frames
+      → All (λ sent. (free ≤ sent.start) × (sent.start < until)) frames
+  within_from_Follows past free frames follows =
+      let rest = to_rest past free frames follows in λ k d within. (rest.when_free k d within, rest.within k d within)
+
+  -- what stands behind a front of the frames follows that front
+  pub Follows-behind : (past : List TimedFrame) (free : ℕ) (frames back : List TimedFrame) → Follows offers past free until (frames ++ back)
+      → Follows offers (past ++ frames) (free_after free frames) until back
+  Follows-behind past free [] back follows = subst (λ started. Follows offers started free until back) (sym (append-nil past)) follows
+  Follows-behind past free (sent ∷ later) back (next, follows) =
+      subst (λ started. Follows offers started (free_after (end_of sent) later) until back) (append_assoc past (sent ∷ []) later)
+      (Follows-behind (past ++ sent ∷ []) (end_of sent) later back follows)
+
 abbrev made : ℕ → ℕ → DataFrame → TimedFrame
-made start len frame = record {start = start; len = len; frame = frame}
+made start len frame = record { start = start; len = len; frame = frame }
 
 -- a timed frame is its start, its length and its frame
 same_sent : (one other : TimedFrame) → one.start ≡ other.start → one.len ≡ other.len → one.frame ≡ other.frame → one ≡ other
@@ -152,10 +172,10 @@ module _ (offers : Offers) where
       → IsNext offers past free until one → IsNext offers past free until other → one ≡ other
   same_next determined past free until one other is_one is_other =
       let start : one.start ≡ other.start = elim (cases_order one.start other.start) [
-          inl same ↦ same
+        | inl same ↦ same
         | inr (inl earlier) ↦ absurd (is_other.first one.start one.frame is_one.when_free earlier is_one.least.offered)
         | inr (inr later) ↦ absurd (is_one.first other.start other.frame is_other.when_free later is_other.least.offered)
-        ] in
+      ] in
       let other_here = subst (λ at. offers past at other.frame) (sym start) is_other.least.offered in
       let one_there = subst (λ at. offers past at one.frame) start is_one.least.offered in
       let below = is_one.least.least other.frame other_here in
@@ -185,13 +205,16 @@ module _ (offers : Offers) where
   Follows-earlier : (past : List TimedFrame) (free from until : ℕ) (back : List TimedFrame) → free ≤ from → NothingOffered offers past free from
       → Follows offers past from until back → Follows offers past free until back
   Follows-earlier past free from until [] order nothing also = NothingOffered-joined past free from until nothing also
-  Follows-earlier past free from until (sent ∷ later) order nothing (next, follows) = (record {
-    when_free = omega (arith, next.when_free);
-    within = next.within;
-    first = NothingOffered-joined past free from sent.start nothing next.first;
-    least = next.least;
-    whole = next.whole;
-  }, follows)
+  Follows-earlier past free from until (sent ∷ later) order nothing (next, follows) = (
+    record {
+      when_free = omega (arith, next.when_free);
+      within = next.within;
+      first = NothingOffered-joined past free from sent.start nothing next.first;
+      least = next.least;
+      whole = next.whole;
+    },
+    follows,
+  )
 
   -- frames up to a time, and behind them those from that time or the first free one on
   pub Follows-joined : (past : List TimedFrame) (free middle until : ℕ) (front back : List TimedFrame) → middle ≤ until
@@ -199,15 +222,18 @@ module _ (offers : Offers) where
       → Follows offers past free until (front ++ back)
   Follows-joined past free middle until [] back longer nothing after_it =
       Follows-earlier past free (max middle free) until back (omega arith) (λ at frame after before. nothing at frame after (omega arith))
-          (subst (λ started. Follows offers started (max middle free) until back) (append-nil past) after_it)
-  Follows-joined past free middle until (sent ∷ later) back longer (next, follows) after_it = (record {
-    when_free = next.when_free;
-    within = omega (arith, next.within);
-    first = next.first;
-    least = next.least;
-    whole = next.whole;
-  }, Follows-joined (past ++ sent ∷ []) (end_of sent) middle until later back longer follows
-      (subst (λ started. Follows offers started (max middle (free_after (end_of sent) later)) until back) (sym (append_assoc past (sent ∷ []) later)) after_it))
+      (subst (λ started. Follows offers started (max middle free) until back) (append-nil past) after_it)
+  Follows-joined past free middle until (sent ∷ later) back longer (next, follows) after_it = (
+    record {
+      when_free = next.when_free;
+      within = omega (arith, next.within);
+      first = next.first;
+      least = next.least;
+      whole = next.whole;
+    },
+    Follows-joined (past ++ sent ∷ []) (end_of sent) middle until later back longer follows
+        (subst (λ started. Follows offers started (max middle (free_after (end_of sent) later)) until back) (sym (append_assoc past (sent ∷ []) later)) after_it),
+  )
 
 -- where offers agree along the frames, they have the same frames
 module _ (offers others : Offers) where
@@ -215,9 +241,10 @@ module _ (offers others : Offers) where
   agree_now : (past other_past : List TimedFrame) (free until : ℕ) (frames : List TimedFrame) → AgreeAlong offers others past other_past free until frames
       → (at : ℕ) (frame : DataFrame) → free ≤ at → at < until → (offers past at frame) ↔ (others other_past at frame)
   agree_now past other_past free until frames agree at frame from before =
-      let both = agree [] frames at frame refl from before in
-      (λ offered. subst (λ started. others started at frame) (append-nil other_past) (both.0 (subst (λ started. offers started at frame) (sym (append-nil past)) offered)),
-       λ offered. subst (λ started. offers started at frame) (append-nil past) (both.1 (subst (λ started. others started at frame) (sym (append-nil other_past)) offered)))
+      let both = agree [] frames at frame refl from before in (
+        λ offered. subst (λ started. others started at frame) (append-nil other_past) (both.0 (subst (λ started. offers started at frame) (sym (append-nil past)) offered)),
+        λ offered. subst (λ started. offers started at frame) (append-nil past) (both.1 (subst (λ started. others started at frame) (sym (append-nil other_past)) offered)),
+      )
 
   agree_behind : (past other_past : List TimedFrame) (free until : ℕ) (sent : TimedFrame) (later : List TimedFrame)
       → AgreeAlong offers others past other_past free until (sent ∷ later)
@@ -231,14 +258,16 @@ module _ (offers others : Offers) where
   Follows-along past other_past free until [] agree nothing = λ at frame from before offered.
       nothing at frame from before ((agree_now past other_past free until [] agree at frame from before).1 offered)
   Follows-along past other_past free until (sent ∷ later) agree (next, follows) =
-      let now = agree_now past other_past free until (sent ∷ later) agree in
-      (record {
-        when_free = next.when_free;
-        within = next.within;
-        first = λ at frame from before offered. next.first at frame from before ((now at frame from (omega (arith, next.within))).1 offered);
-        least = record {
-          offered = (now sent.start sent.frame next.when_free next.within).0 next.least.offered;
-          least = λ frame offered. next.least.least frame ((now sent.start frame next.when_free next.within).1 offered);
-        };
-        whole = next.whole;
-      }, Follows-along (past ++ sent ∷ []) (other_past ++ sent ∷ []) (end_of sent) until later (agree_behind past other_past free until sent later agree) follows)
+      let now = agree_now past other_past free until (sent ∷ later) agree in (
+        record {
+          when_free = next.when_free;
+          within = next.within;
+          first = λ at frame from before offered. next.first at frame from before ((now at frame from (omega (arith, next.within))).1 offered);
+          least = record {
+            offered = (now sent.start sent.frame next.when_free next.within).0 next.least.offered;
+            least = λ frame offered. next.least.least frame ((now sent.start frame next.when_free next.within).1 offered);
+          };
+          whole = next.whole;
+        },
+        Follows-along (past ++ sent ∷ []) (other_past ++ sent ∷ []) (end_of sent) until later (agree_behind past other_past free until sent later agree) follows,
+      )

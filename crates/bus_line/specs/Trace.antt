@@ -40,7 +40,7 @@ pub record IsTrace (offers : Offers) (until : ℕ) (trace : List TimedFrame) : T
   pub within : All (λ sent. sent.start < until) trace
   pub least : All (λ sent. IsLeastOffered offers (started_before sent.start trace) sent.start sent.frame) trace
   pub busy : (at : ℕ) (frame : DataFrame) → at < until → offers (started_before at trace) at frame
-    → Any (λ sent. (sent.start ≤ at) × (at < end_of sent)) trace
+      → Any (λ sent. (sent.start ≤ at) × (at < end_of sent)) trace
 
 -- nothing is offered at the times from `low` to below `high`, after the frames `past`
 abbrev pub NothingOffered : Offers → List TimedFrame → ℕ → ℕ → Type 0

@@ -8,13 +8,13 @@ use crate::stations::Stations;
 use arbitration::{Contenders, arbitrate};
 use can_frame::{TimedFrame, wire_len};
 
-/// Runs the bus over the stations from `from` on, and puts the frames that start before `until` behind `out`, in
-/// order. Each is the offered frame with the least identifier at the first free time with an offer, and each is told
-/// to the stations once. The answer is the first time, at least `from`, at which the bus is free behind them; it may
-/// be after `until`.
+/// Runs the bus over the stations from `from` on, and puts the frames that start before `until`
+/// behind `out`, in order. Each is the offered frame with the least identifier at the first free
+/// time with an offer, and each is told to the stations once. The answer is the first time, at
+/// least `from`, at which the bus is free behind them; it may be after `until`.
 ///
-/// `out` needs spare room for one frame more than `(until - from) / 47`, since no frame is shorter than 47 bit times;
-/// the run takes no memory. Times are below 2^60.
+/// `out` needs spare room for one frame more than `(until - from) / 47`, since no frame is shorter
+/// than 47 bit times; the run takes no memory. Times are below 2^60.
 pub fn run_until<S: Stations>(
     stations: &mut S,
     from: u64,
@@ -24,7 +24,8 @@ pub fn run_until<S: Stations>(
     requires order { from ≤ until }
     requires time { until < 2 ^ 60 }
     requires room { vec_len out.old + ((until - from) / 47 + 1) ≤ vec_capacity out.old }
-    ensures ran { Ran S.line (S.state stations.old) (S.state stations.new) from until out.old.items out.new.items result }
+    ensures ran { Ran S.line (S.state stations.old) (S.state stations.new) from until
+        out.old.items out.new.items result }
     ensures capacity { vec_capacity out.old ≤ vec_capacity out.new }
 {
     let mut free = from;
@@ -38,7 +39,7 @@ pub fn run_until<S: Stations>(
 
 /// The frame that is sent next on a bus that is free from `free` on, if one starts before `until`.
 fn next_frame<S: Stations>(stations: &S, free: u64, until: u64) -> Option<TimedFrame>
-    requires { until < 2 ^ 60 }
+    requires time { until < 2 ^ 60 }
     ensures long { IfSome result (λ next. 47 ≤ next.len) }
     ensures next { MatchOption result
         (NothingOffered (offers_of S.line (S.state stations.now)) [] free until)

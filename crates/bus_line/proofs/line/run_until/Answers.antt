@@ -1,4 +1,3 @@
-use Rattle.std.proofs.Common.{arith, rules}
 use Rattle.bus_line.proofs.Running.{Running-all}
 use Rattle.bus_line.proofs.line.run_until.Goals as goal
 
