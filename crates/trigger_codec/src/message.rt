@@ -33,8 +33,17 @@ pub fn encode(cycle: u64, l: u32, mask: Mask) -> Frame
     ensures frame { result ≡ trigger_frame cycle l mask }
 {
     let [high, low] = (l as u16).to_be_bytes();
-    let [a, b, c, d, e, ..] = (mask.bits() as u64).to_le_bytes();
-    let bytes = [(cycle % 256) as u8, high, low, a, b, c, d, e];
+    let flags = (mask.bits() as u64).to_le_bytes();
+    let bytes = [
+        (cycle % 256) as u8,
+        high,
+        low,
+        flags[0],
+        flags[1],
+        flags[2],
+        flags[3],
+        flags[4],
+    ];
     match Frame::new(TRIGGER_IDENTIFIER, &bytes) {
         Ok(frame) => frame,
         Err(_) => unreachable!(),
@@ -43,7 +52,8 @@ pub fn encode(cycle: u64, l: u32, mask: Mask) -> Frame
 
 /// What a frame says as a trigger message. It does not compare the window with the flags.
 pub fn decode(frame: &Frame) -> Result<Trigger, TriggerFault>
-    ensures trigger { IfOk result (λ t. (t.l ≤ MAX_WINDOW) × (frame.now ≡ trigger_frame t.low t.l t.mask)) }
+    ensures trigger { IfOk result
+        (λ t. (t.l ≤ MAX_WINDOW) × (frame.now ≡ trigger_frame t.low t.l t.mask)) }
     ensures every { (cycle l mask : ℕ) → l ≤ MAX_WINDOW → mask < 2 ^ SLOTS
         → frame.now ≡ trigger_frame cycle l mask
         → result ≡ Ok (record { low = cycle % 256; l = l; mask = mask }) }
