@@ -6,10 +6,10 @@ use Rattle.std.proofs.lemmas.Bool.{cases_order, eq-eqb, eqb-true, cond-true, and
 use Rattle.std.proofs.lemmas.Option.{slice_get_within, get_or_from_slice_get, same_Some, none-some, IfSome_then}
 use Rattle.std.proofs.lemmas.List.Folds.{Any-from_list_any, list_any-from_Any}
 use Rattle.requirement_table.specs.declared.entries.Placed.{Placed}
-use Rattle.requirement_table.specs.Instance.{MaySend, IsReleasedIn, release_of, instance_of, released_by}
+use Rattle.requirement_table.specs.Instance.{Instance, MaySend, IsReleasedIn, release_of, instance_of, released_by}
 use Rattle.requirement_table.specs.declared.slots.TheConstants.{SLOTS}
 use Rattle.requirement_table.specs.Slots.{contains_slot}
-use Rattle.requirement_table.specs.Table.{IsInRange, IsFreeAt, GoesBefore, IsWellPlaced, Instance, sendable, instance_in, releases_in, released_in}
+use Rattle.requirement_table.specs.Table.{IsInRange, IsFreeAt, GoesBefore, IsWellPlaced, sendable, instance_in, releases_in, released_in}
 use Rattle.requirement_table.proofs.SlotSets.{contains_slot-set_of}
 use Rattle.requirement_table.proofs.Latest.{latest-of_sent, instance_of-sent, MaySend-from_instance, released_by-released, IsReleasedIn-from_released_by}
 

@@ -58,3 +58,12 @@ instance_of p c = let k = latest p c in if may_send p k c then Some k else None
 -- the bytes that instance `k` carries: the low `n` bytes of `k`, most significant first
 abbrev pub payload : ℕ → ℕ → List ℕ
 payload n k = bytes_high_first n k
+
+-- an instance: a placed entry and a number
+pub record Instance : Type 0 where
+  pub placed : Placed
+  pub number : ℕ
+
+-- the bytes that an instance carries
+abbrev pub bytes_of : Instance → List ℕ
+bytes_of i = payload i.placed.entry.length i.number

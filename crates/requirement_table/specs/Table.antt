@@ -3,7 +3,7 @@ use Rattle.std.specs.Prelude.{◌≡◌, ℕ, ◌+◌, ◌^◌, ◌<◌, ◌≤�
 use Rattle.std.specs.List.{list_any, filter_map}
 use Rattle.requirement_table.specs.declared.entries.Placed.{Placed}
 use Rattle.requirement_table.specs.declared.slots.TheConstants.{SLOTS}
-use Rattle.requirement_table.specs.Instance.{instance_of, released_by, payload}
+use Rattle.requirement_table.specs.Instance.{Instance, instance_of, released_by}
 use Rattle.requirement_table.specs.Slots.{set_of}
 
 -- the fields of a placed entry are in range
@@ -29,15 +29,6 @@ GoesBefore p q = p.entry.slot ≡ q.entry.slot → IsFreeAt p q.origin
 pub record IsWellPlaced (placed : List Placed) : Type 0 where
   pub in_range : All IsInRange placed
   pub in_order : AllPairs GoesBefore placed
-
--- an instance: a placed entry and a number
-pub record Instance : Type 0 where
-  pub placed : Placed
-  pub number : ℕ
-
--- the bytes that an instance carries
-abbrev pub bytes_of : Instance → List ℕ
-bytes_of i = payload i.placed.entry.length i.number
 
 -- the instance of this placed entry that may be sent in cycle `c`, where the entry has the slot
 abbrev pub sendable : ℕ → ℕ → Placed → Option Instance

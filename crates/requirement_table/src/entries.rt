@@ -60,6 +60,14 @@ impl PlacedList {
         PlacedList { entries }
     }
 
+    /// The list as a vector, without memory.
+    pub fn into_vec(self) -> Vec<Placed>
+        ensures list { result.items ≡ self }
+    {
+        let PlacedList { entries } = self;
+        entries
+    }
+
     /// The list as a slice.
     pub fn as_slice(&self) -> &[Placed]
         ensures list { result.now ≡ self.now }

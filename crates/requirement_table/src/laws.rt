@@ -12,8 +12,10 @@ use crate::entries::Placed;
 /// A set of slots made of a test contains the slots below `n` that pass it, and no other.
 pub fn sets_of_slots()
     ensures below { (n : ℕ) (p : ℕ → Bool) → set_of n p < 2 ^ n }
-    ensures slots { (n slot : ℕ) (p : ℕ → Bool) → contains_slot (set_of n p) slot ≡ (nat_lt slot n && p slot) }
-    ensures same { (n : ℕ) (p q : ℕ → Bool) → ((slot : ℕ) → slot < n → p slot ≡ q slot) → set_of n p ≡ set_of n q }
+    ensures slots { (n slot : ℕ) (p : ℕ → Bool)
+        → contains_slot (set_of n p) slot ≡ (nat_lt slot n && p slot) }
+    ensures same { (n : ℕ) (p q : ℕ → Bool)
+        → ((slot : ℕ) → slot < n → p slot ≡ q slot) → set_of n p ≡ set_of n q }
 {}
 
 /// The functions of an entry and a cycle find the instance that the relations describe.
@@ -30,8 +32,8 @@ pub fn instances_of_an_entry(placed: &Placed)
 pub fn instances_of_a_slot(placed: &[Placed])
     requires { IsWellPlaced placed.now }
     ensures one { (i j k m c : ℕ) (p q : Placed)
-        → slice_get placed.now i ≡ Some p → slice_get placed.now j ≡ Some q → p.entry.slot ≡ q.entry.slot
-        → MaySend p k c → MaySend q m c → (i ≡ j) × (k ≡ m) }
+        → slice_get placed.now i ≡ Some p → slice_get placed.now j ≡ Some q
+        → p.entry.slot ≡ q.entry.slot → MaySend p k c → MaySend q m c → (i ≡ j) × (k ≡ m) }
     ensures found { (i k c : ℕ) (p : Placed) → slice_get placed.now i ≡ Some p → MaySend p k c
         → instance_in placed.now p.entry.slot c ≡ Some (record { placed = p; number = k }) }
     ensures sound { (slot c : ℕ) → IfSome (instance_in placed.now slot c)

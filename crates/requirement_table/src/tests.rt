@@ -174,6 +174,6 @@ fn lists_of_placed_entries(rt: HostRuntime) -> Result<(), Fail> {
         l: 150,
         learned: Some(list),
     };
-    assert_eq!(rt; order.learned.map(|list| list.as_slice().len()), Some(2));
+    assert_eq!(rt; order.learned.map(|list| list.into_vec().len()), Some(2));
     Ok(())
 }

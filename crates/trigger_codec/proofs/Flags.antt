@@ -1,0 +1,34 @@
+-- The flag of a slot in the bytes of a trigger.
+use Rattle.std.proofs.Common.{◌≡◌, ℕ, zero, suc, ◌+◌, ◌*◌, ◌/◌, ◌%◌, ◌^◌, ◌<◌, slice_index, nat_eq, refl, sym, ap, ◌∙◌, arith}
+use Rattle.std.specs.Int.{bit_at}
+use Rattle.std.proofs.Math.Nat.{div-div-eq-div-mul}
+use Rattle.std.proofs.lemmas.Nat.{pow-add, div-add-mod'}
+use Rattle.std.proofs.lemmas.Nat.Bits.{bit_at_cat_low}
+use Rattle.requirement_table.specs.Slots.{contains_slot}
+use Rattle.trigger_codec.specs.Bytes.{trigger_bytes}
+
+-- the bits of a number from bit `k` on
+bit_at-shifted : (n k j : ℕ) → bit_at (n / 2 ^ k) j ≡ bit_at n (k + j)
+bit_at-shifted n k j = ap (λ m. m % 2) (div-div-eq-div-mul n (2 ^ k) (2 ^ j) ∙ ap (λ m. n / m) (sym (pow-add 2 k j)))
+
+-- the low bits of a number
+bit_at-low : (n w j : ℕ) → j < w → bit_at (n % 2 ^ w) j ≡ bit_at n j
+bit_at-low n w j below = sym (bit_at_cat_low (n / 2 ^ w) w (n % 2 ^ w) j below) ∙ ap (λ m. bit_at m j) (div-add-mod' n (2 ^ w))
+
+-- the flags of the slots from 8 * i on
+flag_byte : (cycle l mask i : ℕ) → i < 5 → slice_index (trigger_bytes cycle l mask) (3 + i) ≡ mask / 2 ^ (8 * i) % 2 ^ 8
+flag_byte cycle l mask zero below = omega arith
+flag_byte cycle l mask (suc zero) below = refl
+flag_byte cycle l mask (suc (suc zero)) below = refl
+flag_byte cycle l mask (suc (suc (suc zero))) below = refl
+flag_byte cycle l mask (suc (suc (suc (suc zero)))) below = refl
+flag_byte cycle l mask (suc (suc (suc (suc (suc i))))) below = absurd (omega arith)
+
+pub flag-slot : (cycle l mask slot : ℕ) → slot < 40 → nat_eq (bit_at (slice_index (trigger_bytes cycle l mask) (3 + slot / 8)) (slot % 8)) 1 ≡ contains_slot mask slot
+flag-slot cycle l mask slot below =
+    let byte = flag_byte cycle l mask (slot / 8) (omega arith) in
+    let bit : bit_at (mask / 2 ^ (8 * (slot / 8)) % 2 ^ 8) (slot % 8) ≡ bit_at mask slot =
+    bit_at-low (mask / 2 ^ (8 * (slot / 8))) 8 (slot % 8) (omega arith)
+    ∙ bit_at-shifted mask (8 * (slot / 8)) (slot % 8)
+    ∙ ap (bit_at mask) (omega arith) in
+    ap (λ b. nat_eq (bit_at b (slot % 8)) 1) byte ∙ ap (λ b. nat_eq b 1) bit

@@ -1,0 +1,2 @@
+mod EightBytes
+mod Flags
