@@ -1,11 +1,3 @@
-<<<<<<< HEAD
--- stub
-use Rattle.std.specs.Prelude.{ℕ, List, [], ◌∷◌, ◌/◌, ◌%◌, ◌^◌}
-use Rattle.can_frame.specs.DataFrame.{DataFrame}
-
-abbrev pub trigger_frame : ℕ → ℕ → ℕ → DataFrame
-trigger_frame cycle l mask = record { identifier = 0; bytes = cycle % 256 ∷ l / 256 ∷ l % 256 ∷ mask / 1 % 256 ∷ mask / 2 ^ 8 % 256 ∷ mask / 2 ^ 16 % 256 ∷ mask / 2 ^ 24 % 256 ∷ mask / 2 ^ 32 % 256 ∷ [] }
-=======
 -- The trigger message of an elementary cycle. The layout of its bytes is this project's own.
 use Rattle.std.specs.Prelude.{ℕ, ◌+◌, ◌*◌, ◌/◌, ◌%◌, ◌^◌, List, [], ◌∷◌, length, slice_index, nat_eq, nat_le, ◌&&◌, if◌then◌else◌, Option, Some, None}
 use Rattle.std.specs.Int.{byte_at}
@@ -43,4 +35,3 @@ trigger_of frame =
     if nat_eq frame.identifier 0 && nat_eq (length frame.bytes) 8 && nat_le (window_in frame.bytes) MAX_WINDOW
     then Some (record { low = slice_index frame.bytes 0; l = window_in frame.bytes; mask = flags_in frame.bytes })
     else None
->>>>>>> f2413090cc8b3d9dcb0e05bc68d8c3efaa2d3146
