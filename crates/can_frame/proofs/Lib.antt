@@ -3,3 +3,4 @@ pub mod Fields
 pub mod OneAnswer
 pub mod Plain
 pub mod Remainder
+pub mod Steps

@@ -147,7 +147,7 @@ seven_first : (id n : ℕ) (rest : List Bool) → drop 1 (take 8 (header id n ++
 unfolding header
 seven_first id n rest =
     let parts : header id n ++ rest ≡ (false ∷ bits 7 (id / 16)) ++ (bits 4 (id % 16) ++ (false ∷ false ∷ false ∷ (bits 4 n ++ rest))) =
-        ap (λ field. (false ∷ []) ++ field ++ (false ∷ []) ++ (false ∷ []) ++ (false ∷ []) ++ bits 4 n ++ rest) (identifier_parts id) ∙ simp append_assoc in
+    ap (λ field. (false ∷ []) ++ field ++ (false ∷ []) ++ (false ∷ []) ++ (false ∷ []) ++ bits 4 n ++ rest) (identifier_parts id) ∙ simp append_assoc in
     let eight : length (false ∷ bits 7 (id / 16)) ≡ 8 = omega (arith, length-bits 7 (id / 16)) in
     ap (λ v. drop 1 (take 8 v)) parts ∙ ap (drop 1) (take_at (false ∷ bits 7 (id / 16)) _ 8 eight)
 
@@ -178,7 +178,7 @@ pub IsPlaced-with_sequence : (frame : DataFrame) (sequence : ℕ) → IsFrame fr
 unfolding with_sequence covered
 IsPlaced-with_sequence frame sequence legal =
     λ front back bit e. placed_header frame.identifier (length frame.bytes) (flat_map (bits 8) frame.bytes ++ bits 15 sequence) front back bit legal.identifier legal.few
-      (sym (append_assoc (header frame.identifier (length frame.bytes)) (flat_map (bits 8) frame.bytes) (bits 15 sequence)) ∙ e)
+    (sym (append_assoc (header frame.identifier (length frame.bytes)) (flat_map (bits 8) frame.bytes) (bits 15 sequence)) ∙ e)
 
 -- the length of a frame's plain part is that which its data length code gives
 pub length-whole : (frame : DataFrame) (sequence : ℕ) → IsFrame frame → length (with_sequence frame sequence) ≡ plain_length (with_sequence frame sequence)
@@ -186,7 +186,7 @@ unfolding with_sequence covered
 length-whole frame sequence legal =
     let few : length frame.bytes ≤ 8 = legal.few in
     let parts : with_sequence frame sequence ≡ header frame.identifier (length frame.bytes) ++ (flat_map (bits 8) frame.bytes ++ bits 15 sequence) =
-        append_assoc (header frame.identifier (length frame.bytes)) (flat_map (bits 8) frame.bytes) (bits 15 sequence) in
+    append_assoc (header frame.identifier (length frame.bytes)) (flat_map (bits 8) frame.bytes) (bits 15 sequence) in
     length-with_sequence frame sequence ∙ sym (ap plain_length parts ∙ plain_length-code frame.identifier (length frame.bytes) _ (omega arith))
 
 -- and it stays so, whatever comes behind it

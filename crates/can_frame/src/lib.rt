@@ -5,6 +5,7 @@
 mod bit_list;
 mod data_frame;
 pub mod laws;
+mod reader;
 mod register;
 #[cfg(test)]
 mod tests;
