@@ -1,4 +1,5 @@
 pub mod Carried
+pub mod Expectations
 pub mod Fields
 pub mod OneAnswer
 pub mod Plain

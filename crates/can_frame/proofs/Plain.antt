@@ -30,13 +30,13 @@ header_is : (id n : ℕ) → header id n ≡ before_code id ++ bits 4 n
 unfolding header
 header_is id n = refl
 
-length-before_code : (id : ℕ) → length (before_code id) ≡ 15
+pub length-before_code : (id : ℕ) → length (before_code id) ≡ 15
 length-before_code id = simp (length-append, length-bits 11 id) (omega arith)
 
 pub length-header : (id n : ℕ) → length (header id n) ≡ 19
 length-header id n = ap length (header_is id n) ∙ length-append (before_code id) (bits 4 n) ∙ omega (arith, length-before_code id, length-bits 4 n)
 
-length-data : (bytes : List ℕ) → length (flat_map (bits 8) bytes) ≡ 8 * length bytes
+pub length-data : (bytes : List ℕ) → length (flat_map (bits 8) bytes) ≡ 8 * length bytes
 length-data [] = refl
 length-data (byte ∷ bytes) = length-append (bits 8 byte) (flat_map (bits 8) bytes) ∙ omega (arith, length-bits 8 byte, length-data bytes)
 
@@ -152,7 +152,7 @@ seven_first id n rest =
     ap (λ v. drop 1 (take 8 v)) parts ∙ ap (drop 1) (take_at (false ∷ bits 7 (id / 16)) _ 8 eight)
 
 -- a header and what is behind it has nothing misplaced in the header
-placed_header : (id n : ℕ) (rest front back : List Bool) (bit : Bool) → id ≤ 0x7EF → n ≤ 8 → header id n ++ rest ≡ front ++ bit ∷ back → ¬ IsMisplaced front bit
+pub placed_header : (id n : ℕ) (rest front back : List Bool) (bit : Bool) → id ≤ 0x7EF → n ≤ 8 → header id n ++ rest ≡ front ++ bit ∷ back → ¬ IsMisplaced front bit
 unfolding header
 placed_header id n rest front back bit in_range few e (start none recessive) =
     recessive_not bit (first_dominant front back _ bit none e) recessive

@@ -3,6 +3,7 @@
 ghost use Rattle.std.specs.Prelude.{◌≡◌, ◌+◌, ◌*◌, ◌<◌, ◌≤◌, ◌^◌, Bool, List, [], ◌∷◌, ◌++◌, length, take, drop, reverse, nat_le, Result, Err, IfOk, IfErr, OnOk, MatchOption};
 ghost use Rattle.std.specs.List.{flat_map};
 ghost use Rattle.stuff_bound.specs.Stuffing.{run, HasNoSix, at_stuff_place, stuffed};
+ghost use Rattle.can_frame.specs.declared.wire_fault.WireFault.{WireFault};
 ghost use Rattle.can_frame.specs.DataFrame.{DataFrame, IsFrame};
 ghost use Rattle.can_frame.specs.Number.{bits};
 ghost use Rattle.can_frame.specs.Wire.{dominant, recessive, header, plain, with_sequence};
@@ -172,4 +173,134 @@ impl<'a> Reader<'a> {
         }
         Ok(value)
     }
+
+    /// The identifier, whose seven most significant bits are not all recessive.
+    fn identifier(&mut self) -> Result<u16, WireFault>
+        requires no_six { HasNoSix (reverse self.old.read) }
+        requires at { carried self.old.read ≡ dominant ∷ [] }
+        ensures ok { IfOk result (λ id. Went self.old self.new (bits 11 id)) }
+        ensures range { IfOk result (λ id. id ≤ 0x7EF) }
+        ensures fault { IfErr result (λ fault. Reads (all_bits self.old) (Err fault)) }
+    {
+        let high = self.field(7)?;
+        if high == 0x7F {
+            return Err(WireFault::Form {
+                place: self.last_place(),
+            });
+        }
+        let low = self.field(4)?;
+        Ok(16 * high + low)
+    }
+
+    /// The data length code, at most 8.
+    fn code(&mut self) -> Result<u8, WireFault>
+        requires no_six { HasNoSix (reverse self.old.read) }
+        requires placed { IsPlaced (carried self.old.read) }
+        requires at { length (carried self.old.read) ≡ 15 }
+        ensures ok { IfOk result (λ code. Went self.old self.new (bits 4 code)) }
+        ensures range { IfOk result (λ code. code ≤ 8) }
+        ensures fault { IfErr result (λ fault. Reads (all_bits self.old) (Err fault)) }
+    {
+        let code = self.field(4)?;
+        if code > 8 {
+            return Err(WireFault::Form {
+                place: self.last_place(),
+            });
+        }
+        Ok(code as u8)
+    }
+
+    /// The identifier and the data length code, with the fixed bits round them.
+    fn header(&mut self) -> Result<(u16, u8), WireFault>
+        requires start { self.old.read ≡ [] }
+        ensures ok { IfOk result (λ fields. Went self.old self.new (header fields.0 fields.1)) }
+        ensures id { IfOk result (λ fields. fields.0 ≤ 0x7EF) }
+        ensures code { IfOk result (λ fields. fields.1 ≤ 8) }
+        ensures fault { IfErr result (λ fault. Reads (all_bits self.old) (Err fault)) }
+    {
+        self.dominant()?; // start of frame
+        let id = self.identifier()?;
+        self.dominant()?; // RTR
+        self.dominant()?; // r1
+        self.dominant()?; // r0
+        let code = self.code()?;
+        Ok((id, code))
+    }
+
+    /// The data bytes, of which there are `len`, and zeros behind them.
+    fn data(&mut self, len: u8) -> Result<[u8; 8], WireFault>
+        requires few { len ≤ 8 }
+        requires expects { Expects self.old (8 * len) }
+        ensures ok { IfOk result (λ bytes. Went self.old self.new (flat_map (bits 8) (take len bytes))) }
+        ensures room { IfOk result (λ bytes. length bytes ≡ 8) }
+        ensures fault { IfErr result (λ fault. Reads (all_bits self.old) (Err fault)) }
+    {
+        let mut bytes = [0u8; 8];
+        for place in 0..usize::from(len) {
+            bytes[place] = self.field(8)? as u8;
+        }
+        Ok(bytes)
+    }
+
+    /// The stuffed part: a frame, and the CRC sequence that was sent with it.
+    fn stuffed_part(&mut self) -> Result<(Frame, u16), WireFault>
+        requires start { self.old.read ≡ [] }
+        ensures all { OnOk result (all_bits self.new ≡ all_bits self.old) }
+        ensures ok { IfOk result (λ part. self.new.read ≡ stuffed (with_sequence part.0 part.1)) }
+        ensures legal { IfOk result (λ part. IsFrame part.0) }
+        ensures narrow { IfOk result (λ part. part.1 < 2 ^ 15) }
+        ensures fault { IfErr result (λ fault. Reads (all_bits self.old) (Err fault)) }
+    {
+        let (id, len) = self.header()?;
+        let bytes = self.data(len)?;
+        let sequence = self.field(15)?;
+        self.stuff_bit()?;
+        match Frame::new(id, &bytes[..usize::from(len)]) {
+            Ok(frame) => Ok((frame, sequence)),
+            Err(_) => unreachable!(),
+        }
+    }
+
+    /// The frame whose stuffed part was read, if the bits behind it are right.
+    fn finish(&mut self, frame: Frame) -> Result<Frame, WireFault>
+        requires legal { IsFrame frame }
+        requires stuffed { self.old.read ≡ stuffed (plain frame) }
+        ensures reads { Reads (all_bits self.old) result }
+    {
+        for due in TRAILER {
+            let Some(bit) = self.peek() else {
+                return Err(WireFault::Short { have: self.len() });
+            };
+            if bit != due {
+                return Err(WireFault::Form {
+                    place: self.place(),
+                });
+            }
+            self.advance(bit);
+        }
+        if self.peek().is_some() {
+            return Err(WireFault::Tail {
+                place: self.place(),
+            });
+        }
+        Ok(frame)
+    }
+}
+
+/// The frame whose wire these bits are.
+///
+/// The bits are read from left to right, and the first wrong place decides. A sixth equal bit is found
+/// where a stuff bit is due, any other wrong bit where it stands. The CRC sequence is tested behind the
+/// stuffed part and before the CRC delimiter. It takes no memory.
+pub fn read_wire(_alloc: Global, bits: &[bool]) -> Result<Frame, WireFault>
+    ensures reads { Reads bits.now result }
+    ensures only { (answer : Result DataFrame WireFault) → Reads bits.now answer → result ≡ answer }
+{
+    let mut reader = Reader::new(bits);
+    let (frame, sent) = reader.stuffed_part()?;
+    let computed = crc(&frame);
+    if sent != computed {
+        return Err(WireFault::Crc { sent, computed });
+    }
+    reader.finish(frame)
 }

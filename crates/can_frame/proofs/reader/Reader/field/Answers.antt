@@ -17,7 +17,7 @@ pub bit-requires : goal.bit-requires
 bit-requires c = record {
   expects =
       expects_more c.args.self.now c.loop.self (bits c.loop.counter c.loop.value) c.args.width c.requires.expects c.loop.invariant.went
-        (omega (arith, length-bits c.loop.counter c.loop.value));
+      (omega (arith, length-bits c.loop.counter c.loop.value));
 }
 
 pub loop-preserved : goal.loop-preserved
