@@ -283,7 +283,7 @@ plain_begun old at id n sequence bytes in_range few room here went =
     let data_bits = flat_map (bits 8) (take n bytes) in
     let is = carried_start old at _ here went ∙ append_assoc (header id n) data_bits (bits 15 sequence) in
     IsBegun-read at (header id n ++ (data_bits ++ bits 15 sequence)) went.no_six is (placed_behind id n _ in_range few)
-      (omega (arith, plain_length-code id n (data_bits ++ bits 15 sequence) (omega arith), length-append (header id n) (data_bits ++ bits 15 sequence), length-append data_bits (bits 15 sequence), length-header id n, length-data (take n bytes), length-bits 15 sequence))
+    (omega (arith, plain_length-code id n (data_bits ++ bits 15 sequence) (omega arith), length-append (header id n) (data_bits ++ bits 15 sequence), length-append data_bits (bits 15 sequence), length-header id n, length-data (take n bytes), length-bits 15 sequence))
 
 -- and with the stuff bit behind it, where one is due, the stuffed part
 pub stuffed_read : (mid new : Progress) (plain : List Bool) → carried mid.read ≡ plain → Went mid new [] → run (reverse new.read) < 5 → new.read ≡ stuffed plain

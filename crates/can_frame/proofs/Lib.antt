@@ -1,6 +1,7 @@
 pub mod Carried
 pub mod Expectations
 pub mod Fields
+pub mod Finish
 pub mod OneAnswer
 pub mod Plain
 pub mod Remainder

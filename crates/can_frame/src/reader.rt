@@ -278,23 +278,18 @@ impl<'a> Reader<'a> {
             }
             self.advance(bit);
         }
-        if self.peek().is_some() {
-            return Err(WireFault::Tail {
+        match self.peek() {
+            Some(_) => Err(WireFault::Tail {
                 place: self.place(),
-            });
+            }),
+            None => Ok(frame),
         }
-        Ok(frame)
     }
 }
 
-/// The frame whose wire these bits are.
-///
-/// The bits are read from left to right, and the first wrong place decides. A sixth equal bit is found
-/// where a stuff bit is due, any other wrong bit where it stands. The CRC sequence is tested behind the
-/// stuffed part and before the CRC delimiter. It takes no memory.
-pub fn read_wire(_alloc: Global, bits: &[bool]) -> Result<Frame, WireFault>
+/// What is found in the bits, from left to right.
+fn read(bits: &[bool]) -> Result<Frame, WireFault>
     ensures reads { Reads bits.now result }
-    ensures only { (answer : Result DataFrame WireFault) → Reads bits.now answer → result ≡ answer }
 {
     let mut reader = Reader::new(bits);
     let (frame, sent) = reader.stuffed_part()?;
@@ -303,4 +298,16 @@ pub fn read_wire(_alloc: Global, bits: &[bool]) -> Result<Frame, WireFault>
         return Err(WireFault::Crc { sent, computed });
     }
     reader.finish(frame)
+}
+
+/// The frame whose wire these bits are.
+///
+/// The bits are read from left to right, and the first wrong place decides. A sixth equal bit is found
+/// where a stuff bit is due, any other wrong bit where it stands. The CRC sequence is tested behind the
+/// stuffed part and before the CRC delimiter. It takes no memory, and so never answers `Memory`.
+pub fn read_wire(_alloc: Global, bits: &[bool]) -> Result<Frame, WireFault>
+    ensures reads { Reads bits.now result }
+    ensures only { (answer : Result DataFrame WireFault) → Reads bits.now answer → result ≡ answer }
+{
+    read(bits)
 }
