@@ -195,9 +195,6 @@ expects_start at is =
     let P : List Bool → Type 0 = λ read. HasNoSix (reverse read) in
     expects_early at [] 1 (subst P (sym is) tt) (ap carried is) placed_none (lit≤ tt) (λ place h k. absurd (omega arith))
 
-pub start_fixed : (at : Progress) → at.read ≡ [] → IsMisplaced (carried at.read) true
-start_fixed at is = let carried_is : carried at.read ≡ [] = ap carried is in rw carried_is (start refl refl)
-
 -- the bits up to each of RTR, r1 and r0
 abbrev pub before_rtr : ℕ → List Bool
 before_rtr id = (false ∷ []) ++ bits 11 id
@@ -219,21 +216,35 @@ reserved_at at plain no_six is placed least most = record {
   fixed = reserved_fixed at plain is least most;
 }
 
-pub rtr_next : (old at : Progress) (id : ℕ) → id ≤ 0x7EF → old.read ≡ [] → Went old at (before_rtr id) → Reserved at
-rtr_next old at id in_range here went =
+-- RTR is next behind the identifier, r1 behind RTR, and r0 behind r1
+pub rtr_next : (old first at : Progress) (id : ℕ) → id ≤ 0x7EF → old.read ≡ [] → Went old first (false ∷ []) → Went first at (bits 11 id) → Reserved at
+rtr_next old first at id in_range here h k =
+    let went = went_then old first at (false ∷ []) (bits 11 id) h k in
     reserved_at at (before_rtr id) went.no_six (carried_start old at _ here went) (placed_identifier id in_range) (omega (arith, length-bits 11 id)) (omega (arith, length-bits 11 id))
 
-pub r1_next : (old at : Progress) (id : ℕ) → id ≤ 0x7EF → old.read ≡ [] → Went old at (before_r1 id) → Reserved at
-r1_next old at id in_range here went =
+pub r1_next : (old first second at : Progress) (id : ℕ) → id ≤ 0x7EF → old.read ≡ [] → Went old first (false ∷ []) → Went first second (bits 11 id) → Went second at (false ∷ []) → Reserved at
+r1_next old first second at id in_range here h k l =
+    let went = went_then old second at (before_rtr id) (false ∷ []) (went_then old first second (false ∷ []) (bits 11 id) h k) l in
     let placed = placed_begun (before_r1 id) (false ∷ []) (placed_begun (before_r0 id) (false ∷ []) (placed_before_code id in_range)) in
     let long : length (before_r1 id) ≡ 13 = length-append (before_rtr id) (false ∷ []) ∙ omega (arith, length-bits 11 id) in
     reserved_at at (before_r1 id) went.no_six (carried_start old at _ here went) placed (omega arith) (omega arith)
 
-pub r0_next : (old at : Progress) (id : ℕ) → id ≤ 0x7EF → old.read ≡ [] → Went old at (before_r0 id) → Reserved at
-r0_next old at id in_range here went =
+pub r0_next : (old first second third at : Progress) (id : ℕ) → id ≤ 0x7EF → old.read ≡ [] → Went old first (false ∷ []) → Went first second (bits 11 id) → Went second third (false ∷ [])
+    → Went third at (false ∷ []) → Reserved at
+r0_next old first second third at id in_range here h k l m =
+    let to_r1 = went_then old second third (before_rtr id) (false ∷ []) (went_then old first second (false ∷ []) (bits 11 id) h k) l in
+    let went = went_then old third at (before_r1 id) (false ∷ []) to_r1 m in
     let placed = placed_begun (before_r0 id) (false ∷ []) (placed_before_code id in_range) in
     let long : length (before_r0 id) ≡ 14 = length-append (before_r1 id) (false ∷ []) ∙ ap (λ n. n + 1) (length-append (before_rtr id) (false ∷ [])) ∙ omega (arith, length-bits 11 id) in
     reserved_at at (before_r0 id) went.no_six (carried_start old at _ here went) placed (omega arith) (omega arith)
+
+-- all that stands before the data length code was read
+pub to_code : (old first second third fourth at : Progress) (id : ℕ) → Went old first (false ∷ []) → Went first second (bits 11 id) → Went second third (false ∷ [])
+    → Went third fourth (false ∷ []) → Went fourth at (false ∷ []) → Went old at (before_code id)
+to_code old first second third fourth at id h k l m n =
+    went_then old fourth at (before_r0 id) (false ∷ [])
+    (went_then old third fourth (before_r1 id) (false ∷ []) (went_then old second third (before_rtr id) (false ∷ []) (went_then old first second (false ∷ []) (bits 11 id) h k) l) m)
+    n
 
 -- ---- the data bytes
 
@@ -242,14 +253,6 @@ pub expects_byte : (old mid : Progress) (bytes : List ℕ) (place n : ℕ) → l
 expects_byte old mid bytes place n room few below h went =
     let taken : length (take place bytes) ≡ place = length-take-le place bytes (omega arith) in
     expects_part old mid (flat_map (bits 8) (take place bytes)) (8 * n) 8 h went (omega (arith, length-data (take place bytes)))
-
--- one more data byte was read
-pub data_more : (old mid new : Progress) (bytes : List ℕ) (place byte : ℕ) → place < length bytes → Went old mid (flat_map (bits 8) (take place bytes)) → Went mid new (bits 8 byte)
-    → Went old new (flat_map (bits 8) (take (place + 1) (set bytes place byte)))
-data_more old mid new bytes place byte below h k =
-    let taken : take (place + 1) (set bytes place byte) ≡ take place bytes ++ byte ∷ [] = take_more_set bytes place byte below in
-    let more : flat_map (bits 8) (take place bytes ++ byte ∷ []) ≡ flat_map (bits 8) (take place bytes) ++ bits 8 byte = sym (flat_map_more (bits 8) [] (take place bytes) byte) in
-    rw taken (rw more (went_then old mid new (flat_map (bits 8) (take place bytes)) (bits 8 byte) h k))
 
 -- ---- the stuffed part
 

@@ -17,9 +17,6 @@ pub record Trailed (old at : Progress) (count : ℕ) : Type 0 where
   pub all : all_bits at ≡ all_bits old
   pub read : at.read ≡ old.read ++ take count trailer
 
-pub trailed_none : (at : Progress) → Trailed at at 0
-trailed_none at = record { all = refl; read = sym (append-nil at.read) }
-
 -- all bits, from the stuffed part on
 given : (old at : Progress) (frame : DataFrame) (count : ℕ) → old.read ≡ stuffed (plain frame) → Trailed old at count → all_bits old ≡ stuffed (plain frame) ++ (take count trailer ++ at.rest)
 given old at frame count is h =

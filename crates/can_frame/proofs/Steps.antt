@@ -56,28 +56,6 @@ went_none at h = record { all = refl; no_six = h; carried = sym (append-nil (car
 no_six_more : (read : List Bool) (bit : Bool) → run (bit ∷ reverse read) < 6 → HasNoSix (reverse read) → HasNoSix (reverse (read ++ bit ∷ []))
 no_six_more read bit below h = subst HasNoSix (sym (reverse_more read bit)) (below, h)
 
--- a stuff bit was read
-pub went_stuff : (old new : Progress) (bit : Bool) → Stepped old new bit → 5 ≤ run (reverse old.read) → run (bit ∷ reverse old.read) < 6 → HasNoSix (reverse old.read) → Went old new []
-went_stuff old new bit h full below no_six =
-    let is = read_stepped old new bit h in
-    record {
-      all = all_stepped old new bit h;
-      no_six = rw is (no_six_more old.read bit below no_six);
-      carried = ap carried is ∙ carried-stuff old.read bit full ∙ sym (append-nil (carried old.read));
-    }
-
--- behind a stuff bit no stuff bit is due
-restarts : (equal : Bool) (n : ℕ) → 5 ≤ n → cond equal (n + 1) 1 < 6 → cond equal (n + 1) 1 < 5
-restarts true n full below = omega arith
-restarts false n full below = lit< tt
-
-run_restarts : (bit : Bool) (sent : List Bool) → 5 ≤ run sent → run (bit ∷ sent) < 6 → run (bit ∷ sent) < 5
-run_restarts bit sent full below = restarts (beq bit (last_bit sent)) (run sent) full below
-
-pub run_stuff : (old new : Progress) (bit : Bool) → Stepped old new bit → 5 ≤ run (reverse old.read) → run (bit ∷ reverse old.read) < 6 → run (reverse new.read) < 5
-run_stuff old new bit h full below =
-    rw (read_stepped old new bit h) (rw (reverse_more old.read bit) (run_restarts bit (reverse old.read) full below))
-
 -- a bit of the plain part was read
 pub went_plain : (old new : Progress) (bit : Bool) → Stepped old new bit → run (reverse old.read) < 5 → HasNoSix (reverse old.read) → Went old new (bit ∷ [])
 went_plain old new bit h short no_six =
@@ -87,14 +65,6 @@ went_plain old new bit h short no_six =
       no_six = rw is (no_six_more old.read bit (let more = run-more bit (reverse old.read) in omega arith) no_six);
       carried = ap carried is ∙ carried-plain old.read bit short;
     }
-
-pub ends_plain : (old new : Progress) (bit : Bool) → Stepped old new bit → run (reverse old.read) < 5 → EndsPlain new.read
-ends_plain old new bit h short = record {
-  before = old.read;
-  bit = bit;
-  split = read_stepped old new bit h;
-  no_stuff_place = short;
-}
 
 -- one part of the way after another
 pub went_then : (old mid new : Progress) (field more : List Bool) → Went old mid field → Went mid new more → Went old new (field ++ more)
@@ -130,18 +100,6 @@ short_found at have none is begun goes_on =
     let all : all_bits at ≡ at.read = ap (λ rest. at.read ++ rest) none ∙ append-nil at.read in
     let ends : EndsInside at.read = record { begun = begun; goes_on = goes_on } in
     (is, inl (subst EndsInside (sym all) ends))
-
--- a sixth equal bit is next
-pub stuff_found : (at : Progress) (bit : Bool) (place : ℕ) → at.rest ≡ bit ∷ drop 1 at.rest → place ≡ length at.read → IsBegun at.read → 6 ≤ run (bit ∷ reverse at.read) → Reads (all_bits at) (Err (Stuff place))
-stuff_found at bit place next here begun six = record {
-  before = at.read;
-  bit = bit;
-  after = drop 1 at.rest;
-  split = ap (λ rest. at.read ++ rest) next;
-  here = here;
-  begun = begun;
-  sixth = six;
-}
 
 -- the bits end behind a stuff bit, or without one
 pub short_after : (old mid : Progress) (have : ℕ) → Expects old 1 → Went old mid [] → mid.rest ≡ [] → have ≡ length (all_bits mid) → Reads (all_bits old) (Err (Short have))

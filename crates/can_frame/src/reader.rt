@@ -10,7 +10,7 @@ ghost use Rattle.can_frame.specs.Wire.{dominant, recessive, header, plain, with_
 ghost use Rattle.can_frame.specs.Reading.{carried, plain_length, IsMisplaced, IsPlaced, IsBegun, Reads};
 ghost use Rattle.can_frame.specs.Progress.{all_bits, Expects, Went, EndsPlain};
 
-use crate::data_frame::Frame;
+use crate::data_frame::{Frame, MAX_BYTES};
 use crate::wire_bits::{TRAILER, crc};
 use crate::wire_fault::WireFault;
 use std::alloc::Global;
@@ -228,14 +228,14 @@ impl<'a> Reader<'a> {
     }
 
     /// The data bytes, of which there are `len`, and zeros behind them.
-    fn data(&mut self, len: u8) -> Result<[u8; 8], WireFault>
+    fn data(&mut self, len: u8) -> Result<[u8; MAX_BYTES], WireFault>
         requires few { len ≤ 8 }
         requires expects { Expects self.old (8 * len) }
         ensures ok { IfOk result (λ bytes. Went self.old self.new (flat_map (bits 8) (take len bytes))) }
         ensures room { IfOk result (λ bytes. length bytes ≡ 8) }
         ensures fault { IfErr result (λ fault. Reads (all_bits self.old) (Err fault)) }
     {
-        let mut bytes = [0u8; 8];
+        let mut bytes = [0; MAX_BYTES];
         for place in 0..usize::from(len) {
             bytes[place] = self.field(8)? as u8;
         }
@@ -254,7 +254,7 @@ impl<'a> Reader<'a> {
         let (id, len) = self.header()?;
         let bytes = self.data(len)?;
         let sequence = self.field(15)?;
-        self.stuff_bit()?;
+        self.stuff_bit()?; // behind a sequence that ends with five equal bits
         match Frame::new(id, &bytes[..usize::from(len)]) {
             Ok(frame) => Ok((frame, sequence)),
             Err(_) => unreachable!(),
