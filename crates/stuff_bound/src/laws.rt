@@ -11,7 +11,7 @@ pub fn one_wire()
     ensures one_plain { (wire first second : List Bool) → Stuffs wire first → Stuffs wire second → first ≡ second }
 {}
 
-/// Stuffing takes no bit away, and adds fewer than one for each four.
+/// Stuffing takes no bit away, and adds fewer than one for each four that it finds.
 pub fn lengths()
     ensures at_least { (plain : List Bool) → length plain ≤ length (stuffed plain) }
     ensures at_most { (plain : List Bool) → 0 < length plain

@@ -38,3 +38,7 @@ returns-clause-at_least c =
 pub returns-clause-at_most : goal.returns-clause-at_most
 returns-clause-at_most c some =
     omega (arith, all_sent _ _ _ c.loop-bit-test.false c.loop-bit.invariant.len, length-stuffed-most c.args.bits.now some)
+
+pub returns-clause-frame : goal.returns-clause-frame
+returns-clause-frame c bytes bits =
+    omega (arith, all_sent _ _ _ c.loop-bit-test.false c.loop-bit.invariant.len, length-stuffed-most c.args.bits.now (omega arith))

@@ -10,8 +10,8 @@ found c =
     first_sixth _ _ (omega arith) c.loop-place.invariant.no_six
     (sym (c.is_sixth.ensures.sixth _ c.loop-place.invariant.run) ∙ c.if-is_sixth.true)
 
-pub returns-then-is_sixth-clause-ok_where : goal.returns-then-is_sixth-clause-ok_where
-returns-then-is_sixth-clause-ok_where c plain h = absurd (not_with_sixth _ _ (found c) h.no_six)
+pub returns-then-is_sixth-clause-completes : goal.returns-then-is_sixth-clause-completes
+returns-then-is_sixth-clause-completes c plain h = absurd (not_with_sixth _ _ (found c) h.no_six)
 
 pub returns-then-is_sixth-clause-six_equal : goal.returns-then-is_sixth-clause-six_equal
 returns-then-is_sixth-clause-six_equal c place _ =
