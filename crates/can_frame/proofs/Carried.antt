@@ -1,7 +1,7 @@
 -- What wire bits carry, as more bits come behind them.
-use Rattle.std.proofs.Common.{◌≡◌, ℕ, ◌+◌, ◌<◌, ◌≤◌, Bool, true, false, cond, List, [], ◌∷◌, ◌++◌, length, take, drop, reverse, append_assoc, refl, sym, ap, subst, ◌∙◌, arith}
+use Rattle.std.proofs.Common.{◌≡◌, ◌<◌, ◌≤◌, Bool, true, false, cond, List, [], ◌∷◌, ◌++◌, reverse, append_assoc, refl, sym, ap, subst, ◌∙◌}
 use Rattle.std.proofs.lemmas.List.{reverse-append, reverse-reverse}
-use Rattle.stuff_bound.specs.Stuffing.{run, HasNoSix, at_stuff_place, without_stuff, Stuffs, stuffed}
+use Rattle.stuff_bound.specs.Stuffing.{run, HasNoSix, at_stuff_place, without_stuff, Stuffs}
 use Rattle.stuff_bound.proofs.Stuffs.{without_stuff-full, without_stuff-below}
 use Rattle.can_frame.specs.Reading.{carried}
 

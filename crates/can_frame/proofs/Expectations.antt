@@ -1,14 +1,14 @@
 -- What a reader expects, field by field of a frame.
-use Rattle.std.proofs.Common.{◌≡◌, ◌≢◌, ℕ, zero, suc, ◌+◌, ◌*◌, ◌/◌, ◌%◌, ◌^◌, ◌<◌, ◌≤◌, ◌==◌, Bool, true, false, List, [], ◌∷◌, ◌++◌, length, set, take, drop, reverse, replicate, Err, append_assoc, refl, sym, ap, subst, ◌∙◌, inl, inr, arith, lit<, lit≤}
+use Rattle.std.proofs.Common.{◌≡◌, ◌≢◌, ℕ, ◌+◌, ◌*◌, ◌/◌, ◌%◌, ◌^◌, ◌<◌, ◌≤◌, ◌==◌, Bool, true, false, List, [], ◌∷◌, ◌++◌, length, take, drop, reverse, Err, append_assoc, refl, sym, ap, subst, ◌∙◌, arith, lit<, lit≤}
 use Rattle.std.specs.List.{flat_map}
-use Rattle.std.proofs.lemmas.List.{append-nil, length-append, length-take-le, reverse-reverse, drop_at, take_more_set, flat_map_more}
+use Rattle.std.proofs.lemmas.List.{append-nil, length-append, length-take-le, reverse-reverse, drop_at}
 use Rattle.stuff_bound.specs.Stuffing.{run, HasNoSix, stuffed}
 use Rattle.stuff_bound.proofs.Stuffs.{stuffed_only}
 use Rattle.can_frame.specs.declared.wire_fault.WireFault.TheVariants.{Form}
 use Rattle.can_frame.specs.DataFrame.{DataFrame}
 use Rattle.can_frame.specs.Number.{bits, number}
 use Rattle.can_frame.specs.Wire.{header, covered, with_sequence}
-use Rattle.can_frame.specs.Reading.{carried, plain_length, IsMisplaced, IsPlaced, IsBegun, Reads}
+use Rattle.can_frame.specs.Reading.{carried, IsMisplaced, IsPlaced, IsBegun, Reads}
 use Rattle.can_frame.specs.Reading.IsMisplaced.{start, identifier, reserved, code}
 use Rattle.can_frame.specs.Progress.{Progress, all_bits, Expects, Went, EndsPlain}
 use Rattle.can_frame.proofs.Fields.{length-bits, number-bits, bits-append}

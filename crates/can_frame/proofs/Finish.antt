@@ -1,14 +1,13 @@
 -- What a reader finds behind the stuffed part of a frame.
-use Rattle.std.proofs.Common.{◌≡◌, ◌≢◌, ℕ, zero, suc, ◌+◌, ◌<◌, ◌≤◌, Bool, true, false, not, List, [], ◌∷◌, ◌++◌, length, get_or, take, drop, Ok, Err, append_assoc, refl, sym, ap, subst, ◌∙◌, inl, inr, arith}
+use Rattle.std.proofs.Common.{◌≡◌, ℕ, suc, ◌+◌, ◌<◌, ◌≤◌, Bool, true, false, not, [], ◌∷◌, ◌++◌, length, get_or, take, drop, Ok, Err, append_assoc, refl, sym, ap, ◌∙◌, inr}
 use Rattle.std.specs.Bool.{beq}
 use Rattle.std.proofs.Math.Seq.{split_at}
-use Rattle.std.proofs.lemmas.List.{append-nil, length-append, length-take-le, take_all}
+use Rattle.std.proofs.lemmas.List.{append-nil, length-append, take_all}
 use Rattle.stuff_bound.specs.Stuffing.{stuffed}
-use Rattle.can_frame.specs.declared.wire_fault.WireFault.TheVariants.{Form, Crc, Short, Tail}
+use Rattle.can_frame.specs.declared.wire_fault.WireFault.TheVariants.{Form, Short, Tail}
 use Rattle.can_frame.specs.DataFrame.{DataFrame, IsFrame}
-use Rattle.can_frame.specs.Crc.{IsSequence, sequence_of}
-use Rattle.can_frame.specs.Wire.{covered, with_sequence, plain, trailer, wire_of}
-use Rattle.can_frame.specs.Reading.{EndsEarly, Reads}
+use Rattle.can_frame.specs.Wire.{plain, trailer, wire_of}
+use Rattle.can_frame.specs.Reading.{Reads}
 use Rattle.can_frame.specs.Progress.{Progress, all_bits}
 use Rattle.can_frame.proofs.OneAnswer.{length-wire}
 

@@ -1,15 +1,15 @@
 -- Bits have one answer: what is found at one place is not found before another.
-use Rattle.std.proofs.Common.{◌≡◌, ◌≢◌, ℕ, ◌+◌, ◌*◌, ◌^◌, ◌<◌, ◌≤◌, ◌⊎◌, Bool, true, false, not, cond, List, [], ◌∷◌, ◌++◌, length, take, drop, reverse, Result, Ok, Err, append_assoc, refl, sym, ap, subst, ◌∙◌, inl, inr, arith}
+use Rattle.std.proofs.Common.{◌≡◌, ◌≢◌, ℕ, ◌+◌, ◌^◌, ◌<◌, ◌≤◌, ◌⊎◌, Bool, true, false, not, cond, List, [], ◌∷◌, ◌++◌, length, reverse, Result, Ok, Err, append_assoc, refl, sym, ap, subst, ◌∙◌, inl, inr, arith}
 use Rattle.std.specs.Bool.{beq}
-use Rattle.std.proofs.lemmas.List.{append-nil, length-append, reverse-reverse}
-use Rattle.stuff_bound.specs.Stuffing.{run, HasNoSix, stuffed}
+use Rattle.std.proofs.lemmas.List.{append-nil, length-append}
+use Rattle.stuff_bound.specs.Stuffing.{run, stuffed}
 use Rattle.stuff_bound.proofs.Stuffs.{run-more, Stuffs-stuffed}
 use Rattle.can_frame.specs.declared.wire_fault.WireFault.{WireFault}
 use Rattle.can_frame.specs.declared.wire_fault.WireFault.TheVariants.{Stuff, Form, Crc, Short, Tail, Memory}
 use Rattle.can_frame.specs.DataFrame.{DataFrame, IsFrame}
 use Rattle.can_frame.specs.Crc.{IsSequence, sequence_of}
 use Rattle.can_frame.specs.Wire.{covered, with_sequence, plain, trailer, wire_of, wire_length}
-use Rattle.can_frame.specs.Reading.{carried, plain_length, IsMisplaced, IsPlaced, IsBegun, GoesOn, FindsSixth, FindsMisplaced, FindsWrongEnd, FindsCrc, EndsInside, EndsEarly, FindsMore, Reads}
+use Rattle.can_frame.specs.Reading.{carried, plain_length, IsMisplaced, IsBegun, GoesOn, Reads}
 use Rattle.can_frame.proofs.Plain.{length-whole, plain_length-more, IsPlaced-with_sequence, with_sequence_one}
 use Rattle.can_frame.proofs.Remainder.{IsRemainder-one, IsSequence-sequence_of}
 use Rattle.can_frame.proofs.Carried.{HasNoSix-begun, carried-append, carried-plain, carried-Stuffs}

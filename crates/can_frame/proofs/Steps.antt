@@ -1,16 +1,15 @@
 -- The steps of a reader of wire bits, over lists.
-use Rattle.std.proofs.Common.{◌≡◌, ℕ, zero, suc, ◌+◌, ◌*◌, ◌^◌, ◌<◌, ◌≤◌, Bool, true, false, cond, List, [], ◌∷◌, ◌++◌, length, take, drop, reverse, Err, append_assoc, refl, sym, ap, subst, ◌∙◌, inl, inr, arith, lit<}
+use Rattle.std.proofs.Common.{◌≡◌, ℕ, zero, suc, ◌+◌, ◌*◌, ◌^◌, ◌<◌, ◌≤◌, Bool, true, false, List, [], ◌∷◌, ◌++◌, length, take, drop, reverse, Err, append_assoc, refl, sym, ap, subst, ◌∙◌, inl, inr, arith, lit<}
 use Rattle.std.proofs.lemmas.List.{append-nil, length-append}
-use Rattle.std.specs.Bool.{beq}
 use Rattle.std.proofs.Math.Nat.{pow-suc}
 use mir.Val.{bool_byte}
-use Rattle.stuff_bound.specs.Stuffing.{run, last_bit, HasNoSix}
+use Rattle.stuff_bound.specs.Stuffing.{run, HasNoSix}
 use Rattle.stuff_bound.proofs.Stuffs.{run-more}
-use Rattle.can_frame.specs.declared.wire_fault.WireFault.TheVariants.{Stuff, Form, Crc, Short, Tail}
+use Rattle.can_frame.specs.declared.wire_fault.WireFault.TheVariants.{Form, Short}
 use Rattle.can_frame.specs.Number.{bits}
 use Rattle.can_frame.specs.Reading.{carried, plain_length, IsMisplaced, IsPlaced, IsBegun, GoesOn, EndsInside, Reads}
 use Rattle.can_frame.specs.Progress.{Progress, all_bits, Expects, Went, EndsPlain}
-use Rattle.can_frame.proofs.Carried.{reverse_more, carried-plain, carried-stuff}
+use Rattle.can_frame.proofs.Carried.{reverse_more, carried-plain}
 use Rattle.can_frame.proofs.Fields.{bit_number, bits_more}
 use Rattle.can_frame.proofs.OneAnswer.{Answer}
 use Rattle.can_frame.proofs.Plain.{same_parts}

@@ -1,5 +1,5 @@
 -- A frame with its own sequence was read.
-use Rattle.std.proofs.Common.{◌≡◌, ap, ◌∙◌}
+use Rattle.std.proofs.Common.{ap, ◌∙◌}
 use Rattle.stuff_bound.specs.Stuffing.{stuffed}
 use Rattle.can_frame.specs.Wire.{with_sequence, plain}
 use Rattle.can_frame.proofs.reader.read.Goals as goal

@@ -1,6 +1,6 @@
 -- One bit more was read, and the run follows it.
 use Rattle.std.proofs.Common.{◌≡◌, ℕ, Bool, List, [], ◌∷◌, ◌++◌, drop, take, reverse, sym, ap, ap₂, subst, ◌∙◌, arith}
-use Rattle.stuff_bound.specs.Stuffing.{LastRun, Tracks}
+use Rattle.stuff_bound.specs.Stuffing.{Tracks}
 use Rattle.can_frame.specs.Progress.{Progress}
 use Rattle.can_frame.proofs.Carried.{reverse_more}
 use Rattle.can_frame.proofs.Steps.{Next, next_bit}

@@ -1,5 +1,5 @@
 -- A stuff bit, where one is due, and then a bit of the plain part.
-use Rattle.std.proofs.Common.{◌≡◌, lit<}
+use Rattle.std.proofs.Common.{lit<}
 use Rattle.can_frame.proofs.Steps.{IsBegun-expected, short_after, went_plain, went_then}
 use Rattle.can_frame.proofs.reader.Reader.bit.Goals as goal
 

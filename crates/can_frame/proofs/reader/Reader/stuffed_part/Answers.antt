@@ -1,5 +1,5 @@
 -- The header, the data bytes and the sequence, and the stuff bit behind them.
-use Rattle.std.proofs.Common.{◌≡◌, ℕ, List, take, sym, ap, ◌∙◌}
+use Rattle.std.proofs.Common.{ℕ, List, take, sym, ap, ◌∙◌}
 use Rattle.stuff_bound.specs.Stuffing.{stuffed}
 use Rattle.can_frame.specs.Wire.{with_sequence}
 use Rattle.can_frame.proofs.Steps.{went_then}
