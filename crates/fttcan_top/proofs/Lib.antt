@@ -1,3 +1,4 @@
 mod StepsText
 mod StepsRows
 mod StepsTogether
+mod SystemKeys
