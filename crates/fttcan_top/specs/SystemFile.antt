@@ -1,8 +1,8 @@
 -- What a system file means: its text as a TOML document, and the numbers under the keys of its only table.
-use Rattle.std.specs.Prelude.{◌≡◌, ℕ, ◌+◌, ◌≤◌, ◌&&◌, ℤ, pos, negsuc, Bool, true, false, if◌then◌else◌, nat_le, List, [], ◌∷◌, Option, Some, None, is_none, option_and_then, codes}
+use Rattle.std.specs.Prelude.{ℕ, ◌≤◌, ◌&&◌, ℤ, pos, negsuc, Bool, true, if◌then◌else◌, nat_le, List, [], ◌∷◌, Option, Some, None, is_none, codes}
 use Rattle.std.specs.List.{list_any}
 use Rattle.std.specs.Str.{bytes_eq, is_utf8}
-use Rattle.toml.specs.Data.{Members, no_members, member, Data, as_integer, as_table, get_member}
+use Rattle.toml.specs.Data.{Members, no_members, member, as_integer, as_table, get_member}
 use Rattle.toml.specs.Parse.{parse_document}
 use Rattle.cycle_layout.specs.Layout.{IsLayout, needed}
 use Rattle.fttcan_top.specs.Chain.{◌>>=◌}
