@@ -38,7 +38,7 @@ fn takes_systems_in_range(rt: HostRuntime) -> Result<(), Fail> {
 }
 
 #[test]
-fn refuses_systems_outside_the_format(rt: HostRuntime) {
+fn refuses_systems_outside_the_format(rt: HostRuntime) -> Result<(), Fail> {
     let cases: [&[u8]; 28] = [
         b"",
         b"[bus",
@@ -73,4 +73,12 @@ fn refuses_systems_outside_the_format(rt: HostRuntime) {
         let answer = read_system(rt.alloc(), text);
         assert!(rt; matches!(answer, Err(InputFault::Refused)), "at {text:?}");
     }
+    let refused = InputFault::Refused;
+    let memory = InputFault::Memory;
+    let texts = format!(in rt.alloc(); "{refused}, {memory}")?;
+    assert_eq!(rt;
+        texts.as_str(),
+        "the file is outside its format, out of memory"
+    );
+    Ok(())
 }
