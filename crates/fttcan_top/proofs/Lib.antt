@@ -17,3 +17,4 @@ mod CycleRuns
 mod Histories
 mod StepsRun
 mod EndLemmas
+mod SystemKeys

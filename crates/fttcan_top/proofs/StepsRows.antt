@@ -1,9 +1,9 @@
 -- The records of a text, one after the other, and the steps that they ask for.
-use Rattle.std.proofs.Common.{Bor, ◌≡◌, ℕ, ◌+◌, ◌<◌, ◌≤◌, Bool, true, false, not, ◌==◌, ◌&&◌, ◌||◌, cond, List, [], ◌∷◌, ◌++◌, length, map, Option, Some, None, option_map, option_and_then, zero, suc, refl, sym, ap, ◌∙◌, arith, append_assoc, inl, inr, ◌⊎◌, ◌-◌, lit≤, add-one}
+use Rattle.std.proofs.Common.{Bor, ◌≡◌, ℕ, ◌+◌, ◌<◌, ◌≤◌, Bool, true, false, ◌==◌, cond, List, [], ◌∷◌, ◌++◌, length, map, Option, Some, None, option_map, option_and_then, zero, suc, refl, sym, ap, ◌∙◌, arith, append_assoc, inl, inr, ◌⊎◌, ◌-◌, lit≤, add-one}
 use Rattle.std.proofs.lemmas.Bool.{cases_Bool, false≢true}
 use Rattle.std.proofs.lemmas.Option.{none-some, same_Some}
 use Rattle.std.proofs.lemmas.List.{append-nil}
-use Rattle.csv.specs.Machine.{Read, after_end, ends_at_end, ends_with, field_after, fields_after, in_field, is_end, next_record, start_field, start_record, step}
+use Rattle.csv.specs.Machine.{Read, after_end, ends_at_end, ends_with, in_field, is_end, next_record, start_field, start_record, step}
 use Rattle.csv.proofs.ReadFacts.{rows-more}
 use Rattle.csv.specs.Reading.{Reached, ReadRecord, Ready, default_config, records_from, records_next, source_of}
 use Rattle.csv.specs.declared.reader.Reader.{Reader}
@@ -93,8 +93,8 @@ fuel (suc n) zero s xs between h k = absurd (omega arith)
 fuel (suc n) (suc m) s [] between h k = rw (none_at_end s between)
 fuel (suc n) (suc m) s (c ∷ rest) between h k =
     same_next (records_from default_config n) (records_from default_config m) _ (λ r e.
-      let later = advances (c ∷ rest) s [] [] r e in
-      fuel n m r.1 r.2 later.between (omega arith) (omega arith))
+    let later = advances (c ∷ rest) s [] [] r e in
+    fuel n m r.1 r.2 later.between (omega arith) (omega arith))
 
 -- the records that are left of a text, from a state
 abbrev pub records_left : State → List ℕ → List (List (List ℕ))

@@ -1,5 +1,5 @@
 -- What a steps file means: the rows of its text, the step that each row asks for, and what has to hold of all steps together.
-use Rattle.std.specs.Prelude.{◌≡◌, ℕ, ◌+◌, ◌-◌, ◌^◌, ◌<◌, ◌≤◌, ◌==◌, ◌&&◌, Bool, true, false, not, if◌then◌else◌, nat_eq, nat_lt, nat_le, List, [], ◌∷◌, ◌++◌, length, map, reverse, sum_by, All, Option, Some, None, option_map, option_and_then, codes, AllPairs, ◌≢◌}
+use Rattle.std.specs.Prelude.{◌≡◌, ℕ, ◌+◌, ◌-◌, ◌^◌, ◌<◌, ◌≤◌, ◌==◌, ◌&&◌, Bool, true, not, if◌then◌else◌, nat_eq, nat_lt, nat_le, List, [], ◌∷◌, ◌++◌, length, map, reverse, sum_by, All, Option, Some, None, option_map, codes, AllPairs, ◌≢◌}
 use Rattle.std.specs.Char.{is_ascii_digit}
 use Rattle.std.specs.List.{list_all, list_any, filter_map}
 use Rattle.std.specs.Str.{bytes_eq}
@@ -7,8 +7,7 @@ use Rattle.std.specs.Str.Parse.{digits_value}
 use Rattle.csv.specs.Reading.{default_config, records, strip_bom}
 use Rattle.csv.specs.Records.{field_at}
 use Rattle.requirement_table.specs.declared.entries.Entry.{Entry}
-use Rattle.requirement_table.specs.declared.entries.Placed.{Placed}
-use Rattle.requirement_table.specs.Table.{IsInRange}
+use Rattle.requirement_table.specs.declared.slots.TheConstants.{SLOTS}
 use Rattle.fttcan_top.specs.Chain.{◌>>=◌}
 use Rattle.fttcan_top.specs.declared.input.steps.Step.{Step}
 use Rattle.fttcan_top.specs.declared.input.steps.Step.TheVariants.{Cycle, Add}
@@ -22,7 +21,7 @@ without_leading_spaces (byte ∷ rest) = if byte == 32 then without_leading_spac
 abbrev pub trimmed : List ℕ → List ℕ
 trimmed field = reverse (without_leading_spaces (reverse (without_leading_spaces field)))
 
--- the rows of a text: its records of comma-separated fields, from the first line on, each field trimmed
+-- the rows of a text: its records of comma-separated fields, without a byte order mark at the start and without a header, each field trimmed
 abbrev pub rows_of : List ℕ → List (List (List ℕ))
 rows_of bytes = map (map trimmed) (records default_config (strip_bom bytes))
 
@@ -137,9 +136,12 @@ steps_of nodes bytes = steps_of_rows nodes (rows_of bytes) >>= fitting
 abbrev pub StartInTime : List Step → Type 0
 StartInTime steps = (above below : List Step) (caller start : ℕ) (entry : Entry) → steps ≡ above ++ Add caller start entry ∷ below → cycles_of above ≤ start
 
--- an entry in its place from a start on, without an end
-abbrev pub placed_from : ℕ → Entry → Placed
-placed_from start entry = record { entry = entry; origin = start; end = None }
+-- an entry with each number in its range
+pub record IsEntry (entry : Entry) : Type 0 where
+  pub known_slot : entry.slot < SLOTS
+  pub few_bytes : entry.length ≤ 8
+  pub some_time : 1 ≤ entry.deadline
+  pub in_period : entry.deadline ≤ entry.period
 
 -- an `add` step with each number in its range, for this many nodes
 pub record IsAdd (nodes caller start : ℕ) (entry : Entry) : Type 0 where
@@ -147,7 +149,7 @@ pub record IsAdd (nodes caller start : ℕ) (entry : Entry) : Type 0 where
   pub known_caller : caller ≤ 8
   pub early_start : start < 2 ^ 40
   pub known_node : entry.node < nodes
-  pub in_range : IsInRange (placed_from start entry)
+  pub in_range : IsEntry entry
 
 -- a step with each number in its range, for this many nodes
 abbrev pub IsStep : ℕ → Step → Type 0

@@ -1,9 +1,10 @@
 -- What a system file means: its text as a TOML document, and the numbers under the keys of its only table.
-use Rattle.std.specs.Prelude.{◌≡◌, ℕ, ◌+◌, ◌≤◌, ◌&&◌, ℤ, pos, negsuc, Bool, true, false, if◌then◌else◌, nat_le, List, [], ◌∷◌, Option, Some, None, is_none, option_and_then, codes}
+use Rattle.std.specs.Prelude.{ℕ, ◌≤◌, ◌&&◌, ℤ, pos, negsuc, Bool, true, if◌then◌else◌, nat_le, List, [], ◌∷◌, Option, Some, None, is_none, codes}
 use Rattle.std.specs.List.{list_any}
 use Rattle.std.specs.Str.{bytes_eq, is_utf8}
-use Rattle.toml.specs.Data.{Members, no_members, member, Data, as_integer, as_table, get_member}
+use Rattle.toml.specs.Data.{Members, no_members, member, as_integer, as_table, get_member}
 use Rattle.toml.specs.Parse.{parse_document}
+use Rattle.cycle_layout.specs.Layout.{IsLayout, needed}
 use Rattle.fttcan_top.specs.Chain.{◌>>=◌}
 use Rattle.fttcan_top.specs.declared.input.system.System.{System}
 
@@ -41,10 +42,10 @@ abbrev pub number_or_zero_at : List ℕ → ℕ → ℕ → Members → Option �
 number_or_zero_at key low high table = if is_none (get_member key table) then Some 0 else number_at key low high table
 
 -- the system of these numbers: the length of the elementary cycle, the turnaround and the longest synchronous window, in bit times, and how many
--- nodes there are; the trigger, the turnaround and the window have to fit into the cycle
+-- nodes there are; the longest trigger, the turnaround and the window have to fit into the cycle
 abbrev pub system_of_numbers : ℕ → ℕ → ℕ → ℕ → Option System
 system_of_numbers cycle turnaround window nodes =
-    if nat_le (135 + turnaround + window) cycle
+    if nat_le (needed turnaround window) cycle
     then Some (record { layout = record { cycle = cycle; turnaround = turnaround; window = window }; nodes = nodes })
     else None
 
@@ -57,11 +58,20 @@ system_of_bus bus = do
   nodes ← number_at (codes "nodes") 1 30 bus
   system_of_numbers cycle turnaround window nodes
 
--- the system that a file describes; none where the file is outside the format
-unfoldable pub system_of : List ℕ → Option System
-system_of bytes = do
-  document ← document_of bytes
+-- the system that a document describes: its only key is the table `bus`, which has no keys but these four
+abbrev pub system_of_document : Members → Option System
+system_of_document document = do
   top ← only (codes "bus" ∷ []) document
   table ← table_at (codes "bus") top
   bus ← only (codes "cycle" ∷ codes "turnaround" ∷ codes "window" ∷ codes "nodes" ∷ []) table
   system_of_bus bus
+
+-- the system that a file describes; none where the file is outside the format
+unfoldable pub system_of : List ℕ → Option System
+system_of bytes = document_of bytes >>= system_of_document
+
+-- what holds of a system
+pub record IsSystem (system : System) : Type 0 where
+  pub layout : IsLayout system.layout
+  pub some_nodes : 1 ≤ system.nodes
+  pub few_nodes : system.nodes ≤ 30

@@ -11,8 +11,7 @@ ghost use Rattle.std.specs.Char.{is_ascii_digit};
 ghost use Rattle.std.specs.List.{list_all};
 ghost use Rattle.std.specs.Range.{range_inclusive_start, range_inclusive_end};
 ghost use Rattle.csv.specs.Records.{field_at, fields_of};
-ghost use Rattle.fttcan_top.specs.StepsFile.{without_leading_spaces, trimmed, number_of, within, number_at, entry_of_row, cycle_row, add_fields, add_row, step_of_row, steps_of_rows, rows_of, cycles_of, start_in_time, are_distinct, slot_of, slots_of, fit_together, FitTogether, placed_from, IsStep, AreSteps, steps_of};
-ghost use Rattle.requirement_table.specs.Table.{IsInRange};
+ghost use Rattle.fttcan_top.specs.StepsFile.{without_leading_spaces, trimmed, number_of, within, number_at, entry_of_row, cycle_row, add_fields, add_row, step_of_row, steps_of_rows, rows_of, cycles_of, start_in_time, are_distinct, slot_of, slots_of, fit_together, FitTogether, IsEntry, IsStep, AreSteps, steps_of};
 
 use super::InputFault;
 use csv::{ByteRecord, ReaderBuilder};
@@ -40,8 +39,8 @@ pub enum Step {
     },
 }
 
-/// The most cycles that a steps file runs.
-pub const MAX_CYCLES: u64 = 20_000;
+// The most cycles that the rows of a steps file run together.
+const MAX_CYCLES: u64 = 20_000;
 
 // The field without the spaces at its start.
 fn drop_leading_spaces(mut field: &[u8]) -> &[u8]
@@ -115,7 +114,7 @@ fn number(row: &ByteRecord, place: usize, range: RangeInclusive<u64>) -> Option<
 // The entry that the fields from SLOT to PRIORITY describe.
 fn read_entry(row: &ByteRecord) -> Option<Entry>
     ensures value { result ≡ entry_of_row (map trimmed (fields_of row.now)) }
-    ensures valid { IfSome result (λ entry. IsInRange (placed_from 0 entry)) }
+    ensures valid { IfSome result IsEntry }
 {
     let slot = number(row, 3, 0..=39)?;
     let node = number(row, 4, 0..=255)?;
@@ -143,7 +142,7 @@ fn read_cycle(row: &ByteRecord) -> Option<Step>
     if row.len() != 2 {
         return None;
     }
-    let count = number(row, 1, 0..=20_000)?;
+    let count = number(row, 1, 0..=MAX_CYCLES)?;
     Some(Step::Cycle { count })
 }
 
@@ -195,7 +194,8 @@ fn read_rows(alloc: Global, bytes: &[u8], nodes: u8) -> Result<Vec<Step>, InputF
         .from_reader(alloc, bytes);
     let mut steps = Vec::new(alloc);
     for row in reader.into_byte_records() {
-        // Bytes in memory are read without a fault, and rows may differ in length: this is want of memory.
+        // Bytes in memory are read without a fault, and rows may differ in length, so this is want
+        // of memory.
         let Ok(row) = row else {
             return Err(InputFault::Memory);
         };
@@ -285,8 +285,7 @@ pub fn read_steps(alloc: Global, bytes: &[u8], nodes: u8) -> Result<Vec<Step>, I
 /// Law: the test that a steps file has to pass says of its steps what has to hold of them.
 pub fn steps_that_fit()
     ensures law { (steps : List Step) → (fit_together steps ≡ true) ↔ FitTogether steps }
-{
-}
+{}
 
 #[cfg(test)]
 mod tests;

@@ -1,6 +1,3 @@
-use Rattle.std.proofs.Common.{◌≡◌, ℕ, List, Some, None, option_map, sym, ap, ◌∙◌}
-use Rattle.csv.specs.Records.{field_at, fields_of}
-use Rattle.fttcan_top.specs.StepsFile.{trimmed}
 use Rattle.fttcan_top.proofs.StepsText.{field_at-map}
 use Rattle.fttcan_top.proofs.input.steps.field_of.Goals as goal
 

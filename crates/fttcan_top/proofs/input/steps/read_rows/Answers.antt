@@ -1,5 +1,5 @@
 -- What the reader gives is the next record of the bytes that it has left.
-use Rattle.std.proofs.Common.{◌≡◌, ◌∷◌, [], ◌∙◌, ℕ, List, Bor, Some, None, map, sym, refl, ap, true, inl, inr, rules}
+use Rattle.std.proofs.Common.{◌≡◌, [], ◌∙◌, ℕ, List, Bor, Some, sym, refl, ap, true, inl, inr, rules}
 use Rattle.std.proofs.lemmas.List.Elements.{All-nil, All-push}
 use Rattle.std.specs.Result.{is_ok}
 use Rattle.csv.proofs.ReadFacts.{rows-end}
@@ -48,8 +48,7 @@ loop-row-preserved c =
     let s = rw (c.in-Some.is, c.in-Ok.is) at ((c.next.ensures.steps turns so_far.trim).0 so_far.ready) in
     let read = read_one (λ (s : Bor (List ℕ)). Some s.now) a b fields so_far.left so_far.config so_far.source s.0 in
     let good : is_ok c.push.result ≡ true = search rules in
-    let items = rw good at c.push.ensures.items in
-    (
+    let items = rw good at c.push.ensures.items in (
       s.2,
       rw items (All-push (IsStep c.args.nodes) c.loop-row.steps.items step valid c.in-Some-read_step.ensures.valid),
       record {
