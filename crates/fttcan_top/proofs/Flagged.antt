@@ -8,7 +8,8 @@ use Rattle.requirement_table.specs.declared.entries.Placed.{Placed}
 use Rattle.requirement_table.specs.declared.slots.TheConstants.{SLOTS}
 use Rattle.requirement_table.specs.Slots.{contains_slot, set_of, sum_where}
 use Rattle.requirement_table.specs.Instance.{worst, release_of, latest, exists, may_send, released_by, instance_of, payload, MaySend, IsReleasedIn, Exists}
-use Rattle.requirement_table.specs.Table.{Instance, bytes_of, sendable, instance_in, releases_in, released_in}
+use Rattle.requirement_table.specs.Table.{sendable, instance_in, releases_in, released_in}
+use Rattle.requirement_table.specs.Instance.{Instance, bytes_of}
 use Rattle.fttcan_top.specs.Offered.{Opening, bytes_in, slot_cost, width_of, slots}
 use Rattle.std.proofs.lemmas.Bool.{cond-false, ltb-true, leb-true}
 use Rattle.std.proofs.lemmas.List.Elements.{Contains-append_cases, Contains-push_cases, Contains-append_right}

@@ -17,7 +17,8 @@ use Rattle.can_frame.specs.Wire.{wire_length}
 use Rattle.trigger_codec.specs.Bytes.{trigger_frame}
 use Rattle.requirement_table.specs.Slots.{contains_slot}
 use Rattle.requirement_table.specs.Instance.{worst, payload}
-use Rattle.requirement_table.specs.Table.{Instance, bytes_of, instance_in, released_in}
+use Rattle.requirement_table.specs.Table.{instance_in, released_in}
+use Rattle.requirement_table.specs.Instance.{Instance, bytes_of}
 use Rattle.bus_line.specs.Trace.{end_of, Follows, Offers}
 use Rattle.fttcan_top.specs.Offered.{Opening, next_opening, slots, first_identifier, bytes_in, slot_cost, width_of, start_of, end_of_cycle, window_start, OffersTrigger, OffersSlot, offered_in, offered}
 use Rattle.fttcan_top.specs.Window.{IsFit, RunsCycle, IsSlotFrame}

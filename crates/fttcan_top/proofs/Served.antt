@@ -10,7 +10,8 @@ use Rattle.cycle_layout.specs.Layout.{CycleLayout}
 use Rattle.requirement_table.specs.declared.entries.Placed.{Placed}
 use Rattle.requirement_table.specs.Slots.{contains_slot}
 use Rattle.requirement_table.specs.Instance.{release_of, IsLastCycle, payload, Exists, MaySend, IsReleasedIn, released_by, instance_of}
-use Rattle.requirement_table.specs.Table.{Instance, bytes_of, instance_in, released_in}
+use Rattle.requirement_table.specs.Table.{instance_in, released_in}
+use Rattle.requirement_table.specs.Instance.{Instance, bytes_of}
 use Rattle.bus_line.specs.Trace.{end_of}
 use Rattle.fttcan_top.specs.Offered.{Opening, slots, first_identifier, bytes_in, width_of, start_of, end_of_cycle, window_start}
 use Rattle.fttcan_top.specs.Window.{of_slot, IsSentIn, IsSlotFrame, RunsCycle}

@@ -7,7 +7,8 @@ use Rattle.can_frame.specs.DataFrame.{DataFrame}
 use Rattle.requirement_table.specs.declared.entries.Placed.{Placed}
 use Rattle.requirement_table.specs.Slots.{contains_slot, sum_where}
 use Rattle.requirement_table.specs.Instance.{worst, payload, instance_of, released_by}
-use Rattle.requirement_table.specs.Table.{bytes_of, instance_in, released_in}
+use Rattle.requirement_table.specs.Table.{instance_in, released_in}
+use Rattle.requirement_table.specs.Instance.{bytes_of}
 use Rattle.requirement_table.proofs.Latest.{instance_of-sent, IsReleasedIn-from_released_by}
 use Rattle.fttcan_top.specs.declared.cycle.Queued.{Queued}
 use Rattle.fttcan_top.specs.Entries.{IsLive, AreDistinct}

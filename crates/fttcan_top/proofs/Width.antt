@@ -9,7 +9,8 @@ use Rattle.requirement_table.specs.declared.entries.Placed.{Placed}
 use Rattle.requirement_table.specs.declared.slots.TheConstants.{SLOTS}
 use Rattle.requirement_table.specs.Slots.{contains_slot, sum_where}
 use Rattle.requirement_table.specs.Instance.{worst, released_by, instance_of}
-use Rattle.requirement_table.specs.Table.{Instance, bytes_of, instance_in, releases_in, released_in}
+use Rattle.requirement_table.specs.Table.{instance_in, releases_in, released_in}
+use Rattle.requirement_table.specs.Instance.{Instance, bytes_of}
 use Rattle.fttcan_top.specs.Offered.{Opening, bytes_in, slot_cost, width_of, slots}
 use Rattle.std.proofs.lemmas.Bool.{lt-ltb}
 use Rattle.std.specs.List.{All}

@@ -7,7 +7,8 @@ use Rattle.requirement_table.specs.declared.slots.TheConstants.{SLOTS}
 use Rattle.trigger_codec.specs.Bytes.{trigger_frame}
 use Rattle.requirement_table.specs.Slots.{contains_slot, sum_where}
 use Rattle.requirement_table.specs.Instance.{worst}
-use Rattle.requirement_table.specs.Table.{bytes_of, instance_in, released_in}
+use Rattle.requirement_table.specs.Table.{instance_in, released_in}
+use Rattle.requirement_table.specs.Instance.{bytes_of}
 use Rattle.bus_line.specs.Trace.{Offers}
 
 pub record Opening : Type 0 where
