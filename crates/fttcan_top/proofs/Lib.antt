@@ -14,3 +14,4 @@ mod Tables
 mod Queues
 mod SlotEntries
 mod CycleRuns
+mod HexText

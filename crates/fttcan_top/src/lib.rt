@@ -5,6 +5,7 @@ mod cycle;
 mod history;
 pub mod input;
 mod load;
+mod log;
 mod rows;
 mod status;
 mod table;
