@@ -15,3 +15,4 @@ mod Queues
 mod SlotEntries
 mod CycleRuns
 mod HexText
+mod LogTrace

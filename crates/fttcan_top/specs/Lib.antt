@@ -11,6 +11,7 @@ pub mod Offered
 pub mod Window
 pub mod Kept
 pub mod Log
+pub mod Logged
 pub mod Table
 pub mod Cycle
 pub mod Running
