@@ -16,3 +16,4 @@ mod SlotEntries
 mod CycleRuns
 mod HexText
 mod LogTrace
+mod LogHistory

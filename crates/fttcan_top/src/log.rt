@@ -166,7 +166,10 @@ fn frame_count(event: &Event, left: &[TimedFrame]) -> usize
     ensures left { (trace : List TimedFrame) (next : ℕ) → IsLeft trace next left.now
         → IsLeft trace (next + (if is_open event.now then 1 else 0)) (drop result left.now) }
 {
-    if opens_cycle(event) { cycle_len(left) } else { 0 }
+    match event {
+        Event::Submit { .. } => 0,
+        Event::Open { .. } => cycle_len(left),
+    }
 }
 
 /// Appends the row of an event, and the rows of the frames that follow it.
