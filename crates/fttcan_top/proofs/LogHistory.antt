@@ -2,7 +2,7 @@
 use Rattle.std.proofs.Common.{◌≡◌, ℕ, zero, suc, ◌+◌, ◌-◌, ◌<◌, ◌≤◌, Bool, true, false, cond, List, [], ◌∷◌, ◌++◌, take, drop, length, length-append, get_or, refl, sym, ap, subst, ◌∙◌, arith, append_assoc, Option, Some, None}
 use Rattle.std.specs.List.{All, AllPairs, Contains, flat_map, count_by}
 use Rattle.std.proofs.lemmas.Grind.{common_steps}
-use Rattle.std.proofs.lemmas.List.{append-nil, take_more}
+use Rattle.std.proofs.lemmas.List.{append-nil, take_more, take-append-drop}
 use Rattle.std.proofs.Math.ListN.{get_or-append}
 use Rattle.std.proofs.Math.Seq.{get_or-append_seam, drop-cons}
 use Rattle.std.proofs.lemmas.List.Concat.{flat_map-append}
@@ -12,7 +12,7 @@ use Rattle.requirement_table.specs.declared.entries.Placed.{Placed}
 use Rattle.fttcan_top.specs.declared.history.Event.{Event}
 use Rattle.fttcan_top.specs.declared.history.Event.TheVariants.{Submit, Open}
 use Rattle.fttcan_top.specs.Entries.{IsLive, AreDistinct}
-use Rattle.fttcan_top.specs.History.{is_open, next_of, placed_of, placed_of_event, IsRight, AreRight}
+use Rattle.fttcan_top.specs.History.{is_open, next_of, placed_of, placed_of_event, IsRight, AreRight, IsLegal}
 use Rattle.fttcan_top.specs.Log.{event_rows, events_rows}
 use Rattle.fttcan_top.specs.Logged.{IsLeft, IsInTurn, IsFlaggedBy, frames_of_event, rows_with}
 use Rattle.fttcan_top.specs.Table.{entry_of}
@@ -59,12 +59,8 @@ AllPairs-front R xs ys all i j d before within =
     subst (λ x. R x (get_or xs j d)) (get_or-append xs ys d i earlier)
     (subst (λ y. R (get_or (xs ++ ys) i d) y) (get_or-append xs ys d j within) (all i j d before (omega (arith, length-append xs ys))))
 
--- what is known of an event from what is known of the whole history
-pub record IsAt (window : ℕ) (history before : List Event) (event : Event) : Type 0 where
-  pub in_turn : IsInTurn (next_of before) event
-  pub flagged : IsFlaggedBy (placed_of before) event
-  pub live : All IsLive (placed_of before ++ placed_of_event event)
-  pub distinct : AreDistinct (placed_of before ++ placed_of_event event)
+AreDistinct-front : (xs ys : List Placed) → AreDistinct (xs ++ ys) → AreDistinct xs
+AreDistinct-front xs ys all = AllPairs-front (λ p q. p.entry.slot ≡ q.entry.slot → ⊥) xs ys all
 
 placed_of-push : (before : List Event) (event : Event) → placed_of (before ++ event ∷ []) ≡ placed_of before ++ placed_of_event event
 placed_of-push before event = flat_map-append placed_of_event before (event ∷ []) ∙ ap (λ l. placed_of before ++ l) (append-nil (placed_of_event event))
@@ -84,6 +80,10 @@ AreDistinct-free placed p distinct = by (entry_of placed p.entry.slot) refl
         absurd (distinct place (length placed) q within (omega (arith, length-append placed (p ∷ [])))
           (ap (λ x. x.entry.slot) here ∙ found.of_slot ∙ ap (λ x. x.entry.slot) (sym last)))
 
+pub one_or_none : (b : Bool) → cond b 1 0 ≤ 1
+one_or_none true = omega arith
+one_or_none false = omega arith
+
 -- What is written
 
 -- the rows of the events before are written, and the table, the next cycle and the frames left are those after them
@@ -92,3 +92,56 @@ pub record IsWritten (trace : List TimedFrame) (before : List Event) (text : Lis
   pub placed_is : placed ≡ placed_of before
   pub next_is : next ≡ next_of before
   pub left_is : IsLeft trace next left
+
+-- the next event is in turn, and what it places is placed beside the entries of the table
+pub record IsReady (placed : List Placed) (next : ℕ) (event : Event) : Type 0 where
+  pub in_turn : IsInTurn next event
+  pub flagged : IsFlaggedBy placed event
+  pub live_now : All IsLive placed
+  pub distinct_now : AreDistinct placed
+  pub live : All IsLive (placed ++ placed_of_event event)
+  pub distinct : AreDistinct (placed ++ placed_of_event event)
+
+-- as each event of a legal history is
+module _ (trace : List TimedFrame) (history : List Event) (i : ℕ) (event : Event) (text : List ℕ) (placed : List Placed) (next : ℕ) (left : List TimedFrame)
+    (within : i < length history) (here : event ≡ get_or history i event) (is : IsWritten trace (take i history) text placed next left) where
+  abbrev before : List Event
+  before = take i history
+
+  pub IsReady-at : (window : ℕ) → IsLegal window history → All IsLive (placed_of history) → AreDistinct (placed_of history) → IsReady placed next event
+  IsReady-at window legal live distinct =
+      let later = drop (suc i) history in
+      let rest : drop i history ≡ event ∷ later = drop-cons history i event within ∙ ap (λ e. e ∷ later) (sym here) in
+      let whole : history ≡ before ++ event ∷ later = sym (take-append-drop i history) ∙ ap (λ l. before ++ l) rest in
+      let right : IsRight window before event = AreRight-at window [] before later event (subst (AreRight window []) whole legal) in
+      let all_placed : placed_of history ≡ (placed ++ placed_of_event event) ++ placed_of later =
+          ap placed_of whole ∙ flat_map-append placed_of_event before (event ∷ later) ∙ sym (append_assoc (placed_of before) (placed_of_event event) (placed_of later))
+          ∙ ap (λ l. (l ++ placed_of_event event) ++ placed_of later) (sym is.placed_is) in
+      let all_live = All-front IsLive (placed ++ placed_of_event event) (placed_of later) (subst (All IsLive) all_placed live) in
+      let all_distinct = AreDistinct-front (placed ++ placed_of_event event) (placed_of later) (subst AreDistinct all_placed distinct) in
+      record {
+        in_turn = subst (λ n. IsInTurn n event) (sym is.next_is) (in_turn window before event right);
+        flagged = subst (λ l. IsFlaggedBy l event) (sym is.placed_is) (flagged window before event right);
+        live_now = All-front IsLive placed (placed_of_event event) all_live;
+        distinct_now = AreDistinct-front placed (placed_of_event event) all_distinct;
+        live = all_live;
+        distinct = all_distinct;
+      }
+
+  -- after the event
+  pub IsWritten-more : (more : List ℕ) (frames later : List TimedFrame) (now : List Placed) (step : ℕ)
+      → more ≡ text ++ rows_with placed frames event → frames ≡ frames_of_event trace event → now ≡ placed ++ placed_of_event event
+      → step ≡ cond (is_open event) 1 0 → IsLeft trace (next + cond (is_open event) 1 0) later
+      → IsWritten trace (take (i + 1) history) more now (next + step) later
+  IsWritten-more more frames later now step rows all_frames table count after =
+      let events : take (i + 1) history ≡ before ++ event ∷ [] = take_more history i event within ∙ ap (λ e. before ++ e ∷ []) (sym here) in
+      subst (λ l. IsWritten trace l more now (next + step) later) (sym events) (record {
+        text_is = rows ∙ ap (λ l. l ++ rows_with placed frames event) is.text_is
+          ∙ ap (λ l. events_rows trace [] before ++ rows_with l frames event) is.placed_is
+          ∙ ap (λ l. events_rows trace [] before ++ rows_with (placed_of before) l event) all_frames
+          ∙ ap (λ l. events_rows trace [] before ++ l) (sym (rows_with-event trace before event))
+          ∙ sym (events_rows-push trace [] before event);
+        placed_is = table ∙ ap (λ l. l ++ placed_of_event event) is.placed_is ∙ sym (placed_of-push before event);
+        next_is = ap (λ n. next + n) count ∙ ap (λ n. n + cond (is_open event) 1 0) is.next_is ∙ sym (sum_by_push (λ e. cond (is_open e) 1 0) before event);
+        left_is = subst (λ n. IsLeft trace (next + n) later) (sym count) after;
+      })

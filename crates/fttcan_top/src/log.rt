@@ -216,11 +216,11 @@ pub fn log_text(alloc: Global, history: &[Event], trace: &[TimedFrame]) -> Resul
     let mut next = 0u64;
     let mut left = &trace[until_trigger(trace)..];
     for event in history {
-        let frames = frame_count(event, left);
-        push_event(&mut text, &table, event, &left[..frames])?;
+        let (frames, later) = left.split_at(frame_count(event, left));
+        push_event(&mut text, &table, event, frames)?;
         place_event(&mut table, event)?;
         next += u64::from(opens_cycle(event));
-        left = &left[frames..];
+        left = later;
     }
     push_end_row(&mut text, next)?;
     Ok(text)
