@@ -18,3 +18,6 @@ mod Histories
 mod StepsRun
 mod EndLemmas
 mod SystemKeys
+mod HexText
+mod LogTrace
+mod LogHistory

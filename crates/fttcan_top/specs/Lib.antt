@@ -15,6 +15,7 @@ pub mod Log
 pub mod Openings
 pub mod Promise
 pub mod Progress
+pub mod Logged
 pub mod Table
 pub mod Cycle
 pub mod Running

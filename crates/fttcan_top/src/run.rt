@@ -1,8 +1,8 @@
 //! The run of a steps file: the history that answers its steps, and what is sent on the bus meanwhile.
 
 ghost use Rattle.std.specs.Prelude.{◌≡◌, ℕ, ◌+◌, ◌^◌, ◌<◌, ◌≤◌, ◌++◌, ◌∷◌, [], ◌⊎◌, List, All, OnOk, IfOk, None, length, map, replicate, vec_capacity};
-ghost use Rattle.fttcan_top.specs.Entries.{IsLive, total_cost};
-ghost use Rattle.fttcan_top.specs.History.{placed_at, placed_by, IsVerdict, call_of_event, change, opening, calls_of_step, AnswersSteps};
+ghost use Rattle.fttcan_top.specs.Entries.{IsLive, AreDistinct, total_cost};
+ghost use Rattle.fttcan_top.specs.History.{placed_at, placed_by, placed_of, IsVerdict, call_of_event, change, opening, calls_of_step, AnswersSteps};
 ghost use Rattle.fttcan_top.specs.Promise.{Kept};
 ghost use Rattle.fttcan_top.specs.Progress.{IsUnderWay, AreInSlots, IsFresh, CanRun};
 ghost use Rattle.fttcan_top.specs.StepsFile.{AreSteps, count_of, slots_of};
@@ -178,6 +178,8 @@ pub fn run(alloc: Global, layout: &Layout, steps: &[Step], nodes: u8) -> Result<
     requires steps { AreSteps nodes steps.now }
     ensures answers { IfOk result (λ run. AnswersSteps run.history.items steps.now) }
     ensures kept { IfOk result (λ run. Kept layout.now run.history.items run.trace.items) }
+    ensures live { IfOk result (λ run. All IsLive (placed_of run.history.items)) }
+    ensures distinct { IfOk result (λ run. AreDistinct (placed_of run.history.items)) }
 {
     let mut progress = Progress {
         table: Table::new(alloc),
