@@ -137,7 +137,8 @@ const FRAMES: [(u16, usize, u64, u32, u16); 128] = [
     (0x471, 5, 0xfff8ffff94, 93, 0x02d4),
 ];
 
-/// Frames whose CRC sequences and stuff bits were worked out by hand from the polynomial: the same columns.
+/// Worked examples in the same columns: each recessive bit that the CRC covers, with k more of them
+/// behind it, adds x^(15 + k) modulo the generator.
 const WORKED: [(u16, usize, u64, u32, u16); 6] = [
     (0x000, 0, 0x0, 53, 0x0000),
     (0x100, 0, 0x0, 51, 0x380A),
