@@ -1,12 +1,11 @@
 -- The rows of a history, event by event, and what is known of each event at its place.
-use Rattle.std.proofs.Common.{◌≡◌, ℕ, zero, suc, ◌+◌, ◌-◌, ◌<◌, ◌≤◌, Bool, true, false, cond, List, [], ◌∷◌, ◌++◌, take, drop, length, length-append, get_or, refl, sym, ap, subst, ◌∙◌, arith, append_assoc, Option, Some, None}
-use Rattle.std.specs.List.{All, AllPairs, Contains, flat_map, count_by}
-use Rattle.std.proofs.lemmas.Grind.{common_steps}
+use Rattle.std.proofs.Common.{◌≡◌, ℕ, suc, ◌+◌, ◌<◌, ◌≤◌, Bool, true, false, cond, List, [], ◌∷◌, ◌++◌, take, drop, length, length-append, get_or, refl, sym, ap, subst, ◌∙◌, arith, append_assoc, Option, Some, None}
+use Rattle.std.specs.List.{All, AllPairs}
 use Rattle.std.proofs.lemmas.List.{append-nil, take_more, take-append-drop}
 use Rattle.std.proofs.Math.ListN.{get_or-append}
 use Rattle.std.proofs.Math.Seq.{get_or-append_seam, drop-cons}
 use Rattle.std.proofs.lemmas.List.Concat.{flat_map-append}
-use Rattle.std.proofs.lemmas.List.Sums.{sum_by_push, count_by-le-length}
+use Rattle.std.proofs.lemmas.List.Sums.{sum_by_push}
 use Rattle.can_frame.specs.declared.data_frame.TimedFrame.{TimedFrame}
 use Rattle.requirement_table.specs.declared.entries.Placed.{Placed}
 use Rattle.fttcan_top.specs.declared.history.Event.{Event}
@@ -31,7 +30,7 @@ events_rows-push : (trace : List TimedFrame) (before events : List Event) (event
 events_rows-push trace before [] event = append-nil _ ∙ ap (λ b. event_rows trace b event) (sym (append-nil before))
 events_rows-push trace before (first ∷ events) event =
     ap (λ l. event_rows trace before first ++ l) (events_rows-push trace (before ++ first ∷ []) events event
-      ∙ ap (λ b. events_rows trace (before ++ first ∷ []) events ++ event_rows trace b event) (append_assoc before (first ∷ []) events))
+    ∙ ap (λ b. events_rows trace (before ++ first ∷ []) events ++ event_rows trace b event) (append_assoc before (first ∷ []) events))
     ∙ sym (append_assoc (event_rows trace before first) _ _)
 
 -- Places
@@ -78,7 +77,7 @@ AreDistinct-free placed p distinct = by (entry_of placed p.entry.slot) refl
         let here : get_or (placed ++ p ∷ []) place q ≡ q = get_or-append placed (p ∷ []) q place within ∙ found.stands.2 in
         let last : get_or (placed ++ p ∷ []) (length placed) q ≡ p = get_or-append_seam placed p [] q in
         absurd (distinct place (length placed) q within (omega (arith, length-append placed (p ∷ [])))
-          (ap (λ x. x.entry.slot) here ∙ found.of_slot ∙ ap (λ x. x.entry.slot) (sym last)))
+        (ap (λ x. x.entry.slot) here ∙ found.of_slot ∙ ap (λ x. x.entry.slot) (sym last)))
 
 pub one_or_none : (b : Bool) → cond b 1 0 ≤ 1
 one_or_none true = omega arith
@@ -115,8 +114,8 @@ module _ (trace : List TimedFrame) (history : List Event) (i : ℕ) (event : Eve
       let whole : history ≡ before ++ event ∷ later = sym (take-append-drop i history) ∙ ap (λ l. before ++ l) rest in
       let right : IsRight window before event = AreRight-at window [] before later event (subst (AreRight window []) whole legal) in
       let all_placed : placed_of history ≡ (placed ++ placed_of_event event) ++ placed_of later =
-          ap placed_of whole ∙ flat_map-append placed_of_event before (event ∷ later) ∙ sym (append_assoc (placed_of before) (placed_of_event event) (placed_of later))
-          ∙ ap (λ l. (l ++ placed_of_event event) ++ placed_of later) (sym is.placed_is) in
+      ap placed_of whole ∙ flat_map-append placed_of_event before (event ∷ later) ∙ sym (append_assoc (placed_of before) (placed_of_event event) (placed_of later))
+      ∙ ap (λ l. (l ++ placed_of_event event) ++ placed_of later) (sym is.placed_is) in
       let all_live = All-front IsLive (placed ++ placed_of_event event) (placed_of later) (subst (All IsLive) all_placed live) in
       let all_distinct = AreDistinct-front (placed ++ placed_of_event event) (placed_of later) (subst AreDistinct all_placed distinct) in
       record {
@@ -137,10 +136,10 @@ module _ (trace : List TimedFrame) (history : List Event) (i : ℕ) (event : Eve
       let events : take (i + 1) history ≡ before ++ event ∷ [] = take_more history i event within ∙ ap (λ e. before ++ e ∷ []) (sym here) in
       subst (λ l. IsWritten trace l more now (next + step) later) (sym events) (record {
         text_is = rows ∙ ap (λ l. l ++ rows_with placed frames event) is.text_is
-          ∙ ap (λ l. events_rows trace [] before ++ rows_with l frames event) is.placed_is
-          ∙ ap (λ l. events_rows trace [] before ++ rows_with (placed_of before) l event) all_frames
-          ∙ ap (λ l. events_rows trace [] before ++ l) (sym (rows_with-event trace before event))
-          ∙ sym (events_rows-push trace [] before event);
+            ∙ ap (λ l. events_rows trace [] before ++ rows_with l frames event) is.placed_is
+            ∙ ap (λ l. events_rows trace [] before ++ rows_with (placed_of before) l event) all_frames
+            ∙ ap (λ l. events_rows trace [] before ++ l) (sym (rows_with-event trace before event))
+            ∙ sym (events_rows-push trace [] before event);
         placed_is = table ∙ ap (λ l. l ++ placed_of_event event) is.placed_is ∙ sym (placed_of-push before event);
         next_is = ap (λ n. next + n) count ∙ ap (λ n. n + cond (is_open event) 1 0) is.next_is ∙ sym (sum_by_push (λ e. cond (is_open e) 1 0) before event);
         left_is = subst (λ n. IsLeft trace (next + n) later) (sym count) after;

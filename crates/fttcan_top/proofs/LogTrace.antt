@@ -1,10 +1,9 @@
 -- The frames of a trace that start in a cycle, cut at the triggers.
-use Rattle.std.proofs.Common.{◌≡◌, ℕ, zero, suc, ◌+◌, ◌-◌, ◌<◌, ◌≤◌, Bool, true, false, cond, not, eqb, List, [], ◌∷◌, ◌++◌, take, drop, length, refl, sym, ap, subst, ◌∙◌, arith, inl, inr}
+use Rattle.std.proofs.Common.{◌≡◌, ℕ, suc, ◌+◌, ◌-◌, ◌<◌, ◌≤◌, Bool, true, false, cond, not, eqb, List, [], ◌∷◌, ◌++◌, take, drop, length, refl, sym, ap, subst, ◌∙◌, arith, inl, inr}
 use Rattle.std.specs.List.{position_or_len}
 use Rattle.std.proofs.lemmas.Bool.{cases_Bool, ne_eqb, eqb-true, eq-eqb, cond-true, cond-false}
 use Rattle.std.proofs.lemmas.Grind.{common_steps}
 use Rattle.std.proofs.lemmas.List.{append-nil}
-use Rattle.std.proofs.lemmas.List.Sums.{prefix_len-le-length}
 use Rattle.can_frame.specs.declared.data_frame.TimedFrame.{TimedFrame}
 use Rattle.fttcan_top.specs.Log.{triggers_with, started_in}
 use Rattle.fttcan_top.specs.Logged.{is_trigger, BeginsWithTrigger, IsLeft}
@@ -42,12 +41,12 @@ started_in-until cycle seen [] = sym (ap (λ l. l ++ []) (cond_both (eqb seen (c
 started_in-until cycle seen (sent ∷ later) =
     let split : ℕ → List TimedFrame = λ n. cond (eqb seen (cycle + 1)) (take n (sent ∷ later)) [] ++ started_in cycle seen (drop n (sent ∷ later)) in
     elim (cases_Bool (is_trigger sent)) [
-    | inl here ↦ sym (ap split (until-trigger sent later here) ∙ ap (λ l. l ++ started_in cycle seen (sent ∷ later)) (cond_both (eqb seen (cycle + 1)) []))
-    | inr other ↦
-        ap (λ n. cond (eqb n (cycle + 1)) (sent ∷ []) [] ++ started_in cycle n later) (triggers_with-other seen sent other)
-        ∙ ap (λ l. cond (eqb seen (cycle + 1)) (sent ∷ []) [] ++ l) (started_in-until cycle seen later)
-        ∙ cond_joined (eqb seen (cycle + 1)) sent (take (until later) later) _
-        ∙ sym (ap split (until-other sent later other))
+      | inl here ↦ sym (ap split (until-trigger sent later here) ∙ ap (λ l. l ++ started_in cycle seen (sent ∷ later)) (cond_both (eqb seen (cycle + 1)) []))
+      | inr other ↦
+          ap (λ n. cond (eqb n (cycle + 1)) (sent ∷ []) [] ++ started_in cycle n later) (triggers_with-other seen sent other)
+          ∙ ap (λ l. cond (eqb seen (cycle + 1)) (sent ∷ []) [] ++ l) (started_in-until cycle seen later)
+          ∙ cond_joined (eqb seen (cycle + 1)) sent (take (until later) later) _
+          ∙ sym (ap split (until-other sent later other))
     ]
 
 -- what is behind these frames begins with a trigger
@@ -55,15 +54,15 @@ begins-until : (frames : List TimedFrame) → BeginsWithTrigger (drop (until fra
 begins-until [] = tt
 begins-until (sent ∷ later) =
     elim (cases_Bool (is_trigger sent)) [
-    | inl here ↦ subst (λ n. BeginsWithTrigger (drop n (sent ∷ later))) (sym (until-trigger sent later here)) (eqb-true _ _ here)
-    | inr other ↦ subst (λ n. BeginsWithTrigger (drop n (sent ∷ later))) (sym (until-other sent later other)) (begins-until later)
+      | inl here ↦ subst (λ n. BeginsWithTrigger (drop n (sent ∷ later))) (sym (until-trigger sent later here)) (eqb-true _ _ here)
+      | inr other ↦ subst (λ n. BeginsWithTrigger (drop n (sent ∷ later))) (sym (until-other sent later other)) (begins-until later)
     ]
 
 triggers_with-le : (seen : ℕ) (sent : TimedFrame) → seen ≤ triggers_with seen sent
 triggers_with-le seen sent =
     elim (cases_Bool (is_trigger sent)) [
-    | inl here ↦ omega (arith, triggers_with-trigger seen sent here)
-    | inr other ↦ omega (arith, triggers_with-other seen sent other)
+      | inl here ↦ omega (arith, triggers_with-trigger seen sent here)
+      | inr other ↦ omega (arith, triggers_with-other seen sent other)
     ]
 
 -- no frame starts in a cycle after the next one's trigger
@@ -91,7 +90,7 @@ pub IsLeft-first : (trace : List TimedFrame) → IsLeft trace 0 (drop (until tra
 IsLeft-first trace = record {
   begins = begins-until trace;
   later = λ cycle _. started_in-until cycle 0 trace
-    ∙ ap (λ l. l ++ started_in cycle 0 (drop (until trace) trace)) (cond-false (eqb 0 (cycle + 1)) (take (until trace) trace) [] (ne_eqb 0 (cycle + 1) (omega arith)));
+      ∙ ap (λ l. l ++ started_in cycle 0 (drop (until trace) trace)) (cond-false (eqb 0 (cycle + 1)) (take (until trace) trace) [] (ne_eqb 0 (cycle + 1) (omega arith)));
 }
 
 -- the number of frames of the first cycle of those left
@@ -107,14 +106,10 @@ cycle_len-is (sent ∷ later) n some is =
     let count : n ≡ until later = is ∙ ap until all in
     omega arith
 
-pub cycle_len-le : (left : List TimedFrame) → cycle_len left ≤ length left
-cycle_len-le [] = omega arith
-cycle_len-le (sent ∷ later) = omega (arith, prefix_len-le-length (λ x. not (is_trigger x)) later)
-
 -- after a trigger a cycle's frames go on up to the next trigger
 started_in-trigger : (cycle seen : ℕ) (sent : TimedFrame) (later : List TimedFrame) → sent.frame.identifier ≡ 0
     → started_in cycle seen (sent ∷ later)
-      ≡ cond (eqb (seen + 1) (cycle + 1)) (sent ∷ take (until later) later) [] ++ started_in cycle (seen + 1) (drop (until later) later)
+    ≡ cond (eqb (seen + 1) (cycle + 1)) (sent ∷ take (until later) later) [] ++ started_in cycle (seen + 1) (drop (until later) later)
 started_in-trigger cycle seen sent later zero_id =
     ap (λ n. cond (eqb n (cycle + 1)) (sent ∷ []) [] ++ started_in cycle n later) (triggers_with-trigger seen sent (eq-eqb _ _ zero_id))
     ∙ ap (λ l. cond (eqb (seen + 1) (cycle + 1)) (sent ∷ []) [] ++ l) (started_in-until cycle (seen + 1) later)
@@ -135,6 +130,6 @@ IsLeft-next trace next [] is = record { begins = tt; later = λ cycle above. is.
 IsLeft-next trace next (sent ∷ later) is = record {
   begins = begins-until later;
   later = λ cycle above. is.later cycle (omega arith) ∙ started_in-trigger cycle next sent later is.begins
-    ∙ ap (λ l. l ++ started_in cycle (next + 1) (drop (until later) later))
+      ∙ ap (λ l. l ++ started_in cycle (next + 1) (drop (until later) later))
       (cond-false (eqb (next + 1) (cycle + 1)) (sent ∷ take (until later) later) [] (ne_eqb (next + 1) (cycle + 1) (omega arith)));
 }

@@ -121,7 +121,7 @@ fn push_end_row(text: &mut String, next: u64) -> Result<(), AllocError>
 
 /// Whether the frame is a trigger.
 fn is_trigger(sent: &TimedFrame) -> bool
-    ensures { result ≡ is_trigger sent.now }
+    ensures trigger { result ≡ is_trigger sent.now }
 {
     sent.frame.id() == 0
 }
@@ -139,7 +139,7 @@ fn until_trigger(frames: &[TimedFrame]) -> usize
     frames.len()
 }
 
-/// The number of frames from the first one, a trigger, to the next trigger.
+/// The number of frames from the first one, a trigger, up to the next trigger; it is 0 where none is left.
 fn cycle_len(left: &[TimedFrame]) -> usize
     ensures within { result ≤ length left.now }
     ensures frames { (trace : List TimedFrame) (next : ℕ) → IsLeft trace next left.now → take result left.now ≡ started_in next 0 trace }
@@ -153,7 +153,7 @@ fn cycle_len(left: &[TimedFrame]) -> usize
 
 /// Whether the event opens a cycle.
 fn opens_cycle(event: &Event) -> bool
-    ensures { result ≡ is_open event.now }
+    ensures opens { result ≡ is_open event.now }
 {
     matches!(event, Event::Open { .. })
 }
@@ -173,14 +173,24 @@ fn frame_count(event: &Event, left: &[TimedFrame]) -> usize
 }
 
 /// Appends the row of an event, and the rows of the frames that follow it.
-fn push_event(text: &mut String, table: &Table, event: &Event, frames: &[TimedFrame]) -> Result<(), AllocError>
+fn push_event(
+    text: &mut String,
+    table: &Table,
+    event: &Event,
+    frames: &[TimedFrame],
+) -> Result<(), AllocError>
     requires live { All IsLive table.now }
     requires distinct { AreDistinct table.now }
     requires flagged { IsFlaggedBy table.now event.now }
     ensures ok { OnOk result (string_bytes text.new ≡ string_bytes text.old ++ rows_with table.now frames.now event.now) }
 {
     match event {
-        Event::Submit { caller, from, verdict, .. } => push_submit_row(text, *caller, *from, verdict),
+        Event::Submit {
+            caller,
+            from,
+            verdict,
+            ..
+        } => push_submit_row(text, *caller, *from, verdict),
         Event::Open { cycle, mask } => {
             push_open_row(text, table, *cycle, *mask)?;
             push_frame_rows(text, frames)
@@ -194,7 +204,13 @@ fn place_event(table: &mut Table, event: &Event) -> Result<(), AllocError>
     requires distinct { AreDistinct (table.old ++ placed_of_event event.now) }
     ensures ok { OnOk result (table.new ≡ table.old ++ placed_of_event event.now) }
 {
-    if let Event::Submit { start, entry, verdict: Verdict::Accepted { .. }, .. } = event {
+    if let Event::Submit {
+        start,
+        entry,
+        verdict: Verdict::Accepted { .. },
+        ..
+    } = event
+    {
         table.place(Placed {
             entry: *entry,
             origin: *start,
@@ -204,8 +220,13 @@ fn place_event(table: &mut Table, event: &Event) -> Result<(), AllocError>
     Ok(())
 }
 
-/// The log of a run: the rows of its history, after each opened cycle those of the cycle's frames, and the last row.
-pub fn log_text(alloc: Global, history: &[Event], trace: &[TimedFrame]) -> Result<String, AllocError>
+/// The log of a run: the rows of its history, the row of each opened cycle followed by those of the frames that start in it, and the
+/// last row. It fails only for want of memory.
+pub fn log_text(
+    alloc: Global,
+    history: &[Event],
+    trace: &[TimedFrame],
+) -> Result<String, AllocError>
     requires legal { (window : ℕ) × IsLegal window history.now }
     requires live { All IsLive (placed_of history.now) }
     requires distinct { AreDistinct (placed_of history.now) }

@@ -1,6 +1,3 @@
-use Rattle.std.proofs.Common.{take, drop, subst, sym, ◌≡◌, ◌+◌}
-use Rattle.fttcan_top.specs.Log.{started_in}
-use Rattle.fttcan_top.specs.Logged.{IsLeft}
 use Rattle.fttcan_top.proofs.LogTrace.{cycle_len-is, started_in-cycle, IsLeft-next}
 use Rattle.fttcan_top.proofs.log.cycle_len.Goals as goal
 
