@@ -22,13 +22,7 @@ fn call(rt: &HostRuntime) -> Status {
     let mut shelf = FileShelf::new(rt);
     let mut out = StdSink::over(writer);
     let mut err = StdSink::over(rt.stderr());
-    let status = plain(
-        rt.alloc(),
-        words.as_slice(),
-        &mut shelf,
-        &mut out,
-        &mut err,
-    );
+    let status = plain(rt.alloc(), words.as_slice(), &mut shelf, &mut out, &mut err);
     match out.flush() {
         Err(_) if status != Status::Write => stopped(rt, "write fault\n", Status::Write),
         _ => status,
