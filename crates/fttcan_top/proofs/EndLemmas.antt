@@ -1,8 +1,7 @@
 -- How a call ended, by cases.
-use Rattle.std.proofs.Common.{◌≡◌, ◌⊎◌, List, ℕ, Option, Result, Ok, Err, refl, sym, ◌∙◌, ap, subst, inl, inr}
+use Rattle.std.proofs.Common.{◌≡◌, List, ℕ, Option, Result, Ok, Err, refl, sym, ◌∙◌, ap, subst, inl, inr}
 use Rattle.std.specs.Prelude.{OnOk, OnErr}
 use Rattle.ftt_io.specs.Puts.{Puts, PutsPrefix}
-use Rattle.fttcan_top.specs.declared.load.Source.{Source}
 use Rattle.fttcan_top.specs.declared.program.End.{End}
 use Rattle.fttcan_top.specs.declared.program.End.TheVariants.{Done, Refused, Words, Input, Read, Write, Memory}
 use Rattle.fttcan_top.specs.declared.status.Status.{Status}

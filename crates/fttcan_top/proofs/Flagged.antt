@@ -1,23 +1,18 @@
 -- What flagged slots send, and how wide their window is: facts on lists of placed entries.
-use Rattle.std.proofs.Common.{◌≡◌, ℕ, zero, suc, ◌+◌, ◌-◌, ◌*◌, ◌/◌, ◌<◌, ◌≤◌, ◌⊎◌, ◌&&◌, Bool, true, false, cond, eqb, leb, ltb, List, [], ◌∷◌, ◌++◌, length, get_or, Option, Some, None, refl, ap, sym, ◌∙◌, arith, subst, inl, inr, sum_by}
-use Rattle.std.specs.Prelude.{is_some, IfSome, option_map, unwrap_or, slice_get, Contains}
-use Rattle.std.specs.List.{list_any, filter_map, Any}
-use Rattle.std.proofs.lemmas.Bool.{cases_eq, cases_lt, cases_Bool, both_ways, and_from, and_parts, eqb-true, eq-eqb, le-leb, lt-ltb, cond-true}
-use Rattle.std.proofs.lemmas.List.Folds.{Any-from_list_any}
+use Rattle.std.proofs.Common.{◌≡◌, ℕ, zero, suc, ◌≤◌, ◌⊎◌, eqb, List, [], ◌∷◌, length, get_or, Option, Some, None, refl, ap, sym, ◌∙◌, arith, subst, inl, inr}
+use Rattle.std.specs.Prelude.{option_map, slice_get, Contains}
+use Rattle.std.specs.List.{filter_map}
+use Rattle.std.proofs.lemmas.Bool.{cases_Bool, eqb-true, eq-eqb, cond-true}
 use Rattle.requirement_table.specs.declared.entries.Placed.{Placed}
-use Rattle.requirement_table.specs.declared.slots.TheConstants.{SLOTS}
-use Rattle.requirement_table.specs.Slots.{contains_slot, set_of, sum_where}
-use Rattle.requirement_table.specs.Instance.{worst, release_of, latest, exists, may_send, released_by, instance_of, payload, MaySend, IsReleasedIn, Exists}
-use Rattle.requirement_table.specs.Table.{sendable, instance_in, releases_in, released_in}
-use Rattle.requirement_table.specs.Instance.{Instance, bytes_of}
-use Rattle.fttcan_top.specs.Offered.{Opening, bytes_in, slot_cost, width_of, slots}
-use Rattle.std.proofs.lemmas.Bool.{cond-false, ltb-true, leb-true}
+use Rattle.requirement_table.specs.Instance.{instance_of, payload, MaySend, IsReleasedIn, Exists}
+use Rattle.requirement_table.specs.Table.{sendable, instance_in}
+use Rattle.requirement_table.specs.Instance.{Instance}
+use Rattle.std.proofs.lemmas.Bool.{cond-false}
 use Rattle.std.proofs.lemmas.List.Elements.{Contains-append_cases, Contains-push_cases, Contains-append_right}
 use Rattle.std.proofs.lemmas.Bool.{cases_order}
 use Rattle.std.proofs.lemmas.List.{get_or_default}
 use Rattle.std.specs.List.{cons_option}
 use Rattle.fttcan_top.specs.Entries.{AreDistinct}
-use Rattle.requirement_table.proofs.SlotSets.{contains_slot-set_of}
 
 -- Lists
 

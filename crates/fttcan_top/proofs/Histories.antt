@@ -1,8 +1,6 @@
 -- One event more: what it does to what a history means, and to a run that is under way.
-use Rattle.std.proofs.Common.{◌≡◌, ℕ, ◌+◌, ◌*◌, ◌<◌, ◌≤◌, Bool, true, List, [], ◌∷◌, ◌++◌, length, map, cond, Option, None, refl, ap, sym, ◌∙◌, arith, subst, append_assoc, add-zero}
-use Rattle.std.specs.Prelude.{Contains}
-use Rattle.std.specs.List.{All, flat_map}
-use Rattle.std.proofs.lemmas.List.{append-nil, map-append}
+use Rattle.std.proofs.Common.{◌≡◌, ℕ, ◌+◌, ◌*◌, ◌<◌, ◌≤◌, List, [], ◌∷◌, ◌++◌, length, cond, None, ap, sym, ◌∙◌, arith, subst, append_assoc, add-zero}
+use Rattle.std.proofs.lemmas.List.{append-nil}
 use Rattle.std.proofs.lemmas.List.Concat.{flat_map-append}
 use Rattle.std.proofs.lemmas.List.Sums.{sum_by_push, sum_by-cons}
 use Rattle.can_frame.specs.declared.data_frame.TimedFrame.{TimedFrame}
@@ -18,7 +16,7 @@ use Rattle.fttcan_top.specs.declared.history.Verdict.TheVariants.{Accepted, TooH
 use Rattle.fttcan_top.specs.declared.history.Event.{Event}
 use Rattle.fttcan_top.specs.declared.history.Event.TheVariants.{Submit, Open}
 use Rattle.fttcan_top.specs.Entries.{IsLive, total_cost}
-use Rattle.fttcan_top.specs.History.{placed_at, placed_by, placed_of_event, placed_of, is_open, next_of, IsVerdict, IsRight, AreRight, IsLegal, Call, call_of_event}
+use Rattle.fttcan_top.specs.History.{placed_at, placed_by, placed_of_event, placed_of, is_open, next_of, IsVerdict, IsRight, AreRight}
 use Rattle.fttcan_top.specs.Offered.{Opening, next_opening, width_of, offered_in, offered}
 use Rattle.fttcan_top.specs.Kept.{AllServed, NoStrangers}
 use Rattle.fttcan_top.specs.Promise.{Kept}

@@ -1,11 +1,11 @@
 -- How traces of one time after the other join.
-use Rattle.std.proofs.Common.{◌≡◌, ℕ, ◌+◌, ◌<◌, ◌≤◌, ◌⊎◌, List, [], ◌∷◌, ◌++◌, refl, ap, sym, ◌∙◌, arith, subst, inl, inr, append_assoc}
+use Rattle.std.proofs.Common.{ℕ, ◌<◌, ◌≤◌, List, [], ◌∷◌, ◌++◌, sym, arith, subst, inl, inr, append_assoc}
 use Rattle.std.proofs.lemmas.Bool.{cases_lt}
 use Rattle.std.proofs.lemmas.List.{append-nil}
 use Rattle.std.specs.List.{AllByRecursion}
 use Rattle.can_frame.specs.DataFrame.{DataFrame}
 use Rattle.can_frame.specs.declared.data_frame.TimedFrame.{TimedFrame}
-use Rattle.bus_line.specs.Trace.{Offers, end_of, Follows, IsNext, IsLeastOffered, NothingOffered}
+use Rattle.bus_line.specs.Trace.{Offers, end_of, Follows, NothingOffered}
 
 -- what follows in a later time, on a bus that was free and idle before it
 Follows-earlier : (offers : Offers) (past : List TimedFrame) (free low until : ℕ) (frames : List TimedFrame) → free ≤ low → low ≤ until

@@ -1,8 +1,8 @@
 -- A queue that is offered from its head is what a cycle offers: the trigger, and then the pending slots, the least one first.
-use Rattle.std.proofs.Common.{◌≡◌, ℕ, zero, suc, ◌+◌, ◌-◌, ◌*◌, ◌<◌, ◌≤◌, ◌⊎◌, ◌&&◌, not, Bool, true, false, cond, leb, List, [], ◌∷◌, ◌++◌, length, get_or, map, drop, fold, Option, Some, None, refl, ap, sym, ◌∙◌, arith, subst, inl, inr, add-one}
-use Rattle.std.specs.Prelude.{Contains, option_map, unwrap_or}
+use Rattle.std.proofs.Common.{◌≡◌, ℕ, zero, suc, ◌+◌, ◌<◌, ◌≤◌, true, cond, leb, List, [], ◌∷◌, ◌++◌, drop, Some, refl, ap, sym, ◌∙◌, arith, subst, inl, inr, add-one}
+use Rattle.std.specs.Prelude.{Contains, unwrap_or}
 use Rattle.std.specs.List.{All, AllByRecursion}
-use Rattle.std.proofs.lemmas.Bool.{cases_eq, cases_lt, cases_Bool, both_ways, and_parts, and_from, not-true, cond-true, cond-false, leb-true, le-leb}
+use Rattle.std.proofs.lemmas.Bool.{cases_eq, cases_lt, cases_Bool, both_ways, and_parts, not-true, cond-true, cond-false, leb-true, le-leb}
 use Rattle.std.proofs.lemmas.List.{append-nil}
 use Rattle.std.proofs.lemmas.List.Elements.{Contains-push, Contains-append_left}
 use Rattle.can_frame.specs.DataFrame.{DataFrame}
@@ -11,15 +11,15 @@ use Rattle.can_frame.specs.declared.data_frame.TimedFrame.{TimedFrame}
 use Rattle.cycle_layout.specs.Layout.{CycleLayout}
 use Rattle.requirement_table.specs.Slots.{contains_slot}
 use Rattle.trigger_codec.specs.Bytes.{trigger_frame}
-use Rattle.bus_line.specs.Trace.{Offers, end_of, Follows, IsNext, IsLeastOffered, NothingOffered}
-use Rattle.bus_line.specs.Stations.{Line, IsOffered, told, offers_of}
+use Rattle.bus_line.specs.Trace.{end_of, Follows}
+use Rattle.bus_line.specs.Stations.{IsOffered, told, offers_of}
 use Rattle.fttcan_top.specs.declared.cycle.Queued.{Queued}
-use Rattle.fttcan_top.specs.Offered.{Opening, slots, first_identifier, bytes_in, width_of, start_of, end_of_cycle, window_start, OffersTrigger, OffersSlot, offered_in}
+use Rattle.fttcan_top.specs.Offered.{Opening, slots, first_identifier, bytes_in, width_of, start_of, end_of_cycle, window_start, OffersSlot, offered_in}
 use Rattle.fttcan_top.specs.Window.{is_pending, IsFit}
-use Rattle.fttcan_top.specs.Cycle.{offered_ids, head_frame, queue_line, frame_of, frames_below, queued_from, queue_of}
-use Rattle.fttcan_top.proofs.Flagged.{Contains-cons_cases, Contains-head, Contains-tail}
+use Rattle.fttcan_top.specs.Cycle.{queue_line, frame_of, frames_below, queued_from, queue_of}
+use Rattle.fttcan_top.proofs.Flagged.{Contains-cons_cases, Contains-head}
 use Rattle.fttcan_top.proofs.Filters.{AllByRecursion-contains}
-use Rattle.fttcan_top.proofs.Pending.{IsUnsent-from_test, was_sent-from_unsent, is_pending-sent, is_pending-other}
+use Rattle.fttcan_top.proofs.Pending.{IsUnsent-from_test, is_pending-sent, is_pending-other}
 use Rattle.fttcan_top.proofs.WindowLemmas.{is_pending-at_start, pending-offered}
 
 -- the frame is that of a pending slot

@@ -1,8 +1,8 @@
 -- The steps of a run: an entry is placed, a cycle is opened and run.
-use Rattle.std.proofs.Common.{◌≡◌, ℕ, ◌+◌, ◌-◌, ◌*◌, ◌/◌, ◌<◌, ◌≤◌, ◌⊎◌, ◌&&◌, Bool, true, false, cond, eqb, leb, List, [], ◌∷◌, ◌++◌, length, get_or, filter, Option, Some, None, refl, ap, sym, ◌∙◌, arith, subst, inl, inr, sum_by}
+use Rattle.std.proofs.Common.{◌≡◌, ℕ, ◌+◌, ◌*◌, ◌<◌, ◌≤◌, eqb, List, [], ◌∷◌, ◌++◌, length, get_or, Some, refl, ap, sym, ◌∙◌, arith, subst, inl, inr}
 use Rattle.std.specs.Prelude.{Contains, option_map, unwrap_or}
 use Rattle.std.specs.List.{All, AllByRecursion}
-use Rattle.std.proofs.lemmas.Bool.{cases_eq, cases_lt, eq-eqb, ne_eqb}
+use Rattle.std.proofs.lemmas.Bool.{cases_eq, eq-eqb, ne_eqb}
 use Rattle.std.proofs.lemmas.List.Elements.{All-push, All-append, All-contains, All-from_recursion, recursion_from_All, Contains-push, Contains-push_cases, Contains-append_left, filter-append}
 use Rattle.std.proofs.lemmas.List.Elements.{Contains-get_or}
 use Rattle.std.proofs.lemmas.List.Quantifiers.{all_pairs_push}
@@ -12,21 +12,19 @@ use Rattle.can_frame.specs.DataFrame.{DataFrame}
 use Rattle.can_frame.specs.declared.data_frame.TimedFrame.{TimedFrame}
 use Rattle.cycle_layout.specs.Layout.{CycleLayout}
 use Rattle.requirement_table.specs.declared.entries.Placed.{Placed}
-use Rattle.requirement_table.specs.declared.slots.TheConstants.{SLOTS}
 use Rattle.can_frame.specs.Wire.{wire_length}
 use Rattle.trigger_codec.specs.Bytes.{trigger_frame}
-use Rattle.requirement_table.specs.Slots.{contains_slot}
-use Rattle.requirement_table.specs.Instance.{worst, payload}
+use Rattle.requirement_table.specs.Instance.{worst}
 use Rattle.requirement_table.specs.Table.{instance_in, released_in}
-use Rattle.requirement_table.specs.Instance.{Instance, bytes_of}
-use Rattle.bus_line.specs.Trace.{end_of, Follows, Offers}
-use Rattle.fttcan_top.specs.Offered.{Opening, next_opening, slots, first_identifier, bytes_in, slot_cost, width_of, start_of, end_of_cycle, window_start, OffersTrigger, OffersSlot, offered_in, offered}
+use Rattle.requirement_table.specs.Instance.{bytes_of}
+use Rattle.bus_line.specs.Trace.{end_of, Follows}
+use Rattle.fttcan_top.specs.Offered.{Opening, next_opening, bytes_in, slot_cost, width_of, start_of, end_of_cycle, offered_in, offered}
 use Rattle.fttcan_top.specs.Window.{IsFit, RunsCycle, IsSlotFrame}
 use Rattle.fttcan_top.specs.Kept.{cycle_of}
 use Rattle.fttcan_top.specs.Entries.{IsLive, total_cost}
 use Rattle.fttcan_top.specs.Running.{frames_in, IsRunning}
 use Rattle.fttcan_top.proofs.Flagged.{length-payload, option-some, found-in}
-use Rattle.fttcan_top.proofs.Width.{SendsInstance, instance-flagged, width-le}
+use Rattle.fttcan_top.proofs.Width.{instance-flagged, width-le}
 use Rattle.fttcan_top.proofs.WindowLemmas.{runs_cycle}
 use Rattle.fttcan_top.proofs.Joining.{Follows-append, Follows-same, Follows-within}
 use Rattle.fttcan_top.proofs.Filters.{filter-none, filter-all, AllByRecursion-contains}

@@ -1,26 +1,24 @@
 -- What a run owes is served: each instance whose last cycle was run, and nothing else in its slot.
-use Rattle.std.proofs.Common.{◌≡◌, ℕ, ◌+◌, ◌-◌, ◌*◌, ◌/◌, ◌<◌, ◌≤◌, ◌⊎◌, ◌&&◌, Bool, true, false, eqb, leb, List, [], ◌∷◌, ◌++◌, length, get_or, filter, Option, Some, None, refl, ap, sym, ◌∙◌, arith, subst, inl, inr}
+use Rattle.std.proofs.Common.{◌≡◌, ℕ, ◌+◌, ◌*◌, ◌<◌, ◌≤◌, ◌&&◌, Bool, true, false, eqb, leb, List, [], ◌∷◌, get_or, Some, None, refl, ap, sym, ◌∙◌, arith, subst, inl, inr}
 use Rattle.std.specs.Prelude.{Contains, option_map, IfSome}
-use Rattle.std.specs.List.{All, AllByRecursion}
-use Rattle.std.proofs.lemmas.Bool.{cases_eq, cases_lt, cases_Bool, eq-eqb, eqb-true, ne_eqb, le-leb, leb-true, and_from, and_left, and_right, and_parts, false_from_ne_true, cond-false}
+use Rattle.std.proofs.lemmas.Bool.{cases_eq, cases_lt, eq-eqb, ne_eqb, le-leb, leb-true, and_from, and_left, and_right, and_parts, false_from_ne_true, cond-false}
 use Rattle.std.proofs.lemmas.List.Elements.{All-contains, Contains-get_or}
 use Rattle.std.proofs.Math.Nat.{div-lt_iff_lt-mul, mul-le-mul_right, div-eq_of_lt-le}
 use Rattle.can_frame.specs.declared.data_frame.TimedFrame.{TimedFrame}
 use Rattle.cycle_layout.specs.Layout.{CycleLayout}
 use Rattle.requirement_table.specs.declared.entries.Placed.{Placed}
 use Rattle.requirement_table.specs.Slots.{contains_slot}
-use Rattle.requirement_table.specs.Instance.{release_of, IsLastCycle, payload, Exists, MaySend, IsReleasedIn, released_by, instance_of}
-use Rattle.requirement_table.specs.Table.{instance_in, released_in}
-use Rattle.requirement_table.specs.Instance.{Instance, bytes_of}
-use Rattle.bus_line.specs.Trace.{end_of}
-use Rattle.fttcan_top.specs.Offered.{Opening, slots, first_identifier, bytes_in, width_of, start_of, end_of_cycle, window_start}
+use Rattle.requirement_table.specs.Instance.{release_of, payload, Exists, MaySend, IsReleasedIn, released_by}
+use Rattle.requirement_table.specs.Table.{released_in}
+use Rattle.requirement_table.specs.Instance.{bytes_of}
+use Rattle.fttcan_top.specs.Offered.{Opening, slots, first_identifier}
 use Rattle.fttcan_top.specs.Window.{of_slot, IsSentIn, IsSlotFrame, RunsCycle}
-use Rattle.fttcan_top.specs.Kept.{cycle_of, frames_of, IsInWindow, IsServed, IsOwed, AllServed, NoStrangers}
+use Rattle.fttcan_top.specs.Kept.{cycle_of, frames_of, IsInWindow, AllServed, NoStrangers}
 use Rattle.fttcan_top.specs.Entries.{IsLive}
 use Rattle.fttcan_top.specs.Running.{frames_in, IsRunning}
 use Rattle.requirement_table.proofs.Latest.{instance_of-sent, released_by-released, IsReleasedIn-from_released_by}
 use Rattle.fttcan_top.proofs.Flagged.{MaySend-released, instance_in-only, Contains-cons_cases, unique-placed}
-use Rattle.fttcan_top.proofs.Width.{IsReleasing, releasing-flagged, flagged-releasing}
+use Rattle.fttcan_top.proofs.Width.{releasing-flagged, flagged-releasing}
 use Rattle.fttcan_top.proofs.Filters.{filter-same, filter-filter, Contains-filter, AllByRecursion-contains}
 
 -- two releases of one entry are no less than a period apart

@@ -1,13 +1,13 @@
 -- What a run's table says of a flagged slot.
-use Rattle.std.proofs.Common.{◌≡◌, ℕ, suc, ◌+◌, ◌<◌, ◌≤◌, Bool, true, cond, List, [], ◌∷◌, ◌++◌, length, map, Option, Some, None, refl, ap, sym, ◌∙◌, arith, subst, add-one}
-use Rattle.std.specs.Prelude.{Contains, option_map, unwrap_or}
+use Rattle.std.proofs.Common.{◌≡◌, ℕ, ◌+◌, Bool, true, cond, List, [], ◌∷◌, ◌++◌, length, Some, None, refl, ap, sym, ◌∙◌, subst, add-one}
+use Rattle.std.specs.Prelude.{option_map, unwrap_or}
 use Rattle.std.specs.List.{All}
 use Rattle.std.proofs.lemmas.List.Elements.{All-contains}
 use Rattle.can_frame.specs.DataFrame.{DataFrame}
 use Rattle.requirement_table.specs.declared.entries.Placed.{Placed}
 use Rattle.requirement_table.specs.Slots.{contains_slot, sum_where}
 use Rattle.requirement_table.specs.Instance.{worst, payload, instance_of, released_by}
-use Rattle.requirement_table.specs.Table.{instance_in, released_in}
+use Rattle.requirement_table.specs.Table.{released_in}
 use Rattle.requirement_table.specs.Instance.{bytes_of}
 use Rattle.requirement_table.proofs.Latest.{instance_of-sent, IsReleasedIn-from_released_by}
 use Rattle.fttcan_top.specs.declared.cycle.Queued.{Queued}

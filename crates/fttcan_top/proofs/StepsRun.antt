@@ -1,7 +1,7 @@
 -- Each step of a file can be run once those above it were.
-use Rattle.std.proofs.Common.{◌≡◌, ◌≢◌, ℕ, zero, suc, ◌+◌, ◌<◌, ◌≤◌, List, [], ◌∷◌, ◌++◌, length, get_or, take, drop, map, Option, Some, None, refl, ap, sym, ◌∙◌, arith, subst, inl, inr, append_assoc, add-zero, length-append}
+use Rattle.std.proofs.Common.{◌≡◌, ◌≢◌, ℕ, ◌+◌, ◌<◌, ◌≤◌, List, [], ◌∷◌, ◌++◌, length, get_or, take, drop, refl, ap, sym, ◌∙◌, arith, subst, inl, inr, append_assoc, length-append}
 use Rattle.std.specs.Prelude.{Contains}
-use Rattle.std.specs.List.{All, AllPairs, flat_map, filter_map}
+use Rattle.std.specs.List.{AllPairs, flat_map}
 use Rattle.std.proofs.lemmas.List.{append-nil, take_more, take-append-drop, get_or_default, get_or_append_left}
 use Rattle.std.proofs.Math.Seq.{get_or-append_seam}
 use Rattle.std.proofs.lemmas.List.Concat.{flat_map-append}
@@ -13,10 +13,9 @@ use Rattle.fttcan_top.specs.declared.history.Verdict.{Verdict}
 use Rattle.fttcan_top.specs.declared.history.Verdict.TheVariants.{Accepted, TooHeavy, Horizon}
 use Rattle.fttcan_top.specs.declared.input.steps.Step.{Step}
 use Rattle.fttcan_top.specs.declared.input.steps.Step.TheVariants.{Cycle, Add}
-use Rattle.fttcan_top.specs.Entries.{IsLive}
 use Rattle.fttcan_top.specs.History.{placed_at, placed_by, Call, calls_of_step}
 use Rattle.fttcan_top.specs.Progress.{AreInSlots, CanRun}
-use Rattle.fttcan_top.specs.StepsFile.{AreSteps, IsStep, IsAdd, StartInTime, FitTogether, count_of, cycles_of, slot_of, slots_of}
+use Rattle.fttcan_top.specs.StepsFile.{AreSteps, IsStep, IsAdd, count_of, cycles_of, slot_of, slots_of}
 use Rattle.fttcan_top.specs.Table.{entry_of}
 use Rattle.fttcan_top.proofs.Flagged.{option_cases}
 use Rattle.fttcan_top.proofs.Tables.{entry_of-found}

@@ -1,24 +1,23 @@
 -- The synchronous window of a cycle is no wider than all entries together.
-use Rattle.std.proofs.Common.{◌≡◌, ℕ, zero, suc, ◌+◌, ◌-◌, ◌*◌, ◌<◌, ◌≤◌, ◌&&◌, Bool, true, false, cond, eqb, List, [], ◌∷◌, length, get_or, Option, Some, None, refl, ap, sym, ◌∙◌, arith, subst, inl, inr, sum_by}
+use Rattle.std.proofs.Common.{◌≡◌, ℕ, zero, suc, ◌+◌, ◌<◌, ◌≤◌, ◌&&◌, Bool, true, cond, eqb, List, [], ◌∷◌, length, Option, Some, None, refl, ap, sym, ◌∙◌, arith, subst, inl, inr}
 use Rattle.std.specs.Prelude.{is_some, option_map, unwrap_or, Contains}
-use Rattle.std.specs.List.{list_any}
 use Rattle.std.proofs.lemmas.Bool.{cases_eq, cases_Bool, and_parts, and_from, eqb-true, eq-eqb, cond-true, cond-false, ne_eqb}
 use Rattle.std.proofs.lemmas.List.Folds.{Any-from_list_any, list_any-from_Any}
-use Rattle.std.proofs.lemmas.List.Sums.{sum_by-cons, get_or-le-sum_by}
+use Rattle.std.proofs.lemmas.List.Sums.{sum_by-cons}
 use Rattle.requirement_table.specs.declared.entries.Placed.{Placed}
 use Rattle.requirement_table.specs.declared.slots.TheConstants.{SLOTS}
 use Rattle.requirement_table.specs.Slots.{contains_slot, sum_where}
-use Rattle.requirement_table.specs.Instance.{worst, released_by, instance_of}
+use Rattle.requirement_table.specs.Instance.{worst, released_by}
 use Rattle.requirement_table.specs.Table.{instance_in, releases_in, released_in}
 use Rattle.requirement_table.specs.Instance.{Instance, bytes_of}
-use Rattle.fttcan_top.specs.Offered.{Opening, bytes_in, slot_cost, width_of, slots}
+use Rattle.fttcan_top.specs.Offered.{Opening, slot_cost, width_of}
 use Rattle.std.proofs.lemmas.Bool.{lt-ltb}
 use Rattle.std.specs.List.{All}
 use Rattle.std.proofs.lemmas.List.Elements.{All-contains}
 use Rattle.requirement_table.proofs.SlotSets.{contains_slot-set_of}
 use Rattle.fttcan_top.specs.Entries.{IsLive, total_cost}
 use Rattle.requirement_table.proofs.Latest.{instance_of-sent, IsReleasedIn-from_released_by}
-use Rattle.fttcan_top.proofs.Flagged.{MaySend-released, some-instance, found-in, IsFoundIn, Contains-cons_cases, length-payload}
+use Rattle.fttcan_top.proofs.Flagged.{MaySend-released, some-instance, found-in, Contains-cons_cases, length-payload}
 
 -- every slot
 abbrev pub every : ℕ → Bool

@@ -1,16 +1,16 @@
 -- In its synchronous window a cycle sends each pending slot, one after the other without a gap.
-use Rattle.std.proofs.Common.{◌≡◌, ℕ, ◌+◌, ◌-◌, ◌*◌, ◌<◌, ◌≤◌, ◌⊎◌, ◌&&◌, ◌||◌, not, max, eqb, leb, Bool, true, false, cond, List, [], ◌∷◌, ◌++◌, length, get_or, refl, ap, sym, ◌∙◌, arith, subst, inl, inr, filter}
-use Rattle.std.proofs.lemmas.Bool.{cases_eq, cases_lt, cases_Bool, both_ways, and_from, and_parts, not-true, not_from_false, eq-eqb, ne_eqb, cond-true, cond-false}
+use Rattle.std.proofs.Common.{◌≡◌, ℕ, ◌+◌, ◌<◌, ◌≤◌, ◌⊎◌, ◌&&◌, not, eqb, true, false, List, [], ◌∷◌, ◌++◌, refl, ap, sym, ◌∙◌, arith, subst, inl, inr}
+use Rattle.std.proofs.lemmas.Bool.{cases_eq, cases_lt, both_ways, and_from, and_parts, not-true, not_from_false, eq-eqb, ne_eqb, cond-true, cond-false}
 use Rattle.std.proofs.Common.{Some}
 use Rattle.can_frame.specs.DataFrame.{DataFrame}
 use Rattle.can_frame.specs.declared.data_frame.TimedFrame.{TimedFrame}
 use Rattle.can_frame.specs.Wire.{wire_length}
 use Rattle.cycle_layout.specs.Layout.{CycleLayout}
 use Rattle.trigger_codec.specs.Bytes.{trigger_frame}
-use Rattle.requirement_table.specs.Slots.{contains_slot, sum_where}
-use Rattle.bus_line.specs.Trace.{end_of, Follows, IsNext, IsLeastOffered, NothingOffered}
-use Rattle.fttcan_top.specs.Offered.{Opening, slots, first_identifier, bytes_in, slot_cost, width_of, start_of, end_of_cycle, window_start, IsUnsent, OffersTrigger, OffersSlot, offered_in}
-use Rattle.fttcan_top.specs.Window.{was_sent, is_pending, pending_width, of_slot, IsSentIn, IsSlotFrame, SendsPending, IsFit, RunsCycle}
+use Rattle.requirement_table.specs.Slots.{contains_slot}
+use Rattle.bus_line.specs.Trace.{end_of, Follows, IsNext}
+use Rattle.fttcan_top.specs.Offered.{Opening, slots, first_identifier, bytes_in, slot_cost, width_of, start_of, end_of_cycle, window_start, OffersTrigger, OffersSlot, offered_in}
+use Rattle.fttcan_top.specs.Window.{was_sent, is_pending, pending_width, of_slot, SendsPending, IsFit, RunsCycle}
 use Rattle.std.specs.List.{All}
 use Rattle.std.proofs.Math.Bool.{and-true}
 use Rattle.fttcan_top.proofs.SlotSums.{sum_where-without, sum_where-member, sum_where-same}

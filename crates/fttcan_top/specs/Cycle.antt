@@ -1,5 +1,5 @@
 -- The frames of one cycle in the order in which they are sent, as a queue that is offered from its head.
-use Rattle.std.specs.Prelude.{◌≡◌, ℕ, zero, suc, ◌+◌, List, [], ◌∷◌, ◌++◌, map, drop, nat_le, if◌then◌else◌, unwrap_or}
+use Rattle.std.specs.Prelude.{ℕ, zero, suc, ◌+◌, List, [], ◌∷◌, ◌++◌, map, drop, nat_le, if◌then◌else◌, unwrap_or}
 use Rattle.can_frame.specs.DataFrame.{DataFrame}
 use Rattle.cycle_layout.specs.Layout.{CycleLayout}
 use Rattle.bus_line.specs.Stations.{Line}

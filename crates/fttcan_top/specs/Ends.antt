@@ -1,5 +1,5 @@
 -- How a call ended, with the file that was refused: its status and its message.
-use Rattle.std.specs.Prelude.{◌≡◌, ℕ, List, [], codes, ⊤}
+use Rattle.std.specs.Prelude.{⊤}
 use Rattle.fttcan_top.specs.declared.load.Source.{Source}
 use Rattle.fttcan_top.specs.declared.load.Source.TheVariants as source
 use Rattle.fttcan_top.specs.declared.load.Stop.{Stop}

@@ -1,5 +1,5 @@
 -- The headline's definitions: what the words and the files ask for, what a run of it is, and how a call ends.
-use Rattle.std.specs.Prelude.{◌≡◌, ℕ, ◌⊎◌, ⊤, List, [], ◌∷◌, ◌++◌, length, codes, if◌then◌else◌, nat_le, Option, Some, None, Result, Ok, Err}
+use Rattle.std.specs.Prelude.{◌≡◌, ℕ, ◌⊎◌, ⊤, List, [], length, codes, if◌then◌else◌, nat_le, Option, Some, None, Result, Ok, Err}
 use Rattle.can_frame.specs.declared.TimedFrame.{TimedFrame}
 use Rattle.ftt_io.specs.Files.{NamedFiles}
 use Rattle.ftt_io.specs.Puts.{Puts, PutsPrefix}
@@ -9,7 +9,6 @@ use Rattle.fttcan_top.specs.declared.input.system.System.{System}
 use Rattle.fttcan_top.specs.declared.input.steps.Step.{Step}
 use Rattle.fttcan_top.specs.declared.history.Event.{Event}
 use Rattle.fttcan_top.specs.declared.load.Source.{Source}
-use Rattle.fttcan_top.specs.declared.load.Source.TheVariants as Source
 use Rattle.fttcan_top.specs.declared.status.Status.{Status}
 use Rattle.fttcan_top.specs.declared.status.Status.TheVariants.{Done, Refused, Words, Input, Read, Write, Memory}
 use Rattle.fttcan_top.specs.SystemFile.{system_of}

@@ -1,12 +1,8 @@
 -- What holds while a run goes on: between its steps.
-use Rattle.std.specs.Prelude.{◌≡◌, ℕ, ◌+◌, ◌*◌, ◌/◌, ◌<◌, ◌≤◌, ◌==◌, List, [], ◌∷◌, filter, All, Contains, length, None, sum_by}
-use Rattle.can_frame.specs.DataFrame.{DataFrame}
+use Rattle.std.specs.Prelude.{◌≡◌, ℕ, ◌*◌, ◌<◌, ◌≤◌, ◌==◌, List, [], filter, All, Contains}
 use Rattle.can_frame.specs.declared.data_frame.TimedFrame.{TimedFrame}
 use Rattle.cycle_layout.specs.Layout.{CycleLayout}
 use Rattle.requirement_table.specs.declared.entries.Placed.{Placed}
-use Rattle.requirement_table.specs.declared.slots.TheConstants.{SLOTS}
-use Rattle.can_frame.specs.Wire.{wire_length}
-use Rattle.trigger_codec.specs.Bytes.{trigger_frame}
 use Rattle.fttcan_top.specs.Entries.{IsLive, AreDistinct, total_cost}
 use Rattle.requirement_table.specs.Table.{released_in}
 use Rattle.bus_line.specs.Trace.{end_of, Follows}

@@ -1,9 +1,7 @@
-use Rattle.std.proofs.Common.{◌≡◌, sym, ◌∙◌, ap, arith, refl, ◌+◌, ◌-◌, ◌*◌, ◌∷◌, ◌++◌, append_assoc, subst}
+use Rattle.std.proofs.Common.{◌∙◌, ap, arith, refl, ◌+◌, ◌-◌, ◌*◌}
 use Rattle.cycle_layout.specs.Layout.{IsLayout}
 use Rattle.trigger_codec.specs.Bytes.{trigger_frame}
-use Rattle.requirement_table.specs.Slots.{contains_slot}
-use Rattle.fttcan_top.specs.Offered.{next_opening, width_of, window_start}
-use Rattle.fttcan_top.specs.Cycle.{queued_from, frames_below}
+use Rattle.fttcan_top.specs.Offered.{next_opening}
 use Rattle.fttcan_top.proofs.Width.{width-le}
 use Rattle.fttcan_top.proofs.SlotEntries.{queue-start, queue-more}
 use Rattle.fttcan_top.proofs.cycle.cycle_queue.Goals as goal

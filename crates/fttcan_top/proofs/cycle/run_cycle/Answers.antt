@@ -1,4 +1,4 @@
-use Rattle.std.proofs.Common.{◌≡◌, sym, ◌∙◌, ap, arith, ◌+◌, ◌*◌}
+use Rattle.std.proofs.Common.{◌≡◌, ◌∙◌, ap, arith, ◌+◌, ◌*◌}
 use Rattle.fttcan_top.proofs.CycleRuns.{are-short, ran-follows}
 use Rattle.fttcan_top.proofs.cycle.run_cycle.Goals as goal
 

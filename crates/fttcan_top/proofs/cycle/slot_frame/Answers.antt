@@ -1,4 +1,4 @@
-use Rattle.std.proofs.Common.{sym, ◌∙◌, ap, arith, Some}
+use Rattle.std.proofs.Common.{sym, ◌∙◌}
 use Rattle.fttcan_top.proofs.SlotEntries.{flagged-some, flagged-entry, frame_of-entry}
 use Rattle.fttcan_top.proofs.cycle.slot_frame.Goals as goal
 

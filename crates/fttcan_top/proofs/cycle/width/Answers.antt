@@ -1,4 +1,4 @@
-use Rattle.std.proofs.Common.{sym, ◌∙◌, ap, arith, ◌+◌}
+use Rattle.std.proofs.Common.{sym, arith}
 use Rattle.requirement_table.specs.Slots.{contains_slot}
 use Rattle.fttcan_top.specs.Offered.{next_opening, slot_cost}
 use Rattle.fttcan_top.proofs.SlotEntries.{sum_where-more, sum_where-none}

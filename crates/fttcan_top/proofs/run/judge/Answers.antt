@@ -1,4 +1,4 @@
-use Rattle.std.proofs.Common.{length, length-append, arith}
+use Rattle.std.proofs.Common.{length-append, arith}
 use Rattle.fttcan_top.proofs.Histories.{length-light}
 use Rattle.fttcan_top.proofs.run.judge.Goals as goal
 

@@ -1,4 +1,3 @@
-use Rattle.std.proofs.Common.{sym, ◌∙◌, ap, subst}
 use Rattle.fttcan_top.proofs.CycleRuns.{are-short}
 use Rattle.fttcan_top.proofs.Histories.{IsUnderWay-open}
 use Rattle.fttcan_top.proofs.run.open_cycle.Goals as goal

@@ -1,4 +1,4 @@
-use Rattle.std.proofs.Common.{◌≡◌, ap, sym, ◌∙◌, subst, arith, ◌+◌}
+use Rattle.std.proofs.Common.{sym, subst, arith}
 use Rattle.fttcan_top.specs.Progress.{AreInSlots}
 use Rattle.fttcan_top.specs.declared.input.steps.Step.TheVariants.{Cycle}
 use Rattle.fttcan_top.proofs.StepsRun.{can-run, calls-more, slots-more, cycles-more}

@@ -1,6 +1,5 @@
 use Rattle.std.proofs.Common.{subst, [], ◌∷◌, ◌++◌}
 use Rattle.fttcan_top.specs.History.{placed_at, IsVerdict}
-use Rattle.fttcan_top.specs.Progress.{IsUnderWay}
 use Rattle.fttcan_top.proofs.Histories.{IsUnderWay-submit}
 use Rattle.fttcan_top.proofs.run.submit.Goals as goal
 

@@ -1,4 +1,4 @@
-use Rattle.std.proofs.Common.{◌≡◌, ◌*◌, ◌≤◌, take, sum_by}
+use Rattle.std.proofs.Common.{◌≡◌, ◌*◌, ◌≤◌, take}
 use Rattle.fttcan_top.specs.Entries.{total_cost}
 use Rattle.fttcan_top.proofs.verdict.total_cost.Given as goal
 

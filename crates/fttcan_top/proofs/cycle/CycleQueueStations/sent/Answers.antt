@@ -1,4 +1,4 @@
-use Rattle.std.proofs.Common.{drop, ap, ◌∙◌, sym}
+use Rattle.std.proofs.Common.{drop, ap, ◌∙◌}
 use Rattle.fttcan_top.proofs.Queues.{drop-more}
 use Rattle.fttcan_top.proofs.cycle.CycleQueueStations.sent.Goals as goal
 

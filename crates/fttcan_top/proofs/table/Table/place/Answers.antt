@@ -1,5 +1,3 @@
-use Rattle.std.proofs.Common.{rules, subst, sym, set, Some, ◌∙◌, ap}
-use Rattle.fttcan_top.specs.Table.{IsBySlot}
 use Rattle.fttcan_top.proofs.Tables.{IsBySlot-place}
 use Rattle.fttcan_top.proofs.table.Table.place.Goals as goal
 
