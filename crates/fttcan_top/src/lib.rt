@@ -17,3 +17,6 @@ mod words;
 pub use history::{Event, Verdict};
 pub use program::plain;
 pub use status::Status;
+
+#[cfg(test)]
+mod tests;
