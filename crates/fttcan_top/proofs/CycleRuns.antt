@@ -36,8 +36,8 @@ ran-follows layout placed cycle start until free queue after old new past short 
     let fit = is_fit layout placed cycle short (trigger-short cycle (width_of o) (released_in placed cycle)) (omega arith) live light in
     let all : new ≡ ran.frames = ran.appended ∙ ap (λ l. l ++ ran.frames) empty in
     let follows : Follows (offers_of queue_line (queue_of layout o)) [] (cycle * layout.cycle) ((cycle + 1) * layout.cycle) ran.frames =
-        subst (λ t. Follows (offers_of queue_line (queue_of layout o)) [] t ((cycle + 1) * layout.cycle) ran.frames) is_start
-        (subst (λ t. Follows (offers_of queue_line (queue_of layout o)) [] start t ran.frames) is_until
-        (subst (λ q. Follows (offers_of queue_line q) [] start until ran.frames) is_queue ran.follows)) in
+    subst (λ t. Follows (offers_of queue_line (queue_of layout o)) [] t ((cycle + 1) * layout.cycle) ran.frames) is_start
+    (subst (λ t. Follows (offers_of queue_line (queue_of layout o)) [] start t ran.frames) is_until
+    (subst (λ q. Follows (offers_of queue_line q) [] start until ran.frames) is_queue ran.follows)) in
     subst (λ l. Follows (offered_in layout o) past (cycle * layout.cycle) ((cycle + 1) * layout.cycle) l) (sym all)
     (cycle_follows layout o past ran.frames fit before follows)

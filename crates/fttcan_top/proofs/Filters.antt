@@ -29,14 +29,14 @@ pub filter-filter : {X : Type 0} (p q : X → Bool) (xs : List X) → filter p (
 filter-filter p q [] = refl
 filter-filter p q (x ∷ xs) =
     elim (cases_Bool (q x)) [
-    | inl on ↦
-        ap (filter p) (cond-true (q x) (x ∷ filter q xs) (filter q xs) on)
-        ∙ ap (λ l. cond (p x) (x ∷ l) l) (filter-filter p q xs)
-        ∙ ap (λ b. cond (b && p x) (x ∷ filter (λ x. q x && p x) xs) (filter (λ x. q x && p x) xs)) (sym on)
-    | inr off ↦
-        ap (filter p) (cond-false (q x) (x ∷ filter q xs) (filter q xs) off)
-        ∙ filter-filter p q xs
-        ∙ sym (cond-false (q x && p x) (x ∷ filter (λ x. q x && p x) xs) (filter (λ x. q x && p x) xs) (and_left _ _ off))
+      | inl on ↦
+          ap (filter p) (cond-true (q x) (x ∷ filter q xs) (filter q xs) on)
+          ∙ ap (λ l. cond (p x) (x ∷ l) l) (filter-filter p q xs)
+          ∙ ap (λ b. cond (b && p x) (x ∷ filter (λ x. q x && p x) xs) (filter (λ x. q x && p x) xs)) (sym on)
+      | inr off ↦
+          ap (filter p) (cond-false (q x) (x ∷ filter q xs) (filter q xs) off)
+          ∙ filter-filter p q xs
+          ∙ sym (cond-false (q x && p x) (x ∷ filter (λ x. q x && p x) xs) (filter (λ x. q x && p x) xs) (and_left _ _ off))
     ]
 
 -- an element that passes is kept
@@ -44,14 +44,14 @@ pub Contains-filter : {X : Type 0} (p : X → Bool) (xs : List X) (x : X) → Co
 Contains-filter p [] x among passes = absurd (let within = among.1 in omega arith)
 Contains-filter p (y ∷ ys) x among passes =
     elim (Contains-cons_cases y ys x among) [
-    | inl here ↦ subst (λ l. Contains l x) (sym (cond-true (p y) (y ∷ filter p ys) (filter p ys) (subst (λ z. p z ≡ true) (sym here) passes)))
-        (subst (λ z. Contains (z ∷ filter p ys) x) (sym here) (Contains-head x (filter p ys)))
-    | inr later ↦
-        let kept = Contains-filter p ys x later passes in
-        elim (cases_Bool (p y)) [
-        | inl on ↦ subst (λ l. Contains l x) (sym (cond-true (p y) (y ∷ filter p ys) (filter p ys) on)) (Contains-tail y (filter p ys) x kept)
-        | inr off ↦ subst (λ l. Contains l x) (sym (cond-false (p y) (y ∷ filter p ys) (filter p ys) off)) kept
-        ]
+      | inl here ↦ subst (λ l. Contains l x) (sym (cond-true (p y) (y ∷ filter p ys) (filter p ys) (subst (λ z. p z ≡ true) (sym here) passes)))
+          (subst (λ z. Contains (z ∷ filter p ys) x) (sym here) (Contains-head x (filter p ys)))
+      | inr later ↦
+          let kept = Contains-filter p ys x later passes in
+          elim (cases_Bool (p y)) [
+            | inl on ↦ subst (λ l. Contains l x) (sym (cond-true (p y) (y ∷ filter p ys) (filter p ys) on)) (Contains-tail y (filter p ys) x kept)
+            | inr off ↦ subst (λ l. Contains l x) (sym (cond-false (p y) (y ∷ filter p ys) (filter p ys) off)) kept
+          ]
     ]
 
 -- what holds of all holds of an element
@@ -59,6 +59,6 @@ pub AllByRecursion-contains : {X : Type 0} (P : X → Type 0) (xs : List X) (x :
 AllByRecursion-contains P [] x all among = absurd (let within = among.1 in omega arith)
 AllByRecursion-contains P (y ∷ ys) x all among =
     elim (Contains-cons_cases y ys x among) [
-    | inl here ↦ subst P here all.0
-    | inr later ↦ AllByRecursion-contains P ys x all.1 later
+      | inl here ↦ subst P here all.0
+      | inr later ↦ AllByRecursion-contains P ys x all.1 later
     ]

@@ -25,8 +25,8 @@ use Rattle.requirement_table.proofs.SlotSets.{contains_slot-set_of}
 pub Contains-cons_cases : {X : Type 0} (y : X) (ys : List X) (x : X) → Contains (y ∷ ys) x → (y ≡ x) ⊎ Contains ys x
 Contains-cons_cases y ys x among =
     elim (Contains-append_cases (y ∷ []) ys x among) [
-    | inl first ↦ elim (Contains-push_cases [] y x first) [ | inl none ↦ absurd (let within = none.1 in omega arith) | inr same ↦ inl same ]
-    | inr later ↦ inr later
+      | inl first ↦ elim (Contains-push_cases [] y x first) [ inl none ↦ absurd (let within = none.1 in omega arith) | inr same ↦ inl same ]
+      | inr later ↦ inr later
     ]
 
 pub Contains-head : {X : Type 0} (y : X) (ys : List X) → Contains (y ∷ ys) y
@@ -39,12 +39,12 @@ Contains-tail y ys x among = Contains-append_right (y ∷ []) ys x among
 pub unique-placed : (placed : List Placed) (p q : Placed) → AreDistinct placed → Contains placed p → Contains placed q → p.entry.slot ≡ q.entry.slot → p ≡ q
 unique-placed placed p q distinct among_p among_q same =
     elim (cases_order among_p.0 among_q.0) [
-    | inl here ↦ sym among_p.2 ∙ get_or_default placed among_p.0 p q among_p.1 ∙ ap (λ k. get_or placed k q) here ∙ among_q.2
-    | inr apart ↦ elim apart [
-      | inl before ↦ absurd (distinct among_p.0 among_q.0 p before among_q.1
-          (ap (λ x. x.entry.slot) among_p.2 ∙ same ∙ ap (λ x. x.entry.slot) (sym (get_or_default placed among_q.0 p q among_q.1 ∙ among_q.2))))
-      | inr after ↦ absurd (distinct among_q.0 among_p.0 q after among_p.1
-          (ap (λ x. x.entry.slot) among_q.2 ∙ sym same ∙ ap (λ x. x.entry.slot) (sym (get_or_default placed among_p.0 q p among_p.1 ∙ among_p.2))))
+      | inl here ↦ sym among_p.2 ∙ get_or_default placed among_p.0 p q among_p.1 ∙ ap (λ k. get_or placed k q) here ∙ among_q.2
+      | inr apart ↦ elim apart [
+        | inl before ↦ absurd (distinct among_p.0 among_q.0 p before among_q.1
+            (ap (λ x. x.entry.slot) among_p.2 ∙ same ∙ ap (λ x. x.entry.slot) (sym (get_or_default placed among_q.0 p q among_q.1 ∙ among_q.2))))
+        | inr after ↦ absurd (distinct among_q.0 among_p.0 q after among_p.1
+            (ap (λ x. x.entry.slot) among_q.2 ∙ sym same ∙ ap (λ x. x.entry.slot) (sym (get_or_default placed among_p.0 q p among_p.1 ∙ among_p.2))))
       ]
     ]
 
@@ -71,13 +71,13 @@ option-some (Some x) f y e = (x, refl, cc)
 found-at : (slot c : ℕ) (p : Placed) (i : Instance) → sendable slot c p ≡ Some i → (p ≡ i.placed) × (i.placed.entry.slot ≡ slot) × (instance_of i.placed c ≡ Some i.number)
 found-at slot c p i e =
     elim (cases_Bool (eqb p.entry.slot slot)) [
-    | inl same ↦
-        let e2 = sym (cond-true (eqb p.entry.slot slot) _ None same) ∙ e in
-        let o = option-some (instance_of p c) (λ k. record { placed = p; number = k }) i e2 in
-        let is : p ≡ i.placed = ap (λ x. x.placed) o.2 in
-        let number : o.0 ≡ i.number = ap (λ x. x.number) o.2 in
-        (is, subst (λ q. q.entry.slot ≡ slot) is (eqb-true _ _ same), subst (λ q. instance_of q c ≡ Some i.number) is (o.1 ∙ ap Some number))
-    | inr other ↦ absurd (let e2 : None ≡ Some i = sym (cond-false (eqb p.entry.slot slot) _ None other) ∙ e in cc)
+      | inl same ↦
+          let e2 = sym (cond-true (eqb p.entry.slot slot) _ None same) ∙ e in
+          let o = option-some (instance_of p c) (λ k. record { placed = p; number = k }) i e2 in
+          let is : p ≡ i.placed = ap (λ x. x.placed) o.2 in
+          let number : o.0 ≡ i.number = ap (λ x. x.number) o.2 in
+          (is, subst (λ q. q.entry.slot ≡ slot) is (eqb-true _ _ same), subst (λ q. instance_of q c ≡ Some i.number) is (o.1 ∙ ap Some number))
+      | inr other ↦ absurd (let e2 : None ≡ Some i = sym (cond-false (eqb p.entry.slot slot) _ None other) ∙ e in cc)
     ]
 
 same_instance : (i : Instance) (p : Placed) (k : ℕ) → i.placed ≡ p → i.number ≡ k → i ≡ record { placed = p; number = k }
@@ -97,13 +97,13 @@ pub found-in : (placed : List Placed) (slot c : ℕ) (i : Instance) → instance
 found-in [] slot c i e = absurd (cc)
 found-in (p ∷ ps) slot c i e =
     elim (option_cases (sendable slot c p)) [
-    | inl none ↦
-        let rest = found-in ps slot c i (sym (first-tail slot c p ps none) ∙ e) in
-        record { stands = Contains-tail p ps i.placed rest.stands; of_slot = rest.of_slot; sends = rest.sends }
-    | inr some ↦
-        let same : some.0 ≡ i = let e2 = sym (first-head slot c p ps some.0 some.1) ∙ e in cc in
-        let at = found-at slot c p i (some.1 ∙ ap Some same) in
-        record { stands = subst (λ q. Contains (p ∷ ps) q) at.0 (Contains-head p ps); of_slot = at.1; sends = at.2 }
+      | inl none ↦
+          let rest = found-in ps slot c i (sym (first-tail slot c p ps none) ∙ e) in
+          record { stands = Contains-tail p ps i.placed rest.stands; of_slot = rest.of_slot; sends = rest.sends }
+      | inr some ↦
+          let same : some.0 ≡ i = let e2 = sym (first-head slot c p ps some.0 some.1) ∙ e in cc in
+          let at = found-at slot c p i (some.1 ∙ ap Some same) in
+          record { stands = subst (λ q. Contains (p ∷ ps) q) at.0 (Contains-head p ps); of_slot = at.1; sends = at.2 }
     ]
 
 pub some-instance : (placed : List Placed) (slot c k : ℕ) (p : Placed) → Contains placed p → p.entry.slot ≡ slot → instance_of p c ≡ Some k
@@ -111,17 +111,17 @@ pub some-instance : (placed : List Placed) (slot c k : ℕ) (p : Placed) → Con
 some-instance [] slot c k p among same sends = absurd (let within = among.1 in omega arith)
 some-instance (q ∷ ps) slot c k p among same sends =
     elim (option_cases (sendable slot c q)) [
-    | inl none ↦ elim (Contains-cons_cases q ps p among) [
-      | inl here ↦
-          let is : sendable slot c q ≡ Some (record { placed = p; number = k }) =
-              subst (λ x. sendable slot c x ≡ Some (record { placed = p; number = k })) (sym here)
-              (cond-true (eqb p.entry.slot slot) _ None (eq-eqb _ _ same) ∙ ap (option_map (λ n. record { placed = p; number = n })) sends) in
-          absurd (let e : None ≡ Some (record { placed = p; number = k }) = sym none ∙ is in cc)
-      | inr later ↦
-          let rest = some-instance ps slot c k p later same sends in
-          (rest.0, first-tail slot c q ps none ∙ rest.1)
+      | inl none ↦ elim (Contains-cons_cases q ps p among) [
+        | inl here ↦
+            let is : sendable slot c q ≡ Some (record { placed = p; number = k }) =
+            subst (λ x. sendable slot c x ≡ Some (record { placed = p; number = k })) (sym here)
+            (cond-true (eqb p.entry.slot slot) _ None (eq-eqb _ _ same) ∙ ap (option_map (λ n. record { placed = p; number = n })) sends) in
+            absurd (let e : None ≡ Some (record { placed = p; number = k }) = sym none ∙ is in cc)
+        | inr later ↦
+            let rest = some-instance ps slot c k p later same sends in
+            (rest.0, first-tail slot c q ps none ∙ rest.1)
       ]
-    | inr some ↦ (some.0, first-head slot c q ps some.0 some.1)
+      | inr some ↦ (some.0, first-head slot c q ps some.0 some.1)
     ]
 
 -- in a list in which the entries with this slot are one, the slot's instance is that of the entry

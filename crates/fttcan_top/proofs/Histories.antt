@@ -43,7 +43,7 @@ openings_after-push before [] event = append-nil (opening_of before event) ∙ a
 openings_after-push before (first ∷ events) event =
     ap (λ l. opening_of before first ++ l)
     (openings_after-push (before ++ first ∷ []) events event
-      ∙ ap (λ h. openings_after (before ++ first ∷ []) events ++ opening_of h event) (append_assoc before (first ∷ []) events))
+    ∙ ap (λ h. openings_after (before ++ first ∷ []) events ++ opening_of h event) (append_assoc before (first ∷ []) events))
     ∙ sym (append_assoc (opening_of before first) (openings_after (before ++ first ∷ []) events) (opening_of (before ++ first ∷ events) event))
 
 placed_of-push : (history : List Event) (event : Event) → placed_of (history ++ event ∷ []) ≡ placed_of history ++ placed_of_event event
@@ -65,10 +65,10 @@ IsUnderWay-open layout placed next mask history trace frames short known way is_
     let o = next_opening placed next in
     let run = IsRunning-open layout placed (openings_of history) next trace frames short (trigger-short next (width_of o) (released_in placed next)) (omega arith) way.running follows in
     let opening : opening_of history (Open next mask) ≡ o ∷ [] =
-        ap (λ m. record { cycle = next; mask = m; placed = placed_of history } ∷ []) is_mask
-        ∙ ap (λ p. record { cycle = next; mask = released_in placed next; placed = p } ∷ []) (sym way.placed_is) in
+    ap (λ m. record { cycle = next; mask = m; placed = placed_of history } ∷ []) is_mask
+    ∙ ap (λ p. record { cycle = next; mask = released_in placed next; placed = p } ∷ []) (sym way.placed_is) in
     let openings : openings_of (history ++ Open next mask ∷ []) ≡ openings_of history ++ o ∷ [] =
-        openings_after-push [] history (Open next mask) ∙ ap (λ l. openings_of history ++ l) opening in
+    openings_after-push [] history (Open next mask) ∙ ap (λ l. openings_of history ++ l) opening in
     record {
       running = subst (λ l. IsRunning layout placed l (next + 1) (trace ++ frames)) (sym openings) run;
       legal = AreRight-push layout.window [] history (Open next mask) way.legal (way.next_is, is_mask ∙ ap (λ p. released_in p next) way.placed_is);

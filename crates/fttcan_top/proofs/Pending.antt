@@ -20,12 +20,12 @@ pub IsUnsent-from_test : (layout : CycleLayout) (opening : Opening) (past : List
     → was_sent layout opening past slot ≡ false → IsUnsent layout opening slot past
 IsUnsent-from_test layout opening past slot none k d within same =
     elim (cases_lt (get_or past k d).start (start_of layout opening)) [
-    | inl early ↦ early
-    | inr late ↦
-        let passes : is_of layout opening slot (get_or past k d) ≡ true =
-            and_from _ _ (eq-eqb _ _ same) (le-leb _ _ late) in
-        let found : Any (λ x. is_of layout opening slot x ≡ true) past = (k, get_or past k d, within, get_or_default past k (get_or past k d) d within, passes) in
-        absurd (both_ways _ none (list_any-from_Any (is_of layout opening slot) past found))
+      | inl early ↦ early
+      | inr late ↦
+          let passes : is_of layout opening slot (get_or past k d) ≡ true =
+          and_from _ _ (eq-eqb _ _ same) (le-leb _ _ late) in
+          let found : Any (λ x. is_of layout opening slot x ≡ true) past = (k, get_or past k d, within, get_or_default past k (get_or past k d) d within, passes) in
+          absurd (both_ways _ none (list_any-from_Any (is_of layout opening slot) past found))
     ]
 
 -- and the other way round
@@ -34,8 +34,8 @@ pub was_sent-from_unsent : (layout : CycleLayout) (opening : Opening) (past : Li
 was_sent-from_unsent layout opening past slot unsent =
     list_any_none (is_of layout opening slot) past (λ k d within.
     elim (cases_eq (get_or past k d).frame.identifier (first_identifier + slot)) [
-    | inl same ↦ and_right _ _ (lt-leb _ _ (unsent k d within same))
-    | inr other ↦ and_left _ _ (ne_eqb _ _ other)
+      | inl same ↦ and_right _ _ (lt-leb _ _ (unsent k d within same))
+      | inr other ↦ and_left _ _ (ne_eqb _ _ other)
     ])
 
 -- one more frame
@@ -49,8 +49,8 @@ pub is_pending-sent : (layout : CycleLayout) (opening : Opening) (past : List Ti
     → is_pending layout opening (past ++ sent ∷ []) slot ≡ false
 is_pending-sent layout opening past sent slot same late =
     let now : was_sent layout opening (past ++ sent ∷ []) slot ≡ true =
-        was_sent-push layout opening past sent slot
-        ∙ or_right (was_sent layout opening past slot) _ (ap (λ b. b || false) (and_from _ _ (eq-eqb _ _ same) (le-leb _ _ late))) in
+    was_sent-push layout opening past sent slot
+    ∙ or_right (was_sent layout opening past slot) _ (ap (λ b. b || false) (and_from _ _ (eq-eqb _ _ same) (le-leb _ _ late))) in
     and_right (contains_slot opening.mask slot) _ (not_from_true _ now)
 
 -- the other slots are as they were
@@ -60,5 +60,5 @@ pub is_pending-other : (layout : CycleLayout) (opening : Opening) (past : List T
 is_pending-other layout opening past sent slot other =
     let not_it : is_of layout opening slot sent ≡ false = and_left _ _ (ne_eqb _ _ other) in
     let same : was_sent layout opening (past ++ sent ∷ []) slot ≡ was_sent layout opening past slot =
-        was_sent-push layout opening past sent slot ∙ ap (λ b. was_sent layout opening past slot || (b || false)) not_it ∙ or-false _ in
+    was_sent-push layout opening past sent slot ∙ ap (λ b. was_sent layout opening past slot || (b || false)) not_it ∙ or-false _ in
     ap (λ b. contains_slot opening.mask slot && not b) same

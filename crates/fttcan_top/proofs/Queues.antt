@@ -58,18 +58,18 @@ offered-head : (time at : ℕ) (frames : List DataFrame) (frame : DataFrame) →
 offered-head time at [] frame offer = absurd (let within = offer.contends.1 in omega arith)
 offered-head time at (head ∷ rest) frame offer =
     elim (cases_Bool (leb time at)) [
-    | inl late ↦ record { rest = rest; is = ap (λ f. f ∷ rest) (sym offer.framed); late = leb-true _ _ late }
-    | inr early ↦
-        let none : Contains [] frame.identifier = subst (λ l. Contains l frame.identifier) (cond-false (leb time at) (head.identifier ∷ []) [] early) offer.contends in
-        absurd (let within = none.1 in omega arith)
+      | inl late ↦ record { rest = rest; is = ap (λ f. f ∷ rest) (sym offer.framed); late = leb-true _ _ late }
+      | inr early ↦
+          let none : Contains [] frame.identifier = subst (λ l. Contains l frame.identifier) (cond-false (leb time at) (head.identifier ∷ []) [] early) offer.contends in
+          absurd (let within = none.1 in omega arith)
     ]
 
 -- the least of the frames is the first one
 least-first : (frame : DataFrame) (rest : List DataFrame) (other : DataFrame) → Rising (frame ∷ rest) → Contains (frame ∷ rest) other → frame.identifier ≤ other.identifier
 least-first frame rest other rising among =
     elim (Contains-cons_cases frame rest other among) [
-    | inl same ↦ let e = ap (λ f. f.identifier) same in omega arith
-    | inr later ↦ let less : frame.identifier < other.identifier = AllByRecursion-contains (λ o. frame.identifier < o.identifier) rest other rising.0 later in omega arith
+      | inl same ↦ let e = ap (λ f. f.identifier) same in omega arith
+      | inr later ↦ let less : frame.identifier < other.identifier = AllByRecursion-contains (λ o. frame.identifier < o.identifier) rest other rising.0 later in omega arith
     ]
 
 -- one frame is sent
@@ -86,25 +86,25 @@ ArePending-sent layout opening past sent frame rest are is late =
     let id : sent.frame.identifier ≡ first_identifier + head.slot = ap (λ f. f.identifier) is ∙ head.identifier in
     record {
       each = both (IsPendingFrame layout opening past) (λ o. frame.identifier < o.identifier) (IsPendingFrame layout opening (past ++ sent ∷ [])) rest
-        (λ o p less. record {
-          slot = p.slot;
-          known = p.known;
-          pending = is_pending-other layout opening past sent p.slot (λ same. let a = p.identifier in let b = head.identifier in omega arith) ∙ p.pending;
-          identifier = p.identifier;
-          bytes = p.bytes;
-        }) are.each.1 are.rising.0;
+          (λ o p less. record {
+            slot = p.slot;
+            known = p.known;
+            pending = is_pending-other layout opening past sent p.slot (λ same. let a = p.identifier in let b = head.identifier in omega arith) ∙ p.pending;
+            identifier = p.identifier;
+            bytes = p.bytes;
+          }) are.each.1 are.rising.0;
       rising = are.rising.1;
       all = λ slot known pending.
-        elim (cases_eq slot head.slot) [
-        | inl same ↦ absurd (both_ways _ (is_pending-sent layout opening past sent slot (id ∙ ap (λ s. first_identifier + s) (sym same)) late) pending)
-        | inr other ↦
-            let before : is_pending layout opening past slot ≡ true = sym (is_pending-other layout opening past sent slot (λ same. other (omega arith))) ∙ pending in
-            let found = are.all slot known before in
-            elim (Contains-cons_cases frame rest found.0 found.1) [
-            | inl first ↦ absurd (other (let e = ap (λ f. f.identifier) first in let a = found.2 in let b = head.identifier in omega arith))
-            | inr later ↦ (found.0, later, found.2)
-            ]
-        ];
+          elim (cases_eq slot head.slot) [
+            | inl same ↦ absurd (both_ways _ (is_pending-sent layout opening past sent slot (id ∙ ap (λ s. first_identifier + s) (sym same)) late) pending)
+            | inr other ↦
+                let before : is_pending layout opening past slot ≡ true = sym (is_pending-other layout opening past sent slot (λ same. other (omega arith))) ∙ pending in
+                let found = are.all slot known before in
+                elim (Contains-cons_cases frame rest found.0 found.1) [
+                  | inl first ↦ absurd (other (let e = ap (λ f. f.identifier) first in let a = found.2 in let b = head.identifier in omega arith))
+                  | inr later ↦ (found.0, later, found.2)
+                ]
+          ];
     }
 
 told-push : (queue : List Queued) (told_of : List TimedFrame) (sent : TimedFrame) → told queue_line queue (told_of ++ sent ∷ []) ≡ drop 1 (told queue_line queue told_of)
@@ -130,16 +130,18 @@ offers-head : (layout : CycleLayout) (opening : Opening) (past : List TimedFrame
     → (slot : ℕ) × OffersSlot layout opening past at frame slot
 offers-head layout opening past at frame rest are late early =
     let head = are.each.0 in
-    let parts = and_parts (contains_slot opening.mask head.slot) _ head.pending in
-    (head.slot, record {
-      late_enough = late;
-      within = early;
-      known = head.known;
-      flagged = parts.0;
-      unsent = IsUnsent-from_test layout opening past head.slot (not-true _ parts.1);
-      identifier = head.identifier;
-      bytes = head.bytes;
-    })
+    let parts = and_parts (contains_slot opening.mask head.slot) _ head.pending in (
+      head.slot,
+      record {
+        late_enough = late;
+        within = early;
+        known = head.known;
+        flagged = parts.0;
+        unsent = IsUnsent-from_test layout opening past head.slot (not-true _ parts.1);
+        identifier = head.identifier;
+        bytes = head.bytes;
+      },
+    )
 
 window_follows : (layout : CycleLayout) (opening : Opening) (queue : List Queued) (told_of past : List TimedFrame) (frames : List DataFrame) (free : ℕ) (sent_all : List TimedFrame)
     → start_of layout opening < free → told queue_line queue told_of ≡ queued_from (window_start layout opening) frames
@@ -147,43 +149,44 @@ window_follows : (layout : CycleLayout) (opening : Opening) (queue : List Queued
     → Follows (offered_in layout opening) past free (end_of_cycle layout opening) sent_all
 window_follows layout opening queue told_of past frames free [] begun state are nothing = λ at frame late early offer.
     elim offer [
-    | inl trigger ↦ let time = trigger.time in omega arith
-    | inr choice ↦
-        let head = head-before layout opening past frames at choice.0 frame are choice.1 in
-        nothing at head.0 late early (subst (λ q. IsOffered queue_line q at head.0) (sym state) head.1)
+      | inl trigger ↦ let time = trigger.time in omega arith
+      | inr choice ↦
+          let head = head-before layout opening past frames at choice.0 frame are choice.1 in
+          nothing at head.0 late early (subst (λ q. IsOffered queue_line q at head.0) (sym state) head.1)
     ]
 window_follows layout opening queue told_of past frames free (sent ∷ later) begun state are follows =
     let next = follows.0 in
     let when_free = next.when_free in
     let head = offered-head (window_start layout opening) sent.start frames sent.frame (subst (λ q. IsOffered queue_line q sent.start sent.frame) state next.least.offered) in
-    let first_are = subst (λ l. ArePending layout opening past l) head.is are in
-    (record {
-      when_free = next.when_free;
-      within = next.within;
-      first = λ at frame late early offer.
-        elim offer [
-        | inl trigger ↦ let time = trigger.time in omega arith
-        | inr choice ↦
-            let before = head-before layout opening past frames at choice.0 frame are choice.1 in
-            next.first at before.0 late early (subst (λ q. IsOffered queue_line q at before.0) (sym state) before.1)
-        ];
-      least = record {
-        offered = inr (offers-head layout opening past sent.start sent.frame head.rest first_are head.late next.within);
-        least = λ other offer.
-          elim offer [
-          | inl trigger ↦ absurd (let time = trigger.time in omega arith)
-          | inr choice ↦
-              let before = head-before layout opening past frames sent.start choice.0 other are choice.1 in
-              let least = next.least.least before.0 (subst (λ q. IsOffered queue_line q sent.start before.0) (sym state) before.1) in
-              let less = before.2 in
-              omega arith
-          ];
-      };
-      whole = next.whole;
-    },
-    window_follows layout opening queue (told_of ++ sent ∷ []) (past ++ sent ∷ []) head.rest (end_of sent) later (omega arith)
-    (told-push queue told_of sent ∙ ap (drop 1) (state ∙ ap (queued_from (window_start layout opening)) head.is))
-    (ArePending-sent layout opening past sent sent.frame head.rest first_are refl (omega arith)) follows.1)
+    let first_are = subst (λ l. ArePending layout opening past l) head.is are in (
+      record {
+        when_free = next.when_free;
+        within = next.within;
+        first = λ at frame late early offer.
+            elim offer [
+              | inl trigger ↦ let time = trigger.time in omega arith
+              | inr choice ↦
+                  let before = head-before layout opening past frames at choice.0 frame are choice.1 in
+                  next.first at before.0 late early (subst (λ q. IsOffered queue_line q at before.0) (sym state) before.1)
+            ];
+        least = record {
+          offered = inr (offers-head layout opening past sent.start sent.frame head.rest first_are head.late next.within);
+          least = λ other offer.
+              elim offer [
+                | inl trigger ↦ absurd (let time = trigger.time in omega arith)
+                | inr choice ↦
+                    let before = head-before layout opening past frames sent.start choice.0 other are choice.1 in
+                    let least = next.least.least before.0 (subst (λ q. IsOffered queue_line q sent.start before.0) (sym state) before.1) in
+                    let less = before.2 in
+                    omega arith
+              ];
+        };
+        whole = next.whole;
+      },
+      window_follows layout opening queue (told_of ++ sent ∷ []) (past ++ sent ∷ []) head.rest (end_of sent) later (omega arith)
+          (told-push queue told_of sent ∙ ap (drop 1) (state ∙ ap (queued_from (window_start layout opening)) head.is))
+          (ArePending-sent layout opening past sent sent.frame head.rest first_are refl (omega arith)) follows.1,
+    )
 
 -- The whole cycle
 
@@ -218,27 +221,27 @@ are-flagged opening (suc n) =
     let before = are-flagged opening n in
     let each = weaker (IsFlaggedFrame opening n) (IsFlaggedFrame opening (suc n)) (frames_below opening n) (λ f p. record { slot = p.slot; below = (let b = p.below in omega arith); flagged = p.flagged; is = p.is }) before.each in
     elim (cases_Bool (contains_slot opening.mask n)) as (λ _. AreFlagged opening (suc n) (frames_below opening n ++ cond (contains_slot opening.mask n) (frame_of opening n ∷ []) [])) [
-    | inl flagged ↦
-        subst (λ l. AreFlagged opening (suc n) (frames_below opening n ++ l)) (sym (cond-true (contains_slot opening.mask n) (frame_of opening n ∷ []) [] flagged)) (record {
-          each = all-push (IsFlaggedFrame opening (suc n)) (frames_below opening n) (frame_of opening n) each (record { slot = n; below = omega arith; flagged = flagged; is = refl });
-          rising = rising-push (frames_below opening n) (frame_of opening n) before.rising
-            (weaker (IsFlaggedFrame opening n) (λ f. f.identifier < first_identifier + n) (frames_below opening n) (λ f p. let b = p.below in let i = ap (λ x. x.identifier) p.is in omega arith) before.each);
-          all = λ slot below is_flagged.
-            elim (cases_eq slot n) [
-            | inl same ↦ subst (λ s. Contains (frames_below opening n ++ frame_of opening n ∷ []) (frame_of opening s)) (sym same) (Contains-push (frames_below opening n) (frame_of opening n))
-            | inr other ↦ Contains-append_left (frames_below opening n) (frame_of opening n ∷ []) (frame_of opening slot) (before.all slot (omega arith) is_flagged)
-            ];
-        })
-    | inr not_flagged ↦
-        subst (λ l. AreFlagged opening (suc n) l) (sym (ap (λ l. frames_below opening n ++ l) (cond-false (contains_slot opening.mask n) (frame_of opening n ∷ []) [] not_flagged) ∙ append-nil _)) (record {
-          each = each;
-          rising = before.rising;
-          all = λ slot below is_flagged.
-            elim (cases_eq slot n) [
-            | inl same ↦ absurd (both_ways _ not_flagged (subst (λ s. contains_slot opening.mask s ≡ true) same is_flagged))
-            | inr other ↦ before.all slot (omega arith) is_flagged
-            ];
-        })
+      | inl flagged ↦
+          subst (λ l. AreFlagged opening (suc n) (frames_below opening n ++ l)) (sym (cond-true (contains_slot opening.mask n) (frame_of opening n ∷ []) [] flagged)) (record {
+            each = all-push (IsFlaggedFrame opening (suc n)) (frames_below opening n) (frame_of opening n) each (record { slot = n; below = omega arith; flagged = flagged; is = refl });
+            rising = rising-push (frames_below opening n) (frame_of opening n) before.rising
+                (weaker (IsFlaggedFrame opening n) (λ f. f.identifier < first_identifier + n) (frames_below opening n) (λ f p. let b = p.below in let i = ap (λ x. x.identifier) p.is in omega arith) before.each);
+            all = λ slot below is_flagged.
+                elim (cases_eq slot n) [
+                  | inl same ↦ subst (λ s. Contains (frames_below opening n ++ frame_of opening n ∷ []) (frame_of opening s)) (sym same) (Contains-push (frames_below opening n) (frame_of opening n))
+                  | inr other ↦ Contains-append_left (frames_below opening n) (frame_of opening n ∷ []) (frame_of opening slot) (before.all slot (omega arith) is_flagged)
+                ];
+          })
+      | inr not_flagged ↦
+          subst (λ l. AreFlagged opening (suc n) l) (sym (ap (λ l. frames_below opening n ++ l) (cond-false (contains_slot opening.mask n) (frame_of opening n ∷ []) [] not_flagged) ∙ append-nil _)) (record {
+            each = each;
+            rising = before.rising;
+            all = λ slot below is_flagged.
+                elim (cases_eq slot n) [
+                  | inl same ↦ absurd (both_ways _ not_flagged (subst (λ s. contains_slot opening.mask s ≡ true) same is_flagged))
+                  | inr other ↦ before.all slot (omega arith) is_flagged
+                ];
+          })
     ]
 
 -- when only the trigger was sent, the pending frames are those of all flagged slots
@@ -248,10 +251,10 @@ ArePending-start : (layout : CycleLayout) (opening : Opening) (past : List Timed
 ArePending-start layout opening past sent fit before trigger =
     let flagged = are-flagged opening slots in
     let pending : (slot : ℕ) → is_pending layout opening (past ++ sent ∷ []) slot ≡ contains_slot opening.mask slot =
-        λ slot. is_pending-at_start layout opening past sent slot before trigger in
+    λ slot. is_pending-at_start layout opening past sent slot before trigger in
     record {
       each = weaker (IsFlaggedFrame opening slots) (IsPendingFrame layout opening (past ++ sent ∷ [])) (frames_below opening slots)
-        (λ f p.
+          (λ f p.
           let bytes = fit.present p.slot p.below p.flagged in
           record {
             slot = p.slot;
@@ -280,7 +283,7 @@ cycle_follows layout opening past [] fit before nothing =
     let room = fit.room in
     let trigger : Queued = record { from = start_of layout opening; frame = trigger_frame opening.cycle (width_of opening) opening.mask } in
     absurd (nothing (start_of layout opening) trigger.frame (omega arith) (omega arith)
-      (queue-head trigger (queued_from (window_start layout opening) (frames_below opening slots)) (start_of layout opening) (omega arith)))
+    (queue-head trigger (queued_from (window_start layout opening) (frames_below opening slots)) (start_of layout opening) (omega arith)))
 cycle_follows layout opening past (sent ∷ later) fit before follows =
     let next = follows.0 in
     let room = fit.room in
@@ -289,29 +292,30 @@ cycle_follows layout opening past (sent ∷ later) fit before follows =
     let when_free = next.when_free in
     let within = next.within in
     let at_once : sent.start ≤ start_of layout opening = elim (cases_lt (start_of layout opening) sent.start) [
-    | inl gap ↦ absurd (next.first (start_of layout opening) trigger.frame (omega arith) gap (queue-head trigger rest (start_of layout opening) (omega arith)))
-    | inr no_gap ↦ no_gap
+      | inl gap ↦ absurd (next.first (start_of layout opening) trigger.frame (omega arith) gap (queue-head trigger rest (start_of layout opening) (omega arith)))
+      | inr no_gap ↦ no_gap
     ] in
     let starts : sent.start ≡ start_of layout opening = omega arith in
     let is : sent.frame ≡ trigger.frame = next.least.offered.framed in
     let whole = next.whole in
-    let some_time = subst (λ f. 0 < wire_length f) (sym is) fit.trigger_some_time in
-    (record {
-      when_free = when_free;
-      within = within;
-      first = λ at frame late early offer. absurd (omega arith);
-      least = record {
-        offered = inl (record { time = starts; trigger = is });
-        least = λ other offer.
-          elim offer [
-          | inl same ↦ let a = ap (λ f. f.identifier) same.trigger in let b = ap (λ f. f.identifier) is in omega arith
-          | inr choice ↦ absurd (let late = choice.1.late_enough in omega arith)
-          ];
-      };
-      whole = whole;
-    },
-    window_follows layout opening (queue_of layout opening) (sent ∷ []) (past ++ sent ∷ []) (frames_below opening slots) (end_of sent) later (omega arith) refl
-    (ArePending-start layout opening past sent fit before (ap (λ f. f.identifier) is ∙ fit.trigger_identifier)) follows.1)
+    let some_time = subst (λ f. 0 < wire_length f) (sym is) fit.trigger_some_time in (
+      record {
+        when_free = when_free;
+        within = within;
+        first = λ at frame late early offer. absurd (omega arith);
+        least = record {
+          offered = inl (record { time = starts; trigger = is });
+          least = λ other offer.
+              elim offer [
+                | inl same ↦ let a = ap (λ f. f.identifier) same.trigger in let b = ap (λ f. f.identifier) is in omega arith
+                | inr choice ↦ absurd (let late = choice.1.late_enough in omega arith)
+              ];
+        };
+        whole = whole;
+      },
+      window_follows layout opening (queue_of layout opening) (sent ∷ []) (past ++ sent ∷ []) (frames_below opening slots) (end_of sent) later (omega arith) refl
+          (ArePending-start layout opening past sent fit before (ap (λ f. f.identifier) is ∙ fit.trigger_identifier)) follows.1,
+    )
 
 -- one more is dropped
 pub drop-more : {X : Type 0} (n : ℕ) (xs : List X) → drop (n + 1) xs ≡ drop 1 (drop n xs)

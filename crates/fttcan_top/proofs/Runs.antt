@@ -61,14 +61,14 @@ is_fit layout placed next short trigger good live light =
     let width = width-le o refl live in
     record {
       present = λ slot known flagged.
-        let sends = instance-flagged o slot refl live flagged in
-        (bytes_of sends.i, ap (option_map bytes_of) sends.found);
+          let sends = instance-flagged o slot refl live flagged in
+          (bytes_of sends.i, ap (option_map bytes_of) sends.found);
       some_time = λ slot frame known same bytes.
-        short.some_time frame (omega arith) (few-bytes o slot frame live bytes);
+          short.some_time frame (omega arith) (few-bytes o slot frame live bytes);
       in_time = λ slot frame known same bytes.
-        let cost : slot_cost o slot ≡ worst (length frame.bytes) = ap (λ b. worst (length (unwrap_or b []))) bytes in
-        let in_time = short.in_time frame (omega arith) (few-bytes o slot frame live bytes) in
-        omega arith;
+          let cost : slot_cost o slot ≡ worst (length frame.bytes) = ap (λ b. worst (length (unwrap_or b []))) bytes in
+          let in_time = short.in_time frame (omega arith) (few-bytes o slot frame live bytes) in
+          omega arith;
       trigger_identifier = trigger.identifier;
       trigger_some_time = short.some_time _ (let is = trigger.identifier in omega arith) (let few = trigger.few in omega arith);
       trigger_in_time = (let few = trigger.few in let in_time = short.in_time (trigger_frame next (width_of o) o.mask) (let is = trigger.identifier in omega arith) (omega arith) in omega arith);
@@ -110,10 +110,10 @@ IsRunning-place layout placed openings next trace p run live late other light = 
   cycles = run.cycles;
   subset = λ k d within q among. Contains-append_left placed (p ∷ []) q (run.subset k d within q among);
   complete = λ k d within q among early.
-    elim (Contains-push_cases placed p q among) [
-    | inl before ↦ run.complete k d within q before early
-    | inr is ↦ absurd (let n = run.numbered k d within in let o = ap (λ x. x.origin) is in omega arith)
-    ];
+      elim (Contains-push_cases placed p q among) [
+        | inl before ↦ run.complete k d within q before early
+        | inr is ↦ absurd (let n = run.numbered k d within in let o = ap (λ x. x.origin) is in omega arith)
+      ];
 }
 
 -- A cycle is opened and run
@@ -124,8 +124,8 @@ at-offered : (layout : CycleLayout) (opening : Opening) (past : List TimedFrame)
     → offered_in layout opening past at frame → (start_of layout opening ≤ at) × (at < end_of_cycle layout opening)
 at-offered layout opening past at frame room some_time offer =
     elim offer [
-    | inl trigger ↦ let time = trigger.time in (omega arith, omega arith)
-    | inr choice ↦ let late = choice.1.late_enough in let early = choice.1.within in (omega arith, omega arith)
+      | inl trigger ↦ let time = trigger.time in (omega arith, omega arith)
+      | inr choice ↦ let late = choice.1.late_enough in let early = choice.1.within in (omega arith, omega arith)
     ]
 
 -- the time of the opening that follows
@@ -146,8 +146,8 @@ offered-before : (layout : CycleLayout) (openings : List Opening) (opening : Ope
     → offered layout (openings ++ opening ∷ []) past at frame → offered layout openings past at frame
 offered-before layout openings opening past at frame room some_time early offer =
     elim (Contains-push_cases openings opening offer.0 offer.1) [
-    | inl before ↦ (offer.0, before, offer.2)
-    | inr is ↦ let time = at-offered layout opening past at frame room some_time (subst (λ o. offered_in layout o past at frame) (sym is) offer.2) in absurd (omega arith)
+      | inl before ↦ (offer.0, before, offer.2)
+      | inr is ↦ let time = at-offered layout opening past at frame room some_time (subst (λ o. offered_in layout o past at frame) (sym is) offer.2) in absurd (omega arith)
     ]
 
 -- from its start on, only the next opening offers something
@@ -156,13 +156,13 @@ offered-after : (layout : CycleLayout) (openings : List Opening) (opening : Open
     → offered layout (openings ++ opening ∷ []) past at frame → offered_in layout opening past at frame
 offered-after layout openings opening past at frame some_time numbered rooms late offer =
     elim (Contains-push_cases openings opening offer.0 offer.1) [
-    | inl before ↦
-        let room = All-contains (HasRoom layout) openings offer.0 rooms before in
-        let time = at-offered layout offer.0 past at frame room.room some_time offer.2 in
-        let n : offer.0.cycle < opening.cycle = All-contains (λ o. o.cycle < opening.cycle) openings offer.0 numbered before in
-        let ends : (offer.0.cycle + 1) * layout.cycle ≤ opening.cycle * layout.cycle = mul-le-mul_right layout.cycle (omega arith) in
-        absurd (let early = time.1 in omega arith)
-    | inr is ↦ subst (λ o. offered_in layout o past at frame) (sym is) offer.2
+      | inl before ↦
+          let room = All-contains (HasRoom layout) openings offer.0 rooms before in
+          let time = at-offered layout offer.0 past at frame room.room some_time offer.2 in
+          let n : offer.0.cycle < opening.cycle = All-contains (λ o. o.cycle < opening.cycle) openings offer.0 numbered before in
+          let ends : (offer.0.cycle + 1) * layout.cycle ≤ opening.cycle * layout.cycle = mul-le-mul_right layout.cycle (omega arith) in
+          absurd (let early = time.1 in omega arith)
+      | inr is ↦ subst (λ o. offered_in layout o past at frame) (sym is) offer.2
     ]
 
 -- the frames of a cycle start in it
@@ -208,13 +208,13 @@ IsRunning-open layout placed openings next trace frames short trigger good run f
     let within = Follows-within (offered_in layout o) trace (next * layout.cycle) ((next + 1) * layout.cycle) frames follows in
     let times = cycle-frames layout o frames room runs in
     let of_cycle : (sent : TimedFrame) → Contains frames sent → cycle_of layout sent ≡ next = λ sent among.
-        let t = AllByRecursion-contains (IsOfCycle layout o) frames sent times among in
-        let w = AllByRecursion-contains (λ s. s.start < (next + 1) * layout.cycle) frames sent within among in
-        cycle_of-frame layout o sent t.late w in
+    let t = AllByRecursion-contains (IsOfCycle layout o) frames sent times among in
+    let w = AllByRecursion-contains (λ s. s.start < (next + 1) * layout.cycle) frames sent within among in
+    cycle_of-frame layout o sent t.late w in
     let before : (sent : TimedFrame) → Contains trace sent → cycle_of layout sent ≡ next → ⊥ = λ sent among same.
-        let started : sent.start < next * layout.cycle = All-contains (λ s. s.start < next * layout.cycle) trace sent run.started among in
-        let below = (div-lt_iff_lt-mul {k = layout.cycle} {x = sent.start} {y = next} (omega arith)).1 started in
-        omega arith in
+    let started : sent.start < next * layout.cycle = All-contains (λ s. s.start < next * layout.cycle) trace sent run.started among in
+    let below = (div-lt_iff_lt-mul {k = layout.cycle} {x = sent.start} {y = next} (omega arith)).1 started in
+    omega arith in
     let rooms : All (HasRoom layout) openings = λ k d here. earlier-room layout (get_or openings k d) _ (run.cycles k d here) in
     let longer : next * layout.cycle ≤ (next + 1) * layout.cycle = omega arith in
     record {
@@ -222,10 +222,10 @@ IsRunning-open layout placed openings next trace frames short trigger good run f
       distinct = run.distinct;
       light = run.light;
       opened = λ cycle below.
-        elim (cases_eq cycle next) [
-        | inl now ↦ (o, Contains-push openings o, sym now)
-        | inr earlier ↦ let old = run.opened cycle (omega arith) in (old.0, Contains-append_left openings (o ∷ []) old.0 old.1, old.2)
-        ];
+          elim (cases_eq cycle next) [
+            | inl now ↦ (o, Contains-push openings o, sym now)
+            | inr earlier ↦ let old = run.opened cycle (omega arith) in (old.0, Contains-append_left openings (o ∷ []) old.0 old.1, old.2)
+          ];
       numbered = All-push (λ x. x.cycle < next + 1) openings o (λ k d here. let n = run.numbered k d here in omega arith) (omega arith);
       masks = All-push (λ x. x.mask ≡ released_in x.placed x.cycle) openings o run.masks refl;
       subset = All-push (λ x. (p : Placed) → Contains x.placed p → Contains placed p) openings o run.subset (λ p among. among);
@@ -236,27 +236,27 @@ IsRunning-open layout placed openings next trace frames short trigger good run f
           (λ k d here. let t = run.ended k d here in omega arith)
           (All-from_recursion (λ s. end_of s ≤ (next + 1) * layout.cycle) frames (mapped (IsOfCycle layout o) (λ s. end_of s ≤ (next + 1) * layout.cycle) frames (λ s t. t.ends) times));
       follows =
-        Follows-append (offered layout (openings ++ o ∷ [])) [] 0 (next * layout.cycle) ((next + 1) * layout.cycle) trace frames (omega arith) longer
-        (recursion_from_All (λ s. end_of s ≤ next * layout.cycle) trace run.ended)
-        (Follows-same (offered layout openings) (offered layout (openings ++ o ∷ [])) 0 [] 0 (next * layout.cycle) trace
+          Follows-append (offered layout (openings ++ o ∷ [])) [] 0 (next * layout.cycle) ((next + 1) * layout.cycle) trace frames (omega arith) longer
+          (recursion_from_All (λ s. end_of s ≤ next * layout.cycle) trace run.ended)
+          (Follows-same (offered layout openings) (offered layout (openings ++ o ∷ [])) 0 [] 0 (next * layout.cycle) trace
           (λ p at frame _ _ offer. (offer.0, Contains-append_left openings (o ∷ []) offer.0 offer.1, offer.2))
           (λ p at frame _ early offer. offered-before layout openings o p at frame room (omega arith) early offer)
           (omega arith) run.follows)
-        (Follows-same (offered_in layout o) (offered layout (openings ++ o ∷ [])) (next * layout.cycle) trace (next * layout.cycle) ((next + 1) * layout.cycle) frames
+          (Follows-same (offered_in layout o) (offered layout (openings ++ o ∷ [])) (next * layout.cycle) trace (next * layout.cycle) ((next + 1) * layout.cycle) frames
           (λ p at frame _ _ offer. (o, Contains-push openings o, offer))
           (λ p at frame late _ offer. offered-after layout openings o p at frame (omega arith) run.numbered rooms late offer)
           (omega arith) follows);
       cycles = All-push (λ x. RunsCycle layout x (frames_in layout x.cycle (trace ++ frames))) openings o
-        (λ k d here.
+          (λ k d here.
           let n = run.numbered k d here in
           let c : ℕ = (get_or openings k d).cycle in
           let none : frames_in layout c frames ≡ [] = filter-none (λ s. eqb (cycle_of layout s) c) frames (λ s among. ne_eqb _ _ (λ same. let is = of_cycle s among in omega arith)) in
           let same : frames_in layout c (trace ++ frames) ≡ frames_in layout c trace =
-            filter-append (λ s. eqb (cycle_of layout s) c) trace frames ∙ ap (λ l. frames_in layout c trace ++ l) none ∙ append-nil _ in
+          filter-append (λ s. eqb (cycle_of layout s) c) trace frames ∙ ap (λ l. frames_in layout c trace ++ l) none ∙ append-nil _ in
           subst (λ l. RunsCycle layout (get_or openings k d) l) (sym same) (run.cycles k d here))
-        (let none : frames_in layout next trace ≡ [] = filter-none (λ s. eqb (cycle_of layout s) next) trace (λ s among. ne_eqb _ _ (before s among)) in
-         let all : frames_in layout next frames ≡ frames = filter-all (λ s. eqb (cycle_of layout s) next) frames (λ s among. eq-eqb _ _ (of_cycle s among)) in
-         let same : frames_in layout next (trace ++ frames) ≡ frames =
-            filter-append (λ s. eqb (cycle_of layout s) next) trace frames ∙ ap (λ l. l ++ frames_in layout next frames) none ∙ all in
-         subst (λ l. RunsCycle layout o l) (sym same) runs);
+          (let none : frames_in layout next trace ≡ [] = filter-none (λ s. eqb (cycle_of layout s) next) trace (λ s among. ne_eqb _ _ (before s among)) in
+          let all : frames_in layout next frames ≡ frames = filter-all (λ s. eqb (cycle_of layout s) next) frames (λ s among. eq-eqb _ _ (of_cycle s among)) in
+          let same : frames_in layout next (trace ++ frames) ≡ frames =
+          filter-append (λ s. eqb (cycle_of layout s) next) trace frames ∙ ap (λ l. l ++ frames_in layout next frames) none ∙ all in
+          subst (λ l. RunsCycle layout o l) (sym same) runs);
     }

@@ -27,8 +27,8 @@ use Rattle.fttcan_top.proofs.Filters.{filter-same, filter-filter, Contains-filte
 releases-apart : (first period k later c : ℕ) → first + k * period < c → c < first + k * period + period → first + later * period ≡ c → ⊥
 releases-apart first period k later c after before is =
     elim (cases_lt k later) [
-    | inl more ↦ let far : (k + 1) * period ≤ later * period = mul-le-mul_right period (omega arith) in omega arith
-    | inr less ↦ let near : later * period ≤ k * period = mul-le-mul_right period less in omega arith
+      | inl more ↦ let far : (k + 1) * period ≤ later * period = mul-le-mul_right period (omega arith) in omega arith
+      | inr less ↦ let near : later * period ≤ k * period = mul-le-mul_right period less in omega arith
     ]
 
 -- an entry without an end has every instance
@@ -44,14 +44,14 @@ unflagged-after : (layout : CycleLayout) (placed : List Placed) (openings : List
     → release_of p k < opening.cycle → opening.cycle < release_of p k + p.entry.deadline → IsUnflagged opening p.entry.slot
 unflagged-after layout placed openings next trace opening p k run opened stands after before = record {
   is = false_from_ne_true _ (λ flagged.
-    let mask : opening.mask ≡ released_in opening.placed opening.cycle = All-contains (λ o. o.mask ≡ released_in o.placed o.cycle) openings opening run.masks opened in
-    let r = releasing-flagged opening.placed opening.cycle p.entry.slot (subst (λ m. contains_slot m p.entry.slot ≡ true) mask flagged) in
-    let among : Contains placed r.p = All-contains (λ o. (q : Placed) → Contains o.placed q → Contains placed q) openings opening run.subset opened r.p r.stands in
-    let same : r.p ≡ p = unique-placed placed r.p p run.distinct among stands r.of_slot in
-    let live = All-contains IsLive placed p run.live stands in
-    let deadline = live.deadline in
-    let released = IsReleasedIn-from_released_by p r.k opening.cycle (subst (λ q. released_by q opening.cycle ≡ Some r.k) same r.releases) in
-    releases-apart (p.origin + p.entry.phase) p.entry.period k r.k opening.cycle after (omega arith) released.release)
+      let mask : opening.mask ≡ released_in opening.placed opening.cycle = All-contains (λ o. o.mask ≡ released_in o.placed o.cycle) openings opening run.masks opened in
+      let r = releasing-flagged opening.placed opening.cycle p.entry.slot (subst (λ m. contains_slot m p.entry.slot ≡ true) mask flagged) in
+      let among : Contains placed r.p = All-contains (λ o. (q : Placed) → Contains o.placed q → Contains placed q) openings opening run.subset opened r.p r.stands in
+      let same : r.p ≡ p = unique-placed placed r.p p run.distinct among stands r.of_slot in
+      let live = All-contains IsLive placed p run.live stands in
+      let deadline = live.deadline in
+      let released = IsReleasedIn-from_released_by p r.k opening.cycle (subst (λ q. released_by q opening.cycle ≡ Some r.k) same r.releases) in
+      releases-apart (p.origin + p.entry.phase) p.entry.period k r.k opening.cycle after (omega arith) released.release);
 }
 
 -- a frame of the slot is among the frames behind the trigger of its cycle
@@ -59,8 +59,8 @@ among-later : (layout : CycleLayout) (opening : Opening) (frames : List TimedFra
     → (runs : RunsCycle layout opening frames) → Contains frames sent → sent.frame.identifier ≡ first_identifier + slot → Contains runs.later sent
 among-later layout opening frames slot sent runs among same =
     elim (Contains-cons_cases runs.trigger runs.later sent (subst (λ l. Contains l sent) runs.all_frames among)) [
-    | inl trigger ↦ absurd (let zero = runs.trigger_identifier in let is : runs.trigger.frame.identifier ≡ sent.frame.identifier = ap (λ s. s.frame.identifier) trigger in omega arith)
-    | inr later ↦ later
+      | inl trigger ↦ absurd (let zero = runs.trigger_identifier in let is : runs.trigger.frame.identifier ≡ sent.frame.identifier = ap (λ s. s.frame.identifier) trigger in omega arith)
+      | inr later ↦ later
     ]
 
 -- a slot that is not flagged sends nothing in the cycle
@@ -124,27 +124,27 @@ all_served layout placed openings next trace some_time run p k last stands exist
     let is_slot : TimedFrame → Bool = λ s. eqb s.frame.identifier (first_identifier + slot) in
     let in_cycles : TimedFrame → Bool = λ s. leb release (cycle_of layout s) && leb (cycle_of layout s) last in
     let agree : (s : TimedFrame) → Contains trace s → (is_slot s && in_cycles s) ≡ (eqb (cycle_of layout s) o.cycle && is_slot s) = λ s among.
-        elim (cases_eq s.frame.identifier (first_identifier + slot)) [
-        | inr other ↦ and_left _ _ (ne_eqb _ _ other) ∙ sym (and_right _ _ (ne_eqb _ _ other))
-        | inl same ↦ elim (cases_eq (cycle_of layout s) o.cycle) [
-          | inl here ↦ and_from _ _ (eq-eqb _ _ same) (and_from _ _ (le-leb release (cycle_of layout s) (omega arith)) (le-leb (cycle_of layout s) last (omega arith)))
-              ∙ sym (and_from _ _ (eq-eqb _ _ here) (eq-eqb _ _ same))
-          | inr elsewhere ↦
-              and_right (is_slot s) _ (false_from_ne_true _ (λ within.
-                let parts = and_parts (leb release (cycle_of layout s)) _ within in
-                let late = leb-true _ _ parts.0 in
-                let early = leb-true _ _ parts.1 in
-                let other = run.opened (cycle_of layout s) (omega arith) in
-                let unflagged = unflagged-after layout placed openings next trace other.0 p k run other.1 stands (let is = other.2 in omega arith) (let is = other.2 in omega arith) in
-                let others = All-contains (λ x. RunsCycle layout x (frames_in layout x.cycle trace)) openings other.0 run.cycles other.1 in
-                nothing-sent layout other.0 trace slot s known others unflagged among (sym other.2) same))
-              ∙ sym (and_left _ _ (ne_eqb _ _ elsewhere))
-          ]
-        ] in
+    elim (cases_eq s.frame.identifier (first_identifier + slot)) [
+      | inr other ↦ and_left _ _ (ne_eqb _ _ other) ∙ sym (and_right _ _ (ne_eqb _ _ other))
+      | inl same ↦ elim (cases_eq (cycle_of layout s) o.cycle) [
+        | inl here ↦ and_from _ _ (eq-eqb _ _ same) (and_from _ _ (le-leb release (cycle_of layout s) (omega arith)) (le-leb (cycle_of layout s) last (omega arith)))
+            ∙ sym (and_from _ _ (eq-eqb _ _ here) (eq-eqb _ _ same))
+        | inr elsewhere ↦
+            and_right (is_slot s) _ (false_from_ne_true _ (λ within.
+            let parts = and_parts (leb release (cycle_of layout s)) _ within in
+            let late = leb-true _ _ parts.0 in
+            let early = leb-true _ _ parts.1 in
+            let other = run.opened (cycle_of layout s) (omega arith) in
+            let unflagged = unflagged-after layout placed openings next trace other.0 p k run other.1 stands (let is = other.2 in omega arith) (let is = other.2 in omega arith) in
+            let others = All-contains (λ x. RunsCycle layout x (frames_in layout x.cycle trace)) openings other.0 run.cycles other.1 in
+            nothing-sent layout other.0 trace slot s known others unflagged among (sym other.2) same))
+            ∙ sym (and_left _ _ (ne_eqb _ _ elsewhere))
+      ]
+    ] in
     let once : frames_of layout (first_identifier + slot) release last trace ≡ sent.sent ∷ [] =
-        filter-same (λ s. is_slot s && in_cycles s) (λ s. eqb (cycle_of layout s) o.cycle && is_slot s) trace agree
-        ∙ sym (filter-filter is_slot (λ s. eqb (cycle_of layout s) o.cycle) trace)
-        ∙ of_slot-cycle layout o _ slot runs ∙ sent.once in
+    filter-same (λ s. is_slot s && in_cycles s) (λ s. eqb (cycle_of layout s) o.cycle && is_slot s) trace agree
+    ∙ sym (filter-filter is_slot (λ s. eqb (cycle_of layout s) o.cycle) trace)
+    ∙ of_slot-cycle layout o _ slot runs ∙ sent.once in
     record {
       sent = sent.sent;
       once = once;

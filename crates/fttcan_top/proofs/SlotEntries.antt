@@ -41,7 +41,7 @@ flagged-entry placed slot cycle p live distinct flagged is =
     let released = IsReleasedIn-from_released_by p r.k cycle (subst (λ q. released_by q cycle ≡ Some r.k) same r.releases) in
     let sends = instance_of-sent p r.k cycle is_live.deadline (MaySend-released p r.k cycle is_live.some_time released) in
     let instance = instance_in-only placed slot cycle r.k p found.stands found.of_slot
-        (λ q among of_slot. unique-placed placed q p distinct among found.stands (of_slot ∙ sym found.of_slot)) sends in
+    (λ q among of_slot. unique-placed placed q p distinct among found.stands (of_slot ∙ sym found.of_slot)) sends in
     record { live = is_live; k = r.k; sends = sends; bytes = ap (option_map bytes_of) instance }
 
 -- what the slot costs and sends

@@ -45,25 +45,26 @@ can-add nodes steps i caller start entry placed next are add is_next split slots
     let range = add.in_range in
     let in_time : cycles_of (take i steps) ≤ start = are.together.in_time (take i steps) (drop (i + 1) steps) caller start entry split in
     let slots_split : slots_of steps ≡ slots_of (take i steps) ++ entry.slot ∷ slots_of (drop (i + 1) steps) =
-        ap slots_of split ∙ filter_map-append slot_of (take i steps) (Add caller start entry ∷ drop (i + 1) steps) in
-    let distinct = subst (λ l. AllPairs ◌≢◌ l) slots_split are.together.distinct_slots in
-    (omega arith,
-     record {
-      known = range.known_slot;
-      few = range.few_bytes;
-      some_time = range.some_time;
-      deadline = range.in_period;
-      no_end = refl;
-      origin = add.early_start;
-    },
-     omega arith,
-     elim (option_cases (entry_of placed entry.slot)) [
-     | inl none ↦ none
-     | inr some ↦
-        let found = entry_of-found placed entry.slot some.0 some.1 in
-        absurd (not-before (slots_of (take i steps)) (slots_of (drop (i + 1) steps)) entry.slot distinct
-          (subst (λ s. Contains (slots_of (take i steps)) s) found.of_slot (slots some.0 found.stands)))
-     ])
+    ap slots_of split ∙ filter_map-append slot_of (take i steps) (Add caller start entry ∷ drop (i + 1) steps) in
+    let distinct = subst (λ l. AllPairs ◌≢◌ l) slots_split are.together.distinct_slots in (
+      omega arith,
+      record {
+        known = range.known_slot;
+        few = range.few_bytes;
+        some_time = range.some_time;
+        deadline = range.in_period;
+        no_end = refl;
+        origin = add.early_start;
+      },
+      omega arith,
+      elim (option_cases (entry_of placed entry.slot)) [
+        | inl none ↦ none
+        | inr some ↦
+            let found = entry_of-found placed entry.slot some.0 some.1 in
+            absurd (not-before (slots_of (take i steps)) (slots_of (drop (i + 1) steps)) entry.slot distinct
+            (subst (λ s. Contains (slots_of (take i steps)) s) found.of_slot (slots some.0 found.stands)))
+      ],
+    )
 
 can-run-step : (nodes : ℕ) (steps : List Step) (i : ℕ) (step : Step) (placed : List Placed) (next : ℕ)
     → AreSteps nodes steps → IsStep nodes step → next ≡ cycles_of (take i steps) → cycles_of (take i steps) + count_of step ≤ cycles_of steps
@@ -97,7 +98,7 @@ cycles-more steps i d within = ap cycles_of (take_more steps i d within) ∙ sum
 -- what a verdict places is the entry
 placed-slot : (verdict : Verdict) (start : ℕ) (entry : Entry) (p : Placed) → Contains (placed_by verdict (placed_at start entry)) p → entry.slot ≡ p.entry.slot
 placed-slot (Accepted first len) start entry p among =
-    elim (Contains-push_cases [] (placed_at start entry) p among) [ | inl none ↦ absurd (let within = none.1 in omega arith) | inr same ↦ ap (λ x. x.entry.slot) same ]
+    elim (Contains-push_cases [] (placed_at start entry) p among) [ inl none ↦ absurd (let within = none.1 in omega arith) | inr same ↦ ap (λ x. x.entry.slot) same ]
 placed-slot (TooHeavy sum window) start entry p among = absurd (let within = among.1 in omega arith)
 placed-slot (Horizon from walked) start entry p among = absurd (let within = among.1 in omega arith)
 
@@ -106,6 +107,6 @@ pub slots-placed : (slots : List ℕ) (placed after : List Placed) (caller start
     → after ≡ placed ++ placed_by verdict (placed_at start entry) → AreInSlots slots placed → AreInSlots (slots ++ slots_of (Add caller start entry ∷ [])) after
 slots-placed slots placed after caller start entry verdict is in_slots p among =
     elim (Contains-append_cases placed (placed_by verdict (placed_at start entry)) p (subst (λ l. Contains l p) is among)) [
-    | inl before ↦ Contains-append_left slots (entry.slot ∷ []) p.entry.slot (in_slots p before)
-    | inr now ↦ subst (λ s. Contains (slots ++ entry.slot ∷ []) s) (placed-slot verdict start entry p now) (Contains-push slots entry.slot)
+      | inl before ↦ Contains-append_left slots (entry.slot ∷ []) p.entry.slot (in_slots p before)
+      | inr now ↦ subst (λ s. Contains (slots ++ entry.slot ∷ []) s) (placed-slot verdict start entry p now) (Contains-push slots entry.slot)
     ]

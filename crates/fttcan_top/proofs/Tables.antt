@@ -27,24 +27,24 @@ pub IsBySlot-place : (placed : List Placed) (by_slot : List (Option Placed)) (p 
 IsBySlot-place placed by_slot p is known free = record {
   places = length-set by_slot p.entry.slot (Some p) ∙ is.places;
   each = λ slot below.
-    elim (cases_eq slot p.entry.slot) [
-    | inl same ↦
-        let here : get_or (set by_slot p.entry.slot (Some p)) slot None ≡ Some p =
+      elim (cases_eq slot p.entry.slot) [
+        | inl same ↦
+            let here : get_or (set by_slot p.entry.slot (Some p)) slot None ≡ Some p =
             ap (λ s. get_or (set by_slot p.entry.slot (Some p)) s None) same ∙ get_or-set_same by_slot p.entry.slot (Some p) None (let places = is.places in omega arith) in
-        let found : entry_of (placed ++ p ∷ []) slot ≡ Some p =
+            let found : entry_of (placed ++ p ∷ []) slot ≡ Some p =
             find-append (λ q. eqb q.entry.slot slot) placed (p ∷ [])
             ∙ ap (λ o. option_or o (find (λ q. eqb q.entry.slot slot) (p ∷ []))) (ap (entry_of placed) same ∙ free)
             ∙ cond-true (eqb p.entry.slot slot) (Some p) None (eq-eqb _ _ (sym same)) in
-        here ∙ sym found
-    | inr other ↦
-        let here : get_or (set by_slot p.entry.slot (Some p)) slot None ≡ entry_of placed slot =
+            here ∙ sym found
+        | inr other ↦
+            let here : get_or (set by_slot p.entry.slot (Some p)) slot None ≡ entry_of placed slot =
             get_or-set_other by_slot p.entry.slot slot (Some p) None other ∙ is.each slot below in
-        let found : entry_of (placed ++ p ∷ []) slot ≡ entry_of placed slot =
+            let found : entry_of (placed ++ p ∷ []) slot ≡ entry_of placed slot =
             find-append (λ q. eqb q.entry.slot slot) placed (p ∷ [])
             ∙ ap (option_or (entry_of placed slot)) (cond-false (eqb p.entry.slot slot) (Some p) None (ne_eqb _ _ (λ same. other (sym same))))
             ∙ option_or-none _ in
-        here ∙ sym found
-    ];
+            here ∙ sym found
+      ];
 }
 
 -- the entry of a slot stands in the list, in this slot
@@ -56,12 +56,12 @@ pub entry_of-found : (placed : List Placed) (slot : ℕ) (p : Placed) → entry_
 entry_of-found [] slot p e = absurd (cc)
 entry_of-found (q ∷ qs) slot p e =
     elim (cases_Bool (eqb q.entry.slot slot)) [
-    | inl here ↦
-        let is : q ≡ p = (let s : Some q ≡ Some p = sym (cond-true (eqb q.entry.slot slot) (Some q) (entry_of qs slot) here) ∙ e in cc) in
-        record { stands = subst (λ x. Contains (q ∷ qs) x) is (Contains-head q qs); of_slot = subst (λ x. x.entry.slot ≡ slot) is (eqb-true _ _ here) }
-    | inr not_here ↦
-        let rest = entry_of-found qs slot p (sym (cond-false (eqb q.entry.slot slot) (Some q) (entry_of qs slot) not_here) ∙ e) in
-        record { stands = Contains-tail q qs p rest.stands; of_slot = rest.of_slot }
+      | inl here ↦
+          let is : q ≡ p = (let s : Some q ≡ Some p = sym (cond-true (eqb q.entry.slot slot) (Some q) (entry_of qs slot) here) ∙ e in cc) in
+          record { stands = subst (λ x. Contains (q ∷ qs) x) is (Contains-head q qs); of_slot = subst (λ x. x.entry.slot ≡ slot) is (eqb-true _ _ here) }
+      | inr not_here ↦
+          let rest = entry_of-found qs slot p (sym (cond-false (eqb q.entry.slot slot) (Some q) (entry_of qs slot) not_here) ∙ e) in
+          record { stands = Contains-tail q qs p rest.stands; of_slot = rest.of_slot }
     ]
 
 -- a slot with no entry has none in the list
@@ -69,9 +69,9 @@ pub entry_of-none : (placed : List Placed) (slot : ℕ) (p : Placed) → entry_o
 entry_of-none [] slot p e among same = let within = among.1 in omega arith
 entry_of-none (q ∷ qs) slot p e among same =
     elim (cases_Bool (eqb q.entry.slot slot)) [
-    | inl here ↦ let s : Some q ≡ None = sym (cond-true (eqb q.entry.slot slot) (Some q) (entry_of qs slot) here) ∙ e in let none : ⊥ = cc in none
-    | inr not_here ↦ elim (Contains-cons_cases q qs p among) [
-      | inl is ↦ let t = eq-eqb q.entry.slot slot (ap (λ x. x.entry.slot) is ∙ same) in let none : ⊥ = cc in none
-      | inr later ↦ entry_of-none qs slot p (sym (cond-false (eqb q.entry.slot slot) (Some q) (entry_of qs slot) not_here) ∙ e) later same
+      | inl here ↦ let s : Some q ≡ None = sym (cond-true (eqb q.entry.slot slot) (Some q) (entry_of qs slot) here) ∙ e in let none : ⊥ = cc in none
+      | inr not_here ↦ elim (Contains-cons_cases q qs p among) [
+        | inl is ↦ let t = eq-eqb q.entry.slot slot (ap (λ x. x.entry.slot) is ∙ same) in let none : ⊥ = cc in none
+        | inr later ↦ entry_of-none qs slot p (sym (cond-false (eqb q.entry.slot slot) (Some q) (entry_of qs slot) not_here) ∙ e) later same
       ]
     ]

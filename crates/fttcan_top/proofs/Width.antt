@@ -31,8 +31,8 @@ sum_where-le zero p f g larger = omega arith
 sum_where-le (suc n) p f g larger =
     let front = sum_where-le n p f g (λ s h. larger s (omega arith)) in
     let here : cond (p n) (f n) 0 ≤ g n = elim (cases_Bool (p n)) [
-    | inl on ↦ let e = cond-true (p n) (f n) 0 on in let l = larger n (omega arith) on in omega arith
-    | inr off ↦ let e = cond-false (p n) (f n) 0 off in omega arith
+      | inl on ↦ let e = cond-true (p n) (f n) 0 on in let l = larger n (omega arith) on in omega arith
+      | inr off ↦ let e = cond-false (p n) (f n) 0 off in omega arith
     ] in
     omega arith
 
@@ -50,13 +50,13 @@ sum_where-one (suc n) a c =
     let none_before = front.0 in
     let before = front.1 in
     elim (cases_eq a n) as (λ _. (suc n ≤ a → sum_where n every (λ s. cond (eqb a s) c 0) + cond (eqb a n) c 0 ≡ 0) × (sum_where n every (λ s. cond (eqb a s) c 0) + cond (eqb a n) c 0 ≤ c)) [
-    | inl same ↦
-        let e = cond-true (eqb a n) c 0 (eq-eqb a n same) in
-        let none = front.0 (omega arith) in
-        (λ h. absurd (omega arith), omega arith)
-    | inr other ↦
-        let e = cond-false (eqb a n) c 0 (ne_eqb a n other) in
-        (λ h. let none = front.0 (omega arith) in omega arith, omega arith)
+      | inl same ↦
+          let e = cond-true (eqb a n) c 0 (eq-eqb a n same) in
+          let none = front.0 (omega arith) in
+          (λ h. absurd (omega arith), omega arith)
+      | inr other ↦
+          let e = cond-false (eqb a n) c 0 (ne_eqb a n other) in
+          (λ h. let none = front.0 (omega arith) in omega arith, omega arith)
     ]
 
 -- what the entries of a slot cost together
@@ -82,12 +82,12 @@ cost_at-member : (placed : List Placed) (slot : ℕ) (p : Placed) → Contains p
 cost_at-member [] slot p among same = absurd (let within = among.1 in omega arith)
 cost_at-member (q ∷ ps) slot p among same =
     elim (Contains-cons_cases q ps p among) [
-    | inl here ↦
-        let e = cond-true (eqb p.entry.slot slot) (worst p.entry.length) 0 (eq-eqb _ _ same) in
-        let here_cost : cond (eqb q.entry.slot slot) (worst q.entry.length) 0 ≡ worst p.entry.length =
-            subst (λ x. cond (eqb x.entry.slot slot) (worst x.entry.length) 0 ≡ worst p.entry.length) (sym here) e in
-        omega arith
-    | inr later ↦ let rest = cost_at-member ps slot p later same in omega arith
+      | inl here ↦
+          let e = cond-true (eqb p.entry.slot slot) (worst p.entry.length) 0 (eq-eqb _ _ same) in
+          let here_cost : cond (eqb q.entry.slot slot) (worst q.entry.length) 0 ≡ worst p.entry.length =
+          subst (λ x. cond (eqb x.entry.slot slot) (worst x.entry.length) 0 ≡ worst p.entry.length) (sym here) e in
+          omega arith
+      | inr later ↦ let rest = cost_at-member ps slot p later same in omega arith
     ]
 
 some-number : (o : Option ℕ) → is_some o ≡ true → (k : ℕ) × (o ≡ Some k)
@@ -139,10 +139,10 @@ instance-flagged opening slot mask live flagged =
 pub width-le : (opening : Opening) → opening.mask ≡ released_in opening.placed opening.cycle → All IsLive opening.placed → width_of opening ≤ total_cost opening.placed
 width-le opening mask live =
     let by_slot = sum_where-le SLOTS (contains_slot opening.mask) (slot_cost opening) (cost_at opening.placed) (λ s known flagged.
-        let sends = instance-flagged opening s mask live flagged in
-        let bytes : slot_cost opening s ≡ worst (length (bytes_of sends.i)) = ap (λ o. worst (length (unwrap_or (option_map bytes_of o) []))) sends.found in
-        let len : length (bytes_of sends.i) ≡ sends.i.placed.entry.length = length-payload sends.i.placed.entry.length sends.i.number in
-        let member = cost_at-member opening.placed s sends.i.placed sends.stands sends.of_slot in
-        omega arith) in
+    let sends = instance-flagged opening s mask live flagged in
+    let bytes : slot_cost opening s ≡ worst (length (bytes_of sends.i)) = ap (λ o. worst (length (unwrap_or (option_map bytes_of o) []))) sends.found in
+    let len : length (bytes_of sends.i) ≡ sends.i.placed.entry.length = length-payload sends.i.placed.entry.length sends.i.number in
+    let member = cost_at-member opening.placed s sends.i.placed sends.stands sends.of_slot in
+    omega arith) in
     let all = costs-total opening.placed in
     omega arith

@@ -22,17 +22,18 @@ offers_pending : (layout : CycleLayout) (opening : Opening) (past : List TimedFr
     → (frame : DataFrame) × OffersSlot layout opening past at frame slot
 offers_pending layout opening past slot at fit known pending late early =
     let parts = and_parts (contains_slot opening.mask slot) _ pending in
-    let p = fit.present slot known parts.0 in
-    (record { identifier = first_identifier + slot; bytes = p.0 },
-     record {
-      late_enough = late;
-      within = early;
-      known = known;
-      flagged = parts.0;
-      unsent = IsUnsent-from_test layout opening past slot (not-true _ parts.1);
-      identifier = refl;
-      bytes = p.1;
-    })
+    let p = fit.present slot known parts.0 in (
+      record { identifier = first_identifier + slot; bytes = p.0 },
+      record {
+        late_enough = late;
+        within = early;
+        known = known;
+        flagged = parts.0;
+        unsent = IsUnsent-from_test layout opening past slot (not-true _ parts.1);
+        identifier = refl;
+        bytes = p.1;
+      },
+    )
 
 -- an offered slot is pending
 pub pending-offered : (layout : CycleLayout) (opening : Opening) (past : List TimedFrame) (at slot : ℕ) (frame : DataFrame)
@@ -73,16 +74,16 @@ starts_now : (layout : CycleLayout) (opening : Opening) (past : List TimedFrame)
     → OffersSlot layout opening past sent.start sent.frame slot → sent.start ≡ now
 starts_now layout opening past free now sent slot fit is_free in_window which next offer =
     let no_later : sent.start ≤ now = elim (cases_lt now sent.start) [
-    | inl gap ↦
-        let pending = pending-offered layout opening past sent.start slot sent.frame offer in
-        let within = next.within in
-        let earlier = offers_pending layout opening past slot now fit offer.known pending in_window (omega arith) in
-        absurd (next.first now earlier.0 is_free gap (inr (slot, earlier.1)))
-    | inr no_gap ↦ no_gap
+      | inl gap ↦
+          let pending = pending-offered layout opening past sent.start slot sent.frame offer in
+          let within = next.within in
+          let earlier = offers_pending layout opening past slot now fit offer.known pending in_window (omega arith) in
+          absurd (next.first now earlier.0 is_free gap (inr (slot, earlier.1)))
+      | inr no_gap ↦ no_gap
     ] in
     let when_free = next.when_free in
     let late_enough = offer.late_enough in
-    elim which [ | inl e ↦ omega arith | inr e ↦ omega arith ]
+    elim which [ inl e ↦ omega arith | inr e ↦ omega arith ]
 
 -- the frame that starts now, and those after it
 joined : (layout : CycleLayout) (opening : Opening) (past : List TimedFrame) (sent : TimedFrame) (slot : ℕ) (later : List TimedFrame)
@@ -93,41 +94,44 @@ joined layout opening past sent slot later offer pending late ends rest =
     let sent_now = is_pending-sent layout opening past sent slot offer.identifier late in
     record {
       each = λ x known is_pending_x.
-        elim (cases_eq x slot) [
-        | inl e ↦ record {
-          sent = sent;
-          once = of_slot-same x sent later (offer.identifier ∙ ap (λ k. first_identifier + k) (sym e))
-              ∙ ap (λ l. sent ∷ l) (subst (λ k. of_slot k later ≡ []) (sym e) (rest.none slot offer.known sent_now));
-          after = offer.late_enough;
-          starts_before = offer.within;
-          before = ends;
-          carries = subst (λ k. bytes_in opening k ≡ Some sent.frame.bytes) (sym e) offer.bytes;
-        }
-        | inr ne ↦
-            let other : sent.frame.identifier ≡ first_identifier + x → ⊥ = λ same. ne (let is = offer.identifier in omega arith) in
-            let still : is_pending layout opening (past ++ sent ∷ []) x ≡ true = is_pending-other layout opening past sent x other ∙ is_pending_x in
-            let found = rest.each x known still in
-            record {
-              sent = found.sent;
-              once = of_slot-other x sent later other ∙ found.once;
-              after = found.after;
-              starts_before = found.starts_before;
-              before = found.before;
-              carries = found.carries;
+          elim (cases_eq x slot) [
+            | inl e ↦ record {
+              sent = sent;
+              once = of_slot-same x sent later (offer.identifier ∙ ap (λ k. first_identifier + k) (sym e))
+                  ∙ ap (λ l. sent ∷ l) (subst (λ k. of_slot k later ≡ []) (sym e) (rest.none slot offer.known sent_now));
+              after = offer.late_enough;
+              starts_before = offer.within;
+              before = ends;
+              carries = subst (λ k. bytes_in opening k ≡ Some sent.frame.bytes) (sym e) offer.bytes;
             }
-        ];
+            | inr ne ↦
+                let other : sent.frame.identifier ≡ first_identifier + x → ⊥ = λ same. ne (let is = offer.identifier in omega arith) in
+                let still : is_pending layout opening (past ++ sent ∷ []) x ≡ true = is_pending-other layout opening past sent x other ∙ is_pending_x in
+                let found = rest.each x known still in
+                record {
+                  sent = found.sent;
+                  once = of_slot-other x sent later other ∙ found.once;
+                  after = found.after;
+                  starts_before = found.starts_before;
+                  before = found.before;
+                  carries = found.carries;
+                }
+          ];
       none = λ x known not_pending.
-        let other : sent.frame.identifier ≡ first_identifier + x → ⊥ =
-            λ same. let is : x ≡ slot = (let id = offer.identifier in omega arith) in both_ways _ not_pending (subst (λ k. is_pending layout opening past k ≡ true) (sym is) pending) in
-        of_slot-other x sent later other ∙ rest.none x known (is_pending-other layout opening past sent x other ∙ not_pending);
-      all = (record {
-        slot = slot;
-        known = offer.known;
-        flagged = offer.flagged;
-        identifier = offer.identifier;
-        after = offer.late_enough;
-        before = ends;
-      }, rest.all);
+          let other : sent.frame.identifier ≡ first_identifier + x → ⊥ =
+          λ same. let is : x ≡ slot = (let id = offer.identifier in omega arith) in both_ways _ not_pending (subst (λ k. is_pending layout opening past k ≡ true) (sym is) pending) in
+          of_slot-other x sent later other ∙ rest.none x known (is_pending-other layout opening past sent x other ∙ not_pending);
+      all = (
+        record {
+          slot = slot;
+          known = offer.known;
+          flagged = offer.flagged;
+          identifier = offer.identifier;
+          after = offer.late_enough;
+          before = ends;
+        },
+        rest.all,
+      );
     }
 
 -- the window's frames: from the time `now` on, at which the bus is free and the window has begun, the pending slots have room until the
@@ -140,28 +144,28 @@ pub sends_pending : (layout : CycleLayout) (opening : Opening) (past : List Time
     → SendsPending layout opening past frames
 sends_pending layout opening past free now [] fit begun is_free in_window which room nothing = record {
   each = λ slot known pending.
-    let wide = pending_width-positive layout opening past slot known pending in
-    let offer = offers_pending layout opening past slot now fit known pending in_window (omega arith) in
-    absurd (nothing now offer.0 is_free (omega arith) (inr (slot, offer.1)));
+      let wide = pending_width-positive layout opening past slot known pending in
+      let offer = offers_pending layout opening past slot now fit known pending in_window (omega arith) in
+      absurd (nothing now offer.0 is_free (omega arith) (inr (slot, offer.1)));
   none = λ slot known not_pending. refl;
   all = tt;
 }
 sends_pending layout opening past free now (sent ∷ later) fit begun is_free in_window which room follows =
     elim follows.0.least.offered as (λ _. SendsPending layout opening past (sent ∷ later)) [
-    | inl trigger ↦ absurd (let at = trigger.time in let later_start = follows.0.when_free in omega arith)
-    | inr choice ↦
-        let slot : ℕ = choice.0 in
-        let offer : OffersSlot layout opening past sent.start sent.frame slot = choice.1 in
-        let pending = pending-offered layout opening past sent.start slot sent.frame offer in
-        let wide = pending_width-positive layout opening past slot offer.known pending in
-        let at_now : sent.start ≡ now = starts_now layout opening past free now sent slot fit is_free in_window which follows.0 offer in
-        let late : start_of layout opening ≤ sent.start = omega arith in
-        let less = pending_width-sent layout opening past sent slot offer.known pending offer.identifier late in
-        let in_time = fit.in_time slot sent.frame offer.known offer.identifier offer.bytes in
-        let some_time = fit.some_time slot sent.frame offer.known offer.identifier offer.bytes in
-        let whole = follows.0.whole in
-        let rest = sends_pending layout opening (past ++ sent ∷ []) (end_of sent) (end_of sent) later fit (omega arith) (omega arith) (omega arith) (inl refl) (omega arith) follows.1 in
-        joined layout opening past sent slot later offer pending late (omega arith) rest
+      | inl trigger ↦ absurd (let at = trigger.time in let later_start = follows.0.when_free in omega arith)
+      | inr choice ↦
+          let slot : ℕ = choice.0 in
+          let offer : OffersSlot layout opening past sent.start sent.frame slot = choice.1 in
+          let pending = pending-offered layout opening past sent.start slot sent.frame offer in
+          let wide = pending_width-positive layout opening past slot offer.known pending in
+          let at_now : sent.start ≡ now = starts_now layout opening past free now sent slot fit is_free in_window which follows.0 offer in
+          let late : start_of layout opening ≤ sent.start = omega arith in
+          let less = pending_width-sent layout opening past sent slot offer.known pending offer.identifier late in
+          let in_time = fit.in_time slot sent.frame offer.known offer.identifier offer.bytes in
+          let some_time = fit.some_time slot sent.frame offer.known offer.identifier offer.bytes in
+          let whole = follows.0.whole in
+          let rest = sends_pending layout opening (past ++ sent ∷ []) (end_of sent) (end_of sent) later fit (omega arith) (omega arith) (omega arith) (inl refl) (omega arith) follows.1 in
+          joined layout opening past sent slot later offer pending late (omega arith) rest
     ]
 
 -- a slot of which nothing was sent in the cycle is pending where it is flagged
@@ -179,16 +183,16 @@ first_is_trigger : (layout : CycleLayout) (opening : Opening) (past : List Timed
     → (sent.start ≡ start_of layout opening) × (sent.frame ≡ trigger_frame opening.cycle (width_of opening) opening.mask)
 first_is_trigger layout opening past sent fit next =
     let offer : OffersTrigger layout opening (start_of layout opening) (trigger_frame opening.cycle (width_of opening) opening.mask) =
-        record { time = refl; trigger = refl } in
+    record { time = refl; trigger = refl } in
     let room = fit.room in
     let when_free = next.when_free in
     let at_once : sent.start ≤ start_of layout opening = elim (cases_lt (start_of layout opening) sent.start) [
-    | inl gap ↦ absurd (next.first (start_of layout opening) _ (omega arith) gap (inl offer))
-    | inr no_gap ↦ no_gap
+      | inl gap ↦ absurd (next.first (start_of layout opening) _ (omega arith) gap (inl offer))
+      | inr no_gap ↦ no_gap
     ] in
     elim next.least.offered [
-    | inl trigger ↦ (trigger.time, trigger.trigger)
-    | inr choice ↦ let late = choice.1.late_enough in absurd (omega arith)
+      | inl trigger ↦ (trigger.time, trigger.trigger)
+      | inr choice ↦ let late = choice.1.late_enough in absurd (omega arith)
     ]
 
 -- what a cycle sends
@@ -208,11 +212,11 @@ runs_cycle layout opening past (sent ∷ later) fit before follows =
     let room = fit.room in
     let starts = first.0 in
     let pending : (slot : ℕ) → is_pending layout opening (past ++ sent ∷ []) slot ≡ contains_slot opening.mask slot =
-        λ slot. is_pending-at_start layout opening past sent slot before no_slot in
+    λ slot. is_pending-at_start layout opening past sent slot before no_slot in
     let width : pending_width layout opening (past ++ sent ∷ []) ≡ width_of opening =
-        sum_where-same slots (is_pending layout opening (past ++ sent ∷ [])) (contains_slot opening.mask) (slot_cost opening) (λ slot _. pending slot) in
+    sum_where-same slots (is_pending layout opening (past ++ sent ∷ [])) (contains_slot opening.mask) (slot_cost opening) (λ slot _. pending slot) in
     let window = sends_pending layout opening (past ++ sent ∷ []) (end_of sent) (window_start layout opening) later fit
-        (omega arith) (omega arith) (omega arith) (inr refl) (omega arith) follows.1 in
+    (omega arith) (omega arith) (omega arith) (inr refl) (omega arith) follows.1 in
     record {
       trigger = sent;
       later = later;

@@ -10,11 +10,11 @@ ghost use Rattle.fttcan_top.specs.Entries.{IsLive, AreDistinct, total_cost};
 ghost use Rattle.fttcan_top.specs.Cycle.{frame_of, queued_from, queue_of};
 ghost use Rattle.fttcan_top.specs.Offered.{next_opening, slot_cost, width_of, offered_in};
 
+use crate::table::Table;
 use arbitration::Contenders;
 use bus_line::{Stations, run_until};
 use can_frame::laws::wire_lengths;
 use can_frame::{Frame, TimedFrame};
-use crate::table::Table;
 use cycle_layout::Layout;
 use requirement_table::{Mask, Payload, SLOTS, cost, current, released_in};
 use std::alloc::{AllocError, Global};
@@ -194,7 +194,13 @@ fn push_flagged(
 }
 
 /// The queue of a cycle: its trigger, and the frames of its flagged slots, the least one first.
-fn cycle_queue(alloc: Global, layout: &Layout, table: &Table, mask: Mask, cycle: u64) -> Result<CycleQueue, AllocError>
+fn cycle_queue(
+    alloc: Global,
+    layout: &Layout,
+    table: &Table,
+    mask: Mask,
+    cycle: u64,
+) -> Result<CycleQueue, AllocError>
     requires live { All IsLive table.now }
     requires distinct { AreDistinct table.now }
     requires light { total_cost table.now ≤ layout.now.window }
@@ -242,6 +248,11 @@ pub fn run_cycle(
     let mut queue = cycle_queue(alloc, layout, table, mask, cycle)?;
     segment.clear();
     let start = cycle * u64::from(layout.cycle());
-    run_until(&mut queue, start, start + u64::from(layout.cycle()), segment);
+    run_until(
+        &mut queue,
+        start,
+        start + u64::from(layout.cycle()),
+        segment,
+    );
     Ok(mask)
 }

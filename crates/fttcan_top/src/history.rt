@@ -25,5 +25,8 @@ pub enum Event {
         verdict: Verdict,
     },
     /// The master opened a cycle that flags the slots of `mask`.
-    Open { cycle: u64, mask: Mask },
+    Open {
+        cycle: u64,
+        mask: Mask,
+    },
 }

@@ -14,6 +14,6 @@ mod table;
 mod verdict;
 mod words;
 
-pub use program::plain;
 pub use history::{Event, Verdict};
+pub use program::plain;
 pub use status::Status;

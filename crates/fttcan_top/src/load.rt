@@ -43,7 +43,12 @@ pub struct Job {
 }
 
 /// Fetches a file's bytes.
-fn fetch_file<S: Shelf>(alloc: Global, shelf: &mut S, source: Source, name: &str) -> Result<Vec<u8>, Stop>
+fn fetch_file<S: Shelf>(
+    alloc: Global,
+    shelf: &mut S,
+    source: Source,
+    name: &str,
+) -> Result<Vec<u8>, Stop>
     ensures files_stay { S.told_files shelf.new ≡ S.told_files shelf.old }
     ensures counted { S.fetches shelf.new ≡ next_count (S.fetches shelf.old) }
     ensures faults_never_fall { S.faults shelf.old ≤ S.faults shelf.new }
@@ -89,7 +94,12 @@ fn load_system<S: Shelf>(alloc: Global, shelf: &mut S, name: &str) -> Result<Sys
 }
 
 /// Fetches and reads the steps file, at a system of so many nodes.
-fn load_steps<S: Shelf>(alloc: Global, shelf: &mut S, name: &str, nodes: u8) -> Result<Vec<Step>, Stop>
+fn load_steps<S: Shelf>(
+    alloc: Global,
+    shelf: &mut S,
+    name: &str,
+    nodes: u8,
+) -> Result<Vec<Step>, Stop>
     ensures files_stay { S.told_files shelf.new ≡ S.told_files shelf.old }
     ensures counted { S.fetches shelf.new ≡ next_count (S.fetches shelf.old) }
     ensures faults_never_fall { S.faults shelf.old ≤ S.faults shelf.new }
@@ -107,7 +117,12 @@ fn load_steps<S: Shelf>(alloc: Global, shelf: &mut S, name: &str, nodes: u8) -> 
 }
 
 /// What `replay` with these names asks for: the system's file and its text first, then the steps'.
-pub fn load<S: Shelf>(alloc: Global, shelf: &mut S, system_name: &str, steps_name: &str) -> Result<Job, Stop>
+pub fn load<S: Shelf>(
+    alloc: Global,
+    shelf: &mut S,
+    system_name: &str,
+    steps_name: &str,
+) -> Result<Job, Stop>
     ensures files_stay { S.told_files shelf.new ≡ S.told_files shelf.old }
     ensures counted { S.fetches shelf.new ≤ S.fetches shelf.old + 2 }
     ensures faults_never_fall { S.faults shelf.old ≤ S.faults shelf.new }

@@ -114,7 +114,12 @@ fn run_job<O: Sink>(alloc: Global, job: &Job, out: &mut O) -> End
     ensures cut { IsCut (end_status result) → (O.told_bytes out.new ≡ O.told_bytes out.old) ⊎ LogsFront (asked_of job.now) (O.told_bytes out.old) (O.told_bytes out.new) }
     ensures write { result ≡ End.Write → Rose (O.faults out.old) (O.faults out.new) }
 {
-    let Ok(outcome) = run(alloc, &job.system.layout, job.steps.as_slice(), job.system.nodes) else {
+    let Ok(outcome) = run(
+        alloc,
+        &job.system.layout,
+        job.steps.as_slice(),
+        job.system.nodes,
+    ) else {
         return End::Memory;
     };
     let Ok(text) = log_text(alloc, outcome.history.as_slice(), outcome.trace.as_slice()) else {
@@ -127,7 +132,13 @@ fn run_job<O: Sink>(alloc: Global, job: &Job, out: &mut O) -> End
 }
 
 /// Carries out `replay` with these names.
-fn replay<S: Shelf, O: Sink>(alloc: Global, system: &str, steps: &str, shelf: &mut S, out: &mut O) -> End
+fn replay<S: Shelf, O: Sink>(
+    alloc: Global,
+    system: &str,
+    steps: &str,
+    shelf: &mut S,
+    out: &mut O,
+) -> End
     ensures answer { ForSome (S.told_files shelf.old) (λ files. IsAnswer (asked_by files (Some (replay system.now steps.now)))
         (Rose (S.faults shelf.old) (S.faults shelf.new)) (Rose (O.faults out.old) (O.faults out.new)) (end_status result)) }
     ensures source { (source : Source) → result ≡ End.Input source

@@ -58,14 +58,22 @@ fn open_cycle(progress: &mut Progress, alloc: Global, layout: &Layout) -> Result
     wire_lengths();
     let cycle = progress.next;
     let mask = run_cycle(alloc, layout, &progress.table, cycle, &mut progress.segment)?;
-    progress.trace.extend_from_slice(progress.segment.as_slice())?;
+    progress
+        .trace
+        .extend_from_slice(progress.segment.as_slice())?;
     progress.history.push(Event::Open { cycle, mask })?;
     progress.next = cycle + 1;
     Ok(())
 }
 
 /// The verdict on one more entry.
-fn judge(alloc: Global, table: &Table, placed: Placed, window: u32, from: u64) -> Result<Verdict, AllocError>
+fn judge(
+    alloc: Global,
+    table: &Table,
+    placed: Placed,
+    window: u32,
+    from: u64,
+) -> Result<Verdict, AllocError>
     requires live { All IsLive table.now }
     requires light { total_cost table.now ≤ 16383 }
     requires placed { IsLive placed }
@@ -90,7 +98,14 @@ fn place_if_accepted(table: &mut Table, placed: Placed, verdict: Verdict) -> Res
 }
 
 /// Answers a change that asks for one entry.
-fn submit(progress: &mut Progress, alloc: Global, layout: &Layout, caller: u8, start: u64, entry: Entry) -> Result<(), AllocError>
+fn submit(
+    progress: &mut Progress,
+    alloc: Global,
+    layout: &Layout,
+    caller: u8,
+    start: u64,
+    entry: Entry,
+) -> Result<(), AllocError>
     requires under_way { IsUnderWay layout.now progress.old.table progress.old.next progress.old.history.items progress.old.trace.items }
     requires few { progress.old.next ≤ 20000 }
     requires live { IsLive (placed_at start entry) }
@@ -121,7 +136,12 @@ fn submit(progress: &mut Progress, alloc: Global, layout: &Layout, caller: u8, s
 }
 
 /// Opens so many cycles.
-fn open_cycles(progress: &mut Progress, alloc: Global, layout: &Layout, count: u64) -> Result<(), AllocError>
+fn open_cycles(
+    progress: &mut Progress,
+    alloc: Global,
+    layout: &Layout,
+    count: u64,
+) -> Result<(), AllocError>
     requires under_way { IsUnderWay layout.now progress.old.table progress.old.next progress.old.history.items progress.old.trace.items }
     requires few { progress.old.next + count ≤ 20000 }
     requires room { 2128 ≤ vec_capacity progress.old.segment }
@@ -138,7 +158,12 @@ fn open_cycles(progress: &mut Progress, alloc: Global, layout: &Layout, count: u
 }
 
 /// Answers a step.
-fn run_step(progress: &mut Progress, alloc: Global, layout: &Layout, step: Step) -> Result<(), AllocError>
+fn run_step(
+    progress: &mut Progress,
+    alloc: Global,
+    layout: &Layout,
+    step: Step,
+) -> Result<(), AllocError>
     requires under_way { IsUnderWay layout.now progress.old.table progress.old.next progress.old.history.items progress.old.trace.items }
     requires step { CanRun progress.old.table progress.old.next step }
     requires room { 2128 ≤ vec_capacity progress.old.segment }
@@ -159,7 +184,13 @@ fn run_step(progress: &mut Progress, alloc: Global, layout: &Layout, step: Step)
 }
 
 /// Answers the steps, in their order.
-fn run_steps(progress: &mut Progress, alloc: Global, layout: &Layout, steps: &[Step], nodes: u8) -> Result<(), AllocError>
+fn run_steps(
+    progress: &mut Progress,
+    alloc: Global,
+    layout: &Layout,
+    steps: &[Step],
+    nodes: u8,
+) -> Result<(), AllocError>
     requires under_way { IsUnderWay layout.now progress.old.table progress.old.next progress.old.history.items progress.old.trace.items }
     requires fresh { IsFresh progress.old.table progress.old.next progress.old.history.items }
     requires steps { AreSteps nodes steps.now }

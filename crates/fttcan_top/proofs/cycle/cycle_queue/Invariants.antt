@@ -7,4 +7,4 @@ use Rattle.fttcan_top.proofs.cycle.cycle_queue.Given as goal
 abbrev pub invariant-loop-slot : goal.invariant-loop-slot
 invariant-loop-slot l =
     l.queue.items ≡ (record { from = start_of l.layout (next_opening l.table l.cycle); frame = trigger_frame l.cycle (width_of (next_opening l.table l.cycle)) l.mask }
-        ∷ queued_from (window_start l.layout (next_opening l.table l.cycle)) (frames_below (next_opening l.table l.cycle) l.slot))
+    ∷ queued_from (window_start l.layout (next_opening l.table l.cycle)) (frames_below (next_opening l.table l.cycle) l.slot))

@@ -13,8 +13,8 @@ pub loop-below-preserved : goal.loop-below-preserved
 loop-below-preserved c = λ multiple is.
     let h = c.loop-below.invariant multiple is in
     elim (cases_eq multiple (c.loop-below.below + 1)) [
-    | inl same ↦ absurd (false≢true (c.if-all_divide.ensures.divided.1 (subst (λ m. All (λ p. m % p.entry.period ≡ 0) c.args.placed.now) same is.divided)))
-    | inr other ↦ omega arith
+      | inl same ↦ absurd (false≢true (c.if-all_divide.ensures.divided.1 (subst (λ m. All (λ p. m % p.entry.period ≡ 0) c.args.placed.now) same is.divided)))
+      | inr other ↦ omega arith
     ]
 
 pub returns-clause-none : goal.returns-clause-none

@@ -1,0 +1,45 @@
+//! The program: words, files and streams of the operating system, given to [`fttcan_top::plain`].
+#![tactic(auto)]
+
+use ftt_io::{FileShelf, StdSink, write_all};
+use fttcan_top::{Status, plain};
+use std::env;
+use std::io::{self, BufWriter, ErrorKind};
+use std::process::ExitCode;
+
+fn main(rt: HostRuntime) -> ExitCode {
+    ExitCode::from(call(&rt).code())
+}
+
+/// Carries out the words of this call.
+fn call(rt: &HostRuntime) -> Status {
+    let Ok(words) = words(rt) else {
+        return stopped(rt, "out of memory\n", Status::Memory);
+    };
+    let Ok(writer) = BufWriter::new(rt.alloc(), io::writer(rt)) else {
+        return stopped(rt, "out of memory\n", Status::Memory);
+    };
+    let mut shelf = FileShelf::new(rt);
+    let mut out = StdSink::over(writer);
+    let mut err = StdSink::over(rt.stderr());
+    let status = plain(rt.alloc(), words.as_slice(), &mut shelf, &mut out, &mut err);
+    match out.flush() {
+        Err(_) if status != Status::Write => stopped(rt, "write fault\n", Status::Write),
+        _ => status,
+    }
+}
+
+/// The words of this call after the program's name. Words that are not UTF-8 count as none, which is no command.
+fn words(rt: &HostRuntime) -> io::Result<Vec<String>> {
+    match env::args(rt) {
+        Ok(all) => Ok(all.skip(1).collect(rt.alloc())?),
+        Err(fault) if fault.kind() == ErrorKind::InvalidData => Ok(Vec::new(rt.alloc())),
+        Err(fault) => Err(fault),
+    }
+}
+
+/// Says why the call ended with this status.
+fn stopped(rt: &HostRuntime, message: &str, status: Status) -> Status {
+    let _ = write_all(&mut StdSink::over(rt.stderr()), message.as_bytes());
+    status
+}
