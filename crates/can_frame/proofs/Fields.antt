@@ -1,8 +1,9 @@
 -- The bits of a number in a field, and the number of a field's bits.
-use Rattle.std.proofs.Common.{◌≡◌, ℕ, zero, suc, ◌+◌, ◌-◌, ◌*◌, ◌/◌, ◌%◌, ◌^◌, ◌<◌, ◌≤◌, ◌==◌, Bool, true, false, List, [], ◌∷◌, ◌++◌, length, bit_and, nat_eq, append_assoc, refl, sym, ap, ◌∙◌, arith}
-use Rattle.std.proofs.Math.Nat.{div-div-eq-div-mul, pow-suc, sub_self}
+use Rattle.std.proofs.Common.{◌≡◌, ℕ, zero, suc, ◌+◌, ◌-◌, ◌*◌, ◌/◌, ◌%◌, ◌^◌, ◌<◌, ◌≤◌, ◌==◌, Bool, true, false, cond, List, [], ◌∷◌, ◌++◌, length, bit_and, nat_eq, append_assoc, refl, sym, ap, ◌∙◌, inl, inr, arith}
+use Rattle.std.proofs.Math.Nat.{div-div-eq-div-mul, mul_assoc, pow-suc, sub_self}
 use Rattle.std.proofs.lemmas.List.{append-nil, length-append}
 use Rattle.std.proofs.lemmas.List.Sums.{fold_push}
+use Rattle.std.proofs.lemmas.Bool.{cases_eq}
 use Rattle.std.proofs.lemmas.Nat.{and_mask}
 use Rattle.can_frame.specs.Number.{bits, number}
 
@@ -35,3 +36,52 @@ pub length-bits : (width value : ℕ) → length (bits width value) ≡ width
 unfolding bits
 length-bits zero value = refl
 length-bits (suc width) value = length-append (bits width (value / 2)) _ ∙ ap (λ n. n + 1) (length-bits width (value / 2)) ∙ omega arith
+
+-- the number of a bit, and the bit of that number
+abbrev pub bit_number : Bool → ℕ
+bit_number bit = cond bit 1 0
+
+bit_number-odd : (value : ℕ) → bit_number (value % 2 == 1) ≡ value % 2
+bit_number-odd value = elim (cases_eq (value % 2) 1) [
+  | inl one ↦ ap bit_number (ap (λ n. n == 1) one) ∙ sym one
+  | inr other ↦ let none : value % 2 ≡ 0 = omega arith in ap bit_number (ap (λ n. n == 1) none) ∙ sym none
+]
+
+-- a field of enough bits has its number
+pub number-bits : (width value : ℕ) → value < 2 ^ width → number (bits width value) ≡ value
+unfolding bits
+number-bits zero value h = omega arith
+number-bits (suc width) value h =
+    let twice : 2 ^ suc width ≡ 2 ^ width * 2 = pow-suc 2 width in
+    let above : number (bits width (value / 2)) ≡ value / 2 = number-bits width (value / 2) (omega arith) in
+    let last : bit_number (value % 2 == 1) ≡ value % 2 = bit_number-odd value in
+    fold_push (λ value bit. 2 * value + bit_number bit) 0 (bits width (value / 2)) (value % 2 == 1) ∙ omega arith
+
+-- one more bit of a field that is read
+pub bits_more : (width value : ℕ) (bit : Bool) → bits (width + 1) (2 * value + bit_number bit) ≡ bits width value ++ bit ∷ []
+unfolding bits
+bits_more width value true =
+    let next : width + 1 ≡ suc width = omega arith in
+    let half : (2 * value + 1) / 2 ≡ value = omega arith in
+    let odd : (2 * value + 1) % 2 ≡ 1 = omega arith in
+    rw (next, half, odd) refl
+bits_more width value false =
+    let next : width + 1 ≡ suc width = omega arith in
+    let half : (2 * value + 0) / 2 ≡ value = omega arith in
+    let even : (2 * value + 0) % 2 ≡ 0 = omega arith in
+    rw (next, half, even) refl
+
+-- a field in two parts
+pub bits-append : (high low x y : ℕ) → y < 2 ^ low → bits (high + low) (x * 2 ^ low + y) ≡ bits high x ++ bits low y
+unfolding bits
+bits-append high zero x y h =
+    let width : high + 0 ≡ high = omega arith in
+    let value : x * 2 ^ 0 + y ≡ x = omega arith in
+    rw (width, value) (sym (append-nil (bits high x)))
+bits-append high (suc low) x y h =
+    let twice : 2 ^ suc low ≡ 2 ^ low * 2 = pow-suc 2 low in
+    let width : high + suc low ≡ suc (high + low) = omega arith in
+    let product_is : x * 2 ^ suc low ≡ x * 2 ^ low * 2 = ap (λ n. x * n) twice ∙ sym (mul_assoc x (2 ^ low) 2) in
+    let half : (x * 2 ^ suc low + y) / 2 ≡ x * 2 ^ low + y / 2 = omega arith in
+    let odd : (x * 2 ^ suc low + y) % 2 ≡ y % 2 = omega arith in
+    rw (width, half, odd) (ap (λ field. field ++ (y % 2 == 1) ∷ []) (bits-append high low x (y / 2) (omega arith)) ∙ append_assoc (bits high x) (bits low (y / 2)) _)

@@ -3,3 +3,5 @@ pub mod FrameFault
 pub mod Number
 pub mod Crc
 pub mod Wire
+pub mod Reading
+pub mod Progress

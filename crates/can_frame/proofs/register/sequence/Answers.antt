@@ -1,5 +1,5 @@
 -- The register begins as what nothing leaves, and division leaves one remainder.
-use Rattle.std.proofs.Common.{rules, lit<}
+use Rattle.std.proofs.Common.{lit<}
 use Rattle.std.proofs.lemmas.List.{take_all}
 use Rattle.can_frame.proofs.Remainder.{IsRemainder-zero, IsRemainder-one, IsSequence-sequence_of}
 use Rattle.can_frame.proofs.register.sequence.Goals as goal

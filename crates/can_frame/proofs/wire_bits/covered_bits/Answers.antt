@@ -3,7 +3,7 @@ use Rattle.std.proofs.Common.{◌≡◌, Bool, List, ◌++◌, refl, ap, ap₂, 
 use Rattle.std.specs.List.{flat_map}
 use Rattle.std.proofs.lemmas.List.{take_all}
 use Rattle.can_frame.specs.Number.{bits}
-use Rattle.can_frame.specs.Wire.{covered}
+use Rattle.can_frame.specs.Wire.{header, covered}
 use Rattle.can_frame.proofs.wire_bits.covered_bits.Goals as goal
 
 -- a field behind what stands before it
@@ -11,7 +11,7 @@ behind : {new old before field is : List Bool} → new ≡ old ++ field → old 
 behind pushed old_is field_is = pushed ∙ ap₂ (λ sent bits. sent ++ bits) old_is field_is
 
 pub returns-clause-value : goal.returns-clause-value
-unfolding covered
+unfolding header covered
 returns-clause-value c =
     let all = take_all c.loop-place.place c.args.frame.now.bytes (omega arith) in
     let start = behind c.push.ensures.value c.new-list.ensures.value refl in

@@ -1,5 +1,4 @@
 -- The CRC sequence stands behind what it covers.
-use Rattle.std.proofs.Common.{◌≡◌, ◌++◌, ap, ◌∙◌, arith}
 use Rattle.can_frame.specs.Wire.{plain, with_sequence}
 use Rattle.can_frame.proofs.wire_bits.plain_bits.Goals as goal
 

@@ -1,5 +1,5 @@
 -- The thirteen bits stand behind the stuffed part.
-use Rattle.std.proofs.Common.{◌≡◌, ◌++◌, ap, ◌∙◌}
+use Rattle.std.proofs.Common.{◌++◌, ap, ◌∙◌}
 use Rattle.stuff_bound.specs.Stuffing.{stuffed}
 use Rattle.can_frame.specs.Wire.{wire_of, trailer}
 use Rattle.can_frame.proofs.wire_bits.wire.Goals as goal
@@ -10,5 +10,5 @@ returns c = record {
   value =
       c.in_ok-extend_from_slice.ensures.items
       ∙ ap (λ bits. bits ++ trailer)
-        (c.in_ok-bits.ensures.value ∙ ap stuffed (c.as_slice.ensures.value ∙ c.plain_bits.ensures.value));
+      (c.in_ok-bits.ensures.value ∙ ap stuffed (c.as_slice.ensures.value ∙ c.plain_bits-list.ensures.value));
 }

@@ -1,5 +1,5 @@
 -- The bytes of a frame are those in its places, which are bytes.
-use Rattle.std.proofs.Common.{ℕ, ◌<◌, arith}
+use Rattle.std.proofs.Common.{◌<◌, arith}
 use Rattle.std.proofs.lemmas.List.{length-take}
 use Rattle.std.proofs.lemmas.List.Elements.{All-take}
 use Rattle.can_frame.proofs.data_frame.Frame.id.Goals as goal
