@@ -1,17 +1,12 @@
 -- Laws of traces: the CAN trace in the words of its definition, and frame by frame.
-use Rattle.std.proofs.Common.{◌≡◌, ℕ, ◌+◌, ◌<◌, ◌≤◌, max, nat_lt, List, [], ◌∷◌, ◌++◌, All, AllPairs, Any, ◌↔◌, inl, inr, refl, sym, ap, ◌∙◌, subst, arith, append_assoc, append-nil, length-append, get_or}
+use Rattle.std.proofs.Common.{◌≡◌, ℕ, ◌+◌, ◌<◌, ◌≤◌, max, nat_lt, List, [], ◌∷◌, ◌++◌, All, AllPairs, Any, ◌↔◌, inl, inr, refl, sym, ap, ◌∙◌, subst, arith, append_assoc, append-nil, get_or}
 use Rattle.std.proofs.lemmas.Bool.{lt-ltb, le-ltb, cases_lt, cases_order}
 use Rattle.std.proofs.lemmas.List.Elements.{All-nil, All-cons, All-head, All-tail}
 use Rattle.can_frame.specs.DataFrame.{DataFrame}
-use Rattle.can_frame.specs.Wire.{wire_of, wire_length}
+use Rattle.can_frame.specs.Wire.{wire_length}
 use Rattle.can_frame.specs.declared.data_frame.TimedFrame.{TimedFrame}
 use Rattle.bus_line.specs.Trace.{Offers, IsOrdered, IsTrace, IsLeastOffered, IsNext, IsDetermined, NothingOffered, Follows, started_before, end_of, free_after, AgreeAlong}
 use Rattle.bus_line.proofs.Lists.{AllPairs-head, AllPairs-tail, AllPairs-cons, Any-nil, Any-head, Any-tail, Any-cases, Any-none, filter-none}
-
--- a frame takes some time on the bus: thirteen bits stand behind its stuffed part
-pub wire_length-positive : (frame : DataFrame) → 0 < wire_length frame
-unfolding wire_length wire_of
-wire_length-positive frame = simp length-append (omega arith)
 
 -- the time lies within the frame's interval
 abbrev Covers : ℕ → TimedFrame → Type 0
@@ -33,7 +28,8 @@ record Rest (offers : Offers) (until : ℕ) (past : List TimedFrame) (free : ℕ
   least : All (λ sent. IsLeastOffered offers (past ++ started_before sent.start frames) sent.start sent.frame) frames
   busy : (at : ℕ) (frame : DataFrame) → free ≤ at → at < until → offers (past ++ started_before at frames) at frame → Any (Covers at) frames
 
-module _ (offers : Offers) (until : ℕ) where
+-- `positive`: each frame takes some time on the bus
+module _ (positive : (frame : DataFrame) → 0 < wire_length frame) (offers : Offers) (until : ℕ) where
   -- up to the first start, nothing has been started
   front : (past : List TimedFrame) (at : ℕ) (frames : List TimedFrame) → All (λ sent. at ≤ sent.start) frames
       → past ++ started_before at frames ≡ past
@@ -46,7 +42,7 @@ module _ (offers : Offers) (until : ℕ) where
       append_assoc past (sent ∷ []) (started_before at later) ∙ ap (λ started. past ++ started) (sym (started-first at sent later before))
 
   takes_time : (sent : TimedFrame) → sent.len ≡ wire_length sent.frame → sent.start < end_of sent
-  takes_time sent whole = omega (arith, whole, wire_length-positive sent.frame)
+  takes_time sent whole = omega (arith, whole, positive sent.frame)
 
   -- where the first frame does not start before a time, no frame does
   none_before : (at : ℕ) (sent : TimedFrame) (later : List TimedFrame) → at ≤ sent.start → sent.start < end_of sent

@@ -3,11 +3,10 @@
 //! whole. All times are bit times.
 #![tactic(auto)]
 
-mod laws;
+pub mod laws;
 mod line;
 mod stations;
 
-pub use laws::{Offering, StationOffers, same_along, trace_laws};
 pub use line::run_until;
 pub use stations::Stations;
 
