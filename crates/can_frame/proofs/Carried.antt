@@ -1,7 +1,7 @@
 -- What wire bits carry, as more bits come behind them.
-use Rattle.std.proofs.Common.{◌≡◌, ℕ, ◌+◌, ◌<◌, ◌≤◌, Bool, true, false, cond, List, [], ◌∷◌, ◌++◌, length, take, drop, reverse, append_assoc, refl, sym, ap, subst, ◌∙◌, arith}
+use Rattle.std.proofs.Common.{◌≡◌, ◌<◌, ◌≤◌, Bool, true, false, cond, List, [], ◌∷◌, ◌++◌, reverse, append_assoc, refl, sym, ap, subst, ◌∙◌}
 use Rattle.std.proofs.lemmas.List.{reverse-append, reverse-reverse}
-use Rattle.stuff_bound.specs.Stuffing.{run, HasNoSix, at_stuff_place, without_stuff, Stuffs, stuffed}
+use Rattle.stuff_bound.specs.Stuffing.{run, HasNoSix, at_stuff_place, without_stuff, Stuffs}
 use Rattle.stuff_bound.proofs.Stuffs.{without_stuff-full, without_stuff-below}
 use Rattle.can_frame.specs.Reading.{carried}
 
@@ -18,7 +18,7 @@ HasNoSix-back (bit ∷ new) old h = HasNoSix-back new old h.1
 pub HasNoSix-begun : (before after : List Bool) (bit : Bool) → HasNoSix (reverse (before ++ bit ∷ after)) → HasNoSix (bit ∷ reverse before)
 HasNoSix-begun before after bit h =
     let parts : reverse (before ++ bit ∷ after) ≡ reverse after ++ (bit ∷ reverse before) =
-        ap reverse (sym (append_assoc before (bit ∷ []) after)) ∙ reverse-append (before ++ bit ∷ []) after ∙ ap (λ sent. reverse after ++ sent) (reverse_more before bit) in
+    ap reverse (sym (append_assoc before (bit ∷ []) after)) ∙ reverse-append (before ++ bit ∷ []) after ∙ ap (λ sent. reverse after ++ sent) (reverse_more before bit) in
     HasNoSix-back (reverse after) (bit ∷ reverse before) (subst HasNoSix parts h)
 
 without_stuff-one : (full : Bool) (bit : Bool) (left front old : List Bool) → left ≡ front ++ old → (more : List Bool) × (cond full left (bit ∷ left) ≡ more ++ old)

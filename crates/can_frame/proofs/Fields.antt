@@ -1,5 +1,5 @@
 -- The bits of a number in a field, and the number of a field's bits.
-use Rattle.std.proofs.Common.{◌≡◌, ℕ, zero, suc, ◌+◌, ◌-◌, ◌*◌, ◌/◌, ◌%◌, ◌^◌, ◌<◌, ◌≤◌, ◌==◌, Bool, true, false, cond, List, [], ◌∷◌, ◌++◌, length, fold, bit_and, nat_eq, append_assoc, refl, sym, ap, ◌∙◌, inl, inr, arith}
+use Rattle.std.proofs.Common.{◌≡◌, ℕ, zero, suc, ◌+◌, ◌-◌, ◌*◌, ◌/◌, ◌%◌, ◌^◌, ◌<◌, ◌≤◌, ◌==◌, Bool, true, false, cond, List, [], ◌∷◌, ◌++◌, length, bit_and, nat_eq, append_assoc, refl, sym, ap, ◌∙◌, inl, inr, arith}
 use Rattle.std.proofs.Math.Nat.{div-div-eq-div-mul, mul_assoc, pow-suc, sub_self}
 use Rattle.std.proofs.lemmas.List.{append-nil, length-append}
 use Rattle.std.proofs.lemmas.List.Sums.{fold_push}
@@ -43,9 +43,9 @@ bit_number bit = cond bit 1 0
 
 bit_number-odd : (value : ℕ) → bit_number (value % 2 == 1) ≡ value % 2
 bit_number-odd value = elim (cases_eq (value % 2) 1) [
-    inl one ↦ ap bit_number (ap (λ n. n == 1) one) ∙ sym one
+  | inl one ↦ ap bit_number (ap (λ n. n == 1) one) ∙ sym one
   | inr other ↦ let none : value % 2 ≡ 0 = omega arith in ap bit_number (ap (λ n. n == 1) none) ∙ sym none
-  ]
+]
 
 -- a field of enough bits has its number
 pub number-bits : (width value : ℕ) → value < 2 ^ width → number (bits width value) ≡ value

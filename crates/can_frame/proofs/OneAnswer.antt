@@ -1,15 +1,15 @@
 -- Bits have one answer: what is found at one place is not found before another.
-use Rattle.std.proofs.Common.{◌≡◌, ◌≢◌, ℕ, ◌+◌, ◌*◌, ◌^◌, ◌<◌, ◌≤◌, ◌⊎◌, Bool, true, false, not, cond, List, [], ◌∷◌, ◌++◌, length, take, drop, reverse, Result, Ok, Err, append_assoc, refl, sym, ap, subst, ◌∙◌, inl, inr, arith}
+use Rattle.std.proofs.Common.{◌≡◌, ◌≢◌, ℕ, ◌+◌, ◌^◌, ◌<◌, ◌≤◌, ◌⊎◌, Bool, true, false, not, cond, List, [], ◌∷◌, ◌++◌, length, reverse, Result, Ok, Err, append_assoc, refl, sym, ap, subst, ◌∙◌, inl, inr, arith}
 use Rattle.std.specs.Bool.{beq}
-use Rattle.std.proofs.lemmas.List.{append-nil, length-append, reverse-reverse}
-use Rattle.stuff_bound.specs.Stuffing.{run, HasNoSix, stuffed}
+use Rattle.std.proofs.lemmas.List.{append-nil, length-append}
+use Rattle.stuff_bound.specs.Stuffing.{run, stuffed}
 use Rattle.stuff_bound.proofs.Stuffs.{run-more, Stuffs-stuffed}
 use Rattle.can_frame.specs.declared.wire_fault.WireFault.{WireFault}
 use Rattle.can_frame.specs.declared.wire_fault.WireFault.TheVariants.{Stuff, Form, Crc, Short, Tail, Memory}
 use Rattle.can_frame.specs.DataFrame.{DataFrame, IsFrame}
 use Rattle.can_frame.specs.Crc.{IsSequence, sequence_of}
 use Rattle.can_frame.specs.Wire.{covered, with_sequence, plain, trailer, wire_of, wire_length}
-use Rattle.can_frame.specs.Reading.{carried, plain_length, IsMisplaced, IsPlaced, IsBegun, GoesOn, FindsSixth, FindsMisplaced, FindsWrongEnd, FindsCrc, EndsInside, EndsEarly, FindsMore, Reads}
+use Rattle.can_frame.specs.Reading.{carried, plain_length, IsMisplaced, IsBegun, GoesOn, Reads}
 use Rattle.can_frame.proofs.Plain.{length-whole, plain_length-more, IsPlaced-with_sequence, with_sequence_one}
 use Rattle.can_frame.proofs.Remainder.{IsRemainder-one, IsSequence-sequence_of}
 use Rattle.can_frame.proofs.Carried.{HasNoSix-begun, carried-append, carried-plain, carried-Stuffs}
@@ -47,7 +47,7 @@ cut (bit ∷ front) back (bit' ∷ first) second e =
 pub data Stop (before after : List Bool) (answer : Answer) : Type 0 where
   sixth : (bit : Bool) (rest : List Bool) → after ≡ bit ∷ rest → 6 ≤ run (bit ∷ reverse before) → answer ≡ Err (Stuff (length before)) → Stop before after answer
   misplaced : (bit : Bool) (rest : List Bool) → after ≡ bit ∷ rest → run (reverse before) < 5 → length (carried before) < plain_length (carried before)
-    → IsMisplaced (carried before) bit → answer ≡ Err (Form (length before)) → Stop before after answer
+      → IsMisplaced (carried before) bit → answer ≡ Err (Form (length before)) → Stop before after answer
   ended : after ≡ [] → GoesOn before → answer ≡ Err (Short (length before)) → Stop before after answer
 
 pub record Inside (bits : List Bool) (answer : Answer) : Type 0 where
@@ -69,7 +69,7 @@ stop_is_wrong before after rest between bit answer (misplaced bit' rest' e no_st
     let same : bit' ≡ bit = cc in
     let more = carried-append (before ++ bit ∷ []) between in
     let all : carried (before ++ bit ∷ between) ≡ carried before ++ bit ∷ more.0 =
-        ap carried (sym (append_assoc before (bit ∷ []) between)) ∙ more.1 ∙ ap (λ v. v ++ more.0) (carried-plain before bit no_stuff) ∙ append_assoc (carried before) (bit ∷ []) more.0 in
+    ap carried (sym (append_assoc before (bit ∷ []) between)) ∙ more.1 ∙ ap (λ v. v ++ more.0) (carried-plain before bit no_stuff) ∙ append_assoc (carried before) (bit ∷ []) more.0 in
     let P : Bool → Type 0 = λ b. IsMisplaced (carried before) b in
     begun.placed (carried before) more.0 bit all (subst P same wrong)
 stop_is_wrong before after rest between bit answer (ended e goes_on is) k begun = absurd (cc)
@@ -125,7 +125,7 @@ stuffed_is_all frame sequence between bit legal begun =
     let more = carried-append (wire ++ bit ∷ []) between in
     let is : carried wire ≡ v = carried-Stuffs wire v whole in
     let all : carried (wire ++ bit ∷ between) ≡ v ++ bit ∷ more.0 =
-        ap carried (sym (append_assoc wire (bit ∷ []) between)) ∙ more.1 ∙ ap (λ w. w ++ more.0) (carried-plain wire bit whole.ended) ∙ append_assoc (carried wire) (bit ∷ []) more.0 ∙ ap (λ w. w ++ bit ∷ more.0) is in
+    ap carried (sym (append_assoc wire (bit ∷ []) between)) ∙ more.1 ∙ ap (λ w. w ++ more.0) (carried-plain wire bit whole.ended) ∙ append_assoc (carried wire) (bit ∷ []) more.0 ∙ ap (λ w. w ++ bit ∷ more.0) is in
     let within : length (v ++ bit ∷ more.0) ≤ plain_length (v ++ bit ∷ more.0) = rw all at begun.within in
     let known : plain_length (v ++ bit ∷ more.0) ≡ length v = plain_length-more frame sequence (bit ∷ more.0) legal in
     omega (arith, length-append v (bit ∷ more.0))
@@ -193,7 +193,7 @@ behind_cut : (bits : List Bool) (first second : Answer) (h : Behind bits first) 
     → Cut (stuffed (with_sequence h.frame h.sequence)) h.after (stuffed (with_sequence k.frame k.sequence)) k.after → first ≡ second
 behind_cut bits first second h k (same e f) =
     let plains : with_sequence h.frame h.sequence ≡ with_sequence k.frame k.sequence =
-        sym (carried-Stuffs _ _ (Stuffs-stuffed (with_sequence h.frame h.sequence))) ∙ ap carried e ∙ carried-Stuffs _ _ (Stuffs-stuffed (with_sequence k.frame k.sequence)) in
+    sym (carried-Stuffs _ _ (Stuffs-stuffed (with_sequence h.frame h.sequence))) ∙ ap carried e ∙ carried-Stuffs _ _ (Stuffs-stuffed (with_sequence k.frame k.sequence)) in
     let one = with_sequence_one h.frame k.frame h.sequence k.sequence h.legal k.legal h.narrow k.narrow plains in
     let P : DataFrame → Type 0 = λ v. End v h.sequence h.after first in
     let Q : ℕ → Type 0 = λ n. End k.frame n h.after first in
@@ -251,31 +251,31 @@ unfolding wire_of ending
 placed_answer bits (Ok frame) h =
     inr (trailed_behind bits frame trailer (Ok frame) h.0 h.1 (sym (ending-append frame (length (stuffed (plain frame))) trailer [] [])))
 placed_answer bits (Err (Stuff place)) h =
-    inl (record { before = h.before; after = h.bit ∷ h.after; split = h.split; begun = h.begun; stop = sixth h.bit h.after refl h.sixth (ap (λ n. Err (Stuff n)) h.here); })
+    inl (record { before = h.before; after = h.bit ∷ h.after; split = h.split; begun = h.begun; stop = sixth h.bit h.after refl h.sixth (ap (λ n. Err (Stuff n)) h.here) })
 placed_answer bits (Err (Form place)) (inl h) =
-    inl (record { before = h.before; after = h.bit ∷ h.after; split = h.split; begun = h.begun; stop = misplaced h.bit h.after refl h.no_stuff_place h.unfinished h.misplaced (ap (λ n. Err (Form n)) h.here); })
+    inl (record { before = h.before; after = h.bit ∷ h.after; split = h.split; begun = h.begun; stop = misplaced h.bit h.after refl h.no_stuff_place h.unfinished h.misplaced (ap (λ n. Err (Form n)) h.here) })
 placed_answer bits (Err (Form place)) (inr h) =
     let place' = length (stuffed (plain h.frame)) in
     let is : ending h.frame place' (h.before ++ h.bit ∷ h.after) trailer ≡ Err (Form place) =
-        ap (λ due. ending h.frame place' (h.before ++ h.bit ∷ h.after) due) h.wrong ∙ ending-append h.frame place' h.before (h.bit ∷ h.after) (not h.bit ∷ h.due)
-        ∙ rw (beq_not h.bit) (ap (λ n. Err (Form n)) (sym h.here)) in
+    ap (λ due. ending h.frame place' (h.before ++ h.bit ∷ h.after) due) h.wrong ∙ ending-append h.frame place' h.before (h.bit ∷ h.after) (not h.bit ∷ h.due)
+    ∙ rw (beq_not h.bit) (ap (λ n. Err (Form n)) (sym h.here)) in
     inr (trailed_behind bits h.frame (h.before ++ h.bit ∷ h.after) _ h.legal h.split (sym is))
 placed_answer bits (Err (Crc sent computed)) h =
-    inr (record { frame = h.frame; sequence = sent; after = h.after; legal = h.legal; narrow = h.narrow; split = h.split; end = crc computed h.remainder h.wrong refl; })
+    inr (record { frame = h.frame; sequence = sent; after = h.after; legal = h.legal; narrow = h.narrow; split = h.split; end = crc computed h.remainder h.wrong refl })
 placed_answer bits (Err (Short have)) (e, inl h) =
-    inl (record { before = bits; after = []; split = sym (append-nil bits); begun = h.begun; stop = ended refl h.goes_on (ap (λ n. Err (Short n)) e); })
+    inl (record { before = bits; after = []; split = sym (append-nil bits); begun = h.begun; stop = ended refl h.goes_on (ap (λ n. Err (Short n)) e) })
 placed_answer bits (Err (Short have)) (e, inr h) =
     let place' = length (stuffed (plain h.frame)) in
     let long : have ≡ place' + length h.before = e ∙ ap length h.split ∙ length-append (stuffed (plain h.frame)) h.before in
     let is : ending h.frame place' h.before trailer ≡ Err (Short have) =
-        ap (λ due. ending h.frame place' h.before due) h.missing ∙ ap (λ after. ending h.frame place' after (h.before ++ h.bit ∷ h.due)) (sym (append-nil h.before))
-        ∙ ending-append h.frame place' h.before [] (h.bit ∷ h.due) ∙ ap (λ n. Err (Short n)) (sym long) in
+    ap (λ due. ending h.frame place' h.before due) h.missing ∙ ap (λ after. ending h.frame place' after (h.before ++ h.bit ∷ h.due)) (sym (append-nil h.before))
+    ∙ ending-append h.frame place' h.before [] (h.bit ∷ h.due) ∙ ap (λ n. Err (Short n)) (sym long) in
     inr (trailed_behind bits h.frame h.before _ h.legal h.split (sym is))
 placed_answer bits (Err (Tail place)) h =
     let place' = length (stuffed (plain h.frame)) in
     let long : place ≡ place' + 13 = h.here ∙ length-wire h.frame in
     let is : ending h.frame place' (trailer ++ h.bit ∷ h.after) trailer ≡ Err (Tail place) =
-        ending-append h.frame place' trailer (h.bit ∷ h.after) [] ∙ ap (λ n. Err (Tail n)) (sym long) in
+    ending-append h.frame place' trailer (h.bit ∷ h.after) [] ∙ ap (λ n. Err (Tail n)) (sym long) in
     inr (trailed_behind bits h.frame (trailer ++ h.bit ∷ h.after) _ h.legal (h.split ∙ append_assoc (stuffed (plain h.frame)) trailer _) (sym is))
 placed_answer bits (Err Memory) h = absurd h
 

@@ -1,7 +1,6 @@
 -- The plain part of a frame: its length, its fields at their places, and that it is of one frame.
-use Rattle.std.proofs.Common.{◌≡◌, ℕ, zero, suc, ◌+◌, ◌-◌, ◌*◌, ◌/◌, ◌%◌, ◌^◌, ◌<◌, ◌≤◌, Bool, true, false, List, [], ◌∷◌, ◌++◌, length, take, drop, replicate, append_assoc, refl, sym, ap, ap₂, subst, ◌∙◌, inl, inr, arith, lit<}
+use Rattle.std.proofs.Common.{◌≡◌, ℕ, ◌+◌, ◌*◌, ◌/◌, ◌%◌, ◌^◌, ◌<◌, ◌≤◌, Bool, true, false, List, [], ◌∷◌, ◌++◌, length, take, drop, append_assoc, refl, sym, ap, ap₂, ◌∙◌, arith}
 use Rattle.std.specs.List.{flat_map, All}
-use Rattle.std.proofs.Math.Seq.{take-append-add}
 use Rattle.std.proofs.lemmas.List.{append_cancel_left, append_cancel_right, length-append, length-drop, take_at, drop_at}
 use Rattle.std.proofs.lemmas.List.Elements.{All-head, All-tail}
 use Rattle.can_frame.specs.DataFrame.{DataFrame, IsFrame}
@@ -30,13 +29,13 @@ header_is : (id n : ℕ) → header id n ≡ before_code id ++ bits 4 n
 unfolding header
 header_is id n = refl
 
-length-before_code : (id : ℕ) → length (before_code id) ≡ 15
+pub length-before_code : (id : ℕ) → length (before_code id) ≡ 15
 length-before_code id = simp (length-append, length-bits 11 id) (omega arith)
 
 pub length-header : (id n : ℕ) → length (header id n) ≡ 19
 length-header id n = ap length (header_is id n) ∙ length-append (before_code id) (bits 4 n) ∙ omega (arith, length-before_code id, length-bits 4 n)
 
-length-data : (bytes : List ℕ) → length (flat_map (bits 8) bytes) ≡ 8 * length bytes
+pub length-data : (bytes : List ℕ) → length (flat_map (bits 8) bytes) ≡ 8 * length bytes
 length-data [] = refl
 length-data (byte ∷ bytes) = length-append (bits 8 byte) (flat_map (bits 8) bytes) ∙ omega (arith, length-bits 8 byte, length-data bytes)
 
@@ -147,12 +146,12 @@ seven_first : (id n : ℕ) (rest : List Bool) → drop 1 (take 8 (header id n ++
 unfolding header
 seven_first id n rest =
     let parts : header id n ++ rest ≡ (false ∷ bits 7 (id / 16)) ++ (bits 4 (id % 16) ++ (false ∷ false ∷ false ∷ (bits 4 n ++ rest))) =
-        ap (λ field. (false ∷ []) ++ field ++ (false ∷ []) ++ (false ∷ []) ++ (false ∷ []) ++ bits 4 n ++ rest) (identifier_parts id) ∙ simp append_assoc in
+    ap (λ field. (false ∷ []) ++ field ++ (false ∷ []) ++ (false ∷ []) ++ (false ∷ []) ++ bits 4 n ++ rest) (identifier_parts id) ∙ simp append_assoc in
     let eight : length (false ∷ bits 7 (id / 16)) ≡ 8 = omega (arith, length-bits 7 (id / 16)) in
     ap (λ v. drop 1 (take 8 v)) parts ∙ ap (drop 1) (take_at (false ∷ bits 7 (id / 16)) _ 8 eight)
 
 -- a header and what is behind it has nothing misplaced in the header
-placed_header : (id n : ℕ) (rest front back : List Bool) (bit : Bool) → id ≤ 0x7EF → n ≤ 8 → header id n ++ rest ≡ front ++ bit ∷ back → ¬ IsMisplaced front bit
+pub placed_header : (id n : ℕ) (rest front back : List Bool) (bit : Bool) → id ≤ 0x7EF → n ≤ 8 → header id n ++ rest ≡ front ++ bit ∷ back → ¬ IsMisplaced front bit
 unfolding header
 placed_header id n rest front back bit in_range few e (start none recessive) =
     recessive_not bit (first_dominant front back _ bit none e) recessive
@@ -178,7 +177,7 @@ pub IsPlaced-with_sequence : (frame : DataFrame) (sequence : ℕ) → IsFrame fr
 unfolding with_sequence covered
 IsPlaced-with_sequence frame sequence legal =
     λ front back bit e. placed_header frame.identifier (length frame.bytes) (flat_map (bits 8) frame.bytes ++ bits 15 sequence) front back bit legal.identifier legal.few
-      (sym (append_assoc (header frame.identifier (length frame.bytes)) (flat_map (bits 8) frame.bytes) (bits 15 sequence)) ∙ e)
+    (sym (append_assoc (header frame.identifier (length frame.bytes)) (flat_map (bits 8) frame.bytes) (bits 15 sequence)) ∙ e)
 
 -- the length of a frame's plain part is that which its data length code gives
 pub length-whole : (frame : DataFrame) (sequence : ℕ) → IsFrame frame → length (with_sequence frame sequence) ≡ plain_length (with_sequence frame sequence)
@@ -186,7 +185,7 @@ unfolding with_sequence covered
 length-whole frame sequence legal =
     let few : length frame.bytes ≤ 8 = legal.few in
     let parts : with_sequence frame sequence ≡ header frame.identifier (length frame.bytes) ++ (flat_map (bits 8) frame.bytes ++ bits 15 sequence) =
-        append_assoc (header frame.identifier (length frame.bytes)) (flat_map (bits 8) frame.bytes) (bits 15 sequence) in
+    append_assoc (header frame.identifier (length frame.bytes)) (flat_map (bits 8) frame.bytes) (bits 15 sequence) in
     length-with_sequence frame sequence ∙ sym (ap plain_length parts ∙ plain_length-code frame.identifier (length frame.bytes) _ (omega arith))
 
 -- and it stays so, whatever comes behind it

@@ -6,6 +6,7 @@ use Rattle.std.proofs.lemmas.Bool.{ltb-true, ltb-false}
 use Rattle.std.proofs.lemmas.Nat.{pow-add, xor_comm, xor_lt, xor_block}
 use lib.Bits.{xor_assoc, xor_self, xor_zero_l, xor_zero_r, xor_shifted, xor_shr}
 use Rattle.can_frame.specs.Number.{number}
+use Rattle.can_frame.proofs.Fields.{bit_number}
 use Rattle.can_frame.specs.Crc.{generator, product, IsRemainder, IsSequence, power, sequence_of}
 
 -- the same term on both sides of a sum goes away
@@ -64,10 +65,6 @@ IsRemainder-fed d r t h small = record {
   division = ap (λ x. bit_xor x t) h.division ∙ xor_assoc (product h.quotient generator) r t;
   below = xor_lt 15 r t h.below small;
 }
-
--- the number of one bit
-abbrev pub bit_number : Bool → ℕ
-bit_number bit = cond bit 1 0
 
 -- a bit at x^14
 pub bit_small : (bit : Bool) (t : ℕ) → t ≡ bit_number bit * 2 ^ 14 → t < 2 ^ 15

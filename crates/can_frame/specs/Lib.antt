@@ -4,3 +4,4 @@ pub mod Number
 pub mod Crc
 pub mod Wire
 pub mod Reading
+pub mod Progress

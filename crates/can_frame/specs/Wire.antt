@@ -13,17 +13,17 @@ dominant = false
 abbrev pub recessive : Bool
 recessive = true
 
--- start of frame, identifier, RTR, r1, r0 and data length code, in the order of sending
+-- the fields before the data, in the order of sending
 unfoldable pub header : ℕ → ℕ → List Bool
 header identifier code =
-    (dominant ∷ [])
+    (dominant ∷ [])  -- start of frame
     ++ bits 11 identifier
-    ++ (dominant ∷ [])
-    ++ (dominant ∷ [])
-    ++ (dominant ∷ [])
-    ++ bits 4 code
+    ++ (dominant ∷ [])  -- RTR
+    ++ (dominant ∷ [])  -- r1
+    ++ (dominant ∷ [])  -- r0
+    ++ bits 4 code  -- data length code
 
--- the bits that the CRC sequence covers: those fields, and each data byte
+-- the bits that the CRC sequence covers: those fields, and the data bytes
 unfoldable pub covered : DataFrame → List Bool
 covered frame = header frame.identifier (length frame.bytes) ++ flat_map (bits 8) frame.bytes
 
@@ -35,11 +35,14 @@ with_sequence frame sequence = covered frame ++ bits 15 sequence
 unfoldable pub plain : DataFrame → List Bool
 plain frame = with_sequence frame (sequence_of (covered frame))
 
--- the bits behind the stuffed part: CRC delimiter, acknowledgement slot, which some receiver makes dominant, acknowledgement
--- delimiter, end of frame and intermission
+-- the bits behind the stuffed part; some receiver makes the acknowledgement slot dominant
 abbrev pub trailer : List Bool
 trailer =
-    recessive ∷ dominant ∷ recessive ∷ (replicate 7 recessive ++ replicate 3 recessive)
+    recessive  -- CRC delimiter
+    ∷ dominant  -- acknowledgement slot
+    ∷ recessive  -- acknowledgement delimiter
+    ∷ (replicate 7 recessive  -- end of frame
+    ++ replicate 3 recessive)  -- intermission
 
 -- the wire of a frame
 unfoldable pub wire_of : DataFrame → List Bool

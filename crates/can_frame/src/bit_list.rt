@@ -11,7 +11,7 @@ const ROOM: usize = 98;
 /// Up to 98 bits, in the order of sending.
 #[derive(Drop)]
 pub struct BitList {
-    places: [bool; 98],
+    places: [bool; ROOM],
     len: usize,
 }
 
@@ -32,7 +32,7 @@ impl BitList {
         ensures len { length result ≡ 0 }
     {
         BitList {
-            places: [false; 98],
+            places: [false; ROOM],
             len: 0,
         }
     }

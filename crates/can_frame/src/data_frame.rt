@@ -20,7 +20,7 @@ pub const MAX_BYTES: usize = 8;
 pub struct Frame {
     id: u16,
     len: u8,
-    bytes: [u8; 8],
+    bytes: [u8; MAX_BYTES],
 }
 
 impl Model for Frame {
@@ -66,6 +66,7 @@ impl Frame {
     /// An identifier above 0x7EF is refused before too many bytes are. It takes no memory.
     pub fn new(id: u16, bytes: &[u8]) -> Result<Frame, FrameFault>
         ensures frame { IfOk result (λ f. f ≡ record { identifier = id; bytes = bytes.now }) }
+        ensures legal { IfOk result IsFrame }
         ensures fault { IfErr result (Refuses id bytes.now) }
     {
         if id > MAX_IDENTIFIER {
@@ -74,7 +75,7 @@ impl Frame {
         if bytes.len() > MAX_BYTES {
             return Err(FrameFault::TooLong { len: bytes.len() });
         }
-        let mut places = [0u8; 8];
+        let mut places = [0; MAX_BYTES];
         places[..bytes.len()].copy_from_slice(bytes);
         Ok(Frame {
             id,

@@ -13,16 +13,14 @@ pub fn one_crc_sequence()
     ensures there { (covered : List Bool) → IsSequence covered (sequence_of covered) }
     ensures one { (dividend first second : ℕ) → IsRemainder dividend first → IsRemainder dividend second
         → first ≡ second }
-{
-}
+{}
 
 /// A wire is not empty, and its length is from 47 + 8n to 55 + 10n bits, where n is the number of bytes.
 pub fn wire_lengths()
     ensures not_empty { (frame : DataFrame) → 0 < wire_length frame }
     ensures at_least { (frame : DataFrame) → 47 + 8 * length frame.bytes ≤ wire_length frame }
     ensures at_most { (frame : DataFrame) → wire_length frame ≤ worst (length frame.bytes) }
-{
-}
+{}
 
 /// Bits have one answer, and two frames never have one wire.
 pub fn one_answer()
@@ -32,5 +30,4 @@ pub fn one_answer()
         → Reads (wire_of frame) answer → answer ≡ Ok frame }
     ensures one_frame { (first second : DataFrame) → IsFrame first → IsFrame second
         → wire_of first ≡ wire_of second → first ≡ second }
-{
-}
+{}

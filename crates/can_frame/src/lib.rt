@@ -5,6 +5,7 @@
 mod bit_list;
 mod data_frame;
 pub mod laws;
+mod reader;
 mod register;
 #[cfg(test)]
 mod tests;
@@ -12,5 +13,6 @@ mod wire_bits;
 mod wire_fault;
 
 pub use data_frame::{Frame, FrameFault, MAX_BYTES, MAX_IDENTIFIER, TimedFrame};
+pub use reader::read_wire;
 pub use wire_bits::{crc, wire, wire_len};
 pub use wire_fault::WireFault;

@@ -137,11 +137,22 @@ const FRAMES: [(u16, usize, u64, u32, u16); 128] = [
     (0x471, 5, 0xfff8ffff94, 93, 0x02d4),
 ];
 
-/// Each frame has the wire length and the CRC sequence that can-utils gives it, and its wire has that
-/// length.
+/// Worked examples in the same columns: each recessive bit that the CRC covers, with k more of them
+/// behind it, adds x^(15 + k) modulo the generator.
+const WORKED: [(u16, usize, u64, u32, u16); 6] = [
+    (0x000, 0, 0x0, 53, 0x0000),
+    (0x100, 0, 0x0, 51, 0x380A),
+    (0x200, 0, 0x0, 51, 0x7014),
+    (0x201, 0, 0x0, 50, 0x5207),
+    (0x000, 8, 0x0000_0000_0000_0000, 127, 0x145B),
+    (0x000, 8, 0x0000_3701_0000_0000, 126, 0x56F8),
+];
+
+/// Each frame has the wire length and the CRC sequence of its row, and its wire, which has that length,
+/// is read back as the frame.
 #[test]
-fn frames_of_can_utils(rt: HostRuntime) -> Result<(), Fail> {
-    for (id, count, data, length, sequence) in FRAMES {
+fn frames_of_the_tables(rt: HostRuntime) -> Result<(), Fail> {
+    for (id, count, data, length, sequence) in WORKED.iter().chain(&FRAMES).copied() {
         let all = data.to_be_bytes();
         assert!(rt; count <= all.len());
         let frame = Frame::new(id, &all[all.len() - count..])?;
@@ -149,8 +160,18 @@ fn frames_of_can_utils(rt: HostRuntime) -> Result<(), Fail> {
         assert_eq!(rt; crc(&frame), sequence, "CRC sequence of {id:#x}");
         let bits = wire(rt.alloc(), &frame)?;
         assert_eq!(rt; bits.len(), length as usize, "bits of {id:#x}");
+        assert_eq!(rt;
+            read_wire(rt.alloc(), bits.as_slice())?,
+            frame,
+            "frame of {id:#x}"
+        );
     }
     Ok(())
+}
+
+/// The wire bits of a frame of no bytes with identifier 0: 34 dominant bits with 6 stuff bits, and 13.
+fn empty_wire(rt: &HostRuntime) -> Result<Vec<bool>, Fail> {
+    Ok(wire(rt.alloc(), &Frame::new(0, &[])?)?)
 }
 
 #[test]
@@ -168,4 +189,43 @@ fn refuses_what_is_too_great(rt: HostRuntime) {
         Some(FrameFault::TooLong { len: 9 })
     );
     assert!(rt; Frame::new(0x7EF, &[0; 8]).is_ok());
+}
+
+/// The empty frame of identifier 0 with one bit turned, left out or added.
+#[test]
+fn refuses_the_first_wrong_place(rt: HostRuntime) -> Result<(), Fail> {
+    let turned = [
+        (5, WireFault::Stuff { place: 5 }),
+        (
+            39,
+            WireFault::Crc {
+                sent: 1,
+                computed: 0,
+            },
+        ),
+        (52, WireFault::Form { place: 52 }),
+    ];
+    for (place, fault) in turned {
+        let mut bits = empty_wire(&rt)?;
+        assert!(rt; place < bits.len());
+        bits[place] = !bits[place];
+        assert_eq!(rt;
+            read_wire(rt.alloc(), bits.as_slice()).err(),
+            Some(fault),
+            "{place}"
+        );
+    }
+    let mut bits = empty_wire(&rt)?;
+    assert_eq!(rt; bits.len(), 53);
+    bits.push(true)?;
+    assert_eq!(rt;
+        read_wire(rt.alloc(), bits.as_slice()).err(),
+        Some(WireFault::Tail { place: 53 })
+    );
+    bits.truncate(52);
+    assert_eq!(rt;
+        read_wire(rt.alloc(), bits.as_slice()).err(),
+        Some(WireFault::Short { have: 52 })
+    );
+    Ok(())
 }

@@ -14,9 +14,6 @@ use stuff_bound::{stuff, stuffed_len};
 /// A dominant bit, which is 0: it overrides a recessive one.
 const DOMINANT: bool = false;
 
-/// The number of bits behind the stuffed part.
-const TRAILER_LEN: usize = 13;
-
 /// The bits behind the stuffed part: CRC delimiter, acknowledgement slot, acknowledgement delimiter,
 /// seven bits of end of frame and three of intermission (CAN 2.0 Part A, data frame and interframe space).
 pub const TRAILER: [bool; 13] = [
@@ -71,7 +68,7 @@ pub fn wire_len(frame: &Frame) -> u32
     ensures at_most { result ≤ worst (length frame.now.bytes) }
 {
     let stuffed = stuffed_len(plain_bits(frame).as_slice());
-    (stuffed + TRAILER_LEN) as u32
+    (stuffed + TRAILER.len()) as u32
 }
 
 /// The bits of a frame on the wire, in the order of sending, its three bits of intermission included.

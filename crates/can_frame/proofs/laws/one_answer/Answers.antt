@@ -1,5 +1,5 @@
 -- One answer, and what it says of the wire of a frame.
-use Rattle.std.proofs.Common.{Ok, refl, sym, ◌∙◌}
+use Rattle.std.proofs.Common.{Ok, refl}
 use Rattle.can_frame.proofs.OneAnswer.{Reads-one}
 use Rattle.can_frame.proofs.laws.one_answer.Goals as goal
 

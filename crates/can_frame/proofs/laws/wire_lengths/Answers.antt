@@ -1,6 +1,5 @@
 -- The plain part has 34 + 8n bits, stuffing adds fewer than one for each four, and 13 follow.
-use Rattle.std.proofs.Common.{◌≡◌, ℕ, ◌+◌, ◌*◌, ◌≤◌, length, arith}
-use Rattle.stuff_bound.specs.Stuffing.{stuffed}
+use Rattle.std.proofs.Common.{◌≡◌, ◌+◌, ◌*◌, length, arith}
 use Rattle.stuff_bound.proofs.Stuffs.{length-stuffed-least, length-stuffed-most}
 use Rattle.can_frame.specs.DataFrame.{DataFrame}
 use Rattle.can_frame.specs.Crc.{sequence_of}

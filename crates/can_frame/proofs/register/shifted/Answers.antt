@@ -2,7 +2,8 @@
 use Rattle.std.proofs.Common.{◌≡◌, ℕ, ◌*◌, ◌%◌, ◌^◌, ◌<◌, Bool, true, false, bit_xor, arith}
 use Rattle.std.proofs.lemmas.Nat.{xor_lt}
 use mir.Val.{bool_byte}
-use Rattle.can_frame.proofs.Remainder.{bit_number, bit_small, top-xor, IsSequence-low, IsSequence-high}
+use Rattle.can_frame.proofs.Fields.{bit_number}
+use Rattle.can_frame.proofs.Remainder.{bit_small, top-xor, IsSequence-low, IsSequence-high}
 use Rattle.can_frame.proofs.register.shifted.Goals as goal
 
 -- the bit at x^14, as the code shifts it there
