@@ -1,4 +1,5 @@
-//! The senders that contend for the bus at one time, as a list of their identifiers that needs no memory.
+//! The senders that contend for the bus at one time, as a list of their identifiers that needs no
+//! memory.
 
 ghost use Rattle.std.specs.Prelude.{◌≡◌, ◌≤◌, ◌<◌, [], ◌∷◌, ◌++◌, Contains, length};
 ghost use Rattle.arbitration.specs.Arbitration.{AreDistinct};
@@ -8,7 +9,8 @@ use std::marker::Model;
 /// How many senders may contend at one time.
 const MOST: usize = 32;
 
-/// The distinct identifiers of at most 32 senders that contend for the bus, in the order in which they were pushed.
+/// The distinct identifiers of at most 32 senders that contend for the bus, in the order in which
+/// they were pushed.
 #[derive(Drop)]
 pub struct Contenders {
     ids: [u16; MOST],
@@ -23,7 +25,8 @@ impl Model for Contenders {
 
     ghost view = { λ contenders. take contenders.count contenders.ids };
 
-    ghost invariant = { λ contenders. (contenders.count ≤ 32) × AreDistinct (take contenders.count contenders.ids) };
+    ghost invariant = { λ contenders.
+        (contenders.count ≤ 32) × AreDistinct (take contenders.count contenders.ids) };
 }
 
 impl Contenders {

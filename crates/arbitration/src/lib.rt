@@ -1,5 +1,5 @@
-//! Arbitration on a CAN bus (CAN 2.0 Part A, arbitration): the senders that begin together send their identifiers
-//! bit by bit, and the bus is the wired AND of what they send.
+//! Arbitration on a CAN bus (CAN 2.0 Part A, arbitration): the senders that begin together send
+//! their identifiers bit by bit, and the bus is the wired AND of what they send.
 #![tactic(auto)]
 
 ghost use Rattle.std.specs.Prelude.{◌≡◌, ◌≢◌, ◌+◌, ◌*◌, ◌/◌, ◌%◌, ◌^◌, ◌<◌, ◌≤◌, ◌↔◌, [], All, Any, IfSome, IsNone, IsTrue, MatchBool, MatchOption, length, slice_index};
@@ -12,10 +12,12 @@ pub use contender_list::Contenders;
 /// The number of bits of an identifier, which are sent most significant first.
 const IDENTIFIER_BITS: u32 = 11;
 
-/// Runs the identifier bits of all contenders over the bus, most significant first, and gives the place of the one
-/// that is left, whose identifier is the least. `None` is the answer where nobody contends.
+/// Runs the identifier bits of all contenders over the bus, most significant first, and gives the
+/// place of the one that is left, whose identifier is the least. `None` is the answer where nobody
+/// contends.
 ///
-/// Identifiers are below 0x800, and no two senders share one: they would both go on into the data field.
+/// Identifiers are below 0x800, and no two senders share one: they would both go on into the data
+/// field.
 pub fn arbitrate(ids: &[u16]) -> Option<usize>
     requires distinct { AreDistinct ids.now }
     requires eleven_bits { All (λ id. id < 0x800) ids.now }
@@ -33,25 +35,29 @@ pub fn arbitrate(ids: &[u16]) -> Option<usize>
 
 /// The first place at which the identifier stands.
 fn place_of(ids: &[u16], id: u16) -> Option<usize>
-    ensures { MatchOption result (All (λ other. other ≢ id) ids.now) (λ place. (place < length ids.now) × (slice_index ids.now place ≡ id)) }
+    ensures place { MatchOption result (All (λ other. other ≢ id) ids.now)
+        (λ place. (place < length ids.now) × (slice_index ids.now place ≡ id)) }
 {
     ids.iter().position(|other| *other == id)
 }
 
-/// The level of the bus at the bit `place`, where 0 is the least significant one: recessive (`true`) unless somebody
-/// sends dominant. `bus` has the levels of the more significant bits.
+/// The level of the bus at the bit `place`, where 0 is the least significant one: recessive
+/// (`true`) unless somebody sends dominant. `bus` has the levels of the more significant bits.
 fn bus_level(ids: &[u16], place: u32, bus: u16) -> bool
-    requires { place < 11 }
-    ensures { MatchBool result (All (λ id. ¬ SendsDominant place bus id) ids.now) (Any (SendsDominant place bus) ids.now) }
+    requires place { place < 11 }
+    ensures level { MatchBool result
+        (All (λ id. ¬ SendsDominant place bus id) ids.now)
+        (Any (SendsDominant place bus) ids.now) }
 {
     !ids.iter().any(|id| sends_dominant(*id, place, bus))
 }
 
-/// Whether the sender of `id` still sends at the bit `place`, and sends dominant (0) there. It still sends where the
-/// bus had its own levels at the more significant bits: one that sent recessive and saw dominant has withdrawn.
+/// Whether the sender of `id` still sends at the bit `place`, and sends dominant (0) there. It
+/// still sends where the bus had its own levels at the more significant bits: one that sent
+/// recessive and saw dominant has withdrawn.
 fn sends_dominant(id: u16, place: u32, bus: u16) -> bool
-    requires { place < 11 }
-    ensures { IsTrue result ↔ SendsDominant place bus id }
+    requires place { place < 11 }
+    ensures dominant { IsTrue result ↔ SendsDominant place bus id }
 {
     id >> (place + 1) == bus && (id >> place) & 1 == 0
 }

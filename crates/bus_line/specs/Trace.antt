@@ -1,6 +1,6 @@
 -- Traces of a CAN bus, and which of them arbitration decides (CAN 2.0 Part A, arbitration).
 -- A trace is a list of timed frames. Times are whole bit times from 0.
-use Rattle.std.specs.Prelude.{◌≡◌, ℕ, ◌+◌, ◌<◌, ◌≤◌, List, [], ◌∷◌, ◌++◌, All, AllPairs, Any, filter, nat_lt}
+use Rattle.std.specs.Prelude.{◌≡◌, ℕ, ◌+◌, ◌<◌, ◌≤◌, List, [], ◌∷◌, ◌++◌, All, AllPairs, Any, filter, fold, nat_lt, ◌↔◌}
 use Rattle.can_frame.specs.DataFrame.{DataFrame}
 use Rattle.can_frame.specs.Wire.{wire_length}
 use Rattle.can_frame.specs.declared.data_frame.TimedFrame.{TimedFrame}
@@ -8,6 +8,10 @@ use Rattle.can_frame.specs.declared.data_frame.TimedFrame.{TimedFrame}
 -- the first time at which the bus is free again after the frame
 abbrev pub end_of : TimedFrame → ℕ
 end_of sent = sent.start + sent.len
+
+-- the first time, at or after `from`, at which the bus is free after these frames
+abbrev pub free_after : ℕ → List TimedFrame → ℕ
+free_after from frames = fold (λ _ sent. end_of sent) from frames
 
 -- each length is the frame's wire length, and each frame starts at or after the end of the ones before it
 pub record IsOrdered (trace : List TimedFrame) : Type 0 where
@@ -36,7 +40,7 @@ pub record IsTrace (offers : Offers) (until : ℕ) (trace : List TimedFrame) : T
   pub within : All (λ sent. sent.start < until) trace
   pub least : All (λ sent. IsLeastOffered offers (started_before sent.start trace) sent.start sent.frame) trace
   pub busy : (at : ℕ) (frame : DataFrame) → at < until → offers (started_before at trace) at frame
-    → Any (λ sent. (sent.start ≤ at) × (at < end_of sent)) trace
+      → Any (λ sent. (sent.start ≤ at) × (at < end_of sent)) trace
 
 -- nothing is offered at the times from `low` to below `high`, after the frames `past`
 abbrev pub NothingOffered : Offers → List TimedFrame → ℕ → ℕ → Type 0
@@ -62,3 +66,10 @@ Follows offers past free until (sent ∷ later) =
 abbrev pub IsDetermined : Offers → Type 0
 IsDetermined offers = (past : List TimedFrame) (at : ℕ) (one other : DataFrame) → offers past at one → offers past at other
     → one.identifier ≡ other.identifier → one ≡ other
+
+-- two kinds of offers agree along some frames, behind other pasts: behind each front of the frames, they offer the same
+-- from the first free time on
+abbrev pub AgreeAlong : Offers → Offers → List TimedFrame → List TimedFrame → ℕ → ℕ → List TimedFrame → Type 0
+AgreeAlong offers others past other_past free until frames =
+    (front back : List TimedFrame) (at : ℕ) (frame : DataFrame) → frames ≡ front ++ back → free_after free front ≤ at → at < until
+    → (offers (past ++ front) at frame) ↔ (others (other_past ++ front) at frame)

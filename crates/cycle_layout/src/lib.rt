@@ -1,5 +1,5 @@
-//! The layout of an elementary cycle: the trigger, the turnaround, the asynchronous window and the synchronous window
-//! that ends the cycle. All lengths and times are bit times.
+//! The layout of an elementary cycle: the trigger, the turnaround, the asynchronous window and the
+//! synchronous window that ends the cycle. All lengths and times are bit times.
 #![tactic(auto)]
 
 ghost use Rattle.std.specs.Prelude.{◌≡◌, ℕ, ◌+◌, ◌*◌, ◌/◌, ◌^◌, ◌<◌, ◌≤◌, ◌↔◌, IfErr, IfOk, IsTrue};
@@ -14,8 +14,8 @@ use stuff_bound::bound;
 /// The number of data bytes of a trigger message.
 const TRIGGER_BYTES: u8 = 8;
 
-/// The lengths that are the same in every cycle: those of the cycle itself, of the turnaround behind the trigger and
-/// of the largest synchronous window.
+/// The lengths that are the same in every cycle: those of the cycle itself, of the turnaround
+/// behind the trigger and of the largest synchronous window.
 #[derive(Clone, Copy, Debug, PartialEq, Eq)]
 pub struct Layout {
     cycle: u32,
@@ -30,7 +30,8 @@ impl Model for Layout {
 
     ghost view = { λ l. record { cycle = l.cycle; turnaround = l.turnaround; window = l.window } };
 
-    ghost invariant = { λ l. IsLayout (record { cycle = l.cycle; turnaround = l.turnaround; window = l.window }) };
+    ghost invariant = { λ l.
+        IsLayout (record { cycle = l.cycle; turnaround = l.turnaround; window = l.window }) };
 
     ghost inverse = { λ l. record { cycle = l.cycle; turnaround = l.turnaround; window = l.window } };
 }
@@ -44,7 +45,8 @@ pub enum LayoutFault {
     TurnRange,
     /// The largest synchronous window is not 55 to 16,383 bit times long.
     WindowRange,
-    /// The longest trigger, the turnaround and the largest synchronous window need more than the cycle has.
+    /// The longest trigger, the turnaround and the largest synchronous window need more than the
+    /// cycle has.
     TooNarrow { need: u32, have: u32 },
 }
 
@@ -66,9 +68,11 @@ impl fmt::Display for LayoutFault {
 impl Error for LayoutFault {}
 
 impl Layout {
-    /// The layout with cycles of `e` bit times, the turnaround `r` and synchronous windows of at most `w` bit times.
+    /// The layout with cycles of `e` bit times, the turnaround `r` and synchronous windows of at
+    /// most `w` bit times.
     ///
-    /// A cycle out of its range is refused first, then a turnaround, then a window, then a cycle that is too narrow.
+    /// A cycle out of its range is refused first, then a turnaround, then a window, then a cycle
+    /// that is too narrow.
     pub fn new(e: u32, r: u32, w: u32) -> Result<Layout, LayoutFault>
         ensures layout { IfOk result (λ l. l ≡ record { cycle = e; turnaround = r; window = w }) }
         ensures known { IfOk result IsLayout }
@@ -102,7 +106,8 @@ impl Layout {
         self.cycle
     }
 
-    /// The turnaround: the time that nodes have between the longest trigger and the asynchronous window.
+    /// The turnaround: the time that nodes have between the longest trigger and the asynchronous
+    /// window.
     pub fn turnaround(&self) -> u32
         ensures value { result ≡ self.now.turnaround }
         ensures known { IsLayout self.now }
@@ -120,7 +125,7 @@ impl Layout {
 
     /// The start of the asynchronous window of a cycle.
     pub fn async_open(&self, cycle: u64) -> u64
-        requires { cycle < 2 ^ 42 }
+        requires cycle { cycle < 2 ^ 42 }
         ensures value { result ≡ async_open self.now cycle }
     {
         cycle * u64::from(self.cycle) + u64::from(bound(TRIGGER_BYTES) + self.turnaround)
@@ -135,9 +140,9 @@ impl Layout {
         (cycle + 1) * u64::from(self.cycle) - u64::from(l)
     }
 
-    /// Whether a frame of `dlc` data bytes may start at the time `at`, where the synchronous window of that cycle has
-    /// the length `l`: the asynchronous window has opened, and the longest frame of so many bytes ends before the
-    /// synchronous window.
+    /// Whether a frame of `dlc` data bytes may start at the time `at`, where the synchronous window
+    /// of that cycle has the length `l`: the asynchronous window has opened, and the longest frame
+    /// of so many bytes ends before the synchronous window.
     pub fn fits(&self, at: u64, dlc: u8, l: u32) -> bool
         requires bytes { dlc ≤ 8 }
         requires window { l ≤ self.now.window }

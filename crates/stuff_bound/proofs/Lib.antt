@@ -1,2 +1,3 @@
-mod Stuffs
-mod Faults
+pub mod Stuffs
+pub mod Faults
+pub mod Places

@@ -1,10 +1,9 @@
 -- What a sender puts on the wire is stuffed, and nothing else is, both newest first.
-use Rattle.std.proofs.Common.{◌≡◌, ℕ, ◌+◌, ◌*◌, ◌<◌, ◌≤◌, Bool, true, false, not, cond, leb, List, [], ◌∷◌, length, get_or, take, reverse, refl, sym, ap, subst, ◌∙◌, inl, inr, arith}
-use Rattle.std.specs.Bool.{beq}
+use Rattle.std.proofs.Common.{◌≡◌, ℕ, ◌+◌, ◌*◌, ◌<◌, ◌≤◌, Bool, true, false, not, List, [], ◌∷◌, length, get_or, take, reverse, refl, sym, ap, subst, ◌∙◌, inl, inr, arith}
 use Rattle.std.proofs.lemmas.Bool.{cases_lt, cond-true, cond-false}
 use Rattle.std.proofs.lemmas.List.{reverse-reverse, length-reverse, reverse-append, take_more}
 use Rattle.std.proofs.lemmas.Bool.Decides.{nat_tests}
-use Rattle.stuff_bound.specs.Stuffing.{last_bit, run, at_stuff_place, HasNoSix, without_stuff, Stuffs, with_opposite, with_stuff, stuffed}
+use Rattle.stuff_bound.specs.Stuffing.{run, at_stuff_place, HasNoSix, without_stuff, Stuffs, with_opposite, with_stuff, stuffed}
 
 -- one more bit makes the run at most one longer
 pub run-more : (bit : Bool) (sent : List Bool) → run (bit ∷ sent) ≤ run sent + 1
@@ -28,7 +27,7 @@ with_opposite-full bit sent full = grind (arith, nat_tests)
 pub with_opposite_cases : (P : List Bool → Type 0) (bit : Bool) (sent : List Bool) → (run (bit ∷ sent) < 5 → P (bit ∷ sent)) → (5 ≤ run (bit ∷ sent) → P (not bit ∷ bit ∷ sent)) → P (with_opposite (bit ∷ sent))
 with_opposite_cases P bit sent below full =
     elim (cases_lt (run (bit ∷ sent)) 5) [
-        inl h ↦ subst P (sym (with_opposite-below (bit ∷ sent) h)) (below h)
+      | inl h ↦ subst P (sym (with_opposite-below (bit ∷ sent) h)) (below h)
       | inr h ↦ subst P (sym (with_opposite-full bit sent h)) (full h)
     ]
 
@@ -80,7 +79,7 @@ with_stuff-without_stuff [] no_six = refl
 with_stuff-without_stuff (bit ∷ sent) no_six =
     let before = with_stuff-without_stuff sent no_six.1 in
     elim (cases_lt (run sent) 5) [
-        inl h ↦
+      | inl h ↦
           ap with_stuff (without_stuff-below bit sent h)
           ∙ ap (λ wire. with_opposite (bit ∷ wire)) (before ∙ with_opposite-below sent h)
       | inr h ↦
@@ -98,7 +97,7 @@ pub Stuffs_from_sent : (wire plain : List Bool) → reverse wire ≡ with_stuff 
 Stuffs_from_sent wire plain e = record {
   no_six = rw e (HasNoSix-with_stuff (reverse plain));
   ended = rw e (run-with_stuff-below (reverse plain));
-  left = rw e (without_stuff-with_stuff (reverse plain))
+  left = rw e (without_stuff-with_stuff (reverse plain));
 }
 
 pub Stuffs-stuffed : (plain : List Bool) → Stuffs (stuffed plain) plain

@@ -1,6 +1,6 @@
 -- *Stuffing* in the words of the standard, by places: a place is an index, and the bits are in the order of sending.
 -- `laws` ties these words to those of `Stuffing` and `StuffFault`.
-use Rattle.std.specs.Prelude.{◌≡◌, ℕ, ◌+◌, ◌-◌, ◌<◌, ◌≤◌, Bool, false, not, ◌&&◌, nat_le, List, length, map, slice_index_or, filter, IsTrue, IsFalse}
+use Rattle.std.specs.Prelude.{◌≡◌, ℕ, ◌+◌, ◌-◌, ◌<◌, Bool, false, not, ◌&&◌, nat_le, List, length, map, slice_index_or, filter, IsTrue, IsFalse}
 use Rattle.std.specs.Bool.{beq}
 use Rattle.std.specs.List.{list_all, range_with_len}
 

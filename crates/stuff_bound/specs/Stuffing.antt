@@ -1,5 +1,5 @@
--- Bit stuffing, as CAN 2.0 Part A says it ("Bit stream coding"): whenever a sender has sent five equal bits, it sends one
--- bit of the opposite level. A bit is a `Bool`: dominant is `false`, recessive is `true`.
+-- Bit stuffing, as CAN 2.0 Part A says it ("Bit stream coding"): whenever a sender has sent five equal bits in a row, stuff
+-- bits counted, it sends one bit of the opposite level. A bit is a `Bool`: dominant is `false`, recessive is `true`.
 --
 -- The words here look at what was sent newest first, so that the tail of such a list is what stood before its head.
 -- A list in the order of sending is turned round by `reverse` once. `ByPlace` says the same by places in the order of sending.
@@ -63,8 +63,8 @@ last_run sent = record { last = last_bit sent; count = min 5 (run sent) }
 abbrev pub Tracks : LastRun → List Bool → Type 0
 Tracks kept sent = kept ≡ last_run sent
 
--- the longest time on the bus of a data frame of `bytes` data bytes, in bit times: at most 34 + 8 bytes bits from the start of
--- frame to the CRC sequence with their stuff bits, ten fixed bits to the end of frame, three of intermission
+-- the worst length of a data frame of `bytes` data bytes, in bit times: 34 + 8 bytes bits from the start of frame to the CRC
+-- sequence, at most 8 + 2 bytes stuff bits among and behind them, ten bits to the end of frame, and three of intermission
 -- (CAN 2.0 Part A, "Data frame" and "Interframe space")
 abbrev pub worst : ℕ → ℕ
 worst bytes = 55 + 10 * bytes

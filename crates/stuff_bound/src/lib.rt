@@ -5,10 +5,12 @@
 //! both by places in `ByPlace.antt`.
 #![tactic(auto)]
 
+pub mod laws;
 mod run;
 mod stuffing;
 
-pub mod laws;
-
 pub use run::Run;
 pub use stuffing::{StuffFault, bound, stuff, stuffed_len, unstuff};
+
+#[cfg(test)]
+mod tests;

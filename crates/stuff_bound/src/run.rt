@@ -5,11 +5,14 @@ ghost use Rattle.stuff_bound.specs.Stuffing.{Tracks, at_stuff_place, last_bit, r
 
 use std::marker::Model;
 
+/// How many equal bits are followed by an opposite one.
+const FULL: u8 = 5;
+
 /// The last bit of those sent so far, and how many equal bits came last, counted up to five.
 ///
 /// It is all that stuffing needs to know of the bits before a place. Its clauses speak of every list
 /// of bits sent, newest first, so a caller may keep that list, or only say in a proof which one it is.
-#[derive(Clone, Copy)]
+#[derive(Clone, Copy, Debug, Default, PartialEq, Eq)]
 pub struct Run {
     last: bool,
     count: u8,
@@ -48,7 +51,7 @@ impl Run {
                 last: bit,
                 count: 1,
             }
-        } else if self.count < 5 {
+        } else if self.count < FULL {
             Run {
                 last: bit,
                 count: self.count + 1,
@@ -62,7 +65,7 @@ impl Run {
     pub fn is_full(self) -> bool
         ensures full { (sent : List Bool) → Tracks self sent → result ≡ at_stuff_place sent }
     {
-        self.count == 5
+        self.count == FULL
     }
 
     /// The opposite of the bit that was sent last, which is what a sender puts at a stuff place.
@@ -76,6 +79,6 @@ impl Run {
     pub fn is_sixth(self, bit: bool) -> bool
         ensures sixth { (sent : List Bool) → Tracks self sent → result ≡ nat_le 6 (run (bit ∷ sent)) }
     {
-        self.count == 5 && bit == self.last
+        self.is_full() && bit == self.last
     }
 }

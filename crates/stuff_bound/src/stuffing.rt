@@ -10,7 +10,8 @@ use std::alloc::{AllocError, AllocFailed, Global};
 use std::error::Error;
 use std::fmt;
 
-/// Why bits are not what stuffing gives.
+/// Why bits are not what stuffing gives (CAN 2.0 Part A, error detection: a stuff error is the sixth
+/// consecutive equal bit).
 #[derive(Clone, Copy, Debug, PartialEq, Eq)]
 pub enum StuffFault {
     /// Six equal neighbours stand in the bits; `place` is the index of the first sixth.
@@ -18,14 +19,17 @@ pub enum StuffFault {
     /// There are no six, and the bits end with five equal ones without the opposite bit behind them;
     /// `len` is the number of bits.
     Ends { len: usize },
-    /// No memory for the bits that are left.
+    /// There was no memory for the answer.
     Memory,
 }
 
 impl fmt::Display for StuffFault {
     fn fmt<W: fmt::Write>(&self, f: &mut fmt::Formatter<W>) -> fmt::Result {
         match self {
-            StuffFault::SixEqual { place } => write!(f, "the sixth of six equal bits at place {place}"),
+            StuffFault::SixEqual { place } => write!(
+                f,
+                "the sixth of six equal bits at place {place}"
+            ),
             StuffFault::Ends { len } => write!(f, "five equal bits end the list of {len} bits"),
             StuffFault::Memory => write!(f, "out of memory"),
         }
@@ -42,8 +46,8 @@ impl<T: Drop> From<AllocFailed<T>> for StuffFault {
     }
 }
 
-/// The stuffed bits: after each five equal bits on the wire, a stuff bit among them, stands one
-/// opposite bit, also at the end (CAN 2.0 Part A, bit stream coding).
+/// The stuffed bits: five equal bits on the wire, which may begin with a stuff bit, are followed by one
+/// of the opposite level, also where they end the list (CAN 2.0 Part A, bit stream coding).
 pub fn stuff(alloc: Global, bits: &[bool]) -> Result<Vec<bool>, AllocError>
     ensures stuffs { IfOk result (λ wire. Stuffs wire.items bits.now) }
     ensures value { IfOk result (λ wire. wire.items ≡ stuffed bits.now) }
@@ -62,10 +66,11 @@ pub fn stuff(alloc: Global, bits: &[bool]) -> Result<Vec<bool>, AllocError>
     Ok(wire)
 }
 
-/// The bits that `stuff` turns into `bits`.
+/// The bits that `stuff` turns into `bits`. The first sixth equal bit, else five equal bits at the end,
+/// is the fault.
 pub fn unstuff(alloc: Global, bits: &[bool]) -> Result<Vec<bool>, StuffFault>
     ensures ok { IfOk result (λ plain. Stuffs bits.now plain.items) }
-    ensures ok_where { (plain : List Bool) → Stuffs bits.now plain → IsOkUnless result StuffFault.Memory }
+    ensures completes { (plain : List Bool) → Stuffs bits.now plain → IsOkUnless result StuffFault.Memory }
 
     // Want of memory may come in place of any answer.
     ensures six_equal { (place : ℕ) → result ≢ Err StuffFault.Memory
@@ -96,6 +101,10 @@ pub fn stuffed_len(bits: &[bool]) -> usize
     ensures len { result ≡ length (stuffed bits.now) }
     ensures at_least { length bits.now ≤ result }
     ensures at_most { 0 < length bits.now → 4 * result + 1 ≤ 5 * length bits.now }
+
+    // The bits from the start of frame to the CRC sequence of a frame of that many bytes, with the
+    // thirteen bits behind them.
+    ensures frame { (bytes : ℕ) → length bits.now ≡ 34 + 8 * bytes → result + 13 ≤ worst bytes }
 {
     let mut len = 0;
     let mut run = Run::new();
@@ -110,8 +119,8 @@ pub fn stuffed_len(bits: &[bool]) -> usize
     len
 }
 
-/// The longest time on the bus of a data frame with `dlc` data bytes, in bit times: its bits, the most
-/// stuff bits that it can have, and the three bits of intermission.
+/// The worst length of a data frame with `dlc` data bytes, 0 to 8, in bit times: no frame of that many
+/// bytes is longer, its stuff bits and the three bits of intermission included.
 pub fn bound(dlc: u8) -> u32
     requires { dlc ≤ 8 }
     ensures { result ≡ worst dlc }

@@ -8,5 +8,5 @@ loop-place-init c = record { fits = omega arith; leads = Leads-none c.args.ids.n
 pub loop-place-preserved : goal.loop-place-preserved
 loop-place-preserved c = record {
   fits = fits_next c.loop-place.place c.loop-place.bus c.from.result _ (omega arith) (omega arith) c.from.ensures c.loop-place.invariant.fits;
-  leads = Leads-step c.args.ids.now c.loop-place.place c.loop-place.bus c.from.result _ (omega arith) c.from.ensures c.bus_level-level.ensures c.loop-place.invariant.leads;
+  leads = Leads-step c.args.ids.now c.loop-place.place c.loop-place.bus c.from.result _ (omega arith) c.from.ensures c.bus_level-level.ensures.level c.loop-place.invariant.leads;
 }

@@ -1,5 +1,3 @@
-use Rattle.std.proofs.Common.{subst, sym}
-use Rattle.stuff_bound.specs.Stuffing.{Stuffs}
 use Rattle.stuff_bound.proofs.Stuffs.{Stuffs-stuffed, stuffed_only, plain_only}
 use Rattle.stuff_bound.proofs.laws.one_wire.Goals as goal
 

@@ -1,4 +1,4 @@
-use Rattle.std.proofs.Common.{arith, ◌∷◌, get_or, reverse, take, ◌≡◌, ◌<◌, ◌≤◌, ℕ, Bool, List, true, false, sym, ap, subst, ◌∙◌, length}
+use Rattle.std.proofs.Common.{arith, ◌∷◌, get_or, reverse, take, ◌≡◌, ◌<◌, ◌≤◌, ℕ, Bool, List, false, sym, ap, subst, ◌∙◌, length}
 use Rattle.stuff_bound.specs.Stuffing.{Tracks, with_stuff, at_stuff_place, stuffed}
 use Rattle.stuff_bound.proofs.Stuffs.{with_stuff_more-full, with_stuff_more-below, length-stuffed-least, length-stuffed-most}
 use Rattle.std.proofs.lemmas.List.{take_all, length-reverse}
@@ -14,12 +14,13 @@ loop-bit-preserved c =
     let tracked : Tracks c.then-run.result sent = c.then-run.ensures.tracks _ c.loop-bit.invariant.run in
     let full : c.is_full.result ≡ at_stuff_place sent = c.is_full.ensures.full sent tracked in
     elim c.if-is_full.branch [
-        then-is_full w ↦
+      | then-is_full w ↦
           let more = with_stuff_more-full bits i false inside (sym full ∙ w.if-is_full.true) in
           let last = w.then-run-then-is_full.ensures.tracks sent tracked in
           record {
             run = rw (w.run-is, more) (subst (λ bit. Tracks w.then-run-then-is_full.result (bit ∷ sent)) (w.opposite.ensures.opposite sent tracked) last);
-            len = rw (w.len-is, more) (omega arith); small = omega arith
+            len = rw (w.len-is, more) (omega arith);
+            small = omega arith;
           }
       | else-is_full w ↦
           let more = with_stuff_more-below bits i false inside (sym full ∙ w.if-is_full.false) in
@@ -37,3 +38,7 @@ returns-clause-at_least c =
 pub returns-clause-at_most : goal.returns-clause-at_most
 returns-clause-at_most c some =
     omega (arith, all_sent _ _ _ c.loop-bit-test.false c.loop-bit.invariant.len, length-stuffed-most c.args.bits.now some)
+
+pub returns-clause-frame : goal.returns-clause-frame
+returns-clause-frame c bytes bits =
+    omega (arith, all_sent _ _ _ c.loop-bit-test.false c.loop-bit.invariant.len, length-stuffed-most c.args.bits.now (omega arith))

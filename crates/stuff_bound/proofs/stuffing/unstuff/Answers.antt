@@ -1,7 +1,6 @@
-use Rattle.std.proofs.Common.{arith, ◌≡◌, ℕ, Bool, List, Err, Ok, sym, ap, ◌∙◌}
-use Rattle.stuff_bound.specs.Stuffing.{Stuffs}
-use Rattle.stuff_bound.specs.StuffFault.{HasFirstSixth, EndsInFive}
-use Rattle.stuff_bound.specs.declared.stuffing.StuffFault.TheVariants.{SixEqual, Ends, Memory}
+use Rattle.std.proofs.Common.{arith, ◌≡◌, Err, sym, ap, ◌∙◌}
+use Rattle.stuff_bound.specs.StuffFault.{HasFirstSixth}
+use Rattle.stuff_bound.specs.declared.stuffing.StuffFault.TheVariants.{SixEqual}
 use Rattle.stuff_bound.proofs.Faults.{not_with_sixth, first_sixth_only, first_sixth, not_once_read}
 use Rattle.stuff_bound.proofs.stuffing.unstuff.Goals as goal
 
@@ -11,8 +10,8 @@ found c =
     first_sixth _ _ (omega arith) c.loop-place.invariant.no_six
     (sym (c.is_sixth.ensures.sixth _ c.loop-place.invariant.run) ∙ c.if-is_sixth.true)
 
-pub returns-then-is_sixth-clause-ok_where : goal.returns-then-is_sixth-clause-ok_where
-returns-then-is_sixth-clause-ok_where c plain h = absurd (not_with_sixth _ _ (found c) h.no_six)
+pub returns-then-is_sixth-clause-completes : goal.returns-then-is_sixth-clause-completes
+returns-then-is_sixth-clause-completes c plain h = absurd (not_with_sixth _ _ (found c) h.no_six)
 
 pub returns-then-is_sixth-clause-six_equal : goal.returns-then-is_sixth-clause-six_equal
 returns-then-is_sixth-clause-six_equal c place _ =

@@ -1,0 +1,4 @@
+mod Lists
+mod Quiet
+mod Running
+pub mod Traces

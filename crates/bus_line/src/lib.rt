@@ -1,0 +1,15 @@
+//! Frames one after the other on a CAN bus without errors (CAN 2.0 Part A, arbitration): whenever
+//! the bus is free and something is offered, the offered frame with the least identifier is sent
+//! whole. All times are bit times.
+#![tactic(auto)]
+
+mod laws;
+mod line;
+mod stations;
+
+pub use laws::{Offering, StationOffers, same_along, trace_laws};
+pub use line::run_until;
+pub use stations::Stations;
+
+#[cfg(test)]
+mod tests;

@@ -1,0 +1,67 @@
+//! Worked examples, whose bits are from a hand calculation, and the texts of the faults.
+
+use super::*;
+use std::test::Fail;
+
+/// The bits of a text of `0` and `1`.
+fn bits_of(rt: &HostRuntime, text: &str) -> Result<Vec<bool>, Fail> {
+    let mut bits = Vec::new(rt.alloc());
+    for digit in text.as_bytes() {
+        bits.push(*digit == b'1')?;
+    }
+    Ok(bits)
+}
+
+#[test]
+fn stuffing_by_hand(rt: HostRuntime) -> Result<(), Fail> {
+    let stuffings = [
+        ("", ""),
+        ("0101", "0101"),
+        ("00000", "000001"),
+        ("000001111", "00000111110"),
+        ("1111100001", "111110000011"),
+    ];
+    for (plain, wire) in stuffings {
+        let plain = bits_of(&rt, plain)?;
+        let wire = bits_of(&rt, wire)?;
+        assert_eq!(rt; stuff(rt.alloc(), &plain)?.as_slice(), wire.as_slice());
+        assert_eq!(rt; unstuff(rt.alloc(), &wire)?.as_slice(), plain.as_slice());
+        assert!(rt; plain.len() < 100);
+        assert_eq!(rt; stuffed_len(&plain), wire.len());
+    }
+    let refusals = [
+        (
+            "00000",
+            StuffFault::Ends { len: 5 },
+            "five equal bits end the list of 5 bits",
+        ),
+        (
+            "000000",
+            StuffFault::SixEqual { place: 5 },
+            "the sixth of six equal bits at place 5",
+        ),
+        (
+            "01111110000001",
+            StuffFault::SixEqual { place: 6 },
+            "the sixth of six equal bits at place 6",
+        ),
+        (
+            "00000111111",
+            StuffFault::SixEqual { place: 10 },
+            "the sixth of six equal bits at place 10",
+        ),
+    ];
+    for (bits, fault, text) in refusals {
+        let bits = bits_of(&rt, bits)?;
+        assert_eq!(rt; unstuff(rt.alloc(), &bits).err(), Some(fault));
+        assert_eq!(rt; format!(in rt.alloc(); "{fault}")?.as_str(), text);
+    }
+    Ok(())
+}
+
+#[test]
+fn length_limits(rt: HostRuntime) {
+    assert_eq!(rt; bound(0), 55);
+    assert_eq!(rt; bound(1), 65);
+    assert_eq!(rt; bound(8), 135);
+}
