@@ -3,6 +3,8 @@ use Rattle.std.proofs.Common.{◌≡◌, ℕ, ◌+◌, ◌*◌, ◌<◌, ◌≤�
 use Rattle.std.proofs.lemmas.List.{append-nil}
 use Rattle.std.proofs.lemmas.List.Concat.{flat_map-append}
 use Rattle.std.proofs.lemmas.List.Sums.{sum_by_push, sum_by-cons}
+use Rattle.can_frame.specs.DataFrame.{DataFrame}
+use Rattle.can_frame.specs.Wire.{wire_length}
 use Rattle.can_frame.specs.declared.data_frame.TimedFrame.{TimedFrame}
 use Rattle.cycle_layout.specs.Layout.{CycleLayout, IsLayout}
 use Rattle.requirement_table.specs.declared.entries.Entry.{Entry}
@@ -108,9 +110,9 @@ length-light [] = omega arith
 length-light (p ∷ ps) = let rest = length-light ps in let all = sum_by-cons (λ q. worst q.entry.length) p ps in omega arith
 
 -- a run that is under way keeps what is promised
-pub Kept-under_way : (layout : CycleLayout) (placed : List Placed) (next : ℕ) (history : List Event) (trace : List TimedFrame) → IsLayout layout
+pub Kept-under_way : ((frame : DataFrame) → 0 < wire_length frame) → (layout : CycleLayout) (placed : List Placed) (next : ℕ) (history : List Event) (trace : List TimedFrame) → IsLayout layout
     → IsUnderWay layout placed next history trace → Kept layout history trace
-Kept-under_way layout placed next history trace known way =
+Kept-under_way positive layout placed next history trace known way =
     let room = known.room in
     let some_time : 0 < layout.cycle = omega arith in
     let served = all_served layout placed (openings_of history) next trace some_time way.running in
@@ -118,7 +120,7 @@ Kept-under_way layout placed next history trace known way =
     record {
       legal = way.legal;
       can_trace = subst (λ n. IsTrace (offered layout (openings_of history)) (n * layout.cycle) trace) way.next_is
-          (trace_from_Follows (offered layout (openings_of history)) (next * layout.cycle) trace way.running.follows);
+          (trace_from_Follows positive (offered layout (openings_of history)) (next * layout.cycle) trace way.running.follows);
       served = subst (λ n. AllServed layout (placed_of history) (openings_of history) n trace) way.next_is
           (subst (λ p. AllServed layout p (openings_of history) next trace) way.placed_is served);
       no_strangers = subst (λ p. NoStrangers layout p trace) way.placed_is strangers;

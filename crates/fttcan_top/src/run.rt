@@ -219,6 +219,7 @@ pub fn run(alloc: Global, layout: &Layout, steps: &[Step], nodes: u8) -> Result<
         trace: Vec::new(alloc),
         segment: Vec::with_capacity(alloc, SEGMENT_ROOM)?,
     };
+    wire_lengths();
     let _ = layout.cycle();
     run_steps(&mut progress, alloc, layout, steps, nodes)?;
     let Progress { history, trace, .. } = progress;
