@@ -17,6 +17,12 @@ use std::alloc::Global;
 use std::marker::Model;
 use stuff_bound::Run;
 
+/// Seven recessive bits, with which no identifier begins.
+const ALL_RECESSIVE: u16 = 0x7F;
+
+/// The greatest data length code.
+const MAX_CODE: u16 = 8;
+
 /// A reader of wire bits at a place, with the run of equal bits before it.
 #[derive(Drop)]
 struct Reader<'a> {
@@ -183,7 +189,7 @@ impl<'a> Reader<'a> {
         ensures fault { IfErr result (λ fault. Reads (all_bits self.old) (Err fault)) }
     {
         let high = self.field(7)?;
-        if high == 0x7F {
+        if high == ALL_RECESSIVE {
             return Err(WireFault::Form {
                 place: self.last_place(),
             });
@@ -202,7 +208,7 @@ impl<'a> Reader<'a> {
         ensures fault { IfErr result (λ fault. Reads (all_bits self.old) (Err fault)) }
     {
         let code = self.field(4)?;
-        if code > 8 {
+        if code > MAX_CODE {
             return Err(WireFault::Form {
                 place: self.last_place(),
             });
