@@ -10,8 +10,11 @@ use std::alloc::{AllocError, Global};
 use std::test::Fail;
 
 const ONE_NODE: &str = "[bus]\ncycle = 1000\nwindow = 135\nnodes = 1\n";
+
 const TWO_NODES: &str = "[bus]\ncycle = 1000\nwindow = 135\nnodes = 2\n";
+
 const ONE_TRIGGER: &str = "open,0,0000000000,0\nframe,0,127,000,0000000000000000\nend,1\n";
+
 const USAGE: &str = "usage: fttcan replay SYSTEM STEPS [REQUESTS] [--tail N] [--report]\n";
 
 /// The words of a replay of two files.
@@ -32,16 +35,29 @@ struct Answer {
 }
 
 /// A system file and a steps file; the fetches with the numbers of `failing` fail.
-fn shelf(alloc: Global, system: &str, steps: &str, failing: Vec<u64>) -> Result<MemShelf, AllocError> {
+fn shelf(
+    alloc: Global,
+    system: &str,
+    steps: &str,
+    failing: Vec<u64>,
+) -> Result<MemShelf, AllocError> {
     let mut files = Vec::new(alloc);
     for (name, text) in [("system", system), ("steps", steps)] {
-        files.push((String::from_str(alloc, name)?, text.as_bytes().to_vec(alloc)?))?;
+        files.push((
+            String::from_str(alloc, name)?,
+            text.as_bytes().to_vec(alloc)?,
+        ))?;
     }
     Ok(MemShelf::new(files, failing))
 }
 
 /// Calls with these words, this shelf and this output.
-fn call(alloc: Global, words: &[&str], mut shelf: MemShelf, mut out: MemSink) -> Result<Answer, AllocError> {
+fn call(
+    alloc: Global,
+    words: &[&str],
+    mut shelf: MemShelf,
+    mut out: MemSink,
+) -> Result<Answer, AllocError> {
     let mut texts = Vec::new(alloc);
     for word in words {
         texts.push(String::from_str(alloc, word)?)?;
@@ -54,7 +70,12 @@ fn call(alloc: Global, words: &[&str], mut shelf: MemShelf, mut out: MemSink) ->
 /// Replays these steps where nothing fails.
 fn replay(alloc: Global, system: &str, steps: &str) -> Result<Answer, AllocError> {
     let shelf = shelf(alloc, system, steps, Vec::new(alloc))?;
-    call(alloc, &REPLAY, shelf, MemSink::new(alloc, ROOM, Vec::new(alloc))?)
+    call(
+        alloc,
+        &REPLAY,
+        shelf,
+        MemSink::new(alloc, ROOM, Vec::new(alloc))?,
+    )
 }
 
 #[test]
@@ -115,7 +136,10 @@ fn cycle_numbers_wrap_in_the_trigger(rt: HostRuntime) -> Result<(), Fail> {
         };
         let start = cycle * 400;
         let len = wire_len(&trigger);
-        write!(log, "open,{cycle},0000000000,0\nframe,{start},{len},000,{number:02x}00000000000000\n")?;
+        write!(
+            log,
+            "open,{cycle},0000000000,0\nframe,{start},{len},000,{number:02x}00000000000000\n"
+        )?;
     }
     log.push_str("end,300\n")?;
     let answer = replay(alloc, system, "cycle,300\n")?;
@@ -129,22 +153,82 @@ fn refusals_have_names_and_write_no_log(rt: HostRuntime) -> Result<(), Fail> {
     let alloc = rt.alloc();
     let long = " ".repeat(alloc, MAX_FILE + 1)?;
     let cases: [(&[&str], &str, &str, &[u64], Status, &str); 9] = [
-        (&["replay", "a"], TWO_NODES, "cycle,1\n", &[], Status::Words, USAGE),
+        (
+            &["replay", "a"],
+            TWO_NODES,
+            "cycle,1\n",
+            &[],
+            Status::Words,
+            USAGE,
+        ),
         (&[], TWO_NODES, "cycle,1\n", &[], Status::Words, USAGE),
-        (&["replay", "system", "steps", "requests"], TWO_NODES, "cycle,1\n", &[], Status::Words, USAGE),
-        (&REPLAY, TWO_NODES, "look,1\n", &[], Status::Input, "steps: input\n"),
-        (&REPLAY, TWO_NODES, long.as_str(), &[], Status::Input, "steps: input\n"),
-        (&REPLAY, long.as_str(), "cycle,1\n", &[], Status::Input, "system: input\n"),
-        (&["replay", "system", "absent"], TWO_NODES, "cycle,1\n", &[], Status::Read, "read fault\n"),
-        (&REPLAY, TWO_NODES, "cycle,1\n", &[0], Status::Read, "read fault\n"),
-        (&REPLAY, TWO_NODES, "cycle,1\n", &[1], Status::Read, "read fault\n"),
+        (
+            &["replay", "system", "steps", "requests"],
+            TWO_NODES,
+            "cycle,1\n",
+            &[],
+            Status::Words,
+            USAGE,
+        ),
+        (
+            &REPLAY,
+            TWO_NODES,
+            "look,1\n",
+            &[],
+            Status::Input,
+            "steps: input\n",
+        ),
+        (
+            &REPLAY,
+            TWO_NODES,
+            long.as_str(),
+            &[],
+            Status::Input,
+            "steps: input\n",
+        ),
+        (
+            &REPLAY,
+            long.as_str(),
+            "cycle,1\n",
+            &[],
+            Status::Input,
+            "system: input\n",
+        ),
+        (
+            &["replay", "system", "absent"],
+            TWO_NODES,
+            "cycle,1\n",
+            &[],
+            Status::Read,
+            "read fault\n",
+        ),
+        (
+            &REPLAY,
+            TWO_NODES,
+            "cycle,1\n",
+            &[0],
+            Status::Read,
+            "read fault\n",
+        ),
+        (
+            &REPLAY,
+            TWO_NODES,
+            "cycle,1\n",
+            &[1],
+            Status::Read,
+            "read fault\n",
+        ),
     ];
     for (words, system, steps, failing, status, message) in cases {
         let shelf = shelf(alloc, system, steps, failing.to_vec(alloc)?)?;
         let out = MemSink::new(alloc, ROOM, Vec::new(alloc))?;
         let answer = call(alloc, words, shelf, out)?;
         assert_eq!(rt; answer.status, status, "{words:?} {message:?}");
-        assert_eq!(rt; str::from_utf8(answer.err.bytes()), Ok(message), "{words:?}");
+        assert_eq!(rt;
+            str::from_utf8(answer.err.bytes()),
+            Ok(message),
+            "{words:?}"
+        );
         assert!(rt; answer.out.bytes().is_empty(), "{words:?} {message:?}");
     }
     Ok(())
