@@ -1,5 +1,5 @@
 -- One event more: what it does to what a history means, and to a run that is under way.
-use Rattle.std.proofs.Common.{◌≡◌, ℕ, ◌+◌, ◌*◌, ◌<◌, ◌≤◌, List, [], ◌∷◌, ◌++◌, length, cond, None, ap, sym, ◌∙◌, arith, subst, append_assoc, add-zero}
+use Rattle.std.proofs.Common.{◌≡◌, ℕ, ◌+◌, ◌*◌, ◌<◌, ◌≤◌, List, [], ◌∷◌, ◌++◌, length, cond, None, ap, sym, ◌∙◌, arith, subst, inl, inr, refl, get_or, append_assoc, add-zero}
 use Rattle.std.proofs.lemmas.List.{append-nil}
 use Rattle.std.proofs.lemmas.List.Concat.{flat_map-append}
 use Rattle.std.proofs.lemmas.List.Sums.{sum_by_push, sum_by-cons}
@@ -19,8 +19,8 @@ use Rattle.fttcan_top.specs.declared.history.Event.{Event}
 use Rattle.fttcan_top.specs.declared.history.Event.TheVariants.{Submit, Open}
 use Rattle.fttcan_top.specs.Entries.{IsLive, total_cost}
 use Rattle.fttcan_top.specs.History.{placed_at, placed_by, placed_of_event, placed_of, is_open, next_of, IsVerdict, IsRight, AreRight}
-use Rattle.fttcan_top.specs.Offered.{Opening, next_opening, width_of, offered_in, offered}
-use Rattle.fttcan_top.specs.Kept.{AllServed, NoStrangers}
+use Rattle.fttcan_top.specs.Offered.{Opening, slots, next_opening, width_of, offered_in, offered}
+use Rattle.fttcan_top.specs.Kept.{AllServed, NoStrangers, AllGuarded}
 use Rattle.fttcan_top.specs.Promise.{Kept}
 use Rattle.fttcan_top.specs.Openings.{opening_of, openings_after, openings_of}
 use Rattle.fttcan_top.specs.Table.{entry_of}
@@ -109,6 +109,22 @@ pub length-light : (placed : List Placed) → 55 * length placed ≤ total_cost 
 length-light [] = omega arith
 length-light (p ∷ ps) = let rest = length-light ps in let all = sum_by-cons (λ q. worst q.entry.length) p ps in omega arith
 
+-- what a cycle offers is a trigger or a slot's frame
+offered-below : (layout : CycleLayout) (opening : Opening) (past : List TimedFrame) (at : ℕ) (frame : DataFrame)
+    → offered_in layout opening past at frame → frame.identifier < 0x200
+offered-below layout opening past at frame offers = elim offers [
+  | inl trigger ↦ let is : frame.identifier ≡ 0 = ap (λ f. f.identifier) trigger.trigger in omega arith
+  | inr of_slot ↦ let is = of_slot.1.identifier in let known = of_slot.1.known in let all : slots ≡ 40 = refl in omega arith
+]
+
+-- so no frame of a trace is a request's
+all_guarded : (layout : CycleLayout) (openings : List Opening) (until : ℕ) (trace : List TimedFrame)
+    → IsTrace (offered layout openings) until trace → AllGuarded layout openings trace
+all_guarded layout openings until trace is k d here request =
+    let sent : TimedFrame = get_or trace k d in
+    let offers = (is.least k d here).offered in
+    absurd (let below = offered-below layout offers.0 _ sent.start sent.frame offers.2 in omega arith)
+
 -- a run that is under way keeps what is promised
 pub Kept-under_way : ((frame : DataFrame) → 0 < wire_length frame) → (layout : CycleLayout) (placed : List Placed) (next : ℕ) (history : List Event) (trace : List TimedFrame) → IsLayout layout
     → IsUnderWay layout placed next history trace → Kept layout history trace
@@ -117,10 +133,12 @@ Kept-under_way positive layout placed next history trace known way =
     let some_time : 0 < layout.cycle = omega arith in
     let served = all_served layout placed (openings_of history) next trace some_time way.running in
     let strangers = no_strangers layout placed (openings_of history) next trace some_time way.running in
+    let can_trace : IsTrace (offered layout (openings_of history)) (next * layout.cycle) trace
+    = trace_from_Follows positive (offered layout (openings_of history)) (next * layout.cycle) trace way.running.follows in
     record {
       legal = way.legal;
-      can_trace = subst (λ n. IsTrace (offered layout (openings_of history)) (n * layout.cycle) trace) way.next_is
-          (trace_from_Follows positive (offered layout (openings_of history)) (next * layout.cycle) trace way.running.follows);
+      can_trace = subst (λ n. IsTrace (offered layout (openings_of history)) (n * layout.cycle) trace) way.next_is can_trace;
+      guarded = all_guarded layout (openings_of history) (next * layout.cycle) trace can_trace;
       served = subst (λ n. AllServed layout (placed_of history) (openings_of history) n trace) way.next_is
           (subst (λ p. AllServed layout p (openings_of history) next trace) way.placed_is served);
       no_strangers = subst (λ p. NoStrangers layout p trace) way.placed_is strangers;

@@ -7,7 +7,6 @@ use Rattle.requirement_table.specs.Table.{released_in}
 use Rattle.fttcan_top.specs.declared.input.steps.Step.{Step}
 use Rattle.fttcan_top.specs.declared.input.steps.Step.TheVariants.{Cycle, Add}
 use Rattle.fttcan_top.specs.Entries.{total_cost}
-use Rattle.fttcan_top.specs.declared.verdict.TheConstants.{HORIZON}
 use Rattle.fttcan_top.specs.declared.history.Verdict.{Verdict}
 use Rattle.fttcan_top.specs.declared.history.Verdict.TheVariants.{Accepted, TooHeavy, Horizon}
 use Rattle.fttcan_top.specs.declared.history.Event.{Event}
@@ -62,11 +61,11 @@ abbrev pub IsVerdict : ℕ → List Placed → ℕ → Verdict → Type 0
 IsVerdict window placed from (TooHeavy sum limit) =
     (sum ≡ total_cost placed) × (limit ≡ window) × (window < total_cost placed)
 IsVerdict window placed from (Horizon first walked) =
-    (total_cost placed ≤ window) × (first ≡ from) × (walked ≡ HORIZON)
-    × ((multiple : ℕ) → IsCommonPeriod placed multiple → from + HORIZON < settled_from from placed + multiple)
+    (total_cost placed ≤ window) × (first ≡ from) × (walked ≡ 10000)
+    × ((multiple : ℕ) → IsCommonPeriod placed multiple → from + 10000 < settled_from from placed + multiple)
 IsVerdict window placed from (Accepted first length) =
     (total_cost placed ≤ window) × (first ≡ settled_from from placed) × IsLeastCommonPeriod placed length
-    × (first + length ≤ from + HORIZON)
+    × (first + length ≤ from + 10000)
 
 -- Legal histories
 

@@ -1,7 +1,7 @@
 -- What a run keeps: every instance whose deadline has passed was sent whole, exactly once, in its time, and nothing else is sent in its slot.
 use Rattle.std.specs.Prelude.{◌≡◌, ℕ, ◌+◌, ◌/◌, ◌<◌, ◌≤◌, ◌&&◌, ◌==◌, nat_le, List, [], ◌∷◌, filter, All, Contains}
 use Rattle.can_frame.specs.declared.data_frame.TimedFrame.{TimedFrame}
-use Rattle.cycle_layout.specs.Layout.{CycleLayout}
+use Rattle.cycle_layout.specs.Layout.{CycleLayout, async_open}
 use Rattle.requirement_table.specs.declared.entries.Placed.{Placed}
 use Rattle.requirement_table.specs.Instance.{release_of, IsLastCycle, payload, Exists, MaySend}
 use Rattle.bus_line.specs.Trace.{end_of}
@@ -49,3 +49,15 @@ AllServed layout placed openings next trace = (p : Placed) (k last : ℕ) → Co
 abbrev pub NoStrangers : CycleLayout → List Placed → List TimedFrame → Type 0
 NoStrangers layout placed trace = (slot : ℕ) → slot < slots
     → All (λ sent. sent.frame.identifier ≡ first_identifier + slot → IsOwed layout placed slot sent) trace
+
+-- the frame lies within the asynchronous window of the cycle in which it starts
+pub record IsGuarded (layout : CycleLayout) (openings : List Opening) (sent : TimedFrame) : Type 0 where
+  pub opening : Opening
+  pub opened : Contains openings opening
+  pub cycle : opening.cycle ≡ cycle_of layout sent
+  pub after : async_open layout opening.cycle ≤ sent.start
+  pub before : end_of sent ≤ window_start layout opening
+
+-- no frame of a request touches a trigger's time or a synchronous window: identifiers from 0x200 on are those of requests
+abbrev pub AllGuarded : CycleLayout → List Opening → List TimedFrame → Type 0
+AllGuarded layout openings trace = All (λ sent. 0x200 ≤ sent.frame.identifier → IsGuarded layout openings sent) trace

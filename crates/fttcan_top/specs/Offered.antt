@@ -1,3 +1,4 @@
+-- What is offered on the bus in each opened cycle: its trigger, and the frames of its flagged slots.
 use Rattle.std.specs.Prelude.{◌≡◌, ℕ, ◌+◌, ◌-◌, ◌*◌, ◌<◌, ◌≤◌, ◌⊎◌, true, List, [], length, All, Contains, Option, Some, option_map, unwrap_or}
 use Rattle.can_frame.specs.DataFrame.{DataFrame}
 use Rattle.can_frame.specs.declared.data_frame.TimedFrame.{TimedFrame}

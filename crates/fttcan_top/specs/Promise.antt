@@ -7,7 +7,7 @@ use Rattle.fttcan_top.specs.declared.history.Event.{Event}
 use Rattle.fttcan_top.specs.History.{placed_of, next_of, IsLegal}
 use Rattle.fttcan_top.specs.Offered.{offered}
 use Rattle.fttcan_top.specs.Openings.{openings_of}
-use Rattle.fttcan_top.specs.Kept.{AllServed, NoStrangers}
+use Rattle.fttcan_top.specs.Kept.{AllServed, NoStrangers, AllGuarded}
 
 -- *Kept*
 pub record Kept (layout : CycleLayout) (history : List Event) (trace : List TimedFrame) : Type 0 where
@@ -20,3 +20,5 @@ pub record Kept (layout : CycleLayout) (history : List Event) (trace : List Time
   pub served : AllServed layout (placed_of history) (openings_of history) (next_of history) trace
   -- nothing else is sent with a slot's identifier
   pub no_strangers : NoStrangers layout (placed_of history) trace
+  -- no asynchronous frame touches a synchronous window
+  pub guarded : AllGuarded layout (openings_of history) trace

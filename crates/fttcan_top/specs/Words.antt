@@ -1,15 +1,14 @@
 -- The words of a call, the program's name left out: which command they ask for.
-use Rattle.std.specs.Prelude.{ℕ, List, [], ◌∷◌, Bool, false, not, ◌&&◌, ◌==◌, Option, Some, None, if◌then◌else◌, codes}
+use Rattle.std.specs.Prelude.{ℕ, List, [], ◌∷◌, Bool, not, ◌&&◌, ◌==◌, Option, Some, None, if◌then◌else◌, codes, nat_lt, length, slice_index}
 use Rattle.std.specs.Str.{bytes_eq}
 
 -- a command, with the names of its files
 pub data Command : Type 0 where
   replay : List ℕ → List ℕ → Command
 
--- a word that begins with `-` is no file's name
-abbrev pub is_option : List ℕ → Bool
-is_option [] = false
-is_option (byte ∷ rest) = byte == 45
+-- a word that begins with `-` and goes on is no file's name
+unfoldable pub is_option : List ℕ → Bool
+is_option word = nat_lt 1 (length word) && slice_index word 0 == 45
 
 -- the command that the words ask for: `replay SYSTEM STEPS`; `None` where they are no row of the table of commands
 abbrev pub command_of : List (List ℕ) → Option Command

@@ -51,6 +51,7 @@ fn fetch_file<S: Shelf>(
 ) -> Result<Vec<u8>, Stop>
     ensures files_stay { S.told_files shelf.new ≡ S.told_files shelf.old }
     ensures counted { S.fetches shelf.new ≡ next_count (S.fetches shelf.old) }
+    ensures fetches_never_fall { S.fetches shelf.old ≤ S.fetches shelf.new }
     ensures faults_never_fall { S.faults shelf.old ≤ S.faults shelf.new }
     ensures ok { IfOk result (λ bytes. ForSome (S.told_files shelf.old) (λ files. within_limit source (files name.now) ≡ Ok bytes.items)) }
     ensures stop { IfErr result (λ why. ForSome (S.told_files shelf.old)
@@ -80,6 +81,7 @@ fn stop_of(source: Source, fault: InputFault) -> Stop
 fn load_system<S: Shelf>(alloc: Global, shelf: &mut S, name: &str) -> Result<System, Stop>
     ensures files_stay { S.told_files shelf.new ≡ S.told_files shelf.old }
     ensures counted { S.fetches shelf.new ≡ next_count (S.fetches shelf.old) }
+    ensures fetches_never_fall { S.fetches shelf.old ≤ S.fetches shelf.new }
     ensures faults_never_fall { S.faults shelf.old ≤ S.faults shelf.new }
     ensures ok { IfOk result (λ system. ForSome (S.told_files shelf.old) (λ files. system_in files name.now ≡ Ok system)) }
     ensures stop { IfErr result (λ why. ForSome (S.told_files shelf.old)
@@ -102,6 +104,7 @@ fn load_steps<S: Shelf>(
 ) -> Result<Vec<Step>, Stop>
     ensures files_stay { S.told_files shelf.new ≡ S.told_files shelf.old }
     ensures counted { S.fetches shelf.new ≡ next_count (S.fetches shelf.old) }
+    ensures fetches_never_fall { S.fetches shelf.old ≤ S.fetches shelf.new }
     ensures faults_never_fall { S.faults shelf.old ≤ S.faults shelf.new }
     ensures valid { IfOk result (λ steps. AreSteps nodes steps.items) }
     ensures ok { IfOk result (λ steps. ForSome (S.told_files shelf.old) (λ files. steps_in files name.now nodes ≡ Ok steps.items)) }
@@ -125,6 +128,7 @@ pub fn load<S: Shelf>(
 ) -> Result<Job, Stop>
     ensures files_stay { S.told_files shelf.new ≡ S.told_files shelf.old }
     ensures counted { S.fetches shelf.new ≤ S.fetches shelf.old + 2 }
+    ensures fetches_never_fall { S.fetches shelf.old ≤ S.fetches shelf.new }
     ensures faults_never_fall { S.faults shelf.old ≤ S.faults shelf.new }
     ensures valid { IfOk result (λ job. AreSteps job.system.nodes job.steps.items) }
     ensures ok { IfOk result (λ job. ForSome (S.told_files shelf.old)

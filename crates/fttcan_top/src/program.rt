@@ -109,6 +109,7 @@ fn run_end(history: &[Event]) -> End
 /// Runs what was asked and writes the log.
 fn run_job<O: Sink>(alloc: Global, job: &Job, out: &mut O) -> End
     requires steps { AreSteps job.now.system.nodes job.now.steps.items }
+    ensures faults_never_fall { O.faults out.old ≤ O.faults out.new }
     ensures run { IsRunEnd result }
     ensures done { IsDone (end_status result) → LogsRun (asked_of job.now) (end_status result) (O.told_bytes out.old) (O.told_bytes out.new) }
     ensures cut { IsCut (end_status result) → (O.told_bytes out.new ≡ O.told_bytes out.old) ⊎ LogsFront (asked_of job.now) (O.told_bytes out.old) (O.told_bytes out.new) }
@@ -154,6 +155,10 @@ fn replay<S: Shelf, O: Sink>(
         × LogsFront job (O.told_bytes out.old) (O.told_bytes out.new)) }
     ensures nothing { IsStopped (end_status result) → O.told_bytes out.new ≡ O.told_bytes out.old }
     ensures fetches { S.fetches shelf.new ≤ S.fetches shelf.old + 2 }
+    ensures files_stay { S.told_files shelf.new ≡ S.told_files shelf.old }
+    ensures fetches_never_fall { S.fetches shelf.old ≤ S.fetches shelf.new }
+    ensures faults_never_fall { S.faults shelf.old ≤ S.faults shelf.new }
+    ensures out_faults_never_fall { O.faults out.old ≤ O.faults out.new }
 {
     match load(alloc, shelf, system, steps) {
         Ok(job) => run_job(alloc, &job, out),
@@ -178,6 +183,10 @@ fn call<S: Shelf, O: Sink>(alloc: Global, words: &[String], shelf: &mut S, out: 
         × LogsFront job (O.told_bytes out.old) (O.told_bytes out.new)) }
     ensures nothing { IsStopped (end_status result) → O.told_bytes out.new ≡ O.told_bytes out.old }
     ensures fetches { S.fetches shelf.new ≤ S.fetches shelf.old + file_count (map string_bytes words.now) }
+    ensures files_stay { S.told_files shelf.new ≡ S.told_files shelf.old }
+    ensures fetches_never_fall { S.fetches shelf.old ≤ S.fetches shelf.new }
+    ensures faults_never_fall { S.faults shelf.old ≤ S.faults shelf.new }
+    ensures out_faults_never_fall { O.faults out.old ≤ O.faults out.new }
 {
     match words {
         [word, system, steps] => {
@@ -221,6 +230,13 @@ pub fn plain<S: Shelf, O: Sink, R: Sink>(
         × (result ≡ Status.Input → ForSome (S.told_files shelf.old) (λ files. asked (map string_bytes words.now) files ≡ Err (refused source)))
         × Says (R.told_bytes err.old) (R.told_bytes err.new) (Rose (R.faults err.old) (R.faults err.new)) (message_of result source) }
     ensures fetches { S.fetches shelf.new ≤ S.fetches shelf.old + file_count (map string_bytes words.now) }
+
+    // The files stay, and no count falls.
+    ensures files_stay { S.told_files shelf.new ≡ S.told_files shelf.old }
+    ensures fetches_never_fall { S.fetches shelf.old ≤ S.fetches shelf.new }
+    ensures faults_never_fall { S.faults shelf.old ≤ S.faults shelf.new }
+    ensures out_faults_never_fall { O.faults out.old ≤ O.faults out.new }
+    ensures err_faults_never_fall { R.faults err.old ≤ R.faults err.new }
 {
     let end = call(alloc, words, shelf, out);
     let _ = write_all(err, end.message().as_bytes());

@@ -1,10 +1,10 @@
 //! Whole calls over files and streams in memory.
 
 mod entries_while_running;
+mod trigger_wraps;
 mod twelve_entries;
 
 use crate::{Status, plain};
-use can_frame::{Frame, wire_len};
 use ftt_io::{MemShelf, MemSink};
 use std::alloc::{AllocError, Global};
 use std::test::Fail;
@@ -32,6 +32,8 @@ struct Answer {
     status: Status,
     out: MemSink,
     err: MemSink,
+    /// The faults that the shelf counted.
+    read_faults: u64,
 }
 
 /// A system file and a steps file; the fetches with the numbers of `failing` fail.
@@ -64,7 +66,13 @@ fn call(
     }
     let mut err = MemSink::new(alloc, ROOM, Vec::new(alloc))?;
     let status = plain(alloc, texts.as_slice(), &mut shelf, &mut out, &mut err);
-    Ok(Answer { status, out, err })
+    let read_faults = shelf.faults();
+    Ok(Answer {
+        status,
+        out,
+        err,
+        read_faults,
+    })
 }
 
 /// Replays these steps where nothing fails.
@@ -102,6 +110,12 @@ fn a_replay_writes_its_log(rt: HostRuntime) -> Result<(), Fail> {
             "submit,1,0,accepted,0,101\nsubmit,1,0,horizon,0,10000\nend,0\n",
         ),
         (
+            trigger_wraps::SYSTEM,
+            trigger_wraps::STEPS,
+            Status::Done,
+            trigger_wraps::LOG,
+        ),
+        (
             twelve_entries::SYSTEM,
             twelve_entries::STEPS,
             Status::Done,
@@ -122,37 +136,11 @@ fn a_replay_writes_its_log(rt: HostRuntime) -> Result<(), Fail> {
     Ok(())
 }
 
-/// The trigger has the number of its cycle modulo 256.
-#[test]
-fn cycle_numbers_wrap_in_the_trigger(rt: HostRuntime) -> Result<(), Fail> {
-    let alloc = rt.alloc();
-    let system = "[bus]\ncycle = 400\nturnaround = 0\nwindow = 55\nnodes = 1\n";
-    let mut log = String::new(alloc);
-    for cycle in 0..300_u64 {
-        let number = (cycle % 256) as u8;
-        let Ok(trigger) = Frame::new(0, &[number, 0, 0, 0, 0, 0, 0, 0]) else {
-            assert!(rt; false, "no trigger in cycle {cycle}");
-            return Ok(());
-        };
-        let start = cycle * 400;
-        let len = wire_len(&trigger);
-        write!(
-            log,
-            "open,{cycle},0000000000,0\nframe,{start},{len},000,{number:02x}00000000000000\n"
-        )?;
-    }
-    log.push_str("end,300\n")?;
-    let answer = replay(alloc, system, "cycle,300\n")?;
-    assert_eq!(rt; answer.status, Status::Done);
-    assert_eq!(rt; str::from_utf8(answer.out.bytes()), Ok(log.as_str()));
-    Ok(())
-}
-
 #[test]
 fn refusals_have_names_and_write_no_log(rt: HostRuntime) -> Result<(), Fail> {
     let alloc = rt.alloc();
     let long = " ".repeat(alloc, MAX_FILE + 1)?;
-    let cases: [(&[&str], &str, &str, &[u64], Status, &str); 9] = [
+    let cases: [(&[&str], &str, &str, &[u64], Status, &str); 11] = [
         (
             &["replay", "a"],
             TWO_NODES,
@@ -162,6 +150,22 @@ fn refusals_have_names_and_write_no_log(rt: HostRuntime) -> Result<(), Fail> {
             USAGE,
         ),
         (&[], TWO_NODES, "cycle,1\n", &[], Status::Words, USAGE),
+        (
+            &["replay", "system", "-s"],
+            TWO_NODES,
+            "cycle,1\n",
+            &[],
+            Status::Words,
+            USAGE,
+        ),
+        (
+            &["replay", "system", "-"],
+            TWO_NODES,
+            "cycle,1\n",
+            &[],
+            Status::Read,
+            "read fault\n",
+        ),
         (
             &["replay", "system", "steps", "requests"],
             TWO_NODES,
@@ -230,6 +234,11 @@ fn refusals_have_names_and_write_no_log(rt: HostRuntime) -> Result<(), Fail> {
             "{words:?}"
         );
         assert!(rt; answer.out.bytes().is_empty(), "{words:?} {message:?}");
+        assert_eq!(rt;
+            answer.read_faults,
+            failing.len() as u64,
+            "{words:?} {message:?}"
+        );
     }
     Ok(())
 }

@@ -2,7 +2,6 @@
 use Rattle.std.specs.Prelude.{ℕ, ◌+◌, ◌*◌, ◌/◌, ◌%◌, ◌^◌, List, [], ◌∷◌, length, slice_index, nat_eq, nat_le, ◌&&◌, if◌then◌else◌, Option, Some, None}
 use Rattle.std.specs.Int.{byte_at}
 use Rattle.can_frame.specs.DataFrame.{DataFrame}
-use Rattle.trigger_codec.specs.declared.message.TheConstants.{MAX_WINDOW}
 use Rattle.trigger_codec.specs.declared.message.Trigger.{Trigger}
 
 -- the data bytes of the trigger of a cycle: the cycle modulo 256, the length of the synchronous window
@@ -32,6 +31,6 @@ flags_in bytes =
 -- what a frame says as a trigger, where it is one
 abbrev pub trigger_of : DataFrame → Option Trigger
 trigger_of frame =
-    if nat_eq frame.identifier 0 && nat_eq (length frame.bytes) 8 && nat_le (window_in frame.bytes) MAX_WINDOW
+    if nat_eq frame.identifier 0 && nat_eq (length frame.bytes) 8 && nat_le (window_in frame.bytes) 16383
     then Some (record { low = slice_index frame.bytes 0; l = window_in frame.bytes; mask = flags_in frame.bytes })
     else None

@@ -29,7 +29,7 @@ pub struct Trigger {
 /// The trigger message of a cycle: `l` is the length of its synchronous window in bit times, and `mask`
 /// are its flagged slots.
 pub fn encode(cycle: u64, l: u32, mask: Mask) -> Frame
-    requires window { l ≤ MAX_WINDOW }
+    requires window { l ≤ 16383 }
     ensures frame { result ≡ trigger_frame cycle l mask }
 {
     let [high, low] = (l as u16).to_be_bytes();
@@ -53,8 +53,8 @@ pub fn encode(cycle: u64, l: u32, mask: Mask) -> Frame
 /// What a frame says as a trigger message. It does not compare the window with the flags.
 pub fn decode(frame: &Frame) -> Result<Trigger, TriggerFault>
     ensures trigger { IfOk result
-        (λ t. (t.l ≤ MAX_WINDOW) × (frame.now ≡ trigger_frame t.low t.l t.mask)) }
-    ensures every { (cycle l mask : ℕ) → l ≤ MAX_WINDOW → mask < 2 ^ SLOTS
+        (λ t. (t.l ≤ 16383) × (frame.now ≡ trigger_frame t.low t.l t.mask)) }
+    ensures every { (cycle l mask : ℕ) → l ≤ 16383 → mask < 2 ^ SLOTS
         → frame.now ≡ trigger_frame cycle l mask
         → result ≡ Ok (record { low = cycle % 256; l = l; mask = mask }) }
     ensures fault { IfErr result (Refuses frame.now) }
