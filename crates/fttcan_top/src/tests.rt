@@ -64,7 +64,7 @@ fn call(
     for word in words {
         texts.push(String::from_str(alloc, word)?)?;
     }
-    let mut err = MemSink::new(alloc, ROOM, Vec::new(alloc))?;
+    let mut err = sink(alloc)?;
     let status = plain(alloc, texts.as_slice(), &mut shelf, &mut out, &mut err);
     let read_faults = shelf.faults();
     Ok(Answer {
@@ -75,15 +75,28 @@ fn call(
     })
 }
 
+/// So many spaces.
+fn spaces(alloc: Global, count: usize) -> Result<String, AllocError> {
+    " ".repeat(alloc, count)
+}
+
+/// A sink that never fails here.
+fn sink(alloc: Global) -> Result<MemSink, AllocError> {
+    MemSink::new(alloc, ROOM, Vec::new(alloc))
+}
+
+/// Whether a call wrote nothing but this message, with this status and so many faults of the shelf.
+fn is_refusal(answer: &Answer, status: Status, message: &str, read_faults: u64) -> bool {
+    answer.status == status
+        && answer.out.bytes().is_empty()
+        && answer.err.bytes() == message.as_bytes()
+        && answer.read_faults == read_faults
+}
+
 /// Replays these steps where nothing fails.
 fn replay(alloc: Global, system: &str, steps: &str) -> Result<Answer, AllocError> {
     let shelf = shelf(alloc, system, steps, Vec::new(alloc))?;
-    call(
-        alloc,
-        &REPLAY,
-        shelf,
-        MemSink::new(alloc, ROOM, Vec::new(alloc))?,
-    )
+    call(alloc, &REPLAY, shelf, sink(alloc)?)
 }
 
 #[test]
@@ -137,107 +150,52 @@ fn a_replay_writes_its_log(rt: HostRuntime) -> Result<(), Fail> {
 }
 
 #[test]
-fn refusals_have_names_and_write_no_log(rt: HostRuntime) -> Result<(), Fail> {
+fn words_of_no_command_are_refused(rt: HostRuntime) -> Result<(), Fail> {
     let alloc = rt.alloc();
-    let long = " ".repeat(alloc, MAX_FILE + 1)?;
-    let cases: [(&[&str], &str, &str, &[u64], Status, &str); 11] = [
-        (
-            &["replay", "a"],
-            TWO_NODES,
-            "cycle,1\n",
-            &[],
-            Status::Words,
-            USAGE,
-        ),
-        (&[], TWO_NODES, "cycle,1\n", &[], Status::Words, USAGE),
-        (
-            &["replay", "system", "-s"],
-            TWO_NODES,
-            "cycle,1\n",
-            &[],
-            Status::Words,
-            USAGE,
-        ),
-        (
-            &["replay", "system", "-"],
-            TWO_NODES,
-            "cycle,1\n",
-            &[],
-            Status::Read,
-            "read fault\n",
-        ),
-        (
-            &["replay", "system", "steps", "requests"],
-            TWO_NODES,
-            "cycle,1\n",
-            &[],
-            Status::Words,
-            USAGE,
-        ),
-        (
-            &REPLAY,
-            TWO_NODES,
-            "look,1\n",
-            &[],
-            Status::Input,
-            "steps: input\n",
-        ),
-        (
-            &REPLAY,
-            TWO_NODES,
-            long.as_str(),
-            &[],
-            Status::Input,
-            "steps: input\n",
-        ),
-        (
-            &REPLAY,
-            long.as_str(),
-            "cycle,1\n",
-            &[],
-            Status::Input,
-            "system: input\n",
-        ),
-        (
-            &["replay", "system", "absent"],
-            TWO_NODES,
-            "cycle,1\n",
-            &[],
-            Status::Read,
-            "read fault\n",
-        ),
-        (
-            &REPLAY,
-            TWO_NODES,
-            "cycle,1\n",
-            &[0],
-            Status::Read,
-            "read fault\n",
-        ),
-        (
-            &REPLAY,
-            TWO_NODES,
-            "cycle,1\n",
-            &[1],
-            Status::Read,
-            "read fault\n",
-        ),
+    let cases: [&[&str]; 4] = [
+        &["replay", "a"],
+        &[],
+        &["replay", "system", "steps", "requests"],
+        &["replay", "system", "-s"],
     ];
-    for (words, system, steps, failing, status, message) in cases {
-        let shelf = shelf(alloc, system, steps, failing.to_vec(alloc)?)?;
-        let out = MemSink::new(alloc, ROOM, Vec::new(alloc))?;
-        let answer = call(alloc, words, shelf, out)?;
-        assert_eq!(rt; answer.status, status, "{words:?} {message:?}");
-        assert_eq!(rt;
-            str::from_utf8(answer.err.bytes()),
-            Ok(message),
-            "{words:?}"
+    for words in cases {
+        let shelf = shelf(alloc, TWO_NODES, "cycle,1\n", Vec::new(alloc))?;
+        let answer = call(alloc, words, shelf, sink(alloc)?)?;
+        assert!(rt; is_refusal(&answer, Status::Words, USAGE, 0), "{words:?}");
+    }
+    Ok(())
+}
+
+#[test]
+fn texts_outside_their_formats_are_refused(rt: HostRuntime) -> Result<(), Fail> {
+    let alloc = rt.alloc();
+    let long = spaces(alloc, MAX_FILE + 1)?;
+    let row = replay(alloc, ONE_NODE, "look,1\n")?;
+    assert!(rt; is_refusal(&row, Status::Input, "steps: input\n", 0));
+    let steps = replay(alloc, ONE_NODE, long.as_str())?;
+    assert!(rt; is_refusal(&steps, Status::Input, "steps: input\n", 0));
+    let system = replay(alloc, long.as_str(), "cycle,1\n")?;
+    assert!(rt; is_refusal(&system, Status::Input, "system: input\n", 0));
+    Ok(())
+}
+
+#[test]
+fn files_that_are_not_read_are_named(rt: HostRuntime) -> Result<(), Fail> {
+    let alloc = rt.alloc();
+    for name in ["absent", "-"] {
+        let shelf = shelf(alloc, TWO_NODES, "cycle,1\n", Vec::new(alloc))?;
+        let answer = call(alloc, &["replay", "system", name], shelf, sink(alloc)?)?;
+        assert!(rt;
+            is_refusal(&answer, Status::Read, "read fault\n", 0),
+            "{name:?}"
         );
-        assert!(rt; answer.out.bytes().is_empty(), "{words:?} {message:?}");
-        assert_eq!(rt;
-            answer.read_faults,
-            failing.len() as u64,
-            "{words:?} {message:?}"
+    }
+    for fetch in [0, 1] {
+        let shelf = shelf(alloc, TWO_NODES, "cycle,1\n", vec![in alloc; fetch]?)?;
+        let answer = call(alloc, &REPLAY, shelf, sink(alloc)?)?;
+        assert!(rt;
+            is_refusal(&answer, Status::Read, "read fault\n", 1),
+            "{fetch}"
         );
     }
     Ok(())
