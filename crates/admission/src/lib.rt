@@ -1,0 +1,17 @@
+//! The admission of changes to the table of an FTT-CAN master: the rules by which a change is judged.
+#![tactic(auto)]
+
+use planner_policies::Policy;
+
+/// What a master judges changes by.
+#[derive(Clone, Copy, PartialEq, Eq, Debug)]
+pub struct Rules {
+    /// The number of nodes, 1 to 30; they are numbered from 0.
+    pub nodes: u8,
+    /// The order in which pending instances are planned.
+    pub policy: Policy,
+    /// The length of the largest synchronous window, 55 to 16,383 bit times.
+    pub window: u32,
+    /// The number of cycles within which a repeat of the plan has to be found, 1 to 100,000.
+    pub horizon: u64,
+}

@@ -1,0 +1,8 @@
+//! The asynchronous window of an elementary cycle: requests to send frames in it, and the mailboxes in which they wait.
+//!
+//! All times are bit times from 0, below 2^60.
+#![tactic(auto)]
+
+mod request;
+
+pub use request::{Owner, Request};
