@@ -3,6 +3,13 @@
 //! All times are bit times from 0, below 2^60.
 #![tactic(auto)]
 
+pub mod laws;
+mod mailbox;
+mod mailboxes;
+mod places;
 mod request;
+#[cfg(test)]
+mod tests;
 
+pub use mailboxes::Mailboxes;
 pub use request::{Owner, Request};
