@@ -1,0 +1,208 @@
+-- Two nodes never offer one identifier at the same time.
+use Rattle.std.proofs.Common.{◌≡◌, ◌≢◌, ℕ, ◌+◌, ◌-◌, ◌/◌, ◌<◌, ◌≤◌, Bool, true, false, not, ◌&&◌, ◌==◌, cond, eqb, leb, Option, Some, None, List, [], length, get_or, map, filter, Contains, ◌⊎◌, inl, inr, refl, sym, ap, ◌∙◌, subst, arith, option_map}
+use Rattle.std.specs.Option.{is_some}
+use Rattle.std.proofs.lemmas.Bool.{cases_Bool, cases_order, eqb-true, and_parts, cond-true, cond-false}
+use Rattle.std.proofs.lemmas.Option.{none-some, same_Some}
+use Rattle.std.proofs.lemmas.List.{get_or_default}
+use Rattle.std.proofs.lemmas.List.Elements.{All-contains, All-map}
+use Rattle.can_frame.specs.declared.data_frame.TimedFrame.{TimedFrame}
+use Rattle.cycle_layout.specs.Layout.{CycleLayout, sync_start}
+use Rattle.requirement_table.specs.declared.entries.Placed.{Placed}
+use Rattle.requirement_table.specs.declared.slots.TheConstants.{SLOTS}
+use Rattle.requirement_table.specs.Slots.{contains_slot}
+use Rattle.requirement_table.specs.Instance.{Instance}
+use Rattle.requirement_table.specs.Table.{IsWellPlaced, instance_in}
+use Rattle.async_window.specs.declared.request.Owner.{Owner}
+use Rattle.async_window.specs.declared.request.Request.{Request}
+use Rattle.async_window.specs.Mailbox.{IsLeastWith, IsMail, Mail, Offers, mail_offer, without_first}
+use Rattle.node_model.specs.Opening.{first_identifier}
+use Rattle.node_model.specs.Node.{NodeState, Opened, after_hearing, after_opening, after_request, after_slot, counted, entries_of, identifiers_of, is_due, is_own_slot, learnt, least_where, node_offer, offer_in}
+use Rattle.node_model.specs.Own.{AreApart, AreOwners, Stands}
+use Rattle.node_model.proofs.OwnEntries.{Contains-from_filter, Contains-from_map, passes-from_filter, instance-of_all}
+use Rattle.node_model.proofs.LeastSlot.{IsLeastBelow, least_where-least}
+use Rattle.node_model.proofs.OwnPart.{identifiers-after, value-of}
+
+-- each identifier has one owner
+owner_at : (owners : List Owner) (owner : Owner) (k : ℕ) (d : Owner) → k < length owners → get_or owners k owner ≡ owner → get_or owners k d ≡ owner
+owner_at owners owner k d within same = get_or_default owners k d owner within ∙ same
+
+one_owner : (owners : List Owner) → AreOwners owners → (one other : Owner) → Contains owners one → Contains owners other → one.id ≡ other.id → one.node ≡ other.node
+one_owner owners are one other (i, at_one, is_one) (j, at_other, is_other) same =
+    elim (cases_order i j) [
+      | inl here ↦ ap (λ o. o.node) (sym (owner_at owners one i one at_one is_one) ∙ ap (λ k. get_or owners k one) here ∙ owner_at owners other j one at_other is_other)
+      | inr apart ↦ elim apart [
+        | inl before ↦ absurd (are.distinct i j one before at_other
+            (ap (λ o. o.id) is_one ∙ same ∙ ap (λ o. o.id) (sym (owner_at owners other j one at_other is_other))))
+        | inr behind ↦ absurd (are.distinct j i one behind at_one
+            (ap (λ o. o.id) (owner_at owners other j one at_other is_other) ∙ sym same ∙ ap (λ o. o.id) (sym is_one)))
+      ]
+    ]
+
+-- an identifier of a node is that of an owner that is the node's
+owner-of : (number : ℕ) (owners : List Owner) (id : ℕ) → Contains (identifiers_of number owners) id
+    → (owner : Owner) × Contains owners owner × (owner.node ≡ number) × (owner.id ≡ id)
+owner-of number owners id among =
+    let found = Contains-from_map (λ owner. owner.id) (filter (λ owner. owner.node == number) owners) id among in (
+      found.0,
+      Contains-from_filter (λ owner. owner.node == number) owners found.0 found.1,
+      eqb-true found.0.node number (passes-from_filter (λ owner. owner.node == number) owners found.0 found.1),
+      found.2,
+    )
+
+no_common-identifier : (owners : List Owner) (one other id : ℕ) → AreOwners owners → one ≢ other
+    → Contains (identifiers_of one owners) id → Contains (identifiers_of other owners) id → ⊥
+no_common-identifier owners one other id are apart mine theirs =
+    let first = owner-of one owners id mine in
+    let second = owner-of other owners id theirs in
+    apart (sym first.2 ∙ one_owner owners are first.0 second.0 first.1 second.1 (first.3 ∙ sym second.3) ∙ second.2)
+
+no_common-instance : (placed : List Placed) (one other slot c : ℕ) (mine theirs : Instance) → IsWellPlaced placed → one ≢ other
+    → instance_in (entries_of one placed) slot c ≡ Some mine → instance_in (entries_of other placed) slot c ≡ Some theirs → ⊥
+no_common-instance placed one other slot c mine theirs well apart is_mine is_theirs =
+    let first = instance-of_all one placed slot c mine well is_mine in
+    let second = instance-of_all other placed slot c theirs well is_theirs in
+    apart (sym first.1 ∙ ap (λ i. i.placed.entry.node) (same_Some mine theirs (sym first.0 ∙ second.0)) ∙ second.1)
+
+own_identifiers : (layout : CycleLayout) (owners : List Owner) (requests : List Request) (placed : List Placed) (past : List TimedFrame)
+    (next : ℕ) (node : NodeState) (id : ℕ) → Stands layout owners requests placed past next node
+    → Contains (map (λ box. box.identifier) node.mail) id → Contains (identifiers_of node.number owners) id
+own_identifiers layout owners requests placed past next node id stands among =
+    subst (λ ids. Contains ids id)
+    (ap (λ mail. map (λ box. box.identifier) mail) stands.own_mail ∙ identifiers-after (identifiers_of node.number owners) requests past) among
+
+-- the same where the other one learnt that list, or none
+no_common-slot : (placed others : List Placed) (one other slot c : ℕ) (mine theirs : Instance) → IsWellPlaced placed → one ≢ other
+    → (others ≡ placed) ⊎ (others ≡ []) → instance_in (entries_of one placed) slot c ≡ Some mine
+    → instance_in (entries_of other others) slot c ≡ Some theirs → ⊥
+no_common-slot placed others one other slot c mine theirs well apart (inl same) is_mine is_theirs =
+    no_common-instance placed one other slot c mine theirs well apart is_mine
+    (ap (λ list. instance_in (entries_of other list) slot c) (sym same) ∙ is_theirs)
+no_common-slot placed others one other slot c mine theirs well apart (inr none) is_mine is_theirs =
+    absurd (none-some theirs (ap (λ list. instance_in (entries_of other list) slot c) (sym none) ∙ is_theirs))
+
+pub apart-by_number : (layout : CycleLayout) (owners : List Owner) (requests other_requests : List Request) (placed others : List Placed)
+    (past heard : List TimedFrame) (next then : ℕ) (one other : NodeState) → one.number ≢ other.number → AreOwners owners → IsWellPlaced placed
+    → (others ≡ placed) ⊎ (others ≡ []) → Stands layout owners requests placed past next one
+    → Stands layout owners other_requests others heard then other → AreApart one other
+apart-by_number layout owners requests other_requests placed others past heard next then one other apart are well which stands also = record {
+  mail = λ id mine theirs.
+      no_common-identifier owners one.number other.number id are apart
+      (own_identifiers layout owners requests placed past next one id stands mine)
+      (own_identifiers layout owners other_requests others heard then other id also theirs);
+  slots = λ slot cycle mine theirs is_mine is_theirs.
+      no_common-slot placed others one.number other.number slot cycle mine theirs well apart which
+      (ap (λ entries. instance_in entries slot cycle) (sym stands.own_entries) ∙ is_mine)
+      (ap (λ entries. instance_in entries slot cycle) (sym also.own_entries) ∙ is_theirs);
+}
+
+pub apart-learning : (placed : List Placed) (one other : NodeState) → one.number ≢ other.number → IsWellPlaced placed → AreApart one other
+    → AreApart (learnt placed one) (learnt placed other)
+apart-learning placed one other apart well are = record {
+  mail = are.mail;
+  slots = λ slot cycle mine theirs. no_common-instance placed one.number other.number slot cycle mine theirs well apart;
+}
+
+pub apart-turned : (one other : NodeState) → AreApart one other → AreApart other one
+apart-turned one other are = record {
+  mail = λ id mine theirs. are.mail id theirs mine;
+  slots = λ slot cycle mine theirs is_mine is_theirs. are.slots slot cycle theirs mine is_theirs is_mine;
+}
+
+-- what holds after each kind of frame holds after a frame
+conds : (P : NodeState → Type 0) (b d : Bool) (x y z : NodeState) → (b ≡ true → P x) → P y → P z → P (cond b x (cond d y z))
+conds P true d x y z one two three = one refl
+conds P false true x y z one two three = two
+conds P false false x y z one two three = three
+
+pub after_hearing-keeps : (P : NodeState → Type 0) (node : NodeState) (sent : TimedFrame)
+    → (sent.frame.identifier ≡ 0 → P (after_opening (record node { frames = counted node.frames }) sent.frame))
+    → P (after_slot (record node { frames = counted node.frames }) (sent.frame.identifier - first_identifier))
+    → P (after_request (record node { frames = counted node.frames }) sent.frame.identifier)
+    → P (after_hearing node sent)
+after_hearing-keeps P node sent trigger slot request =
+    conds P (eqb sent.frame.identifier 0) (is_own_slot node.entries sent.frame.identifier) _ _ _
+    (λ test. trigger (eqb-true sent.frame.identifier 0 test)) slot request
+
+pub after_hearing-entries : (node : NodeState) (sent : TimedFrame) → (after_hearing node sent).entries ≡ node.entries
+after_hearing-entries node sent = after_hearing-keeps (λ n. n.entries ≡ node.entries) node sent (λ trigger. refl) refl refl
+
+pub after_hearing-identifiers : ((id : ℕ) (mail : List Mail) → map (λ box. box.identifier) (without_first id mail) ≡ map (λ box. box.identifier) mail)
+    → (node : NodeState) (sent : TimedFrame) → map (λ box. box.identifier) (after_hearing node sent).mail ≡ map (λ box. box.identifier) node.mail
+after_hearing-identifiers identifiers node sent =
+    after_hearing-keeps (λ n. map (λ box. box.identifier) n.mail ≡ map (λ box. box.identifier) node.mail) node sent
+    (λ trigger. refl) refl (identifiers sent.frame.identifier node.mail)
+
+pub apart-same : (one other after also : NodeState) → after.entries ≡ one.entries → also.entries ≡ other.entries
+    → map (λ box. box.identifier) after.mail ≡ map (λ box. box.identifier) one.mail
+    → map (λ box. box.identifier) also.mail ≡ map (λ box. box.identifier) other.mail → AreApart one other → AreApart after also
+apart-same one other after also entries others ids other_ids are = record {
+  mail = λ id mine theirs. are.mail id (subst (λ all. Contains all id) ids mine) (subst (λ all. Contains all id) other_ids theirs);
+  slots = λ slot cycle mine theirs is_mine is_theirs.
+      are.slots slot cycle mine theirs
+      (ap (λ all. instance_in all slot cycle) (sym entries) ∙ is_mine) (ap (λ all. instance_in all slot cycle) (sym others) ∙ is_theirs);
+}
+
+pub apart-hearing : ((id : ℕ) (mail : List Mail) → map (λ box. box.identifier) (without_first id mail) ≡ map (λ box. box.identifier) mail)
+    → (one other : NodeState) (sent also : TimedFrame) → AreApart one other → AreApart (after_hearing one sent) (after_hearing other also)
+apart-hearing identifiers one other sent also =
+    apart-same one other (after_hearing one sent) (after_hearing other also)
+    (after_hearing-entries one sent) (after_hearing-entries other also)
+    (after_hearing-identifiers identifiers one sent) (after_hearing-identifiers identifiers other also)
+
+-- what a node that offers an identifier has
+abbrev Has : NodeState → ℕ → ℕ → Type 0
+Has node at id =
+    ((slot : ℕ) × (id ≡ first_identifier + slot) × (slot < SLOTS) × ((i : Instance) × (instance_in node.entries slot (at / node.layout.cycle) ≡ Some i)))
+    ⊎ ((0x200 ≤ id) × Contains (map (λ box. box.identifier) node.mail) id)
+
+slot-part : (entries : List Placed) (opened : Opened) (c id : ℕ) (found : Option ℕ) → c ≡ opened.cycle → IsLeastBelow SLOTS (is_due entries opened) found
+    → option_map (λ slot. first_identifier + slot) found ≡ Some id
+    → (slot : ℕ) × (id ≡ first_identifier + slot) × (slot < SLOTS) × ((i : Instance) × (instance_in entries slot c ≡ Some i))
+slot-part entries opened c id None same none is = absurd (none-some id is)
+slot-part entries opened c id (Some slot) same least is =
+    let parts = and_parts (contains_slot opened.flags slot) (is_some (instance_in entries slot opened.cycle) && not (contains_slot opened.heard slot)) least.1 in
+    let more = and_parts (is_some (instance_in entries slot opened.cycle)) (not (contains_slot opened.heard slot)) parts.1 in
+    let found = value-of (instance_in entries slot opened.cycle) more.0 in
+    (slot, sym (same_Some _ _ is), least.0, (found.0, ap (instance_in entries slot) same ∙ found.1))
+
+module _ (node : NodeState) (at : ℕ)
+    (least : (l : ℕ) → IsLeastWith (Offers node.layout l node.mail at) (mail_offer node.layout l node.mail at))
+    (among : (l id : ℕ) → Offers node.layout l node.mail at id → Contains (map (λ box. box.identifier) node.mail) id)
+    (known : IsMail node.mail) where
+  mail-part : (l id : ℕ) (found : Option ℕ) → IsLeastWith (Offers node.layout l node.mail at) found → found ≡ Some id
+      → (0x200 ≤ id) × Contains (map (λ box. box.identifier) node.mail) id
+  mail-part l id None none is = absurd (none-some id is)
+  mail-part l id (Some found) is_least is =
+      let here = subst (λ n. Contains (map (λ box. box.identifier) node.mail) n) (same_Some found id is) (among l found is_least.0) in
+      (All-contains (λ n. 0x200 ≤ n) (map (λ box. box.identifier) node.mail) id (All-map (λ n. 0x200 ≤ n) (λ box. box.identifier) node.mail known.least) here, here)
+
+  open-part : (opened : Opened) (id : ℕ) → offer_in node at opened ≡ Some id → Has node at id
+  open-part opened id is =
+      elim (cases_Bool (eqb (at / node.layout.cycle) opened.cycle)) [
+        | inl same ↦ elim (cases_Bool (leb (sync_start node.layout opened.cycle opened.width) at)) [
+          | inl late ↦ inl (slot-part node.entries opened (at / node.layout.cycle) id (least_where SLOTS (is_due node.entries opened)) (eqb-true _ _ same)
+              (least_where-least SLOTS (is_due node.entries opened))
+              (sym (cond-true (leb (sync_start node.layout opened.cycle opened.width) at) _ _ late)
+              ∙ sym (cond-true (eqb (at / node.layout.cycle) opened.cycle) _ _ same) ∙ is))
+          | inr early ↦ inr (mail-part opened.width id (mail_offer node.layout opened.width node.mail at) (least opened.width)
+              (sym (cond-false (leb (sync_start node.layout opened.cycle opened.width) at) _ _ early)
+              ∙ sym (cond-true (eqb (at / node.layout.cycle) opened.cycle) _ _ same) ∙ is))
+        ]
+        | inr other ↦ absurd (none-some id (sym (cond-false (eqb (at / node.layout.cycle) opened.cycle) _ _ other) ∙ is))
+      ]
+
+  offers-part : (opened : Option Opened) (id : ℕ) → node_offer (record node { opened = opened }) at ≡ Some id → Has node at id
+  offers-part None id is = absurd (none-some id is)
+  offers-part (Some opened) id is = open-part opened id is
+
+  pub has-offered : (id : ℕ) → node_offer node at ≡ Some id → Has node at id
+  has-offered id is = offers-part node.opened id is
+
+pub never_both : (one other : NodeState) (at id : ℕ) → one.layout ≡ other.layout → AreApart one other → Has one at id → Has other at id → ⊥
+never_both one other at id same are (inl (slot, is, within, (i, mine))) (inl (another, also, inside, (j, theirs))) =
+    let equal : another ≡ slot = omega arith in
+    are.slots slot (at / one.layout.cycle) i j mine
+    (ap (λ l. instance_in other.entries slot (at / l.cycle)) same ∙ ap (λ s. instance_in other.entries s (at / other.layout.cycle)) (sym equal) ∙ theirs)
+never_both one other at id same are (inl (slot, is, within, mine)) (inr (above, theirs)) = omega arith
+never_both one other at id same are (inr (above, mine)) (inl (slot, is, within, theirs)) = omega arith
+never_both one other at id same are (inr (above, mine)) (inr (high, theirs)) = are.mail id mine theirs

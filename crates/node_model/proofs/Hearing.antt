@@ -1,0 +1,270 @@
+-- How a node goes on when it hears the frames of a cycle.
+use Rattle.std.proofs.Common.{◌≡◌, ◌≢◌, ℕ, ◌+◌, ◌-◌, ◌%◌, ◌^◌, ◌<◌, ◌≤◌, Bool, true, false, ◌&&◌, ◌||◌, ◌==◌, cond, eqb, leb, Option, Some, None, List, [], ◌∷◌, ◌++◌, get_or, filter, All, inl, inr, refl, sym, ap, ◌∙◌, subst, arith}
+use Rattle.std.specs.List.{list_any}
+use Rattle.std.proofs.lemmas.Bool.{cases_Bool, both_ways, eq-eqb, ne_eqb, eqb-true, le-leb, lt-leb, lt-ltb, and_from, and_left, and_right, cond-true, cond-false}
+use Rattle.std.proofs.lemmas.Bool.Decides.{eqb_tells}
+use Rattle.std.proofs.lemmas.List.Elements.{All-contains, All-map, All-filter, All-push}
+use Rattle.std.proofs.lemmas.List.Folds.{list_any-append, list_any_none, list_any-from_Any, Any-from_list_any, map_fixed}
+use Rattle.can_frame.specs.DataFrame.{DataFrame}
+use Rattle.can_frame.specs.declared.data_frame.TimedFrame.{TimedFrame}
+use Rattle.cycle_layout.specs.Layout.{CycleLayout}
+use Rattle.requirement_table.specs.declared.entries.Placed.{Placed}
+use Rattle.requirement_table.specs.declared.slots.TheConstants.{SLOTS}
+use Rattle.requirement_table.specs.Slots.{contains_slot, set_of}
+use Rattle.requirement_table.specs.Table.{IsInRange, IsWellPlaced}
+use Rattle.requirement_table.proofs.SlotSets.{contains_slot-set_of, contains_slot-none}
+use Rattle.trigger_codec.specs.declared.message.Trigger.{Trigger}
+use Rattle.trigger_codec.specs.Bytes.{trigger_bytes, trigger_frame, trigger_of, window_in, flags_in}
+use Rattle.async_window.specs.declared.request.Owner.{Owner}
+use Rattle.async_window.specs.declared.request.Request.{Request}
+use Rattle.async_window.specs.Mailbox.{Mail, mail_after, taken_from, without_first}
+use Rattle.async_window.specs.Waiting.{unsent_after}
+use Rattle.node_model.specs.Opening.{Opening, first_identifier, slots, width_of, start_of}
+use Rattle.node_model.specs.Node.{NodeState, Opened, after_hearing, counted, entries_of, identifiers_of, is_own_slot, next_trigger, opened_by}
+use Rattle.node_model.specs.Own.{AreOwners, Stands, StandsIn, was_sent}
+use Rattle.node_model.proofs.OwnEntries.{entries_of-well_placed}
+use Rattle.node_model.proofs.Standing.{standing, opened_for, standing-is, standing_in-is}
+
+-- an identifier that is below the asynchronous ones takes away no request
+pub without_first-none : (id : ℕ) (mail : List Mail) → id < 0x200 → All (λ box. 0x200 ≤ box.identifier) mail → without_first id mail ≡ mail
+without_first-none id mail below above =
+    map_fixed (taken_from id) mail
+    (λ k d within.
+    let apart = above k d within in
+    cond-false (eqb (get_or mail k d).identifier id) _ _ (ne_eqb _ _ (λ same. omega (arith, apart, same))))
+
+-- the mail of a node is that of asynchronous identifiers
+pub mail_after-least : (number : ℕ) (owners : List Owner) (requests : List Request) (past : List TimedFrame) → AreOwners owners
+    → All (λ box. 0x200 ≤ box.identifier) (mail_after (identifiers_of number owners) requests past)
+mail_after-least number owners requests past are =
+    All-map (λ box. 0x200 ≤ box.identifier) (λ id. record { identifier = id; unsent = unsent_after requests past id }) (identifiers_of number owners)
+    (All-map (λ id. 0x200 ≤ id) (λ owner. owner.id) (filter (λ owner. owner.node == number) owners)
+    (All-filter (λ owner. owner.node == number) (λ owner. 0x200 ≤ owner.id) owners are.least))
+
+-- what a trigger says
+abbrev saying : ℕ → ℕ → ℕ → Trigger
+saying low l mask = record { low = low; l = l; mask = mask }
+
+said : (low window flags l mask : ℕ) → window ≡ l → flags ≡ mask → l ≤ 16383
+    → cond (leb window 16383) (Some (saying low window flags)) None ≡ Some (saying low l mask)
+said low window flags l mask same also small =
+    cond-true (leb window 16383) (Some (saying low window flags)) None (le-leb window 16383 (omega arith))
+    ∙ ap (λ w. Some (saying low w flags)) same
+    ∙ ap (λ m. Some (saying low l m)) also
+
+pub trigger_of-frame : (cycle l mask : ℕ) → l ≤ 16383 → mask < 2 ^ SLOTS
+    → trigger_of (trigger_frame cycle l mask) ≡ Some (record { low = cycle % 256; l = l; mask = mask })
+trigger_of-frame cycle l mask small few =
+    said (cycle % 256) (window_in (trigger_bytes cycle l mask)) (flags_in (trigger_bytes cycle l mask)) l mask (omega arith) (omega arith) small
+
+turn : (is begun was : Bool) → begun ≡ true → (is || was) ≡ (was || ((is && begun) || false))
+turn true true true e = refl
+turn true true false e = refl
+turn false true true e = refl
+turn false true false e = refl
+turn is false was e = absurd (cc)
+
+kept : (is begun was : Bool) → is ≡ false → was ≡ (was || ((is && begun) || false))
+kept false begun true e = refl
+kept false begun false e = refl
+kept true begun was e = absurd (cc)
+
+-- a trigger that passes a test
+abbrev pub passing : (Trigger → Bool) → Option Trigger → Option Trigger
+passing fits None = None
+passing fits (Some trigger) = cond (fits trigger) (Some trigger) None
+
+next_trigger-fits : (node : NodeState) (frame : DataFrame) (trigger : Trigger) → trigger_of frame ≡ Some trigger
+    → trigger.l ≤ node.layout.window → trigger.low ≡ node.next % 256 → next_trigger node frame ≡ Some trigger
+next_trigger-fits node frame trigger is small same =
+    ap (passing (λ t. leb t.l node.layout.window && (t.low == node.next % 256))) is
+    ∙ cond-true (leb trigger.l node.layout.window && (trigger.low == node.next % 256)) _ _ (and_from _ _ (le-leb _ _ small) (eq-eqb _ _ same))
+
+module _ (layout : CycleLayout) (owners : List Owner) (requests : List Request) (opening : Opening) where
+  abbrev stands_marked : ℕ → List TimedFrame → ℕ → Type 0
+  stands_marked number past heard = (slot : ℕ) → slot < slots → list_any (λ p. p.entry.slot == slot) (entries_of number opening.placed) ≡ true
+      → contains_slot heard slot ≡ was_sent layout opening past slot
+
+  abbrev in_cycle : ℕ → List TimedFrame → ℕ → ℕ → NodeState
+  in_cycle number past heard frames =
+      standing layout owners requests opening.placed past (opening.cycle + 1) number (Some (opened_for opening heard)) frames
+
+  in_cycle-stands : (number : ℕ) (past : List TimedFrame) (heard frames : ℕ) → stands_marked number past heard
+      → StandsIn layout owners requests opening past (in_cycle number past heard frames)
+  in_cycle-stands number past heard frames marked = record {
+    stands = record { same_layout = refl; own_entries = refl; own_mail = refl; next_cycle = refl };
+    opened = opened_for opening heard;
+    is_open = record { is_open = refl; cycle = refl; width = refl; flags = refl; heard = marked };
+  }
+
+  abbrev is_of_slot : ℕ → TimedFrame → Bool
+  is_of_slot slot sent = (sent.frame.identifier == first_identifier + slot) && leb (start_of layout opening) sent.start
+
+  was_sent-next : (past : List TimedFrame) (sent : TimedFrame) (slot : ℕ)
+      → was_sent layout opening (past ++ sent ∷ []) slot ≡ (was_sent layout opening past slot || (is_of_slot slot sent || false))
+  was_sent-next past sent slot = list_any-append (is_of_slot slot) past (sent ∷ [])
+
+  -- after the trigger no slot of the cycle was sent
+  none_sent : (past : List TimedFrame) (sent : TimedFrame) (slot : ℕ) → All (λ earlier. earlier.start < start_of layout opening) past
+      → sent.frame.identifier ≡ 0 → was_sent layout opening (past ++ sent ∷ []) slot ≡ false
+  none_sent past sent slot before trigger =
+      list_any_none (is_of_slot slot) (past ++ sent ∷ [])
+      (All-push (λ x. is_of_slot slot x ≡ false) past sent
+      (λ k d within. and_right (eqb (get_or past k d).frame.identifier (first_identifier + slot)) _ (lt-leb _ _ (before k d within)))
+      (and_left _ (leb (start_of layout opening) sent.start) (ne_eqb _ _ (λ (same : sent.frame.identifier ≡ first_identifier + slot). omega arith))))
+
+  same_mail : (ids : List ℕ) (past : List TimedFrame) (sent : TimedFrame)
+      → mail_after ids requests (past ++ sent ∷ []) ≡ without_first sent.frame.identifier (mail_after ids requests past)
+      → All (λ box. 0x200 ≤ box.identifier) (mail_after ids requests past) → sent.frame.identifier < 0x200
+      → mail_after ids requests past ≡ mail_after ids requests (past ++ sent ∷ [])
+  same_mail ids past sent taken above below =
+      sym (taken ∙ without_first-none sent.frame.identifier (mail_after ids requests past) below above)
+
+  module _ (past : List TimedFrame) (sent : TimedFrame) (number frames : ℕ) (are : AreOwners owners)
+      (taken : mail_after (identifiers_of number owners) requests (past ++ sent ∷ [])
+      ≡ without_first sent.frame.identifier (mail_after (identifiers_of number owners) requests past)) where
+    abbrev mail : List Mail
+    mail = mail_after (identifiers_of number owners) requests past
+
+    above : All (λ box. 0x200 ≤ box.identifier) mail
+    above = mail_after-least number owners requests past are
+
+    -- the trigger
+    module _ (opened : Option Opened) (small : width_of opening ≤ layout.window) (largest : layout.window ≤ 16383) (few : opening.mask < 2 ^ SLOTS)
+        (before : All (λ earlier. earlier.start < start_of layout opening) past)
+        (same : sent.frame ≡ trigger_frame opening.cycle (width_of opening) opening.mask) where
+      abbrev waiting : NodeState
+      waiting = standing layout owners requests opening.placed past opening.cycle number opened frames
+
+      abbrev counting : NodeState
+      counting = record waiting { frames = counted frames }
+
+      abbrev said_by : DataFrame
+      said_by = trigger_frame opening.cycle (width_of opening) opening.mask
+
+      opens : next_trigger counting said_by ≡ Some (record { low = opening.cycle % 256; l = width_of opening; mask = opening.mask })
+      opens = next_trigger-fits counting said_by (record { low = opening.cycle % 256; l = width_of opening; mask = opening.mask })
+          (trigger_of-frame opening.cycle (width_of opening) opening.mask (omega arith) few) small refl
+
+      hears_trigger : after_hearing waiting sent ≡ in_cycle number (past ++ sent ∷ []) 0 (counted frames)
+      hears_trigger =
+          ap (λ frame. after_hearing waiting (record sent { frame = frame })) same
+          ∙ ap (λ trigger. record counting { opened = Some (opened_by opening.cycle trigger); next = opening.cycle + 1 }) opens
+          ∙ ap (λ m. record counting { mail = m; opened = Some (opened_for opening 0); next = opening.cycle + 1 })
+          (same_mail (identifiers_of number owners) past sent taken above
+          (let none : sent.frame.identifier ≡ 0 = ap (λ f. f.identifier) same in omega arith))
+
+      pub stands_in-trigger : StandsIn layout owners requests opening (past ++ sent ∷ []) (after_hearing waiting sent)
+      stands_in-trigger =
+          subst (λ (n : NodeState). StandsIn layout owners requests opening (past ++ sent ∷ []) n) (sym hears_trigger)
+          (in_cycle-stands number (past ++ sent ∷ []) 0 (counted frames)
+          (λ slot within own. contains_slot-none slot ∙ sym (none_sent past sent slot before (ap (λ f. f.identifier) same))))
+
+    -- another frame
+    module _ (heard : ℕ) (well : IsWellPlaced opening.placed) (other : sent.frame.identifier ≢ 0) (begun : start_of layout opening ≤ sent.start)
+        (marked : stands_marked number past heard) where
+      abbrev open_node : NodeState
+      open_node = in_cycle number past heard frames
+
+      abbrev entries : List Placed
+      entries = entries_of number opening.placed
+
+      abbrev id : ℕ
+      id = sent.frame.identifier
+
+      no_trigger : (x y : NodeState) → cond (eqb id 0) x y ≡ y
+      no_trigger x y = cond-false (eqb id 0) x y (ne_eqb id 0 other)
+
+      -- a frame of a slot in which the node has an entry
+      module _ (own : is_own_slot entries id ≡ true) where
+        slot_of : (slot : ℕ) × (slot < SLOTS) × (first_identifier + slot ≡ id)
+        slot_of =
+            let any = Any-from_list_any (λ p. first_identifier + p.entry.slot == id) entries own in
+            let range : IsInRange any.1 = All-contains IsInRange entries any.1 (entries_of-well_placed number opening.placed well).in_range (any.0, any.2, any.3) in
+            (any.1.entry.slot, range.slot, eqb-true _ _ any.4)
+
+        abbrev more : ℕ
+        more = set_of SLOTS (λ s. (s == (id - first_identifier)) || contains_slot heard s)
+
+        hears_slot : after_hearing open_node sent ≡ in_cycle number (past ++ sent ∷ []) more (counted frames)
+        hears_slot =
+            no_trigger _ _
+            ∙ cond-true (is_own_slot entries id) _ _ own
+            ∙ ap (λ m. record (in_cycle number past more (counted frames)) { mail = m })
+            (same_mail (identifiers_of number owners) past sent taken above
+            (let slot = slot_of in let within = slot.1 in let is = slot.2 in omega arith))
+
+        same_test : (slot : ℕ) → eqb slot (id - first_identifier) ≡ eqb id (first_identifier + slot)
+        same_test slot =
+            let its = slot_of in
+            let is = its.2 in
+            elim (eqb_tells slot (id - first_identifier)) [
+              | inl same ↦ same.0 ∙ sym (eq-eqb id (first_identifier + slot) (omega (arith, same.1, is)))
+              | inr apart ↦ apart.0 ∙ sym (ne_eqb id (first_identifier + slot) (λ e. apart.1 (omega (arith, e, is))))
+            ]
+
+        marks_slot : stands_marked number (past ++ sent ∷ []) more
+        marks_slot slot within its =
+            contains_slot-set_of SLOTS (λ s. (s == (id - first_identifier)) || contains_slot heard s) slot
+            ∙ ap (λ b. b && (eqb slot (id - first_identifier) || contains_slot heard slot)) (lt-ltb slot SLOTS within)
+            ∙ ap (λ b. b || contains_slot heard slot) (same_test slot)
+            ∙ ap (λ b. eqb id (first_identifier + slot) || b) (marked slot within its)
+            ∙ turn (eqb id (first_identifier + slot)) (leb (start_of layout opening) sent.start) (was_sent layout opening past slot) (le-leb _ _ begun)
+            ∙ sym (was_sent-next past sent slot)
+
+      -- a frame of none
+      module _ (none : is_own_slot entries id ≡ false) where
+        hears_none : after_hearing open_node sent ≡ in_cycle number (past ++ sent ∷ []) heard (counted frames)
+        hears_none =
+            no_trigger _ _
+            ∙ cond-false (is_own_slot entries id) _ _ none
+            ∙ ap (λ m. record (in_cycle number past heard (counted frames)) { mail = m }) (sym taken)
+
+        apart_from : (slot : ℕ) → list_any (λ p. p.entry.slot == slot) entries ≡ true → id ≡ first_identifier + slot → ⊥
+        apart_from slot its same =
+            let any = Any-from_list_any (λ p. p.entry.slot == slot) entries its in
+            both_ways (is_own_slot entries id) none
+            (list_any-from_Any (λ p. first_identifier + p.entry.slot == id) entries
+            (any.0, any.1, any.2, any.3, eq-eqb _ _ (ap (λ s. first_identifier + s) (eqb-true _ _ any.4) ∙ sym same)))
+
+        marks_none : stands_marked number (past ++ sent ∷ []) heard
+        marks_none slot within its =
+            marked slot within its
+            ∙ kept (eqb id (first_identifier + slot)) (leb (start_of layout opening) sent.start) (was_sent layout opening past slot) (ne_eqb _ _ (apart_from slot its))
+            ∙ sym (was_sent-next past sent slot)
+
+      pub stands_in-later : StandsIn layout owners requests opening (past ++ sent ∷ []) (after_hearing open_node sent)
+      stands_in-later =
+          elim (cases_Bool (is_own_slot entries id)) [
+            | inl own ↦ subst (λ (n : NodeState). StandsIn layout owners requests opening (past ++ sent ∷ []) n) (sym (hears_slot own))
+                (in_cycle-stands number (past ++ sent ∷ []) (more own) (counted frames) (marks_slot own))
+            | inr none ↦ subst (λ (n : NodeState). StandsIn layout owners requests opening (past ++ sent ∷ []) n) (sym (hears_none none))
+                (in_cycle-stands number (past ++ sent ∷ []) heard (counted frames) (marks_none none))
+          ]
+
+pub stands-trigger : (layout : CycleLayout) (owners : List Owner) (requests : List Request) (opening : Opening) (past : List TimedFrame)
+    (sent : TimedFrame) (node : NodeState)
+    → ((ids : List ℕ) → mail_after ids requests (past ++ sent ∷ []) ≡ without_first sent.frame.identifier (mail_after ids requests past))
+    → AreOwners owners → width_of opening ≤ layout.window → layout.window ≤ 16383 → opening.mask < 2 ^ SLOTS
+    → All (λ earlier. earlier.start < start_of layout opening) past
+    → sent.frame ≡ trigger_frame opening.cycle (width_of opening) opening.mask
+    → Stands layout owners requests opening.placed past opening.cycle node
+    → StandsIn layout owners requests opening (past ++ sent ∷ []) (after_hearing node sent)
+stands-trigger layout owners requests opening past sent node taken are small largest few before same stands =
+    subst (λ (n : NodeState). StandsIn layout owners requests opening (past ++ sent ∷ []) (after_hearing n sent))
+    (sym (standing-is layout owners requests opening.placed past opening.cycle node stands))
+    (stands_in-trigger layout owners requests opening past sent node.number node.frames are (taken (identifiers_of node.number owners))
+    node.opened small largest few before same)
+
+pub stands-later : (layout : CycleLayout) (owners : List Owner) (requests : List Request) (opening : Opening) (past : List TimedFrame)
+    (sent : TimedFrame) (node : NodeState)
+    → ((ids : List ℕ) → mail_after ids requests (past ++ sent ∷ []) ≡ without_first sent.frame.identifier (mail_after ids requests past))
+    → AreOwners owners → IsWellPlaced opening.placed → sent.frame.identifier ≢ 0 → start_of layout opening ≤ sent.start
+    → StandsIn layout owners requests opening past node
+    → StandsIn layout owners requests opening (past ++ sent ∷ []) (after_hearing node sent)
+stands-later layout owners requests opening past sent node taken are well other begun stands =
+    subst (λ (n : NodeState). StandsIn layout owners requests opening (past ++ sent ∷ []) (after_hearing n sent))
+    (sym (standing_in-is layout owners requests opening past node stands))
+    (stands_in-later layout owners requests opening past sent node.number node.frames are (taken (identifiers_of node.number owners))
+    stands.opened.heard well other begun
+    (λ slot within own. stands.is_open.heard slot within (ap (list_any (λ p. p.entry.slot == slot)) stands.stands.own_entries ∙ own)))

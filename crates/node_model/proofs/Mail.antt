@@ -1,0 +1,77 @@
+-- Mail of a node: what is taken away where nothing is left, and what an offered identifier says of its first unsent request.
+use Rattle.std.proofs.Common.{◌≡◌, ℕ, ◌/◌, ◌<◌, ◌≤◌, ◌==◌, true, false, Option, Some, None, List, [], ◌∷◌, get_or, map, All, is_some, slice_get, refl, sym, ap, ◌∙◌, subst, arith, ⊎_elim}
+use Rattle.std.specs.Option.{option_map, option_map_or}
+use Rattle.std.proofs.lemmas.Bool.{eqb-true, eqb-false, cases_Bool, false≢true}
+use Rattle.std.proofs.lemmas.Option.{none-some, same_Some}
+use Rattle.std.proofs.lemmas.List.Elements.{All-head, All-tail, All-map}
+use Rattle.can_frame.specs.DataFrame.{DataFrame}
+use Rattle.cycle_layout.specs.Layout.{CycleLayout, sync_start}
+use Rattle.async_window.specs.declared.request.Request.{Request}
+use Rattle.async_window.specs.Mailbox.{Mail, IsMail, Offers, IsLeastWith, mail_offer, unsent_of, without_first}
+use Rattle.async_window.proofs.Unsent.{unsent_of-here, unsent_of-later}
+use Rattle.async_window.proofs.Offered.{Offers-least, Offers-among}
+use Rattle.async_window.proofs.Steps.{without_first-nothing}
+
+-- where the first of some requests is none, there are none
+none-first : (unsent : List Request) → slice_get unsent 0 ≡ None → unsent ≡ []
+none-first [] none = refl
+none-first (request ∷ later) none = absurd (none-some request (sym none))
+
+-- where no request of the identifier is left, taking away changes nothing
+pub without_first-none : (id : ℕ) (mail : List Mail) → IsMail mail → slice_get (unsent_of mail id) 0 ≡ None → without_first id mail ≡ mail
+without_first-none id mail known none = without_first-nothing id mail known (none-first (unsent_of mail id) none)
+
+abbrev AreOwn : List Mail → Type 0
+AreOwn mail = All (λ box. All (λ request. request.frame.identifier ≡ box.identifier) box.unsent) mail
+
+first-own : (id : ℕ) (unsent : List Request) (request : Request) → All (λ r. r.frame.identifier ≡ id) unsent → slice_get unsent 0 ≡ Some request → request.frame.identifier ≡ id
+first-own id [] request own first = absurd (none-some request first)
+first-own id (head ∷ later) request own first =
+    let same : head ≡ request = same_Some head request first in
+    rw same at (All-head (λ r. r.frame.identifier ≡ id) head later own)
+
+-- the first unsent request of an identifier has it
+pub first-identifier : (id : ℕ) (mail : List Mail) (request : Request) → AreOwn mail → slice_get (unsent_of mail id) 0 ≡ Some request → request.frame.identifier ≡ id
+first-identifier id [] request own first = absurd (none-some request first)
+first-identifier id (box ∷ rest) request own first =
+    ⊎_elim
+    (λ (same : (box.identifier == id) ≡ true).
+    let is = eqb-true box.identifier id same in
+    let here = All-head (λ x. All (λ r. r.frame.identifier ≡ x.identifier) x.unsent) box rest own in
+    first-own box.identifier box.unsent request here (ap (λ unsent. slice_get unsent 0) (sym (unsent_of-here box rest id is)) ∙ first) ∙ is)
+    (λ (differs : (box.identifier == id) ≡ false).
+    let other = eqb-false box.identifier id differs in
+    first-identifier id rest request (All-tail (λ x. All (λ r. r.frame.identifier ≡ x.identifier) x.unsent) box rest own)
+    (ap (λ unsent. slice_get unsent 0) (sym (unsent_of-later box rest id other)) ∙ first))
+    (cases_Bool (box.identifier == id))
+
+-- what is offered has a first unsent request that may start, and an asynchronous identifier
+pub offered-request : (layout : CycleLayout) (l at id : ℕ) (mail : List Mail) → IsMail mail → mail_offer layout l mail at ≡ Some id → Offers layout l mail at id
+offered-request layout l at id mail known offered =
+    (subst (λ least. IsLeastWith (Offers layout l mail at) least) offered (Offers-least layout l at mail known)).0
+
+pub offered-asynchronous : (layout : CycleLayout) (l at id : ℕ) (mail : List Mail) → IsMail mail → mail_offer layout l mail at ≡ Some id → 0x200 ≤ id
+offered-asynchronous layout l at id mail known offered =
+    let among = Offers-among layout l at mail id (offered-request layout l at id mail known offered) in
+    let least = All-map (λ n. 0x200 ≤ n) (λ box. box.identifier) mail known.least in
+    let at_least : 0x200 ≤ get_or (map (λ box. box.identifier) mail) among.0 id = least among.0 id among.1 in
+    omega (arith, at_least, among.2)
+
+pub offered-early : (layout : CycleLayout) (l at id : ℕ) (mail : List Mail) → IsMail mail → mail_offer layout l mail at ≡ Some id → at < sync_start layout (at / layout.cycle) l
+offered-early layout l at id mail known offered =
+    let whole = (offered-request layout l at id mail known offered).1.allowed.whole in
+    omega (arith, whole)
+
+-- the frame of the first unsent request
+pub frame-is : (frame : DataFrame) (id : ℕ) (found : Option Request) → Some frame ≡ option_map (λ request. request.frame) found
+    → ((request : Request) → found ≡ Some request → request.frame.identifier ≡ id)
+    → frame ≡ record { identifier = id; bytes = option_map_or (λ request. request.frame.bytes) found [] }
+frame-is frame id None is own = absurd (none-some frame (sym is))
+frame-is frame id (Some request) is own =
+    let same : frame ≡ request.frame = same_Some frame request.frame is in
+    same ∙ ap (λ identifier. record { identifier = identifier; bytes = request.frame.bytes }) (own request refl)
+
+-- where there is no first frame, there is no first request
+pub none-found : (found : Option Request) (head : Option DataFrame) → head ≡ option_map (λ request. request.frame) found → is_some head ≡ false → found ≡ None
+none-found None head is none = refl
+none-found (Some request) head is none = absurd (false≢true (sym none ∙ ap is_some is))

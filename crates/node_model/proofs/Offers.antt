@@ -1,0 +1,227 @@
+-- What a node offers at the times of its open cycle.
+use Rattle.std.proofs.Common.{◌≡◌, ℕ, ◌+◌, ◌-◌, ◌*◌, ◌/◌, ◌<◌, ◌≤◌, ◌&&◌, Bool, true, false, max, nat_eq, nat_le, nat_lt, is_some, if◌then◌else◌, Option, Some, None, IsSome, [], slice_get, ◌⊎◌, inl, inr, refl, sym, ap, ◌∙◌, subst, arith, ⊎_elim}
+use Rattle.std.specs.Option.{option_map, option_map_or}
+use Rattle.std.proofs.lemmas.Bool.{eq-eqb, eqb-true, le-leb, cases_Bool, ltb-true, lt-ltb, cases_lt, false≢true, and_parts, and_from}
+use Rattle.std.proofs.lemmas.Bool.Decides.{nat_tests}
+use Rattle.std.proofs.lemmas.Option.{none-some, same_Some}
+use Rattle.std.proofs.Math.Nat.{div-eq_of_lt-le, div-lt_iff_lt-mul, le-div_iff_mul-le}
+use Rattle.cycle_layout.specs.Layout.{sync_start}
+use Rattle.requirement_table.specs.declared.slots.TheConstants.{SLOTS}
+use Rattle.requirement_table.specs.Slots.{contains_slot}
+use Rattle.requirement_table.specs.Instance.{Instance, bytes_of}
+use Rattle.requirement_table.specs.Table.{instance_in}
+use Rattle.can_frame.specs.DataFrame.{DataFrame}
+use Rattle.async_window.specs.declared.request.Request.{Request}
+use Rattle.async_window.specs.Mailbox.{IsMail, IsNextInCycle, mail_offer, unsent_of}
+use Rattle.node_model.specs.Opening.{first_identifier}
+use Rattle.node_model.specs.Node.{NodeState, Opened, is_due, least_where, node_frame, node_offer, offer_in}
+use Rattle.node_model.specs.Kept.{IsOpenAt, opened_of}
+use Rattle.node_model.specs.declared.cycle.Open.{Open}
+use Rattle.node_model.proofs.Least.{least_where-same, least_where-sound}
+use Rattle.node_model.proofs.Mail.{offered-early, offered-asynchronous, offered-request}
+
+-- the same cycle is open at another time in it
+pub IsOpenAt-later : (node : NodeState) (at later : ℕ) (o : Open) → IsOpenAt node at o → later / node.layout.cycle ≡ at / node.layout.cycle → IsOpenAt node later o
+IsOpenAt-later node at later o is same = record { opened = is.opened; cycle = same ∙ is.cycle; due = is.due }
+
+-- what is offered in the open cycle
+in_cycle : (node : NodeState) (at : ℕ) (o : Open) → IsOpenAt node at o → node_offer node at ≡ offer_in node at (opened_of o)
+in_cycle node at o is = rw is.opened refl
+
+offer-late : (same late : Bool) (one other : Option ℕ) → same ≡ true → late ≡ true → (if same then (if late then one else other) else None) ≡ one
+offer-late true true one other is_same is_late = refl
+offer-late true false one other is_same is_late = absurd (false≢true is_late)
+offer-late false late one other is_same is_late = absurd (false≢true is_same)
+
+offer-early : (same late : Bool) (one other : Option ℕ) → same ≡ true → late ≡ false → (if same then (if late then one else other) else None) ≡ other
+offer-early true false one other is_same is_late = refl
+offer-early true true one other is_same is_late = absurd (false≢true (sym is_late))
+offer-early false late one other is_same is_late = absurd (false≢true is_same)
+
+-- the identifier of the least slot that is due
+abbrev pub due_identifier : Open → Option ℕ
+due_identifier o = option_map (λ slot. first_identifier + slot) (least_where SLOTS (contains_slot o.due))
+
+pub node_offer-late : (node : NodeState) (at : ℕ) (o : Open) → IsOpenAt node at o → sync_start node.layout o.cycle o.width ≤ at → node_offer node at ≡ due_identifier o
+node_offer-late node at o is late =
+    in_cycle node at o is
+    ∙ offer-late (nat_eq (at / node.layout.cycle) o.cycle) (nat_le (sync_start node.layout o.cycle o.width) at) _ _ (eq-eqb _ _ is.cycle) (le-leb _ _ late)
+    ∙ ap (option_map (λ slot. first_identifier + slot)) (sym (least_where-same SLOTS (contains_slot o.due) (is_due node.entries (opened_of o)) is.due))
+
+pub node_offer-early : (node : NodeState) (at : ℕ) (o : Open) → IsOpenAt node at o → at < sync_start node.layout o.cycle o.width → node_offer node at ≡ mail_offer node.layout o.width node.mail at
+node_offer-early node at o is early =
+    let test : nat_le (sync_start node.layout o.cycle o.width) at ≡ false = grind (arith, nat_tests) in
+    in_cycle node at o is
+    ∙ offer-early (nat_eq (at / node.layout.cycle) o.cycle) (nat_le (sync_start node.layout o.cycle o.width) at) _ _ (eq-eqb _ _ is.cycle) test
+
+-- a time in a cycle
+in_cycle-times : (length at c : ℕ) → 0 < length → at / length ≡ c → (c * length ≤ at) × (at < (c + 1) * length)
+in_cycle-times length at c some is = (
+  (le-div_iff_mul-le {k = length} {x = c} {y = at} some).0 (omega arith),
+  (div-lt_iff_lt-mul {k = length} {x = at} {y = c + 1} some).0 (omega arith),
+)
+
+some-number : (found : Option ℕ) → IsSome found → (n : ℕ) × (found ≡ Some n)
+some-number (Some n) some = (n, refl)
+some-number None some = absurd (false≢true some)
+
+is_some-map : (f : ℕ → ℕ) (found : Option ℕ) → is_some (option_map f found) ≡ is_some found
+is_some-map f (Some n) = refl
+is_some-map f None = refl
+
+-- when a node wakes in its open cycle
+module _ (node : NodeState) (at : ℕ) (o : Open) (is : IsOpenAt node at o) (some_time : 0 < node.layout.cycle) (known : IsMail node.mail) where
+  abbrev window : ℕ
+  window = sync_start node.layout o.cycle o.width
+
+  abbrev ends : ℕ
+  ends = (o.cycle + 1) * node.layout.cycle
+
+  abbrev MailOffers : ℕ → Type 0
+  MailOffers later = IsSome (mail_offer node.layout o.width node.mail later)
+
+  abbrev NodeOffers : ℕ → Type 0
+  NodeOffers later = IsSome (node_offer node later)
+
+  -- the mailboxes offer nothing from the synchronous window's start on
+  mail-early : (later : ℕ) → later / node.layout.cycle ≡ at / node.layout.cycle → MailOffers later → later < window
+  mail-early later same offers =
+      let found = some-number _ offers in
+      let early = offered-early node.layout o.width later found.0 node.mail known found.1 in
+      let cycle : later / node.layout.cycle ≡ o.cycle = same ∙ is.cycle in
+      rw cycle at early
+
+  offers-early : (later : ℕ) → later / node.layout.cycle ≡ at / node.layout.cycle → later < window → node_offer node later ≡ mail_offer node.layout o.width node.mail later
+  offers-early later same early = node_offer-early node later o (IsOpenAt-later node at later o is same) early
+
+  offers-late : (later : ℕ) → later / node.layout.cycle ≡ at / node.layout.cycle → window ≤ later → node_offer node later ≡ due_identifier o
+  offers-late later same late = node_offer-late node later o (IsOpenAt-later node at later o is same) late
+
+  -- a time at which the mailboxes wake comes before all of the synchronous window
+  pub wake-mail : (t : ℕ) → IsNextInCycle node.layout.cycle at MailOffers (Some t) → IsNextInCycle node.layout.cycle at NodeOffers (Some t)
+  wake-mail t next =
+      let found = next.0 in
+      let early = mail-early t found.1 found.2 in (
+        (found.0, found.1, subst IsSome (sym (offers-early t found.1 early)) found.2),
+        λ later has.
+            ⊎_elim
+            (λ (before : later < window). next.1 later (has.0, has.1, subst IsSome (offers-early later has.1 before) has.2))
+            (λ (behind : window ≤ later). omega arith)
+            (cases_lt later window),
+      )
+
+  -- in the synchronous window the mailboxes don't wake
+  pub mail-late : window ≤ at → IsNextInCycle node.layout.cycle at MailOffers None
+  mail-late late = λ later other. let early = mail-early later other.1 other.2 in omega (arith, early, other.0)
+
+  -- where the mailboxes don't wake, only the synchronous window is left
+  late-only : IsNextInCycle node.layout.cycle at MailOffers None → (later : ℕ) → at < later → later / node.layout.cycle ≡ at / node.layout.cycle → NodeOffers later
+      → (window ≤ later) × (is_some (least_where SLOTS (contains_slot o.due)) ≡ true)
+  late-only none later behind same offers =
+      ⊎_elim
+      (λ (before : later < window). absurd (none later (behind, same, subst IsSome (offers-early later same before) offers)))
+      (λ (late : window ≤ later). (late, sym (is_some-map (λ slot. first_identifier + slot) (least_where SLOTS (contains_slot o.due))) ∙ ap is_some (sym (offers-late later same late)) ∙ offers))
+      (cases_lt later window)
+
+  abbrev first_late : ℕ
+  first_late = max (at + 1) window
+
+  abbrev has_late : Bool
+  has_late = is_some (least_where SLOTS (contains_slot o.due)) && nat_lt first_late ends
+
+  wake-late : IsNextInCycle node.layout.cycle at MailOffers None → has_late ≡ true → IsNextInCycle node.layout.cycle at NodeOffers (Some first_late)
+  wake-late none has =
+      let parts = and_parts (is_some (least_where SLOTS (contains_slot o.due))) (nat_lt first_late ends) has in
+      let before : first_late < ends = ltb-true first_late ends parts.1 in
+      let started = in_cycle-times node.layout.cycle at o.cycle some_time is.cycle in
+      let from : o.cycle * node.layout.cycle ≤ first_late = omega (arith, started.0) in
+      let same : first_late / node.layout.cycle ≡ at / node.layout.cycle = div-eq_of_lt-le node.layout.cycle from before ∙ sym is.cycle in
+      let offers : IsSome (due_identifier o) = is_some-map (λ slot. first_identifier + slot) (least_where SLOTS (contains_slot o.due)) ∙ parts.0 in (
+        (omega arith, same, subst IsSome (sym (offers-late first_late same (omega arith))) offers),
+        λ later other. let late = late-only none later other.0 other.1 other.2 in omega (arith, late.0, other.0),
+      )
+
+  wake-never : IsNextInCycle node.layout.cycle at MailOffers None → has_late ≡ false → IsNextInCycle node.layout.cycle at NodeOffers None
+  wake-never none has = λ later other.
+      let late = late-only none later other.0 other.1 other.2 in
+      let times = in_cycle-times node.layout.cycle later o.cycle some_time (other.1 ∙ is.cycle) in
+      let before : first_late < ends = omega (arith, late.0, other.0, times.1) in
+      false≢true (sym has ∙ and_from _ _ late.1 (lt-ltb first_late ends before))
+
+  pub wake-due : (next : Option ℕ) → IsNextInCycle node.layout.cycle at MailOffers None → next ≡ (if has_late then Some first_late else None)
+      → IsNextInCycle node.layout.cycle at NodeOffers next
+  wake-due next none value =
+      ⊎_elim
+      (λ (has : has_late ≡ true). subst (IsNextInCycle node.layout.cycle at NodeOffers) (sym (value ∙ ap (λ b. if b then Some first_late else None) has)) (wake-late none has))
+      (λ (has : has_late ≡ false). subst (IsNextInCycle node.layout.cycle at NodeOffers) (sym (value ∙ ap (λ b. if b then Some first_late else None) has)) (wake-never none has))
+      (cases_Bool has_late)
+
+-- what an offered identifier says
+
+-- it is that of a slot that is due, or one of the mailboxes'
+offer-cases : (same late : Bool) (slot other : Option ℕ) (id : ℕ) → (if same then (if late then option_map (λ s. first_identifier + s) slot else other) else None) ≡ Some id
+    → ((same ≡ true) × (s : ℕ) × (slot ≡ Some s) × (first_identifier + s ≡ id)) ⊎ (other ≡ Some id)
+offer-cases true true (Some s) other id offered = inl (refl, s, refl, same_Some (first_identifier + s) id offered)
+offer-cases true true None other id offered = absurd (none-some id offered)
+offer-cases true false slot other id offered = inr offered
+offer-cases false late slot other id offered = absurd (none-some id offered)
+
+-- the slot of a synchronous identifier, with the instance that may be sent
+pub record IsOfferedSlot (node : NodeState) (at id : ℕ) : Type 0 where
+  pub from : first_identifier ≤ id
+  pub below : id < first_identifier + SLOTS
+  pub instance : is_some (instance_in node.entries (id - first_identifier) (at / node.layout.cycle)) ≡ true
+
+offered_slot-at : (node : NodeState) (at id slot : ℕ) (o : Opened) → at / node.layout.cycle ≡ o.cycle → first_identifier + slot ≡ id → slot < SLOTS → is_due node.entries o slot ≡ true → IsOfferedSlot node at id
+offered_slot-at node at id slot o cycle is within due =
+    let parts = and_parts (contains_slot o.flags slot) _ due in
+    let more = and_parts (is_some (instance_in node.entries slot o.cycle)) _ parts.1 in
+    let slot_is : id - first_identifier ≡ slot = omega arith in
+    record { from = omega arith; below = omega arith; instance = rw (slot_is, cycle) more.0 }
+
+abbrev IsOffered : NodeState → ℕ → ℕ → Type 0
+IsOffered node at id = IsOfferedSlot node at id ⊎ ((l : ℕ) × (mail_offer node.layout l node.mail at ≡ Some id))
+
+offered-in : (node : NodeState) (at id : ℕ) (o : Opened) → offer_in node at o ≡ Some id → IsOffered node at id
+offered-in node at id o offered =
+    ⊎_elim
+    (λ (slot : (nat_eq (at / node.layout.cycle) o.cycle ≡ true) × (s : ℕ) × (least_where SLOTS (is_due node.entries o) ≡ Some s) × (first_identifier + s ≡ id)).
+    let least = least_where-sound SLOTS (is_due node.entries o) slot.1 slot.2 in
+    inl (offered_slot-at node at id slot.1 o (eqb-true _ _ slot.0) slot.3 least.0 least.1))
+    (λ (mail : mail_offer node.layout o.width node.mail at ≡ Some id). inr (o.width, mail))
+    (offer-cases (nat_eq (at / node.layout.cycle) o.cycle) (nat_le (sync_start node.layout o.cycle o.width) at)
+    (least_where SLOTS (is_due node.entries o)) (mail_offer node.layout o.width node.mail at) id offered)
+
+offered-cases : (node : NodeState) (at id : ℕ) (opened : Option Opened) → node.opened ≡ opened → node_offer node at ≡ Some id → IsOffered node at id
+offered-cases node at id None is offered = let none : node_offer node at ≡ None = rw is refl in absurd (none-some id (sym none ∙ offered))
+offered-cases node at id (Some o) is offered = let in_open : node_offer node at ≡ offer_in node at o = rw is refl in offered-in node at id o (sym in_open ∙ offered)
+
+pub offered-slot : (node : NodeState) (at id : ℕ) → IsMail node.mail → node_offer node at ≡ Some id → id < 0x200 → IsOfferedSlot node at id
+offered-slot node at id known offered synchronous =
+    ⊎_elim
+    (λ (slot : IsOfferedSlot node at id). slot)
+    (λ (mail : (l : ℕ) × (mail_offer node.layout l node.mail at ≡ Some id)).
+    let least = offered-asynchronous node.layout mail.0 at id node.mail known mail.1 in absurd (omega arith))
+    (offered-cases node at id node.opened refl offered)
+
+pub offered-mail : (node : NodeState) (at id : ℕ) → IsMail node.mail → node_offer node at ≡ Some id → 0x200 ≤ id → is_some (slice_get (unsent_of node.mail id) 0) ≡ true
+offered-mail node at id known offered asynchronous =
+    ⊎_elim
+    (λ (slot : IsOfferedSlot node at id). let below = slot.below in absurd (omega arith))
+    (λ (mail : (l : ℕ) × (mail_offer node.layout l node.mail at ≡ Some id)).
+    ap is_some (offered-request node.layout mail.0 at id node.mail known mail.1).1.waiting.first)
+    (offered-cases node at id node.opened refl offered)
+
+-- an instance that is there has bytes
+pub no-instance : (found : Option Instance) → option_map bytes_of found ≡ None → is_some found ≡ true → ⊥
+no-instance None bytes some = false≢true some
+no-instance (Some i) bytes some = none-some (bytes_of i) (sym bytes)
+
+-- a frame that a node offers of its mailboxes is that of a first unsent request
+pub no-request : (found : Option Request) → option_map (λ request. request.frame) found ≡ None → is_some found ≡ true → ⊥
+no-request None frame some = false≢true some
+no-request (Some request) frame some = none-some request.frame (sym frame)
+
+pub node_frame-mail : (node : NodeState) (at id : ℕ) (frame : DataFrame) → 0x200 ≤ id → frame ≡ record { identifier = id; bytes = option_map_or (λ request. request.frame.bytes) (slice_get (unsent_of node.mail id) 0) [] }
+    → frame ≡ node_frame node at id
+node_frame-mail node at id frame asynchronous is = rw (le-leb 0x200 id asynchronous) is

@@ -1,0 +1,252 @@
+-- What a node in an opened cycle offers is the least of its own part of what is offered on the bus.
+use Rattle.std.proofs.Common.{◌≡◌, ℕ, ◌+◌, ◌-◌, ◌*◌, ◌/◌, ◌<◌, ◌≤◌, Bool, true, false, not, ◌&&◌, ◌==◌, eqb, leb, Option, Some, None, List, [], ◌∷◌, get_or, map, Contains, inl, inr, refl, sym, ap, ◌∙◌, subst, arith, MatchOption, option_map, div-lt_iff_lt-mul, div-mul-le_self}
+use Rattle.std.specs.List.{list_any, slice_get}
+use Rattle.std.specs.Option.{is_some, option_map_or}
+use Rattle.std.proofs.lemmas.Bool.{cases_lt, both_ways, eq-eqb, eqb-true, leb-true, le-leb, lt-leb, and_parts, and_from, not-true, not_from_false, false_from_ne_true, cond-true, cond-false}
+use Rattle.std.proofs.lemmas.Option.{slice_get_within, get_or_from_slice_get}
+use Rattle.std.proofs.lemmas.List.Elements.{All-contains, All-drop, All-map, filter_passes}
+use Rattle.std.proofs.lemmas.List.Folds.{list_any_none, list_any_at, list_any-from_Any}
+use Rattle.can_frame.specs.DataFrame.{DataFrame}
+use Rattle.can_frame.specs.declared.data_frame.TimedFrame.{TimedFrame}
+use Rattle.cycle_layout.specs.Layout.{CycleLayout, IsLayout}
+use Rattle.requirement_table.specs.declared.entries.Placed.{Placed}
+use Rattle.requirement_table.specs.declared.slots.TheConstants.{SLOTS}
+use Rattle.requirement_table.specs.Slots.{contains_slot}
+use Rattle.requirement_table.specs.Instance.{Instance, bytes_of}
+use Rattle.requirement_table.specs.Table.{IsWellPlaced, instance_in}
+use Rattle.async_window.specs.declared.request.Owner.{Owner}
+use Rattle.async_window.specs.declared.request.Request.{Request}
+use Rattle.async_window.specs.Waiting.{MayStart, frames_with, requests_of, unsent_after}
+use Rattle.async_window.specs.Mailbox.{IsLeastWith, IsMail, Mail, Offers, mail_after, mail_offer, unsent_of}
+use Rattle.node_model.specs.Opening.{Opening, first_identifier, slots, width_of, start_of, window_start}
+use Rattle.node_model.specs.Offered.{IsUnsent}
+use Rattle.node_model.specs.Node.{IsNode, NodeState, entries_of, identifiers_of, is_due, least_where, node_bytes, node_frame, node_offer}
+use Rattle.node_model.specs.Own.{OffersLeastOwn, OffersOwn, StandsIn, was_sent}
+use Rattle.node_model.proofs.OwnEntries.{instance-of_all, instance-of_own, sent_from}
+use Rattle.node_model.proofs.LeastSlot.{IsLeastBelow, least_where-least}
+use Rattle.node_model.proofs.Standing.{standing, opened_for, standing_in-is}
+
+-- some frames, of which one has the least identifier
+abbrev IsLeastFrame : (DataFrame → Type 0) → (ℕ → DataFrame) → Option ℕ → Type 0
+IsLeastFrame Own frame_of found =
+    MatchOption found ((frame : DataFrame) → Own frame → ⊥) (λ id. Own (frame_of id) × ((frame : DataFrame) → Own frame → id ≤ frame.identifier))
+
+-- the slots with a property have these frames
+least_slot-frame : (Own : DataFrame → Type 0) (frame_of : ℕ → DataFrame) (n : ℕ) (p : ℕ → Bool) (found : Option ℕ)
+    → ((slot : ℕ) → slot < n → p slot ≡ true → Own (frame_of (first_identifier + slot)))
+    → ((frame : DataFrame) → Own frame → (slot : ℕ) × (slot < n) × (p slot ≡ true) × (frame.identifier ≡ first_identifier + slot))
+    → IsLeastBelow n p found → IsLeastFrame Own frame_of (option_map (λ slot. first_identifier + slot) found)
+least_slot-frame Own frame_of n p None to from none = λ frame own.
+    let due = from frame own in both_ways (p due.0) (none due.0 due.1) due.2
+least_slot-frame Own frame_of n p (Some least) to from is = (
+  to least is.0 is.1,
+  λ frame own.
+      let due = from frame own in
+      elim (cases_lt due.0 least) [
+        | inl before ↦ absurd (both_ways (p due.0) (is.2 due.0 before) due.2)
+        | inr behind ↦ omega (arith, behind, due.3)
+      ],
+)
+
+-- the identifiers with a property have these frames
+least_mail-frame : (Own : DataFrame → Type 0) (frame_of : ℕ → DataFrame) (Has : ℕ → Type 0) (found : Option ℕ)
+    → ((id : ℕ) → Has id → Own (frame_of id)) → ((frame : DataFrame) → Own frame → Has frame.identifier)
+    → IsLeastWith Has found → IsLeastFrame Own frame_of found
+least_mail-frame Own frame_of Has None to from none = λ frame own. none frame.identifier (from frame own)
+least_mail-frame Own frame_of Has (Some least) to from is = (to least is.0, λ frame own. is.1 frame.identifier (from frame own))
+
+pub value-of : {X : Type 0} (o : Option X) → is_some o ≡ true → (x : X) × (o ≡ Some x)
+value-of (Some x) is = (x, refl)
+value-of None is = absurd (cc)
+
+module _ (layout : CycleLayout) (opening : Opening) (past : List TimedFrame) where
+  unsent-from : (slot : ℕ) → was_sent layout opening past slot ≡ false → IsUnsent layout opening slot past
+  unsent-from slot none = λ k d within same.
+      elim (cases_lt (get_or past k d).start (start_of layout opening)) [
+        | inl before ↦ before
+        | inr behind ↦ absurd (both_ways (was_sent layout opening past slot) none
+            (list_any_at (λ sent. (sent.frame.identifier == first_identifier + slot) && leb (start_of layout opening) sent.start) past k d within
+            (and_from _ _ (eq-eqb _ _ same) (le-leb _ _ behind))))
+      ]
+
+  from-unsent : (slot : ℕ) → IsUnsent layout opening slot past → was_sent layout opening past slot ≡ false
+  from-unsent slot unsent =
+      list_any_none (λ sent. (sent.frame.identifier == first_identifier + slot) && leb (start_of layout opening) sent.start) past
+      (λ k d within. false_from_ne_true _ (λ test.
+      let parts = and_parts (eqb (get_or past k d).frame.identifier (first_identifier + slot)) (leb (start_of layout opening) (get_or past k d).start) test in
+      let before = unsent k d within (eqb-true _ _ parts.0) in
+      let behind = leb-true (start_of layout opening) (get_or past k d).start parts.1 in
+      omega arith))
+
+-- a slot of which the entries have an instance is one of theirs
+slot-of_instance : (entries : List Placed) (slot c : ℕ) (i : Instance) → instance_in entries slot c ≡ Some i
+    → list_any (λ p. p.entry.slot == slot) entries ≡ true
+slot-of_instance entries slot c i is =
+    let sent = sent_from entries slot c i is in
+    list_any-from_Any (λ p. p.entry.slot == slot) entries (sent.0.0, i.placed, sent.0.1, sent.0.2, eq-eqb i.placed.entry.slot slot sent.1)
+
+-- a time is before the end of its cycle
+within_cycle : (at cycle : ℕ) → 0 < cycle → at < (at / cycle + 1) * cycle
+within_cycle at cycle positive = (div-lt_iff_lt-mul {k = cycle} {x = at} {y = at / cycle + 1} positive).0 (omega arith)
+
+-- the bytes of a slot's frame are those of its instance
+bytes_of-slot : (node : NodeState) (at slot : ℕ) (i : Instance) → slot < SLOTS → instance_in node.entries slot (at / node.layout.cycle) ≡ Some i
+    → node_bytes node at (first_identifier + slot) ≡ bytes_of i
+bytes_of-slot node at slot i within is =
+    let back : first_identifier + slot - first_identifier ≡ slot = omega arith in
+    cond-false (leb 0x200 (first_identifier + slot)) _ _ (lt-leb 0x200 (first_identifier + slot) (omega arith))
+    ∙ ap (λ s. option_map_or bytes_of (instance_in node.entries s (at / node.layout.cycle)) []) back
+    ∙ ap (λ o. option_map_or bytes_of o []) is
+
+-- and those of a request's frame are the request's
+bytes_of-request : (node : NodeState) (at id : ℕ) (request : Request) → 0x200 ≤ id → slice_get (unsent_of node.mail id) 0 ≡ Some request
+    → node_bytes node at id ≡ request.frame.bytes
+bytes_of-request node at id request above is =
+    cond-true (leb 0x200 id) _ _ (le-leb 0x200 id above) ∙ ap (λ o. option_map_or (λ r. r.frame.bytes) o []) is
+
+pub identifiers-after : (ids : List ℕ) (requests : List Request) (past : List TimedFrame) → map (λ box. box.identifier) (mail_after ids requests past) ≡ ids
+identifiers-after [] requests past = refl
+identifiers-after (id ∷ ids) requests past = ap (λ later. id ∷ later) (identifiers-after ids requests past)
+
+-- an unsent request of an identifier has it
+first-identifier : (requests : List Request) (past : List TimedFrame) (id : ℕ) (request : Request)
+    → slice_get (unsent_after requests past id) 0 ≡ Some request → request.frame.identifier ≡ id
+first-identifier requests past id request is =
+    let all = All-drop (λ r. eqb r.frame.identifier id ≡ true) (frames_with past id) (requests_of requests id)
+    (filter_passes (λ r. eqb r.frame.identifier id) requests) in
+    let inside = slice_get_within (unsent_after requests past id) 0 request is in
+    let here : get_or (unsent_after requests past id) 0 request ≡ request = get_or_from_slice_get (unsent_after requests past id) 0 request request is in
+    eqb-true request.frame.identifier id (subst (λ (r : Request). eqb r.frame.identifier id ≡ true) here (all 0 request inside))
+
+same_frame : (frame : DataFrame) (id : ℕ) (bytes : List ℕ) → id ≡ frame.identifier → bytes ≡ frame.bytes → record { identifier = id; bytes = bytes } ≡ frame
+same_frame frame id bytes same also =
+    ap (λ n. record { identifier = n; bytes = bytes }) same ∙ ap (λ b. record { identifier = frame.identifier; bytes = b }) also
+
+module _ (layout : CycleLayout) (owners : List Owner) (requests : List Request) (opening : Opening) (past : List TimedFrame)
+    (at number frames heard : ℕ) (positive : 0 < layout.cycle) (well : IsWellPlaced opening.placed) (time : at / layout.cycle ≡ opening.cycle)
+    (marked : (slot : ℕ) → slot < slots → list_any (λ p. p.entry.slot == slot) (entries_of number opening.placed) ≡ true
+    → contains_slot heard slot ≡ was_sent layout opening past slot) where
+  abbrev node : NodeState
+  node = standing layout owners requests opening.placed past (opening.cycle + 1) number (Some (opened_for opening heard)) frames
+
+  abbrev Own : DataFrame → Type 0
+  Own = OffersOwn number layout owners requests opening past at
+
+  abbrev entries : List Placed
+  entries = entries_of number opening.placed
+
+  abbrev ids : List ℕ
+  ids = identifiers_of number owners
+
+  abbrev mail : List Mail
+  mail = mail_after ids requests past
+
+  -- in the synchronous window
+  due-offers : window_start layout opening ≤ at → (slot : ℕ) → slot < SLOTS → is_due entries (opened_for opening heard) slot ≡ true
+      → Own (node_frame node at (first_identifier + slot))
+  due-offers late slot within due =
+      let parts = and_parts (contains_slot opening.mask slot) (is_some (instance_in entries slot opening.cycle) && not (contains_slot heard slot)) due in
+      let more = and_parts (is_some (instance_in entries slot opening.cycle)) (not (contains_slot heard slot)) parts.1 in
+      let found = value-of (instance_in entries slot opening.cycle) more.0 in
+      let all = instance-of_all number opening.placed slot opening.cycle found.0 well found.1 in
+      let mark = marked slot within (slot-of_instance entries slot opening.cycle found.0 found.1) in
+      inr (
+        slot,
+        record {
+          begun = subst (λ c. c * layout.cycle ≤ at) time (div-mul-le_self at layout.cycle);
+          late_enough = late;
+          within = subst (λ c. at < (c + 1) * layout.cycle) time (within_cycle at layout.cycle positive);
+          known = within;
+          flagged = parts.0;
+          unsent = unsent-from layout opening past slot (sym mark ∙ not-true (contains_slot heard slot) more.1);
+          identifier = refl;
+          bytes = ap (option_map bytes_of) all.0
+              ∙ ap (λ b. Some b) (sym (bytes_of-slot node at slot found.0 within (ap (instance_in entries slot) time ∙ found.1)));
+        },
+        (found.0, all.0, all.1),
+      )
+
+  offers-due : window_start layout opening ≤ at → (frame : DataFrame) → Own frame
+      → (slot : ℕ) × (slot < SLOTS) × (is_due entries (opened_for opening heard) slot ≡ true) × (frame.identifier ≡ first_identifier + slot)
+  offers-due late frame (inl request) = let whole = request.0.may_start.allowed.whole in absurd (omega arith)
+  offers-due late frame (inr (slot, offers, (i, is, its))) =
+      let mine = instance-of_own number opening.placed slot opening.cycle i well is its in
+      let mark = marked slot offers.known (slot-of_instance entries slot opening.cycle i mine) in (
+        slot,
+        offers.known,
+        and_from _ _ offers.flagged
+            (and_from _ _ (ap is_some mine) (not_from_false _ (mark ∙ from-unsent layout opening past slot offers.unsent))),
+        offers.identifier,
+      )
+
+  offers-late : window_start layout opening ≤ at → OffersLeastOwn layout owners requests opening past at node
+  offers-late late =
+      let value : node_offer node at ≡ option_map (λ slot. first_identifier + slot) (least_where SLOTS (is_due entries (opened_for opening heard)))
+      = cond-true (eqb (at / layout.cycle) opening.cycle) _ _ (eq-eqb _ _ time) ∙ cond-true (leb (window_start layout opening) at) _ _ (le-leb _ _ late) in
+      subst (IsLeastFrame Own (node_frame node at)) (sym value)
+      (least_slot-frame Own (node_frame node at) SLOTS (is_due entries (opened_for opening heard)) (least_where SLOTS (is_due entries (opened_for opening heard)))
+      (due-offers late) (offers-due late) (least_where-least SLOTS (is_due entries (opened_for opening heard))))
+
+  -- before it
+  module _ (known : IsMail mail)
+      (among_mail : (id : ℕ) → Offers layout (width_of opening) mail at id → Contains (map (λ box. box.identifier) mail) id)
+      (unsent_among : (id : ℕ) → Contains ids id → unsent_of mail id ≡ unsent_after requests past id) where
+    may_start-same : (c d : ℕ) (one other : List Request) (request : Request) → c ≡ d → one ≡ other
+        → MayStart layout c (width_of opening) one at request → MayStart layout d (width_of opening) other at request
+    may_start-same c d one other request same also may =
+        subst (λ n. MayStart layout n (width_of opening) other at request) same
+        (subst (λ unsent. MayStart layout c (width_of opening) unsent at request) also may)
+
+    mail-offers : (id : ℕ) → Offers layout (width_of opening) mail at id → Own (node_frame node at id)
+    mail-offers id offers =
+        let among : Contains ids id = subst (λ all. Contains all id) (identifiers-after ids requests past) (among_mail id offers) in
+        let above : 0x200 ≤ id = All-contains (λ n. 0x200 ≤ n) (map (λ box. box.identifier) mail) id (All-map (λ n. 0x200 ≤ n) (λ box. box.identifier) mail known.least) (among_mail id offers) in
+        let unsent = unsent_among id among in
+        let first : slice_get (unsent_after requests past id) 0 ≡ Some offers.0 = ap (λ all. slice_get all 0) (sym unsent) ∙ offers.1.waiting.first in
+        inl (
+          record {
+            request = offers.0;
+            may_start = may_start-same (at / layout.cycle) opening.cycle (unsent_of mail id) (unsent_after requests past id) offers.0 time unsent offers.1;
+            its_frame = same_frame offers.0.frame id (node_bytes node at id) (sym (first-identifier requests past id offers.0 first))
+                (bytes_of-request node at id offers.0 above offers.1.waiting.first);
+          },
+          among,
+        )
+
+    offers-mail : at < window_start layout opening → (frame : DataFrame) → Own frame → Offers layout (width_of opening) mail at frame.identifier
+    offers-mail early frame (inl (offers, among)) = (
+      offers.request,
+      may_start-same opening.cycle (at / layout.cycle) (unsent_after requests past frame.identifier) (unsent_of mail frame.identifier) offers.request
+          (sym time) (sym (unsent_among frame.identifier among)) offers.may_start,
+    )
+    offers-mail early frame (inr (slot, offers, own)) = let late = offers.late_enough in absurd (omega arith)
+
+    offers-early : IsLeastWith (Offers layout (width_of opening) mail at) (mail_offer layout (width_of opening) mail at) → at < window_start layout opening
+        → OffersLeastOwn layout owners requests opening past at node
+    offers-early least early =
+        let value : node_offer node at ≡ mail_offer layout (width_of opening) mail at
+        = cond-true (eqb (at / layout.cycle) opening.cycle) _ _ (eq-eqb _ _ time) ∙ cond-false (leb (window_start layout opening) at) _ _ (lt-leb _ _ early) in
+        subst (IsLeastFrame Own (node_frame node at)) (sym value)
+        (least_mail-frame Own (node_frame node at) (Offers layout (width_of opening) mail at) (mail_offer layout (width_of opening) mail at)
+        mail-offers (offers-mail early) least)
+
+    pub offers-least : IsLeastWith (Offers layout (width_of opening) mail at) (mail_offer layout (width_of opening) mail at)
+        → OffersLeastOwn layout owners requests opening past at node
+    offers-least least = elim (cases_lt at (window_start layout opening)) [ inl early ↦ offers-early least early | inr late ↦ offers-late late ]
+
+pub offers_own_part : (layout : CycleLayout) (owners : List Owner) (requests : List Request) (opening : Opening) (past : List TimedFrame) (at : ℕ) (node : NodeState)
+    → ((mail : List Mail) → IsMail mail → IsLeastWith (Offers layout (width_of opening) mail at) (mail_offer layout (width_of opening) mail at))
+    → ((mail : List Mail) (id : ℕ) → Offers layout (width_of opening) mail at id → Contains (map (λ box. box.identifier) mail) id)
+    → ((ids : List ℕ) (id : ℕ) → Contains ids id → unsent_of (mail_after ids requests past) id ≡ unsent_after requests past id)
+    → IsNode node → IsWellPlaced opening.placed → StandsIn layout owners requests opening past node → at / layout.cycle ≡ opening.cycle
+    → OffersLeastOwn layout owners requests opening past at node
+offers_own_part layout owners requests opening past at node least among unsent is_node well stands time =
+    let mail : List Mail = mail_after (identifiers_of node.number owners) requests past in
+    let known : IsMail mail = subst IsMail stands.stands.own_mail is_node.mail in
+    let its_layout : IsLayout layout = subst IsLayout stands.stands.same_layout is_node.layout in
+    let long = its_layout.cycle_range.above in
+    subst (λ (n : NodeState). OffersLeastOwn layout owners requests opening past at n)
+    (sym (standing_in-is layout owners requests opening past node stands))
+    (offers-least layout owners requests opening past at node.number node.frames stands.opened.heard (omega arith) well time
+    (λ slot within own. stands.is_open.heard slot within (ap (list_any (λ p. p.entry.slot == slot)) stands.stands.own_entries ∙ own))
+    known (among mail) (unsent (identifiers_of node.number owners)) (least mail known))

@@ -1,0 +1,61 @@
+-- A node that stands to a bus is one record, made of its number, the bus, and what it heard.
+use Rattle.std.proofs.Common.{◌≡◌, ℕ, ◌+◌, Option, Some, List, refl, ap, ◌∙◌}
+use Rattle.can_frame.specs.declared.data_frame.TimedFrame.{TimedFrame}
+use Rattle.cycle_layout.specs.Layout.{CycleLayout}
+use Rattle.requirement_table.specs.declared.entries.Placed.{Placed}
+use Rattle.async_window.specs.declared.request.Owner.{Owner}
+use Rattle.async_window.specs.declared.request.Request.{Request}
+use Rattle.async_window.specs.Mailbox.{Mail, mail_after}
+use Rattle.node_model.specs.Opening.{Opening, width_of}
+use Rattle.node_model.specs.Node.{NodeState, Opened, entries_of, identifiers_of}
+use Rattle.node_model.specs.Own.{Stands, StandsIn}
+
+same_node : (node : NodeState) (layout : CycleLayout) (entries : List Placed) (mail : List Mail) (opened : Option Opened) (next : ℕ)
+    → node.layout ≡ layout → node.entries ≡ entries → node.mail ≡ mail → node.opened ≡ opened → node.next ≡ next
+    → node ≡ record { number = node.number; layout = layout; entries = entries; mail = mail; opened = opened; next = next; frames = node.frames }
+same_node node layout entries mail opened next l e m o n =
+    ap (λ x. record node { layout = x }) l
+    ∙ ap (λ x. record node { layout = layout; entries = x }) e
+    ∙ ap (λ x. record node { layout = layout; entries = entries; mail = x }) m
+    ∙ ap (λ x. record node { layout = layout; entries = entries; mail = mail; opened = x }) o
+    ∙ ap (λ x. record node { layout = layout; entries = entries; mail = mail; opened = opened; next = x }) n
+
+-- the node of this number, with this cycle open, that heard so many frames
+abbrev pub standing : CycleLayout → List Owner → List Request → List Placed → List TimedFrame → ℕ → ℕ → Option Opened → ℕ → NodeState
+standing layout owners requests placed past next number opened frames = record {
+  number = number;
+  layout = layout;
+  entries = entries_of number placed;
+  mail = mail_after (identifiers_of number owners) requests past;
+  opened = opened;
+  next = next;
+  frames = frames;
+}
+
+-- the cycle as it is open for a node that heard these slots
+abbrev pub opened_for : Opening → ℕ → Opened
+opened_for opening heard = record { cycle = opening.cycle; width = width_of opening; flags = opening.mask; heard = heard }
+
+pub standing-is : (layout : CycleLayout) (owners : List Owner) (requests : List Request) (placed : List Placed) (past : List TimedFrame) (next : ℕ)
+    (node : NodeState) → Stands layout owners requests placed past next node
+    → node ≡ standing layout owners requests placed past next node.number node.opened node.frames
+standing-is layout owners requests placed past next node stands =
+    same_node node layout (entries_of node.number placed) (mail_after (identifiers_of node.number owners) requests past) node.opened next
+    stands.same_layout stands.own_entries stands.own_mail refl stands.next_cycle
+
+same_opened : (o : Opened) (cycle width flags : ℕ) → o.cycle ≡ cycle → o.width ≡ width → o.flags ≡ flags
+    → o ≡ record { cycle = cycle; width = width; flags = flags; heard = o.heard }
+same_opened o cycle width flags c w f =
+    ap (λ x. record o { cycle = x }) c
+    ∙ ap (λ x. record o { cycle = cycle; width = x }) w
+    ∙ ap (λ x. record o { cycle = cycle; width = width; flags = x }) f
+
+pub standing_in-is : (layout : CycleLayout) (owners : List Owner) (requests : List Request) (opening : Opening) (past : List TimedFrame)
+    (node : NodeState) (is : StandsIn layout owners requests opening past node)
+    → node ≡ standing layout owners requests opening.placed past (opening.cycle + 1) node.number (Some (opened_for opening is.opened.heard)) node.frames
+standing_in-is layout owners requests opening past node is =
+    same_node node layout (entries_of node.number opening.placed) (mail_after (identifiers_of node.number owners) requests past)
+    (Some (opened_for opening is.opened.heard)) (opening.cycle + 1)
+    is.stands.same_layout is.stands.own_entries is.stands.own_mail
+    (is.is_open.is_open ∙ ap (λ o. Some o) (same_opened is.opened opening.cycle (width_of opening) opening.mask is.is_open.cycle is.is_open.width is.is_open.flags))
+    is.stands.next_cycle

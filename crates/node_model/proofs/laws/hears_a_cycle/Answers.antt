@@ -1,0 +1,10 @@
+use Rattle.node_model.proofs.Hearing.{stands-trigger, stands-later}
+use Rattle.node_model.proofs.laws.hears_a_cycle.Goals as goal
+
+pub returns-clause-trigger : goal.returns-clause-trigger
+returns-clause-trigger c = λ layout owners requests opening past sent node.
+    stands-trigger layout owners requests opening past sent node (λ ids. c.unsent_laws.ensures.sent ids requests past sent)
+
+pub returns-clause-later : goal.returns-clause-later
+returns-clause-later c = λ layout owners requests opening past sent node.
+    stands-later layout owners requests opening past sent node (λ ids. c.unsent_laws.ensures.sent ids requests past sent)

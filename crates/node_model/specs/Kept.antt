@@ -1,0 +1,44 @@
+-- What a node keeps besides what it knows, so that it answers without a look at its entries.
+use Rattle.std.specs.Prelude.{◌≡◌, ℕ, ◌/◌, ◌<◌, ◌≤◌, ◌^◌, ◌==◌, List, Option, Some, None, IfSome, option_map}
+use Rattle.std.specs.List.{list_any}
+use Rattle.requirement_table.specs.declared.entries.Placed.{Placed}
+use Rattle.requirement_table.specs.declared.slots.TheConstants.{SLOTS}
+use Rattle.requirement_table.specs.Slots.{contains_slot}
+use Rattle.requirement_table.specs.Table.{IsWellPlaced}
+use Rattle.async_window.specs.Mailbox.{IsMail, Mail}
+use Rattle.node_model.specs.Node.{NodeState, Opened, is_due, node_offer}
+use Rattle.node_model.specs.declared.cycle.Open.{Open}
+
+-- what contracts see of a cycle that is open
+abbrev pub opened_of : Open → Opened
+opened_of open_cycle =
+    record { cycle = open_cycle.cycle; width = open_cycle.width; flags = open_cycle.flags; heard = open_cycle.heard }
+
+-- `own` are the slots of these entries
+abbrev pub AreSlotsOf : List Placed → ℕ → Type 0
+AreSlotsOf entries own = (slot : ℕ) → contains_slot own slot ≡ list_any (λ p. p.entry.slot == slot) entries
+
+-- the open cycle's `due` are the slots that the node is to send in it
+abbrev pub KnowsDue : List Placed → Open → Type 0
+KnowsDue entries open_cycle =
+    (slot : ℕ) → slot < SLOTS → contains_slot open_cycle.due slot ≡ is_due entries (opened_of open_cycle) slot
+
+-- what is true of the fields of every node
+pub record IsKept (window next_cycle count : ℕ) (known : List Placed) (own : ℕ) (boxes : List Mail) (current : Option Open) : Type 0 where
+  pub entries : IsWellPlaced known
+  pub own_slots : AreSlotsOf known own
+  pub mail : IsMail boxes
+  pub opened : IfSome (option_map opened_of current) (λ o. (o.width ≤ window) × (o.cycle < next_cycle))
+  pub due : IfSome current (KnowsDue known)
+  pub next : next_cycle ≤ 2 ^ 42
+  pub frames : count < 2 ^ 64
+
+-- this cycle is open for the node, and the time lies in it
+pub record IsOpenAt (node : NodeState) (at : ℕ) (open_cycle : Open) : Type 0 where
+  pub opened : node.opened ≡ Some (opened_of open_cycle)
+  pub cycle : at / node.layout.cycle ≡ open_cycle.cycle
+  pub due : KnowsDue node.entries open_cycle
+
+-- the node offers nothing in the cycle of a time
+abbrev pub IsClosedAt : NodeState → ℕ → Type 0
+IsClosedAt node at = (later : ℕ) → later / node.layout.cycle ≡ at / node.layout.cycle → node_offer node later ≡ None

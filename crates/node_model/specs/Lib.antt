@@ -1,0 +1,5 @@
+pub mod Opening
+pub mod Offered
+pub mod Node
+pub mod Own
+pub mod Kept

@@ -1,0 +1,131 @@
+//! A cycle that is open for a node, and which slot the node sends next in it.
+
+ghost use Rattle.std.specs.Prelude.{◌≡◌, ℕ, ◌+◌, ◌^◌, ◌<◌, ◌&&◌, not, nat_lt, max, if◌then◌else◌, is_some, false, true, List, Some, None, IfSome, MatchOption, option_map};
+ghost use Rattle.requirement_table.specs.declared.entries.Placed.{Placed};
+ghost use Rattle.requirement_table.specs.declared.slots.TheConstants.{SLOTS};
+ghost use Rattle.requirement_table.specs.Slots.{contains_slot};
+ghost use Rattle.requirement_table.specs.Table.{IsWellPlaced};
+ghost use Rattle.node_model.specs.Opening.{first_identifier};
+ghost use Rattle.node_model.specs.Node.{least_where, opened_by, with_heard};
+ghost use Rattle.node_model.specs.Kept.{KnowsDue, opened_of};
+
+use crate::entries::sendable_slots;
+use requirement_table::{Mask, Placed, SLOTS};
+use trigger_codec::Trigger;
+
+/// The identifier of slot 0. That of slot s is s more.
+pub const FIRST_IDENTIFIER: u16 = 0x100;
+
+/// A cycle that is open for a node.
+#[derive(Clone, Copy)]
+pub struct Open {
+    /// The cycle.
+    pub cycle: u64,
+    /// The length of its synchronous window in bit times.
+    pub width: u32,
+    /// The slots that its trigger flagged.
+    pub flags: Mask,
+    /// The node's slots of which it heard a frame in this cycle.
+    pub heard: Mask,
+    /// The flagged slots of which the node has an instance that may be sent in this cycle, and heard no frame.
+    pub due: Mask,
+}
+
+/// The cycle as its trigger opens it for a node with these entries; without one it has nothing synchronous.
+pub fn opened_by(cycle: u64, trigger: Option<Trigger>, entries: &[Placed]) -> Open
+    requires well_placed { IsWellPlaced entries.now }
+    ensures opened { opened_of result ≡ opened_by cycle trigger }
+    ensures due { KnowsDue entries.now result }
+{
+    let (width, flags) = match trigger {
+        Some(trigger) => (trigger.l, trigger.mask),
+        None => (0, Mask::empty()),
+    };
+    let heard = Mask::empty();
+    Open {
+        cycle,
+        width,
+        flags,
+        heard,
+        due: unheard(flags, sendable_slots(entries, cycle), heard),
+    }
+}
+
+/// The open cycle, where there is one, of a node that learnt these entries.
+pub fn after_learning(before: &Option<Open>, entries: &[Placed]) -> Option<Open>
+    requires well_placed { IsWellPlaced entries.now }
+    ensures opened { option_map opened_of result ≡ option_map opened_of before.now }
+    ensures due { IfSome result (KnowsDue entries.now) }
+{
+    let before = before.as_ref()?;
+    let sendable = sendable_slots(entries, before.cycle);
+    Some(Open {
+        due: unheard(before.flags, sendable, before.heard),
+        ..*before
+    })
+}
+
+/// The open cycle, where there is one, of a node that heard a frame of its slot.
+pub fn after_slot(before: &Option<Open>, slot: u8) -> Option<Open>
+    requires slot { slot < SLOTS }
+    ensures opened { option_map opened_of result ≡ option_map (with_heard slot) (option_map opened_of before.now) }
+    ensures due { (entries : List Placed) → IfSome before.now (KnowsDue entries) → IfSome result (KnowsDue entries) }
+{
+    let before = before.as_ref()?;
+    let heard = before.heard.with(slot);
+    heard.known();
+    Some(Open {
+        heard,
+        due: before.due.without(slot),
+        ..*before
+    })
+}
+
+/// The identifier of the least slot that is to be sent in a cycle.
+pub fn least_due(open_cycle: &Open) -> Option<u16>
+    ensures least { result ≡ option_map (λ slot. first_identifier + slot) (least_where SLOTS (contains_slot open_cycle.now.due)) }
+{
+    Some(FIRST_IDENTIFIER + u16::from(least_slot(open_cycle.due)?))
+}
+
+/// The least time behind `at` in a cycle that ends at `end`, at which a slot of it can be sent in its synchronous window, which starts at
+/// `window`.
+pub fn next_due(open_cycle: &Open, at: u64, window: u64, end: u64) -> Option<u64>
+    requires time { at < 2 ^ 60 }
+    ensures next { result ≡ (if is_some (least_where SLOTS (contains_slot open_cycle.now.due)) && nat_lt (max (at + 1) window) end
+        then Some (max (at + 1) window) else None) }
+{
+    least_slot(open_cycle.due)?;
+    let next = window.max(at + 1);
+    (next < end).then_some(next)
+}
+
+/// The flagged slots that can be sent and were not heard.
+fn unheard(flags: Mask, sendable: Mask, heard: Mask) -> Mask
+    ensures slots { (slot : ℕ) → slot < SLOTS → contains_slot result slot
+        ≡ (contains_slot flags slot && (contains_slot sendable slot && not (contains_slot heard slot))) }
+{
+    Mask::from_bits(flags.bits() & sendable.bits() & !heard.bits())
+}
+
+/// The slot of an identifier, where it is one of a set.
+pub fn slot_among(slots: Mask, id: u16) -> Option<u8>
+    ensures slot { MatchOption result
+        ((slot : ℕ) → first_identifier + slot ≡ id → contains_slot slots slot ≡ false)
+        (λ slot. (first_identifier + slot ≡ id) × (slot < SLOTS) × (contains_slot slots slot ≡ true)) }
+{
+    slots.known();
+    if id < FIRST_IDENTIFIER || FIRST_IDENTIFIER + u16::from(SLOTS) <= id {
+        return None;
+    }
+    let slot = (id - FIRST_IDENTIFIER) as u8;
+    slots.has(slot).then_some(slot)
+}
+
+/// The least slot of a set.
+fn least_slot(slots: Mask) -> Option<u8>
+    ensures least { result ≡ least_where SLOTS (contains_slot slots) }
+{
+    let bits = slots.bits();
+    (bits != 0).then_some(bits.trailing_zeros() as u8)
+}

@@ -1,0 +1,89 @@
+//! Laws about the definitions of this crate. Each function has an empty body or calls other laws, and its contract is the law.
+
+ghost use Rattle.std.specs.Prelude.{◌≡◌, ◌≢◌, ℕ, ◌+◌, ◌/◌, ◌^◌, ◌<◌, ◌≤◌, ◌⊎◌, List, [], ◌∷◌, ◌++◌, All, Some};
+ghost use Rattle.can_frame.specs.declared.data_frame.TimedFrame.{TimedFrame};
+ghost use Rattle.cycle_layout.specs.Layout.{CycleLayout};
+ghost use Rattle.requirement_table.specs.declared.entries.Placed.{Placed};
+ghost use Rattle.requirement_table.specs.declared.slots.TheConstants.{SLOTS};
+ghost use Rattle.requirement_table.specs.Table.{IsWellPlaced};
+ghost use Rattle.trigger_codec.specs.Bytes.{trigger_frame};
+ghost use Rattle.async_window.specs.declared.request.Owner.{Owner};
+ghost use Rattle.async_window.specs.declared.request.Request.{Request};
+ghost use Rattle.node_model.specs.Opening.{Opening, start_of, width_of};
+ghost use Rattle.node_model.specs.Node.{IsNode, NodeState, after_hearing, learnt, node_offer};
+ghost use Rattle.node_model.specs.Own.{AreApart, AreOwners, OffersLeastOwn, Stands, StandsIn};
+
+use async_window::laws::{offer_laws, taking_laws, unsent_laws};
+
+/// What a node offers is the least of its own part of what is offered on the bus.
+pub fn offers_its_part()
+    ensures own_part { (layout : CycleLayout) (owners : List Owner) (requests : List Request) (opening : Opening)
+        (past : List TimedFrame) (at : ℕ) (node : NodeState)
+        → IsNode node → IsWellPlaced opening.placed
+        → StandsIn layout owners requests opening past node → at / layout.cycle ≡ opening.cycle
+        → OffersLeastOwn layout owners requests opening past at node }
+{
+    unsent_laws();
+    offer_laws();
+}
+
+/// What a node knows as it hears the frames of a cycle: the trigger first, and then frames of other identifiers.
+pub fn hears_a_cycle()
+    ensures learnt { (layout : CycleLayout) (owners : List Owner) (requests : List Request) (placed other : List Placed)
+        (past : List TimedFrame) (next : ℕ) (node : NodeState)
+        → Stands layout owners requests other past next node
+        → Stands layout owners requests placed past next (learnt placed node) }
+    ensures trigger { (layout : CycleLayout) (owners : List Owner) (requests : List Request) (opening : Opening)
+        (past : List TimedFrame) (sent : TimedFrame) (node : NodeState)
+        → AreOwners owners → width_of opening ≤ layout.window → layout.window ≤ 16383 → opening.mask < 2 ^ SLOTS
+        → All (λ earlier. earlier.start < start_of layout opening) past
+        → sent.frame ≡ trigger_frame opening.cycle (width_of opening) opening.mask
+        → Stands layout owners requests opening.placed past opening.cycle node
+        → StandsIn layout owners requests opening (past ++ sent ∷ []) (after_hearing node sent) }
+    ensures later { (layout : CycleLayout) (owners : List Owner) (requests : List Request) (opening : Opening)
+        (past : List TimedFrame) (sent : TimedFrame) (node : NodeState)
+        → AreOwners owners → IsWellPlaced opening.placed
+        → sent.frame.identifier ≢ 0 → start_of layout opening ≤ sent.start
+        → StandsIn layout owners requests opening past node
+        → StandsIn layout owners requests opening (past ++ sent ∷ []) (after_hearing node sent) }
+{
+    unsent_laws();
+}
+
+/// Two nodes of different numbers, with the same layout and owners, that last learnt the same list or of which one has learnt none never
+/// offer one identifier at the same time.
+pub fn nodes_are_apart()
+    ensures by_number { (layout : CycleLayout) (owners : List Owner) (requests other_requests : List Request)
+        (placed others : List Placed) (past heard : List TimedFrame) (next then : ℕ) (one other : NodeState)
+        → one.number ≢ other.number → AreOwners owners → IsWellPlaced placed → (others ≡ placed) ⊎ (others ≡ [])
+        → Stands layout owners requests placed past next one → Stands layout owners other_requests others heard then other
+        → AreApart one other }
+    ensures learning { (placed : List Placed) (one other : NodeState)
+        → one.number ≢ other.number → IsWellPlaced placed → AreApart one other
+        → AreApart (learnt placed one) (learnt placed other) }
+    ensures hearing { (one other : NodeState) (sent also : TimedFrame) → AreApart one other
+        → AreApart (after_hearing one sent) (after_hearing other also) }
+    ensures turned { (one other : NodeState) → AreApart one other → AreApart other one }
+    ensures never_both { (one other : NodeState) (at id : ℕ) → one.layout ≡ other.layout → IsNode one → IsNode other
+        → AreApart one other → node_offer one at ≡ Some id → node_offer other at ≡ Some id → ⊥ }
+{
+    taking_laws();
+    offer_laws();
+}
+
+/// What holds of every node still holds when it learns a list or hears a frame.
+pub fn stays_a_node()
+    ensures learning { (placed : List Placed) (node : NodeState) → IsWellPlaced placed → IsNode node → IsNode (learnt placed node) }
+    ensures hearing { (node : NodeState) (sent : TimedFrame) → (sent.frame.identifier ≡ 0 → node.next < 2 ^ 42) → IsNode node
+        → IsNode (after_hearing node sent) }
+{
+    taking_laws();
+}
+
+/// What a node offers is the identifier of a slot or an asynchronous one.
+pub fn offers_in_range()
+    ensures in_range { (node : NodeState) (at id : ℕ) → IsNode node → node_offer node at ≡ Some id
+        → (0x100 ≤ id) × (id ≤ 0x7EF) }
+{
+    offer_laws();
+}

@@ -1,0 +1,14 @@
+//! One node of a bus with FTT-CAN: what it knows, what it does with a frame that it hears, and what it offers.
+//!
+//! All times are bit times from 0, below 2^60. Cycles are elementary cycles from 0, below 2^42.
+#![tactic(auto)]
+
+mod cycle;
+mod entries;
+pub mod laws;
+mod node;
+
+pub use node::Node;
+
+#[cfg(test)]
+mod tests;

@@ -1,0 +1,295 @@
+//! A node, which offers what follows from what it learnt and heard.
+
+ghost use Rattle.std.specs.Prelude.{◌≡◌, ◌≢◌, ℕ, ◌+◌, ◌*◌, ◌/◌, ◌^◌, ◌<◌, ◌≤◌, [], All, AllPairs, IfOk, IsSome, MatchOption, OnErr, OnOk, Some, None, false, true, length};
+ghost use Rattle.requirement_table.specs.declared.slots.TheConstants.{SLOTS};
+ghost use Rattle.requirement_table.specs.Slots.{contains_slot};
+ghost use Rattle.requirement_table.specs.Table.{IsWellPlaced};
+ghost use Rattle.async_window.specs.Mailbox.{IsNextInCycle, left};
+ghost use Rattle.node_model.specs.Opening.{first_identifier};
+ghost use Rattle.node_model.specs.Node.{IsNode, after_hearing, after_opening, after_request, after_slot, fresh_node, is_own_slot, learnt, next_trigger, node_frame, node_offer};
+ghost use Rattle.node_model.specs.Kept.{IsClosedAt, IsOpenAt};
+
+use crate::cycle::{self, FIRST_IDENTIFIER, Open};
+use crate::entries;
+use async_window::{Mailboxes, Owner, Request};
+use can_frame::{Frame, TimedFrame};
+use cycle_layout::Layout;
+use requirement_table::{Mask, Placed, SLOTS};
+use std::alloc::{AllocError, Global};
+use std::marker::Model;
+use trigger_codec::{TRIGGER_IDENTIFIER, Trigger, decode};
+
+/// The least identifier of a frame that is sent in an asynchronous window.
+const LEAST_ASYNCHRONOUS: u16 = 0x200;
+
+/// A node of the bus. Contracts see what it knows, and the greatest length of a list that it can learn without memory.
+#[derive(Drop)]
+pub struct Node {
+    number: u8,
+    layout: Layout,
+    /// The node's entries; the vector's capacity is the length of a list that can be learnt without memory.
+    entries: Vec<Placed>,
+    /// The slots in which the node has an entry.
+    own: Mask,
+    mailboxes: Mailboxes,
+    opened: Option<Open>,
+    next: u64,
+    frames: u64,
+}
+
+impl Model for Node {
+    ghost use Rattle.std.specs.Prelude.{option_map, vec_capacity};
+    ghost use Rattle.node_model.specs.Node.{NodeView};
+    ghost use Rattle.node_model.specs.Kept.{IsKept, opened_of};
+
+    ghost Value = { NodeView };
+
+    ghost view = { λ n. record {
+      state = record {
+        number = n.number;
+        layout = n.layout;
+        entries = n.entries.items;
+        mail = n.mailboxes;
+        opened = option_map opened_of n.opened;
+        next = n.next;
+        frames = n.frames;
+      };
+      spare = vec_capacity n.entries;
+    } };
+
+    ghost invariant = { λ n. IsKept n.layout.window n.next n.frames n.entries.items n.own n.mailboxes n.opened };
+}
+
+impl Node {
+    /// A node before cycle 0, of a number, in a layout. It owns the identifiers that `owners` gives to its number, and their requests.
+    ///
+    /// The owners' identifiers are distinct and 0x200 to 0x7EF. Arrivals never fall and are below 2^40.
+    pub fn new(
+        alloc: Global,
+        number: u8,
+        layout: Layout,
+        owners: &[Owner],
+        requests: &[Request],
+    ) -> Result<Node, AllocError>
+        requires distinct { AllPairs (λ one other. one.id ≢ other.id) owners.now }
+        requires least { All (λ owner. 0x200 ≤ owner.id) owners.now }
+        requires greatest { All (λ owner. owner.id ≤ 0x7EF) owners.now }
+        requires arrivals { AllPairs (λ one other. one.at ≤ other.at) requests.now }
+        requires early { All (λ request. request.at < 2 ^ 40) requests.now }
+        ensures fresh { IfOk result (λ node. node.state ≡ fresh_node layout owners.now requests.now number) }
+        ensures known { IfOk result (λ node. IsNode node.state) }
+    {
+        let ids = entries::identifiers_of(alloc, number, owners)?;
+        let mailboxes = Mailboxes::new(alloc, ids.as_slice(), requests)?;
+        Ok(Node {
+            number,
+            layout,
+            entries: Vec::new(alloc),
+            own: Mask::empty(),
+            mailboxes,
+            opened: None,
+            next: 0,
+            frames: 0,
+        })
+    }
+
+    /// Makes the node able to learn a list of so many entries without memory.
+    pub fn reserve(&mut self, _alloc: Global, entries: usize) -> Result<(), AllocError>
+        ensures room { OnOk result (entries ≤ self.new.spare) }
+        ensures same { self.new.state ≡ self.old.state }
+        ensures spare { self.old.spare ≤ self.new.spare }
+    {
+        let additional = entries.saturating_sub(self.entries.len());
+        self.entries.reserve(additional)
+    }
+
+    /// Replaces the node's entries by those of its number in a list.
+    pub fn learn(&mut self, alloc: Global, placed: &[Placed]) -> Result<(), AllocError>
+        requires well_placed { IsWellPlaced placed.now }
+        ensures learnt { OnOk result (self.new.state ≡ learnt placed.now self.old.state) }
+        ensures same { OnErr result (self.new.state ≡ self.old.state) }
+        ensures spare { self.old.spare ≤ self.new.spare }
+    {
+        self.reserve(alloc, placed.len())?;
+        self.learn_in(placed);
+        Ok(())
+    }
+
+    /// The same without memory, where the list is not longer than what is reserved.
+    pub fn learn_in(&mut self, placed: &[Placed])
+        requires well_placed { IsWellPlaced placed.now }
+        requires room { length placed.now ≤ self.old.spare }
+        ensures learnt { self.new.state ≡ learnt placed.now self.old.state }
+        ensures spare { self.old.spare ≤ self.new.spare }
+    {
+        entries::keep_own(self.number, placed, &mut self.entries);
+        self.own = entries::slots_of(self.entries.as_slice());
+        self.opened = cycle::after_learning(&self.opened, self.entries.as_slice());
+    }
+
+    /// Hears a frame of the bus.
+    pub fn hear(&mut self, heard: &TimedFrame)
+        requires cycle { heard.now.frame.identifier ≡ 0 → self.old.state.next < 2 ^ 42 }
+        ensures heard { self.new.state ≡ after_hearing self.old.state heard.now }
+        ensures spare { self.new.spare ≡ self.old.spare }
+    {
+        self.frames = self.frames.saturating_add(1);
+        let id = heard.frame.id();
+        if id == TRIGGER_IDENTIFIER {
+            self.open_next(&heard.frame);
+        } else if let Some(slot) = self.own_slot(id) {
+            self.mark(slot);
+        } else {
+            self.take_request(id);
+        }
+    }
+
+    /// Opens the next cycle, by a frame with identifier 0.
+    fn open_next(&mut self, frame: &Frame)
+        requires cycle { self.old.state.next < 2 ^ 42 }
+        ensures opened { self.new.state ≡ after_opening self.old.state frame.now }
+        ensures spare { self.new.spare ≡ self.old.spare }
+    {
+        let trigger = self.next_trigger(frame);
+        self.opened = Some(cycle::opened_by(self.next, trigger, self.entries.as_slice()));
+        self.next += 1;
+    }
+
+    /// The trigger that opens the next cycle, where the frame is one.
+    fn next_trigger(&self, frame: &Frame) -> Option<Trigger>
+        ensures trigger { result ≡ next_trigger self.now.state frame.now }
+    {
+        let trigger = decode(frame).ok()?;
+        let fits = trigger.l <= self.layout.window() && u64::from(trigger.low) == self.next % 256;
+        fits.then_some(trigger)
+    }
+
+    /// The slot of an identifier, where the node has an entry in it.
+    fn own_slot(&self, id: u16) -> Option<u8>
+        ensures slot { MatchOption result (is_own_slot self.now.state.entries id ≡ false)
+            (λ slot. (is_own_slot self.now.state.entries id ≡ true) × (first_identifier + slot ≡ id) × (slot < SLOTS)) }
+    {
+        cycle::slot_among(self.own, id)
+    }
+
+    /// Marks a slot in the open cycle, where one is open.
+    fn mark(&mut self, slot: u8)
+        requires slot { slot < SLOTS }
+        ensures marked { self.new.state ≡ after_slot self.old.state slot }
+        ensures spare { self.new.spare ≡ self.old.spare }
+    {
+        self.opened = cycle::after_slot(&self.opened, slot);
+    }
+
+    /// Takes away the first unsent request of an identifier, where there is one.
+    fn take_request(&mut self, id: u16)
+        ensures taken { self.new.state ≡ after_request self.old.state id }
+        ensures spare { self.new.spare ≡ self.old.spare }
+    {
+        if self.mailboxes.head(id).is_some() {
+            self.mailboxes.sent(id);
+        }
+    }
+
+    /// The identifier that the node offers at a time.
+    pub fn offer(&self, at: u64) -> Option<u16>
+        requires time { at < 2 ^ 60 }
+        ensures offer { result ≡ node_offer self.now.state at }
+        ensures known { IsNode self.now.state }
+    {
+        let open_cycle = self.open_at(at)?;
+        let window = self.layout.sync_start(open_cycle.cycle, open_cycle.width);
+        if window <= at {
+            cycle::least_due(&open_cycle)
+        } else {
+            self.mailboxes.offer(&self.layout, at, open_cycle.width)
+        }
+    }
+
+    /// The open cycle, where the time lies in it.
+    fn open_at(&self, at: u64) -> Option<Open>
+        requires time { at < 2 ^ 60 }
+        ensures open_cycle { MatchOption result (IsClosedAt self.now.state at) (IsOpenAt self.now.state at) }
+        ensures known { IsNode self.now.state }
+    {
+        let cycle = at / u64::from(self.layout.cycle());
+        let open_cycle = self.opened?;
+        (cycle == open_cycle.cycle).then_some(open_cycle)
+    }
+
+    /// The least time behind `at`, in the cycle of `at`, at which `offer` is something while nothing is heard.
+    pub fn wake(&self, at: u64) -> Option<u64>
+        requires time { at < 2 ^ 60 }
+        ensures next { IsNextInCycle self.now.state.layout.cycle at (λ later. IsSome (node_offer self.now.state later)) result }
+    {
+        let open_cycle = self.open_at(at)?;
+        let window = self.layout.sync_start(open_cycle.cycle, open_cycle.width);
+        let end = self.layout.sync_start(open_cycle.cycle, 0);
+        if window <= at {
+            return cycle::next_due(&open_cycle, at, window, end);
+        }
+        match self.mailboxes.wake(&self.layout, at, open_cycle.width) {
+            Some(next) => Some(next),
+            None => cycle::next_due(&open_cycle, at, window, end),
+        }
+    }
+
+    /// The frame that the node offers at a time under an identifier.
+    pub fn frame(&self, at: u64, id: u16) -> Frame
+        requires time { at < 2 ^ 60 }
+        requires offered { node_offer self.now.state at ≡ Some id }
+        ensures frame { result ≡ node_frame self.now.state at id }
+        ensures identifier { result.identifier ≡ id }
+    {
+        if id >= LEAST_ASYNCHRONOUS {
+            self.request_frame(at, id)
+        } else {
+            self.slot_frame(at, id)
+        }
+    }
+
+    /// The frame of the first unsent request of an offered identifier.
+    fn request_frame(&self, at: u64, id: u16) -> Frame
+        requires time { at < 2 ^ 60 }
+        requires offered { node_offer self.now.state at ≡ Some id }
+        requires asynchronous { 0x200 ≤ id }
+        ensures frame { result ≡ node_frame self.now.state at id }
+    {
+        match self.mailboxes.head(id) {
+            Some(frame) => frame,
+            None => unreachable!(),
+        }
+    }
+
+    /// The frame of the instance of an offered slot.
+    fn slot_frame(&self, at: u64, id: u16) -> Frame
+        requires time { at < 2 ^ 60 }
+        requires offered { node_offer self.now.state at ≡ Some id }
+        requires synchronous { id < 0x200 }
+        ensures frame { result ≡ node_frame self.now.state at id }
+    {
+        let cycle = at / u64::from(self.layout.cycle());
+        let slot = (id - FIRST_IDENTIFIER) as u8;
+        match entries::payload_in(self.entries.as_slice(), slot, cycle) {
+            Some(payload) => match Frame::new(id, payload.as_slice()) {
+                Ok(frame) => frame,
+                Err(_) => unreachable!(),
+            },
+            None => unreachable!(),
+        }
+    }
+
+    /// The number of frames that the node heard; it stands still at the greatest u64.
+    pub fn heard(&self) -> u64
+        ensures frames { result ≡ self.now.state.frames }
+    {
+        self.frames
+    }
+
+    /// The number of the node's requests that are not sent.
+    pub fn left(&self) -> usize
+        ensures left { result ≡ left self.now.state.mail }
+    {
+        self.mailboxes.left()
+    }
+}
