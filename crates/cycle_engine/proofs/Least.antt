@@ -1,0 +1,93 @@
+-- The least frame that the nodes of a bus offer within a cycle is the least one that is offered on the bus.
+use Rattle.std.proofs.Common.{◌≡◌, ℕ, ◌<◌, ◌≤◌, List, [], All, Contains, Option, None, Some, inl, inr, refl, sym, ap, subst, arith}
+use Rattle.std.specs.Prelude.{MatchOption, find}
+use Rattle.std.specs.Option.{option_map_or}
+use Rattle.std.proofs.lemmas.List.Elements.{All-contains}
+use Rattle.std.proofs.lemmas.Option.{MatchOption-at_some}
+use Rattle.can_frame.specs.DataFrame.{DataFrame}
+use Rattle.can_frame.specs.declared.data_frame.TimedFrame.{TimedFrame}
+use Rattle.cycle_layout.specs.Layout.{CycleLayout}
+use Rattle.async_window.specs.declared.request.Owner.{Owner}
+use Rattle.async_window.specs.declared.request.Request.{Request}
+use Rattle.bus_line.specs.Trace.{IsLeastOffered}
+use Rattle.bus_line.specs.Stations.{IsOffered}
+use Rattle.node_model.specs.Opening.{Opening, start_of}
+use Rattle.node_model.specs.Node.{NodeState, node_frame, node_offer}
+use Rattle.node_model.specs.Own.{OffersLeastOwn, OffersOwn}
+use Rattle.cycle_engine.specs.Nodes.{IsNumber, IsOwned}
+use Rattle.cycle_engine.specs.Offered.{offered_in}
+use Rattle.cycle_engine.specs.Stations.{Stationed, cycle_line, frame_by_nodes, offered_by_nodes, offers_this}
+use Rattle.cycle_engine.proofs.Lists.{Contains-filter_map, find-offered}
+use Rattle.cycle_engine.proofs.Belongs.{IsOwn, IsOwn-request, IsOwn-slot}
+
+-- the frame behind an identifier has it
+found_id : (at id : ℕ) (o : Option NodeState) → (option_map_or (λ node. node_frame node at id) o (record { identifier = id; bytes = [] })).identifier ≡ id
+found_id at id None = refl
+found_id at id (Some node) = refl
+
+pub frame_by_nodes-id : (nodes : List NodeState) (at id : ℕ) → (frame_by_nodes nodes at id).identifier ≡ id
+frame_by_nodes-id nodes at id = found_id at id (find (λ node. offers_this id (node_offer node at)) nodes)
+
+-- what there is of a part, where its least identifier is known
+least_of_part : (Own : DataFrame → Type 0) (Is : ℕ → Type 0) (o : Option ℕ) (frame : DataFrame) → Own frame
+    → MatchOption o ((frame : DataFrame) → Own frame → ⊥) (λ id. Is id × ((frame : DataFrame) → Own frame → id ≤ frame.identifier))
+    → (id : ℕ) × (o ≡ Some id) × (id ≤ frame.identifier)
+least_of_part Own Is None frame own part = absurd (part frame own)
+least_of_part Own Is (Some id) frame own part = (id, refl, part.1 frame own)
+
+-- nodes of which the trigger is sent
+abbrev pub alone : CycleLayout → List NodeState → Stationed
+alone layout nodes = record { layout = layout; trigger = None; nodes = nodes }
+
+-- the parts of the nodes at a time, which are together what is offered but for the trigger
+module _ (layout : CycleLayout) (owners : List Owner) (requests : List Request) (opening : Opening) (past : List TimedFrame) (at : ℕ) (nodes : List NodeState)
+    (parts : All (OffersLeastOwn layout owners requests opening past at) nodes)
+    (entries : All (λ p. IsNumber nodes p.entry.node) opening.placed) (owned : All (IsOwned owners nodes) requests) where
+  own_is_offered : (frame : DataFrame) → IsOwn layout owners requests opening past at nodes frame
+      → (id : ℕ) × Contains (offered_by_nodes nodes at) id × (id ≤ frame.identifier)
+  own_is_offered frame (node, has, own) =
+      let Own : DataFrame → Type 0 = OffersOwn node.number layout owners requests opening past at in
+      let least = least_of_part Own (λ id. Own (node_frame node at id)) (node_offer node at) frame own (All-contains (OffersLeastOwn layout owners requests opening past at) nodes node parts has) in
+      (least.0, Contains-filter_map (λ n. node_offer n at) nodes node least.0 has least.1, least.2)
+
+  in_cycle : (number : ℕ) (frame : DataFrame) → OffersOwn number layout owners requests opening past at frame → offered_in layout requests opening past at frame
+  in_cycle number frame (inl own) = inr (inl own.0)
+  in_cycle number frame (inr own) = inr (inr (own.0, own.1))
+
+  offered_is_own : (id : ℕ) → Contains (offered_by_nodes nodes at) id → offered_in layout requests opening past at (frame_by_nodes nodes at id)
+  offered_is_own id has =
+      let found = find-offered (λ n. node_offer n at) nodes id has in
+      let node = found.0 in
+      let Own : DataFrame → Type 0 = OffersOwn node.number layout owners requests opening past at in
+      let part = MatchOption-at_some ((frame : DataFrame) → Own frame → ⊥) (λ id. Own (node_frame node at id) × ((frame : DataFrame) → Own frame → id ≤ frame.identifier)) id found.2
+      (All-contains (OffersLeastOwn layout owners requests opening past at) nodes node parts found.1) in
+      let same : frame_by_nodes nodes at id ≡ node_frame node at id = ap (λ o. option_map_or (λ n. node_frame n at id) o (record { identifier = id; bytes = [] })) found.3 in
+      subst (offered_in layout requests opening past at) (sym same) (in_cycle node.number (node_frame node at id) part.0)
+
+  pub is_own : start_of layout opening < at → (frame : DataFrame) → offered_in layout requests opening past at frame → IsOwn layout owners requests opening past at nodes frame
+  is_own begun frame (inl trigger) = absurd (omega (arith, begun, trigger.time))
+  is_own begun frame (inr (inl request)) = IsOwn-request layout owners requests opening past at nodes owned frame request
+  is_own begun frame (inr (inr (slot, offers))) = IsOwn-slot layout owners requests opening past at nodes entries frame slot offers
+
+  -- where something is offered on the bus, a node offers an identifier that is not greater
+  pub some_by_nodes : start_of layout opening < at → (frame : DataFrame) → offered_in layout requests opening past at frame
+      → (one : DataFrame) × IsOffered cycle_line (alone layout nodes) at one × (one.identifier ≤ frame.identifier)
+  some_by_nodes begun frame offers =
+      let low = own_is_offered frame (is_own begun frame offers) in
+      let id = low.0 in
+      let own = frame_by_nodes-id nodes at id in (
+        frame_by_nodes nodes at id,
+        record {
+          contends = subst (Contains (offered_by_nodes nodes at)) (sym own) low.1;
+          framed = ap (λ i. frame_by_nodes nodes at i) (sym own);
+        },
+        subst (λ i. i ≤ frame.identifier) (sym own) low.2,
+      )
+
+  pub least_by_nodes : start_of layout opening < at → (frame : DataFrame) → IsOffered cycle_line (alone layout nodes) at frame
+      → ((other : DataFrame) → IsOffered cycle_line (alone layout nodes) at other → frame.identifier ≤ other.identifier)
+      → IsLeastOffered (offered_in layout requests opening) past at frame
+  least_by_nodes begun frame offers least = record {
+    offered = subst (offered_in layout requests opening past at) (sym offers.framed) (offered_is_own frame.identifier offers.contends);
+    least = λ other is. let one = some_by_nodes begun other is in omega (arith, least one.0 one.1, one.2);
+  }

@@ -1,0 +1,12 @@
+mod Lists
+mod OneTrace
+mod Belongs
+mod Least
+mod Along
+mod NodeByNode
+mod NodesOffer
+mod NodesApart
+mod NextCycle
+mod OneCycle
+mod FreshNodes
+mod Left

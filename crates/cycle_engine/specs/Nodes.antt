@@ -1,0 +1,71 @@
+-- The nodes of a bus together.
+use Rattle.std.specs.Prelude.{◌≡◌, ℕ, ◌*◌, ◌<◌, List, All, Contains, map, fold, sum_by, Option, Some, None, IsSome, true}
+use Rattle.can_frame.specs.declared.data_frame.TimedFrame.{TimedFrame}
+use Rattle.cycle_layout.specs.Layout.{CycleLayout}
+use Rattle.requirement_table.specs.declared.entries.Placed.{Placed}
+use Rattle.requirement_table.specs.declared.entries.Order.{Order}
+use Rattle.requirement_table.specs.Slots.{contains_slot}
+use Rattle.requirement_table.specs.Table.{IsWellPlaced}
+use Rattle.async_window.specs.declared.request.Owner.{Owner}
+use Rattle.async_window.specs.declared.request.Request.{Request}
+use Rattle.node_model.specs.Opening.{Opening, slots, bytes_in, width_of}
+use Rattle.async_window.specs.Mailbox.{left}
+use Rattle.node_model.specs.Node.{NodeState, NodeView, after_hearing, learnt}
+use Rattle.node_model.specs.Own.{AreOwners, Stands}
+
+-- the layout of a bus, and its nodes
+pub record NodesView : Type 0 where
+  pub layout : CycleLayout
+  pub nodes : List NodeView
+
+-- what the nodes know
+abbrev pub states_of : NodesView → List NodeState
+states_of view = map (λ node. node.state) view.nodes
+
+-- nodes that have learnt a list, where there is one
+abbrev pub learnt_by : Option (List Placed) → List NodeState → List NodeState
+learnt_by None nodes = nodes
+learnt_by (Some placed) nodes = map (learnt placed) nodes
+
+-- nodes that have heard frames, in their order
+abbrev pub heard_by : List TimedFrame → List NodeState → List NodeState
+heard_by frames nodes = map (λ node. fold after_hearing node frames) nodes
+
+-- how many requests of the nodes are not sent
+abbrev pub left_in : List NodeState → ℕ
+left_in nodes = sum_by (λ node. left node.mail) nodes
+
+-- the number is that of a node
+abbrev pub IsNumber : List NodeState → ℕ → Type 0
+IsNumber nodes number = Contains (map (λ node. node.number) nodes) number
+
+-- the request has an owner among the nodes
+pub record IsOwned (owners : List Owner) (nodes : List NodeState) (request : Request) : Type 0 where
+  pub owner : Owner
+  pub owns : Contains owners owner
+  pub identifier : owner.id ≡ request.frame.identifier
+  pub node : IsNumber nodes owner.node
+
+-- the nodes of a bus before the cycle `next`: each knows its entries of a list, and its unsent requests after the frames `past`; and
+-- each entry of the list and each request is that of a node
+pub record IsBus (layout : CycleLayout) (owners : List Owner) (requests : List Request) (placed : List Placed) (past : List TimedFrame) (next : ℕ) (nodes : List NodeState) : Type 0 where
+  pub well_placed : IsWellPlaced placed
+  pub are_owners : AreOwners owners
+  pub stand : All (Stands layout owners requests placed past next) nodes
+  pub entries : All (λ p. IsNumber nodes p.entry.node) placed
+  pub owned : All (IsOwned owners nodes) requests
+
+-- each flagged slot has an instance that may be sent in the cycle, and the window has the length of their frames
+pub record FitsOrder (l : ℕ) (opening : Opening) : Type 0 where
+  pub width : l ≡ width_of opening
+  pub present : (slot : ℕ) → slot < slots → contains_slot opening.mask slot ≡ true → IsSome (bytes_in opening slot)
+
+-- the cycle that an order opens, where this list is placed
+abbrev pub opening_of : Order → List Placed → Opening
+opening_of order placed = record { cycle = order.cycle; mask = order.mask; placed = placed }
+
+-- the nodes of a bus before the cycle of an order, after the frames `past` of the cycles before it
+pub record IsBefore (layout : CycleLayout) (owners : List Owner) (requests : List Request) (placed : List Placed) (past : List TimedFrame) (order : Order) (nodes : List NodeState) : Type 0 where
+  pub bus : IsBus layout owners requests placed past order.cycle nodes
+  pub fits : FitsOrder order.l (opening_of order placed)
+  pub before : All (λ sent. sent.start < order.cycle * layout.cycle) past

@@ -1,0 +1,32 @@
+-- *CAN trace* of opened cycles: what is offered on the bus in them, and the trace that arbitration decides.
+use Rattle.std.specs.Prelude.{◌≢◌, ℕ, ◌*◌, ◌≤◌, ◌⊎◌, List, All, AllPairs, Contains}
+use Rattle.can_frame.specs.declared.data_frame.TimedFrame.{TimedFrame}
+use Rattle.cycle_layout.specs.Layout.{CycleLayout}
+use Rattle.async_window.specs.declared.request.Request.{Request}
+use Rattle.bus_line.specs.Trace.{IsTrace, Offers}
+use Rattle.node_model.specs.Opening.{Opening}
+use Rattle.node_model.specs.Offered.{OffersTrigger, OffersRequest, OffersSlot}
+
+-- what is offered in one opened cycle: its trigger, the requests that may start in its asynchronous window, and the frames of its flagged
+-- slots in its synchronous window
+abbrev pub offered_in : CycleLayout → List Request → Opening → Offers
+offered_in layout requests opening past at frame =
+    OffersTrigger layout opening at frame
+    ⊎ (OffersRequest layout requests opening past at frame ⊎ ((slot : ℕ) × OffersSlot layout opening past at frame slot))
+
+-- what is offered in the opened cycles together
+abbrev pub offered : CycleLayout → List Request → List Opening → Offers
+offered layout requests openings past at frame =
+    (opening : Opening) × Contains openings opening × offered_in layout requests opening past at frame
+
+-- *CAN trace*: that of `count` opened cycles
+abbrev pub IsCanTrace : CycleLayout → List Request → List Opening → ℕ → List TimedFrame → Type 0
+IsCanTrace layout requests openings count trace = IsTrace (offered layout requests openings) (count * layout.cycle) trace
+
+-- no two of the openings are of one cycle
+abbrev pub AreOfDistinctCycles : List Opening → Type 0
+AreOfDistinctCycles openings = AllPairs (λ one other. one.cycle ≢ other.cycle) openings
+
+-- the identifiers of all requests are asynchronous ones
+abbrev pub AreAsynchronous : List Request → Type 0
+AreAsynchronous requests = All (λ request. (0x200 ≤ request.frame.identifier) × (request.frame.identifier ≤ 0x7EF)) requests

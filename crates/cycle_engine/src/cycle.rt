@@ -1,0 +1,61 @@
+//! The run of one cycle on the bus.
+
+ghost use Rattle.std.specs.Prelude.{◌≡◌, ℕ, ◌+◌, ◌*◌, ◌^◌, ◌<◌, ◌≤◌, ◌++◌, All, IfOk, IfSome, List, OnErr, OnOk};
+ghost use Rattle.can_frame.specs.declared.data_frame.TimedFrame.{TimedFrame};
+ghost use Rattle.requirement_table.specs.declared.entries.Placed.{Placed};
+ghost use Rattle.requirement_table.specs.Table.{IsWellPlaced};
+ghost use Rattle.async_window.specs.declared.request.Owner.{Owner};
+ghost use Rattle.async_window.specs.declared.request.Request.{Request};
+ghost use Rattle.bus_line.specs.Trace.{Follows};
+ghost use Rattle.cycle_engine.specs.Offered.{offered_in};
+ghost use Rattle.cycle_engine.specs.Nodes.{IsBefore, IsBus, heard_by, learnt_by, opening_of, states_of};
+
+use crate::nodes::Nodes;
+use crate::segment::Segment;
+use can_frame::laws::wire_lengths;
+use node_model::laws::{hears_a_cycle, offers_in_range, offers_its_part, stays_a_node};
+use requirement_table::Order;
+use std::alloc::{AllocError, Global};
+
+/// The length of the shortest frame, in bit times.
+const SHORTEST_FRAME: u32 = 47;
+
+/// Runs one cycle on the bus: the nodes learn the order's list, where there is one, the master sends the trigger, and the nodes send what
+/// they are to send.
+///
+/// The order's cycle is the nodes' next one, below 2^42. `l` is the sum of the worst lengths of the flagged slots, and at most the largest
+/// synchronous window. A list that is learned is well placed, and each flagged slot has an instance that may be sent in the cycle. All
+/// memory is taken first: after an error the nodes are as before, and the call may be made again.
+pub fn run_cycle(alloc: Global, order: &Order, nodes: &mut Nodes) -> Result<Segment, AllocError>
+    requires cycle { order.now.cycle < 2 ^ 42 }
+    requires next { All (λ node. node.next ≡ order.now.cycle) (states_of nodes.old) }
+    requires learned { IfSome order.now.learned IsWellPlaced }
+    requires window { order.now.l ≤ nodes.old.layout.window }
+    // The nodes have learnt the list, then heard the frames of the segment, in their order, and nothing else.
+    ensures layout { nodes.new.layout ≡ nodes.old.layout }
+    ensures heard { IfOk result (λ segment. states_of nodes.new
+        ≡ heard_by segment (learnt_by order.now.learned (states_of nodes.old))) }
+    ensures next { OnOk result (All (λ node. node.next ≡ order.now.cycle + 1) (states_of nodes.new)) }
+    ensures memory { OnErr result (states_of nodes.new ≡ states_of nodes.old) }
+    // The segment is the part of the CAN trace in the order's cycle, whatever bus the nodes stand for.
+    ensures runs { IfOk result (λ segment. (owners : List Owner) (requests : List Request) (placed : List Placed) (past : List TimedFrame)
+        → IsBefore nodes.old.layout owners requests placed past order.now (learnt_by order.now.learned (states_of nodes.old))
+        → Follows (offered_in nodes.old.layout requests (opening_of order.now placed)) past
+        (order.now.cycle * nodes.old.layout.cycle) ((order.now.cycle + 1) * nodes.old.layout.cycle) segment) }
+    // Afterwards they stand for that bus before the next cycle.
+    ensures stand { IfOk result (λ segment. (owners : List Owner) (requests : List Request) (placed : List Placed) (past : List TimedFrame)
+        → IsBefore nodes.old.layout owners requests placed past order.now (learnt_by order.now.learned (states_of nodes.old))
+        → IsBus nodes.old.layout owners requests placed (past ++ segment) (order.now.cycle + 1) (states_of nodes.new)) }
+{
+    wire_lengths();
+    offers_its_part();
+    hears_a_cycle();
+    stays_a_node();
+    offers_in_range();
+    order.mask.known();
+    let room = nodes.layout().cycle() / SHORTEST_FRAME + 2;
+    let mut frames = Vec::with_capacity(alloc, room as usize)?;
+    nodes.learn(alloc, &order.learned)?;
+    nodes.run(order, &mut frames);
+    Ok(Segment::of(frames))
+}

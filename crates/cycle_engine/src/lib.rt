@@ -1,0 +1,18 @@
+//! One elementary cycle on the bus: its trigger, the requests in its asynchronous window, and the frames of its flagged slots.
+//!
+//! All times are bit times from 0, below 2^60.
+#![tactic(auto)]
+
+mod cycle;
+mod each;
+pub mod laws;
+mod nodes;
+mod segment;
+mod stations;
+
+pub use cycle::run_cycle;
+pub use nodes::Nodes;
+pub use segment::Segment;
+
+#[cfg(test)]
+mod tests;

@@ -1,0 +1,167 @@
+//! The nodes of a bus.
+
+ghost use Rattle.std.specs.Prelude.{◌≡◌, ◌≢◌, ℕ, ◌+◌, ◌*◌, ◌/◌, ◌^◌, ◌<◌, ◌≤◌, [], All, AllPairs, Any, IfOk, IfSome, OnErr, OnOk, Some, length, slice_get, slice_index_or, vec_len, vec_capacity};
+ghost use Rattle.cycle_layout.specs.Layout.{IsLayout};
+ghost use Rattle.requirement_table.specs.declared.slots.TheConstants.{SLOTS};
+ghost use Rattle.requirement_table.specs.Table.{IsWellPlaced};
+ghost use Rattle.trigger_codec.specs.Bytes.{trigger_frame};
+ghost use Rattle.bus_line.specs.Trace.{Follows};
+ghost use Rattle.bus_line.specs.Stations.{offers_of};
+ghost use Rattle.node_model.specs.Node.{IsNode, NodeView};
+ghost use Rattle.node_model.specs.Own.{AreOwners};
+ghost use Rattle.node_model.specs.Node.{fresh_node};
+ghost use Rattle.cycle_engine.specs.Nodes.{IsBus, IsNumber, heard_by, learnt_by, left_in, states_of};
+ghost use Rattle.cycle_engine.specs.Stations.{announced, cycle_line, known_by};
+
+use crate::stations::NodeStations;
+use async_window::{Owner, Request};
+use bus_line::run_until;
+use can_frame::TimedFrame;
+use cycle_layout::Layout;
+use node_model::Node;
+use node_model::laws::nodes_are_apart;
+use requirement_table::{Order, PlacedList};
+use std::alloc::{AllocError, Global};
+use std::marker::Model;
+use trigger_codec::encode;
+
+/// The nodes of a bus. Contracts see the layout and the nodes, each with what it knows.
+#[derive(Drop)]
+pub struct Nodes {
+    stations: NodeStations,
+}
+
+impl Model for Nodes {
+    ghost use Rattle.std.specs.Prelude.{◌^◌, ◌<◌};
+    ghost use Rattle.cycle_engine.specs.Nodes.{NodesView, left_in};
+    ghost use Rattle.cycle_engine.specs.Stations.{known_by};
+
+    ghost Value = { NodesView };
+
+    ghost view = { λ n. record { layout = n.stations.layout; nodes = n.stations.nodes } };
+
+    ghost invariant = { λ n. left_in (known_by n.stations.nodes) < 2 ^ 64 };
+}
+
+impl Nodes {
+    /// The nodes 0 to `nodes` - 1 before cycle 0, which is 1 to 30 nodes.
+    ///
+    /// The owners' identifiers are distinct and 0x200 to 0x7EF, each owner's node is below `nodes`, and each request's identifier has an
+    /// owner. Arrivals never fall and are below 2^40.
+    pub fn new(
+        alloc: Global,
+        layout: Layout,
+        nodes: u8,
+        owners: &[Owner],
+        requests: &[Request],
+    ) -> Result<Nodes, AllocError>
+        requires some { 1 ≤ nodes }
+        requires few { nodes ≤ 30 }
+        requires owners { AreOwners owners.now }
+        requires numbers { All (λ owner. owner.node < nodes) owners.now }
+        requires owned { All (λ request. Any (λ owner. owner.id ≡ request.frame.identifier) owners.now) requests.now }
+        requires arrivals { AllPairs (λ one other. one.at ≤ other.at) requests.now }
+        requires early { All (λ request. request.at < 2 ^ 40) requests.now }
+        ensures layout { IfOk result (λ bus. bus.layout ≡ layout) }
+        ensures count { IfOk result (λ bus. length (states_of bus) ≡ nodes) }
+        ensures each { IfOk result (λ bus. (number : ℕ) → number < nodes
+            → slice_get (states_of bus) number ≡ Some (fresh_node layout owners.now requests.now number)) }
+        ensures numbers { IfOk result (λ bus. (number : ℕ) → number < nodes → IsNumber (states_of bus) number) }
+        ensures bus { IfOk result (λ bus. IsBus layout owners.now requests.now [] [] 0 (states_of bus)) }
+    {
+        nodes_are_apart();
+        let _ = number_of(requests);
+        let made = fresh_nodes(alloc, layout, nodes, owners, requests)?;
+        Ok(Nodes {
+            stations: NodeStations::new(layout, made),
+        })
+    }
+
+    /// The number of requests that are not sent.
+    pub fn left(&self) -> usize
+        ensures left { result ≡ left_in (states_of self.now) }
+    {
+        self.stations.left()
+    }
+
+    /// The layout of the bus.
+    pub(crate) fn layout(&self) -> Layout
+        ensures layout { result ≡ self.now.layout }
+        ensures are { All IsNode (states_of self.now) }
+        ensures known { IsLayout self.now.layout }
+    {
+        let layout = self.stations.layout();
+        let _ = layout.cycle();
+        layout
+    }
+
+    /// Hands a list to each node, where there is one. All memory is taken first.
+    pub(crate) fn learn(
+        &mut self,
+        alloc: Global,
+        learned: &Option<PlacedList>,
+    ) -> Result<(), AllocError>
+        requires well_placed { IfSome learned.now IsWellPlaced }
+        ensures layout { self.new.layout ≡ self.old.layout }
+        ensures learnt { OnOk result (states_of self.new ≡ learnt_by learned.now (states_of self.old)) }
+        ensures same { OnErr result (states_of self.new ≡ states_of self.old) }
+    {
+        if let Some(list) = learned {
+            let placed = list.as_slice();
+            self.stations.reserve(alloc, placed.len())?;
+            self.stations.learn(placed);
+        }
+        Ok(())
+    }
+
+    /// Runs the bus over the nodes through the cycle of an order, and puts the frames into `frames`, which has room for them.
+    pub(crate) fn run(&mut self, order: &Order, frames: &mut Vec<TimedFrame>)
+        requires cycle { order.now.cycle < 2 ^ 42 }
+        requires next { All (λ node. node.next ≡ order.now.cycle) (states_of self.old) }
+        requires window { order.now.l ≤ self.old.layout.window }
+        requires empty { frames.old.items ≡ [] }
+        requires room { self.old.layout.cycle / 47 + 1 ≤ vec_capacity frames.old }
+        ensures layout { self.new.layout ≡ self.old.layout }
+        ensures heard { states_of self.new ≡ heard_by frames.new.items (states_of self.old) }
+        ensures runs { Follows (offers_of cycle_line (announced self.old.layout (order.now.cycle * self.old.layout.cycle)
+            (trigger_frame order.now.cycle order.now.l order.now.mask) (states_of self.old)))
+            [] (order.now.cycle * self.old.layout.cycle) ((order.now.cycle + 1) * self.old.layout.cycle) frames.new.items }
+    {
+        let layout = self.layout();
+        let length = u64::from(layout.cycle());
+        let start = order.cycle * length;
+        let trigger = encode(order.cycle, order.l, order.mask);
+        self.stations.announce(start, trigger);
+        run_until(&mut self.stations, start, start + length, frames);
+    }
+}
+
+/// The number of requests: no more are ever left.
+fn number_of(requests: &[Request]) -> usize
+    ensures number { result ≡ length requests.now }
+{
+    requests.len()
+}
+
+/// The nodes 0 to `nodes` - 1 before cycle 0.
+fn fresh_nodes(
+    alloc: Global,
+    layout: Layout,
+    nodes: u8,
+    owners: &[Owner],
+    requests: &[Request],
+) -> Result<Vec<Node>, AllocError>
+    requires owners { AreOwners owners.now }
+    requires arrivals { AllPairs (λ one other. one.at ≤ other.at) requests.now }
+    requires early { All (λ request. request.at < 2 ^ 40) requests.now }
+    ensures count { IfOk result (λ made. length made.items ≡ nodes) }
+    ensures each { IfOk result (λ made. (number : ℕ) (d : NodeView) → number < nodes
+        → (slice_index_or made.items number d).state ≡ fresh_node layout owners.now requests.now number) }
+    ensures are { IfOk result (λ made. All IsNode (known_by made.items)) }
+{
+    let mut made = Vec::with_capacity(alloc, usize::from(nodes))?;
+    for number in 0..nodes {
+        made.push(Node::new(alloc, number, layout, owners, requests)?)?;
+    }
+    Ok(made)
+}

@@ -1,0 +1,182 @@
+//! The nodes of a bus as stations on it, and with them the master, which offers a trigger.
+
+ghost use Rattle.std.specs.Prelude.{◌≡◌, ◌^◌, ◌<◌, ◌≤◌, ℕ, [], None, Some, All, OnOk, length, map};
+ghost use Rattle.cycle_layout.specs.Layout.{IsLayout};
+ghost use Rattle.requirement_table.specs.Table.{IsWellPlaced};
+ghost use Rattle.node_model.specs.Node.{learnt};
+ghost use Rattle.cycle_engine.specs.Nodes.{left_in};
+ghost use Rattle.cycle_engine.specs.Stations.{AreNodes, known_by, offered_trigger};
+
+use crate::each;
+use arbitration::Contenders;
+use bus_line::Stations;
+use can_frame::{Frame, TimedFrame};
+use cycle_layout::Layout;
+use node_model::Node;
+use node_model::laws::{nodes_are_apart, offers_in_range, stays_a_node};
+use requirement_table::Placed;
+use std::alloc::{AllocError, Global};
+use std::marker::Model;
+
+/// A trigger that is not sent yet.
+#[derive(Clone, Copy)]
+pub struct DueTrigger {
+    /// The time at which it is offered, in bit times.
+    pub at: u64,
+    /// The frame, with identifier 0.
+    pub frame: Frame,
+}
+
+/// The nodes of a bus, and the trigger that is offered next, where there is one.
+#[derive(Drop)]
+pub struct NodeStations {
+    layout: Layout,
+    nodes: Vec<Node>,
+    trigger: Option<DueTrigger>,
+}
+
+impl Model for NodeStations {
+    ghost use Rattle.cycle_engine.specs.Stations.{AreStations, StationsView, known_by};
+
+    ghost Value = { StationsView };
+
+    ghost view = { λ s. record { layout = s.layout; trigger = s.trigger; nodes = s.nodes.items } };
+
+    ghost invariant = { λ s. AreStations (record { layout = s.layout; trigger = s.trigger; nodes = known_by s.nodes.items }) };
+}
+
+impl NodeStations {
+    /// The stations without a trigger.
+    pub fn new(layout: Layout, nodes: Vec<Node>) -> NodeStations
+        requires nodes { AreNodes layout (known_by nodes.items) }
+        ensures stations { result ≡ record { layout = layout; trigger = None; nodes = nodes.items } }
+    {
+        NodeStations {
+            layout,
+            nodes,
+            trigger: None,
+        }
+    }
+
+    /// The layout of the bus.
+    pub fn layout(&self) -> Layout
+        ensures layout { result ≡ self.now.layout }
+        ensures known { AreNodes self.now.layout (known_by self.now.nodes) }
+    {
+        self.layout
+    }
+
+    /// The number of requests that are not sent.
+    pub fn left(&self) -> usize
+        requires fits { left_in (known_by self.now.nodes) < 2 ^ 64 }
+        ensures left { result ≡ left_in (known_by self.now.nodes) }
+    {
+        each::left(self.nodes.as_slice())
+    }
+
+    /// Makes each node able to learn a list of so many entries without memory.
+    pub fn reserve(&mut self, alloc: Global, entries: usize) -> Result<(), AllocError>
+        ensures room { OnOk result (All (λ node. entries ≤ node.spare) self.new.nodes) }
+        ensures layout { self.new.layout ≡ self.old.layout }
+        ensures same { known_by self.new.nodes ≡ known_by self.old.nodes }
+    {
+        each::reserve(alloc, self.nodes.as_mut_slice(), entries)
+    }
+
+    /// Hands a list to each node.
+    pub fn learn(&mut self, placed: &[Placed])
+        requires well_placed { IsWellPlaced placed.now }
+        requires room { All (λ node. length placed.now ≤ node.spare) self.old.nodes }
+        ensures layout { self.new.layout ≡ self.old.layout }
+        ensures learnt { known_by self.new.nodes ≡ map (learnt placed.now) (known_by self.old.nodes) }
+    {
+        stays_a_node();
+        nodes_are_apart();
+        each::learn(self.nodes.as_mut_slice(), placed);
+    }
+
+    /// Makes a trigger the next one.
+    pub fn announce(&mut self, at: u64, frame: Frame)
+        requires identifier { frame.identifier ≡ 0 }
+        requires next { All (λ node. node.next < 2 ^ 42) (known_by self.old.nodes) }
+        ensures announced { self.new ≡ record { layout = self.old.layout; trigger = Some (record { at = at; frame = frame }); nodes = self.old.nodes } }
+        ensures known { AreNodes self.new.layout (known_by self.new.nodes) }
+    {
+        self.trigger = Some(DueTrigger { at, frame });
+    }
+}
+
+impl Stations for NodeStations {
+    ghost use Rattle.cycle_engine.specs.Stations.{Stationed, cycle_line, stationed};
+
+    ghost State = { Stationed };
+
+    ghost line = { cycle_line };
+
+    ghost state = { stationed };
+
+    fn offers(&self, at: u64, ids: &mut Contenders) {
+        offers_in_range();
+        nodes_are_apart();
+        ids.clear();
+        push_trigger(&self.trigger, at, ids);
+        each::push_offers(self.nodes.as_slice(), at, ids);
+    }
+
+    fn wake(&self, at: u64) -> Option<u64> {
+        let next = each::wake(self.nodes.as_slice(), at, self.layout.cycle());
+        Some(wake_of_trigger(&self.trigger, at, next))
+    }
+
+    fn frame(&self, at: u64, id: u16) -> Frame {
+        match self.trigger {
+            Some(trigger) => {
+                if trigger.frame.id() == id {
+                    trigger.frame
+                } else {
+                    each::frame(self.nodes.as_slice(), at, id)
+                }
+            }
+            None => each::frame(self.nodes.as_slice(), at, id),
+        }
+    }
+
+    fn sent(&mut self, sent: &TimedFrame) {
+        offers_in_range();
+        stays_a_node();
+        nodes_are_apart();
+        each::hear(self.nodes.as_mut_slice(), sent);
+        self.trigger = None;
+    }
+}
+
+/// Adds the identifier of the trigger to no contenders, where it is offered at this time.
+fn push_trigger(trigger: &Option<DueTrigger>, at: u64, ids: &mut Contenders)
+    requires empty { ids.old ≡ [] }
+    ensures pushed { ids.new ≡ offered_trigger trigger.now at }
+{
+    if let Some(trigger) = trigger {
+        if trigger.at == at {
+            ids.push(trigger.frame.id());
+        }
+    }
+}
+
+/// The time of the trigger where it lies between two times, else the second of them.
+fn wake_of_trigger(trigger: &Option<DueTrigger>, at: u64, next: u64) -> u64
+    requires behind { at < next }
+    ensures behind { at < result }
+    ensures sooner { result ≤ next }
+    ensures quiet { (later : ℕ) → at < later → later < result → offered_trigger trigger.now later ≡ [] }
+{
+    match trigger {
+        Some(trigger) => {
+            if at < trigger.at && trigger.at < next {
+                trigger.at
+            } else {
+                next
+            }
+        }
+        None => next,
+    }
+}
