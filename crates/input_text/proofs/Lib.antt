@@ -1,0 +1,12 @@
+mod CsvFields
+mod CsvReading
+mod Hexadecimal
+mod RequestRows
+mod RequestsTogether
+mod RequestsReading
+mod RequestsMean
+mod SystemElements
+mod SystemFirst
+mod SystemKeys
+mod SystemOwners
+mod SystemPaths

@@ -1,0 +1,98 @@
+-- What the reader gives is the next record of the bytes that it has left.
+use Rattle.std.proofs.Common.{Bor, ◌≡◌, ◌∙◌, ℕ, List, [], Some, Ok, Err, ap, inr, map, refl, rules, sym, true, ◌+◌, arith}
+use Rattle.std.specs.Result.{is_ok}
+use Rattle.csv.proofs.ReadFacts.{rows-end}
+use Rattle.csv.specs.Reading.{default_config, strip_bom, with_flexible}
+use Rattle.csv.specs.Records.{fields_of}
+use Rattle.input_text.specs.CsvRows.{rows_of, trimmed}
+use Rattle.input_text.specs.RequestRow.{meaning}
+use Rattle.input_text.specs.RequestOwners.{IsOwnedTable}
+use Rattle.input_text.specs.RequestsFile.{AreRequests, IsFirstFault, requests_of}
+use Rattle.input_text.proofs.CsvReading.{reads_all, reads_row}
+use Rattle.input_text.proofs.RequestsTogether.{all_requests, first_fault, more_legal, more_requests, no_requests, none_legal}
+use Rattle.input_text.proofs.requests.read_requests.Goals as goal
+
+pub loop-row-init : goal.loop-row-init
+loop-row-init c =
+    let reader = c.from_reader-reader.ensures in
+    let builder = c.flexible.ensures ∙ ap (λ b. with_flexible b true) c.has_headers.ensures in
+    let start = c.into_iter-row-iterator.ensures.into_iter_gives ∙ refl in
+    rw (start, c.into_byte_records-row-items.ensures.rdr, c.new-requests.ensures.items) (
+      c.into_byte_records-row-items.ensures.left,
+      record {
+        before = [];
+        reads = record {
+          trim = rw builder at reader.trim ∙ c.new.ensures.trim;
+          ready = inr (inr (rw builder at reader.has_headers, reader.headers));
+          config = rw builder at reader.config ∙ c.new.ensures.config;
+          between = rw reader.state refl;
+          left = strip_bom c.args.bytes.now;
+          source = reader.source;
+          rows = rw reader.state refl;
+        };
+        means = no_requests c.args.owners.now;
+        legal = none_legal c.args.owners.now;
+      },
+    )
+
+pub returns-in-Err-clause-fault : goal.returns-in-Err-clause-fault
+returns-in-Err-clause-fault c =
+    let (turns, so_far) = c.loop-row.invariant in
+    let owners = c.args.owners.now in
+    let table : IsOwnedTable owners c.deref.result.now = rw c.deref.ensures.value c.in_ok-owned.ensures.ok in
+    let fields = fields_of c.in-Ok.row in
+    let s = rw (c.in-Some.is, c.in-Ok.is) at ((c.next.ensures.steps turns so_far.reads.trim).0 so_far.reads.ready) in
+    let read = reads_row c.args.bytes.now c.loop-row.row-iterator.rdr c.next.new.self.rdr so_far.before fields so_far.reads s.0 s.1 s.0.2 s.0.3 in
+    let why : meaning owners c.loop-row.requests.items (map trimmed fields) ≡ Err c.in-Err.why = rw c.deref-in-loop-row.ensures.value at (sym (c.in-Err.ensures.value owners table)) in
+    record {
+      before = so_far.before;
+      row = map trimmed fields;
+      below = read.below;
+      above = c.loop-row.requests.items;
+      split = read.split;
+      numbered = omega (arith, c.len.ensures, so_far.means.as_many);
+      read = so_far.means;
+      faulty = why;
+    }
+
+pub returns-in-Err-clause-value : goal.returns-in-Err-clause-value
+unfolding requests_of
+returns-in-Err-clause-value c =
+    let fault : IsFirstFault c.args.owners.now (rows_of c.args.bytes.now) (c.len.result + 1) c.in-Err.why = returns-in-Err-clause-fault c in
+    inr (first_fault c.args.owners.now (rows_of c.args.bytes.now) (c.len.result + 1) c.in-Err.why fault)
+
+pub loop-row-preserved : goal.loop-row-preserved
+loop-row-preserved c =
+    let (turns, so_far) = c.loop-row.invariant in
+    let owners = c.args.owners.now in
+    let above = c.loop-row.requests.items in
+    let request = c.in-Ok-read_row.request in
+    let table : IsOwnedTable owners c.deref.result.now = rw c.deref.ensures.value c.in_ok-owned.ensures.ok in
+    let fields = fields_of c.in-Ok.row in
+    let s = rw (c.in-Some.is, c.in-Ok.is) at ((c.next.ensures.steps turns so_far.reads.trim).0 so_far.reads.ready) in
+    let read = reads_row c.args.bytes.now c.loop-row.row-iterator.rdr c.next.new.self.rdr so_far.before fields so_far.reads s.0 s.1 s.0.2 s.0.3 in
+    let is : meaning owners above (map trimmed fields) ≡ Ok request = rw c.deref-in-loop-row.ensures.value at (sym (c.in-Ok-read_row.ensures.value owners table)) in
+    let good : is_ok c.push.result ≡ true = search rules in
+    let items = rw good at c.push.ensures.items in (
+      s.2,
+      record {
+        before = _;
+        reads = read.after;
+        means = rw items (more_requests owners so_far.before above (map trimmed fields) request so_far.means is);
+        legal = rw items (more_legal owners above request so_far.legal (c.in-Ok-read_row.ensures.legal owners table) (rw c.deref-in-loop-row.ensures.value at c.in-Ok-read_row.ensures.in_order) (rw c.deref-in-loop-row.ensures.value at c.in-Ok-read_row.ensures.few));
+      },
+    )
+
+pub returns-clause-ok : goal.returns-clause-ok
+returns-clause-ok c =
+    let (turns, so_far) = c.loop-row.invariant in
+    let a = c.loop-row.row-iterator.rdr in
+    let s = rw c.in-None.is at ((c.next.ensures.steps turns so_far.reads.trim).0 so_far.reads.ready) in
+    let ended = rows-end (λ (s : Bor (List ℕ)). Some s.now) a c.next.new.self.rdr [] default_config so_far.reads.left so_far.reads.config so_far.reads.source s in
+    rw (reads_all c.args.bytes.now a so_far.before so_far.reads ended) so_far.means
+
+pub returns-clause-value : goal.returns-clause-value
+unfolding requests_of
+returns-clause-value c =
+    let are : AreRequests c.args.owners.now (rows_of c.args.bytes.now) c.loop-row.requests.items = returns-clause-ok c in
+    all_requests c.args.owners.now (rows_of c.args.bytes.now) c.loop-row.requests.items are

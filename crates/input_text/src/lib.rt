@@ -1,0 +1,18 @@
+//! The texts that fttcan is given, as values: what each file means, and exactly why a file is
+//! refused.
+#![tactic(auto)]
+
+mod csv_rows;
+mod owners;
+mod request_fault;
+pub mod request_laws;
+mod requests;
+mod system;
+mod system_fault;
+mod system_sections;
+
+pub use owners::OwnerList;
+pub use request_fault::{RequestFault, RequestWhy};
+pub use requests::read_requests;
+pub use system::{System, read_system};
+pub use system_fault::{PathText, SystemFault};
