@@ -11,13 +11,12 @@ mod StepsText
 mod StepsRows
 mod StepsTogether
 mod Tables
-mod Queues
 mod SlotEntries
-mod CycleRuns
 mod Histories
 mod StepsRun
 mod EndLemmas
-mod SystemKeys
 mod HexText
 mod LogTrace
 mod LogHistory
+mod Buses
+mod Settings

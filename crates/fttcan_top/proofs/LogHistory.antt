@@ -7,6 +7,7 @@ use Rattle.std.proofs.Math.Seq.{get_or-append_seam, drop-cons}
 use Rattle.std.proofs.lemmas.List.Concat.{flat_map-append}
 use Rattle.std.proofs.lemmas.List.Sums.{sum_by_push}
 use Rattle.can_frame.specs.declared.data_frame.TimedFrame.{TimedFrame}
+use Rattle.admission.specs.declared.Rules.{Rules}
 use Rattle.requirement_table.specs.declared.entries.Placed.{Placed}
 use Rattle.fttcan_top.specs.declared.history.Event.{Event}
 use Rattle.fttcan_top.specs.declared.history.Event.TheVariants.{Submit, Open}
@@ -36,18 +37,18 @@ events_rows-push trace before (first ∷ events) event =
 -- Places
 
 -- each event is right at its place
-AreRight-at : (window : ℕ) (before events later : List Event) (event : Event) → AreRight window before (events ++ event ∷ later) → IsRight window (before ++ events) event
-AreRight-at window before [] later event right = subst (λ b. IsRight window b event) (sym (append-nil before)) right.0
-AreRight-at window before (first ∷ events) later event right =
-    subst (λ b. IsRight window b event) (append_assoc before (first ∷ []) events) (AreRight-at window (before ++ first ∷ []) events later event right.1)
+AreRight-at : (rules : Rules) (before events later : List Event) (event : Event) → AreRight rules before (events ++ event ∷ later) → IsRight rules (before ++ events) event
+AreRight-at rules before [] later event right = subst (λ b. IsRight rules b event) (sym (append-nil before)) right.0
+AreRight-at rules before (first ∷ events) later event right =
+    subst (λ b. IsRight rules b event) (append_assoc before (first ∷ []) events) (AreRight-at rules (before ++ first ∷ []) events later event right.1)
 
-in_turn : (window : ℕ) (before : List Event) (event : Event) → IsRight window before event → IsInTurn (next_of before) event
-in_turn window before (Submit caller start entry from verdict) right = tt
-in_turn window before (Open cycle mask) right = right.0
+in_turn : (rules : Rules) (before : List Event) (event : Event) → IsRight rules before event → IsInTurn (next_of before) event
+in_turn rules before (Submit caller start entry from verdict) right = tt
+in_turn rules before (Open cycle mask) right = right.0
 
-flagged : (window : ℕ) (before : List Event) (event : Event) → IsRight window before event → IsFlaggedBy (placed_of before) event
-flagged window before (Submit caller start entry from verdict) right = tt
-flagged window before (Open cycle mask) right = right.1
+flagged : (rules : Rules) (before : List Event) (event : Event) → IsRight rules before event → IsFlaggedBy (placed_of before) event
+flagged rules before (Submit caller start entry from verdict) right = tt
+flagged rules before (Open cycle mask) right = right.1
 
 All-front : {X : Type 0} (P : X → Type 0) (xs ys : List X) → All P (xs ++ ys) → All P xs
 All-front P xs ys all k d within = subst P (get_or-append xs ys d k within) (all k d (omega (arith, length-append xs ys)))
@@ -107,20 +108,20 @@ module _ (trace : List TimedFrame) (history : List Event) (i : ℕ) (event : Eve
   abbrev before : List Event
   before = take i history
 
-  pub IsReady-at : (window : ℕ) → IsLegal window history → All IsLive (placed_of history) → AreDistinct (placed_of history) → IsReady placed next event
-  IsReady-at window legal live distinct =
+  pub IsReady-at : (rules : Rules) → IsLegal rules history → All IsLive (placed_of history) → AreDistinct (placed_of history) → IsReady placed next event
+  IsReady-at rules legal live distinct =
       let later = drop (suc i) history in
       let rest : drop i history ≡ event ∷ later = drop-cons history i event within ∙ ap (λ e. e ∷ later) (sym here) in
       let whole : history ≡ before ++ event ∷ later = sym (take-append-drop i history) ∙ ap (λ l. before ++ l) rest in
-      let right : IsRight window before event = AreRight-at window [] before later event (subst (AreRight window []) whole legal) in
+      let right : IsRight rules before event = AreRight-at rules [] before later event (subst (AreRight rules []) whole legal) in
       let all_placed : placed_of history ≡ (placed ++ placed_of_event event) ++ placed_of later =
       ap placed_of whole ∙ flat_map-append placed_of_event before (event ∷ later) ∙ sym (append_assoc (placed_of before) (placed_of_event event) (placed_of later))
       ∙ ap (λ l. (l ++ placed_of_event event) ++ placed_of later) (sym is.placed_is) in
       let all_live = All-front IsLive (placed ++ placed_of_event event) (placed_of later) (subst (All IsLive) all_placed live) in
       let all_distinct = AreDistinct-front (placed ++ placed_of_event event) (placed_of later) (subst AreDistinct all_placed distinct) in
       record {
-        in_turn = subst (λ n. IsInTurn n event) (sym is.next_is) (in_turn window before event right);
-        flagged = subst (λ l. IsFlaggedBy l event) (sym is.placed_is) (flagged window before event right);
+        in_turn = subst (λ n. IsInTurn n event) (sym is.next_is) (in_turn rules before event right);
+        flagged = subst (λ l. IsFlaggedBy l event) (sym is.placed_is) (flagged rules before event right);
         live_now = All-front IsLive placed (placed_of_event event) all_live;
         distinct_now = AreDistinct-front placed (placed_of_event event) all_distinct;
         live = all_live;

@@ -8,8 +8,10 @@ use Rattle.std.specs.List.{Any}
 use Rattle.can_frame.specs.declared.data_frame.TimedFrame.{TimedFrame}
 use Rattle.cycle_layout.specs.Layout.{CycleLayout}
 use Rattle.requirement_table.specs.Slots.{contains_slot}
-use Rattle.fttcan_top.specs.Offered.{Opening, first_identifier, start_of, IsUnsent}
-use Rattle.fttcan_top.specs.Window.{was_sent, is_pending}
+use Rattle.node_model.specs.Opening.{Opening, first_identifier, start_of}
+use Rattle.node_model.specs.Offered.{IsUnsent}
+use Rattle.fttcan_top.specs.Window.{is_pending}
+use Rattle.node_model.specs.Own.{was_sent}
 
 -- whether the frame is one of the slot, from the cycle's start on
 abbrev pub is_of : CycleLayout → Opening → ℕ → TimedFrame → Bool

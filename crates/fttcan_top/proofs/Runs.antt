@@ -1,6 +1,6 @@
 -- The steps of a run: an entry is placed, a cycle is opened and run.
-use Rattle.std.proofs.Common.{◌≡◌, ℕ, ◌+◌, ◌*◌, ◌<◌, ◌≤◌, eqb, List, [], ◌∷◌, ◌++◌, length, get_or, Some, refl, ap, sym, ◌∙◌, arith, subst, inl, inr}
-use Rattle.std.specs.Prelude.{Contains, option_map, unwrap_or}
+use Rattle.std.proofs.Common.{◌≡◌, ℕ, ◌+◌, ◌*◌, ◌<◌, ◌≤◌, eqb, List, [], ◌∷◌, ◌++◌, get_or, refl, ap, sym, ◌∙◌, arith, subst, inl, inr}
+use Rattle.std.specs.Prelude.{Contains, option_map}
 use Rattle.std.specs.List.{All, AllByRecursion}
 use Rattle.std.proofs.lemmas.Bool.{cases_eq, eq-eqb, ne_eqb}
 use Rattle.std.proofs.lemmas.List.Elements.{All-push, All-append, All-contains, All-from_recursion, recursion_from_All, Contains-push, Contains-push_cases, Contains-append_left, filter-append}
@@ -12,95 +12,51 @@ use Rattle.can_frame.specs.DataFrame.{DataFrame}
 use Rattle.can_frame.specs.declared.data_frame.TimedFrame.{TimedFrame}
 use Rattle.cycle_layout.specs.Layout.{CycleLayout}
 use Rattle.requirement_table.specs.declared.entries.Placed.{Placed}
-use Rattle.can_frame.specs.Wire.{wire_length}
-use Rattle.trigger_codec.specs.Bytes.{trigger_frame}
-use Rattle.requirement_table.specs.Instance.{worst}
-use Rattle.requirement_table.specs.Table.{instance_in, released_in}
+use Rattle.requirement_table.specs.Table.{released_in}
 use Rattle.requirement_table.specs.Instance.{bytes_of}
 use Rattle.bus_line.specs.Trace.{end_of, Follows}
-use Rattle.fttcan_top.specs.Offered.{Opening, next_opening, bytes_in, slot_cost, width_of, start_of, end_of_cycle, offered_in, offered}
-use Rattle.fttcan_top.specs.Window.{IsFit, RunsCycle, IsSlotFrame}
+use Rattle.node_model.specs.Opening.{Opening, width_of, start_of, end_of_cycle}
+use Rattle.cycle_engine.specs.Offered.{offered_in, offered}
+use Rattle.async_window.specs.declared.request.Request.{Request}
+use Rattle.fttcan_top.specs.Openings.{next_opening}
+use Rattle.fttcan_top.specs.Window.{AreShort, IsFit, IsLaterFrame, RunsCycle}
 use Rattle.fttcan_top.specs.Kept.{cycle_of}
 use Rattle.fttcan_top.specs.Entries.{IsLive, total_cost}
 use Rattle.fttcan_top.specs.Running.{frames_in, IsRunning}
-use Rattle.fttcan_top.proofs.Flagged.{length-payload, option-some, found-in}
 use Rattle.fttcan_top.proofs.Width.{instance-flagged, width-le}
 use Rattle.fttcan_top.proofs.WindowLemmas.{runs_cycle}
 use Rattle.fttcan_top.proofs.Joining.{Follows-append, Follows-same, Follows-within}
 use Rattle.fttcan_top.proofs.Filters.{filter-none, filter-all, AllByRecursion-contains}
 
--- what a frame's wire takes
-pub record AreShort : Type 0 where
-  pub some_time : (frame : DataFrame) → frame.identifier ≤ 0x7EF → length frame.bytes ≤ 8 → 0 < wire_length frame
-  pub in_time : (frame : DataFrame) → frame.identifier ≤ 0x7EF → length frame.bytes ≤ 8 → wire_length frame ≤ worst (length frame.bytes)
-
--- what a trigger is
-pub record IsTriggerShort (cycle l mask : ℕ) : Type 0 where
-  pub identifier : (trigger_frame cycle l mask).identifier ≡ 0
-  pub few : length (trigger_frame cycle l mask).bytes ≡ 8
-
--- the bytes that a slot sends are at most eight
-few-bytes : (opening : Opening) (slot : ℕ) (frame : DataFrame) → All IsLive opening.placed → bytes_in opening slot ≡ Some frame.bytes → length frame.bytes ≤ 8
-few-bytes opening slot frame live bytes =
-    let i = option-some (instance_in opening.placed slot opening.cycle) bytes_of frame.bytes bytes in
-    let found = found-in opening.placed slot opening.cycle i.0 i.1 in
-    let is_live = All-contains IsLive opening.placed i.0.placed live found.stands in
-    let few = is_live.few in
-    let len = length-payload i.0.placed.entry.length i.0.number in
-    let same : length frame.bytes ≡ length (bytes_of i.0) = ap length (sym i.2) in
-    omega arith
-
 -- a cycle of live entries has a frame and the time for each flagged slot
-pub is_fit : (layout : CycleLayout) (placed : List Placed) (next : ℕ) → AreShort → IsTriggerShort next (width_of (next_opening placed next)) (released_in placed next)
-    → 135 + layout.turnaround + layout.window ≤ layout.cycle → All IsLive placed → total_cost placed ≤ layout.window
+pub is_fit : (layout : CycleLayout) (placed : List Placed) (next : ℕ) → AreShort → 135 + layout.turnaround + layout.window ≤ layout.cycle → All IsLive placed → total_cost placed ≤ layout.window
     → IsFit layout (next_opening placed next)
-is_fit layout placed next short trigger good live light =
+is_fit layout placed next short good live light =
     let o : Opening = next_opening placed next in
     let width = width-le o refl live in
     record {
+      short = short;
       present = λ slot known flagged.
           let sends = instance-flagged o slot refl live flagged in
           (bytes_of sends.i, ap (option_map bytes_of) sends.found);
-      some_time = λ slot frame known same bytes.
-          short.some_time frame (omega arith) (few-bytes o slot frame live bytes);
-      in_time = λ slot frame known same bytes.
-          let cost : slot_cost o slot ≡ worst (length frame.bytes) = ap (λ b. worst (length (unwrap_or b []))) bytes in
-          let in_time = short.in_time frame (omega arith) (few-bytes o slot frame live bytes) in
-          omega arith;
-      trigger_identifier = trigger.identifier;
-      trigger_some_time = short.some_time _ (let is = trigger.identifier in omega arith) (let few = trigger.few in omega arith);
-      trigger_in_time = (let few = trigger.few in let in_time = short.in_time (trigger_frame next (width_of o) o.mask) (let is = trigger.identifier in omega arith) (omega arith) in omega arith);
+      trigger_identifier = refl;
+      trigger_bytes = refl;
       room = omega arith;
     }
 
--- Nothing has happened yet
-pub IsRunning-start : (layout : CycleLayout) → IsRunning layout [] [] 0 []
-IsRunning-start layout = record {
-  live = λ k d within. absurd (omega arith);
-  distinct = λ i j d before within. absurd (omega arith);
-  light = omega arith;
-  opened = λ cycle before. absurd (omega arith);
-  numbered = λ k d within. absurd (omega arith);
-  masks = λ k d within. absurd (omega arith);
-  subset = λ k d within. absurd (omega arith);
-  complete = λ k d within. absurd (omega arith);
-  started = λ k d within. absurd (omega arith);
-  ended = λ k d within. absurd (omega arith);
-  follows = λ at frame late early offer. absurd (omega arith);
-  cycles = λ k d within. absurd (omega arith);
-}
-
 -- An entry is placed: it begins no earlier than the next cycle, its slot has no other entry, and it fits in
-pub IsRunning-place : (layout : CycleLayout) (placed : List Placed) (openings : List Opening) (next : ℕ) (trace : List TimedFrame) (p : Placed)
-    → IsRunning layout placed openings next trace → IsLive p → next ≤ p.origin
+pub IsRunning-place : (layout : CycleLayout) (requests : List Request) (placed : List Placed) (openings : List Opening) (next : ℕ) (trace : List TimedFrame) (p : Placed)
+    → IsRunning layout requests placed openings next trace → IsLive p → next ≤ p.origin
     → ((q : Placed) → Contains placed q → q.entry.slot ≡ p.entry.slot → ⊥) → total_cost (placed ++ p ∷ []) ≤ layout.window
-    → IsRunning layout (placed ++ p ∷ []) openings next trace
-IsRunning-place layout placed openings next trace p run live late other light = record {
+    → IsRunning layout requests (placed ++ p ∷ []) openings next trace
+IsRunning-place layout requests placed openings next trace p run live late other light = record {
+  asynchronous = run.asynchronous;
   live = All-push IsLive placed p run.live live;
   distinct = all_pairs_push (λ q r. q.entry.slot ≡ r.entry.slot → ⊥) placed p run.distinct (λ k d within same. other (get_or placed k d) (Contains-get_or placed k d within) same);
   light = light;
   opened = run.opened;
   numbered = run.numbered;
+  each_once = run.each_once;
   masks = run.masks;
   started = run.started;
   ended = run.ended;
@@ -117,13 +73,16 @@ IsRunning-place layout placed openings next trace p run live late other light = 
 -- A cycle is opened and run
 
 -- what one cycle offers is at its times
-at-offered : (layout : CycleLayout) (opening : Opening) (past : List TimedFrame) (at : ℕ) (frame : DataFrame)
+at-offered : (layout : CycleLayout) (requests : List Request) (opening : Opening) (past : List TimedFrame) (at : ℕ) (frame : DataFrame)
     → start_of layout opening + width_of opening ≤ end_of_cycle layout opening → 0 < layout.cycle
-    → offered_in layout opening past at frame → (start_of layout opening ≤ at) × (at < end_of_cycle layout opening)
-at-offered layout opening past at frame room some_time offer =
+    → offered_in layout requests opening past at frame → (start_of layout opening ≤ at) × (at < end_of_cycle layout opening)
+at-offered layout requests opening past at frame room some_time offer =
     elim offer [
       | inl trigger ↦ let time = trigger.time in (omega arith, omega arith)
-      | inr choice ↦ let late = choice.1.late_enough in let early = choice.1.within in (omega arith, omega arith)
+      | inr choice ↦ elim choice [
+        | inl request ↦ let late = request.may_start.allowed.opened in let early = request.may_start.allowed.whole in (omega arith, omega arith)
+        | inr of_slot ↦ let late = of_slot.1.late_enough in let early = of_slot.1.within in (omega arith, omega arith)
+      ]
     ]
 
 -- the time of the opening that follows
@@ -139,28 +98,28 @@ earlier-room : (layout : CycleLayout) (opening : Opening) (frames : List TimedFr
 earlier-room layout opening frames runs = let room = runs.room in record { room = omega arith }
 
 -- below the next cycle's start, the next opening offers nothing
-offered-before : (layout : CycleLayout) (openings : List Opening) (opening : Opening) (past : List TimedFrame) (at : ℕ) (frame : DataFrame)
+offered-before : (layout : CycleLayout) (requests : List Request) (openings : List Opening) (opening : Opening) (past : List TimedFrame) (at : ℕ) (frame : DataFrame)
     → start_of layout opening + width_of opening ≤ end_of_cycle layout opening → 0 < layout.cycle → at < start_of layout opening
-    → offered layout (openings ++ opening ∷ []) past at frame → offered layout openings past at frame
-offered-before layout openings opening past at frame room some_time early offer =
+    → offered layout requests (openings ++ opening ∷ []) past at frame → offered layout requests openings past at frame
+offered-before layout requests openings opening past at frame room some_time early offer =
     elim (Contains-push_cases openings opening offer.0 offer.1) [
       | inl before ↦ (offer.0, before, offer.2)
-      | inr is ↦ let time = at-offered layout opening past at frame room some_time (subst (λ o. offered_in layout o past at frame) (sym is) offer.2) in absurd (omega arith)
+      | inr is ↦ let time = at-offered layout requests opening past at frame room some_time (subst (λ o. offered_in layout requests o past at frame) (sym is) offer.2) in absurd (omega arith)
     ]
 
 -- from its start on, only the next opening offers something
-offered-after : (layout : CycleLayout) (openings : List Opening) (opening : Opening) (past : List TimedFrame) (at : ℕ) (frame : DataFrame)
+offered-after : (layout : CycleLayout) (requests : List Request) (openings : List Opening) (opening : Opening) (past : List TimedFrame) (at : ℕ) (frame : DataFrame)
     → 0 < layout.cycle → All (λ o. o.cycle < opening.cycle) openings → All (HasRoom layout) openings → start_of layout opening ≤ at
-    → offered layout (openings ++ opening ∷ []) past at frame → offered_in layout opening past at frame
-offered-after layout openings opening past at frame some_time numbered rooms late offer =
+    → offered layout requests (openings ++ opening ∷ []) past at frame → offered_in layout requests opening past at frame
+offered-after layout requests openings opening past at frame some_time numbered rooms late offer =
     elim (Contains-push_cases openings opening offer.0 offer.1) [
       | inl before ↦
           let room = All-contains (HasRoom layout) openings offer.0 rooms before in
-          let time = at-offered layout offer.0 past at frame room.room some_time offer.2 in
+          let time = at-offered layout requests offer.0 past at frame room.room some_time offer.2 in
           let n : offer.0.cycle < opening.cycle = All-contains (λ o. o.cycle < opening.cycle) openings offer.0 numbered before in
           let ends : (offer.0.cycle + 1) * layout.cycle ≤ opening.cycle * layout.cycle = mul-le-mul_right layout.cycle (omega arith) in
           absurd (let early = time.1 in omega arith)
-      | inr is ↦ subst (λ o. offered_in layout o past at frame) (sym is) offer.2
+      | inr is ↦ subst (λ o. offered_in layout requests o past at frame) (sym is) offer.2
     ]
 
 -- the frames of a cycle start in it
@@ -173,13 +132,16 @@ record IsOfCycle (layout : CycleLayout) (opening : Opening) (sent : TimedFrame) 
   late : start_of layout opening ≤ sent.start
   ends : end_of sent ≤ end_of_cycle layout opening
 
-slot-frames : (layout : CycleLayout) (opening : Opening) (frames : List TimedFrame) → start_of layout opening + width_of opening ≤ end_of_cycle layout opening
-    → AllByRecursion (IsSlotFrame layout opening) frames → AllByRecursion (IsOfCycle layout opening) frames
-slot-frames layout opening [] room all = tt
-slot-frames layout opening (sent ∷ later) room all =
-    let after = all.0.after in
-    let before = all.0.before in
-    (record { late = omega arith; ends = before }, slot-frames layout opening later room all.1)
+later-frames : (layout : CycleLayout) (opening : Opening) (frames : List TimedFrame) → start_of layout opening + width_of opening ≤ end_of_cycle layout opening
+    → AllByRecursion (IsLaterFrame layout opening) frames → AllByRecursion (IsOfCycle layout opening) frames
+later-frames layout opening [] room all = tt
+later-frames layout opening (sent ∷ later) room all = (
+  elim all.0 [
+    | inl frame ↦ let after = frame.after in let before = frame.before in record { late = omega arith; ends = omega arith }
+    | inr frame ↦ let after = frame.after in let before = frame.before in record { late = omega arith; ends = before }
+  ],
+  later-frames layout opening later room all.1,
+)
 
 cycle-frames : (layout : CycleLayout) (opening : Opening) (frames : List TimedFrame) → start_of layout opening + width_of opening ≤ end_of_cycle layout opening
     → RunsCycle layout opening frames → AllByRecursion (IsOfCycle layout opening) frames
@@ -187,23 +149,23 @@ cycle-frames layout opening frames room runs =
     let ends = runs.ends in
     let starts = runs.starts in
     subst (λ l. AllByRecursion (IsOfCycle layout opening) l) (sym runs.all_frames)
-    (record { late = omega arith; ends = omega arith }, slot-frames layout opening runs.later room runs.all)
+    (record { late = omega arith; ends = omega arith }, later-frames layout opening runs.later room runs.all)
 
 mapped : {X : Type 0} (P Q : X → Type 0) (xs : List X) → ((x : X) → P x → Q x) → AllByRecursion P xs → AllByRecursion Q xs
 mapped P Q [] to all = tt
 mapped P Q (x ∷ xs) to all = (to x all.0, mapped P Q xs to all.1)
 
-pub IsRunning-open : (layout : CycleLayout) (placed : List Placed) (openings : List Opening) (next : ℕ) (trace frames : List TimedFrame)
-    → AreShort → IsTriggerShort next (width_of (next_opening placed next)) (released_in placed next) → 135 + layout.turnaround + layout.window ≤ layout.cycle
-    → IsRunning layout placed openings next trace
-    → Follows (offered_in layout (next_opening placed next)) trace (next * layout.cycle) ((next + 1) * layout.cycle) frames
-    → IsRunning layout placed (openings ++ next_opening placed next ∷ []) (next + 1) (trace ++ frames)
-IsRunning-open layout placed openings next trace frames short trigger good run follows =
+pub IsRunning-open : (layout : CycleLayout) (requests : List Request) (placed : List Placed) (openings : List Opening) (next : ℕ) (trace frames : List TimedFrame)
+    → AreShort → 135 + layout.turnaround + layout.window ≤ layout.cycle
+    → IsRunning layout requests placed openings next trace
+    → Follows (offered_in layout requests (next_opening placed next)) trace (next * layout.cycle) ((next + 1) * layout.cycle) frames
+    → IsRunning layout requests placed (openings ++ next_opening placed next ∷ []) (next + 1) (trace ++ frames)
+IsRunning-open layout requests placed openings next trace frames short good run follows =
     let o : Opening = next_opening placed next in
-    let fit = is_fit layout placed next short trigger good run.live run.light in
+    let fit = is_fit layout placed next short good run.live run.light in
     let room : start_of layout o + width_of o ≤ end_of_cycle layout o = (let r = fit.room in omega arith) in
-    let runs = runs_cycle layout o trace frames fit run.started follows in
-    let within = Follows-within (offered_in layout o) trace (next * layout.cycle) ((next + 1) * layout.cycle) frames follows in
+    let runs = runs_cycle layout requests o trace frames fit run.asynchronous run.started follows in
+    let within = Follows-within (offered_in layout requests o) trace (next * layout.cycle) ((next + 1) * layout.cycle) frames follows in
     let times = cycle-frames layout o frames room runs in
     let of_cycle : (sent : TimedFrame) → Contains frames sent → cycle_of layout sent ≡ next = λ sent among.
     let t = AllByRecursion-contains (IsOfCycle layout o) frames sent times among in
@@ -216,6 +178,7 @@ IsRunning-open layout placed openings next trace frames short trigger good run f
     let rooms : All (HasRoom layout) openings = λ k d here. earlier-room layout (get_or openings k d) _ (run.cycles k d here) in
     let longer : next * layout.cycle ≤ (next + 1) * layout.cycle = omega arith in
     record {
+      asynchronous = run.asynchronous;
       live = run.live;
       distinct = run.distinct;
       light = run.light;
@@ -225,6 +188,7 @@ IsRunning-open layout placed openings next trace frames short trigger good run f
             | inr earlier ↦ let old = run.opened cycle (omega arith) in (old.0, Contains-append_left openings (o ∷ []) old.0 old.1, old.2)
           ];
       numbered = All-push (λ x. x.cycle < next + 1) openings o (λ k d here. let n = run.numbered k d here in omega arith) (omega arith);
+      each_once = all_pairs_push (λ one other. one.cycle ≡ other.cycle → ⊥) openings o run.each_once (λ k d here same. let n = run.numbered k d here in omega arith);
       masks = All-push (λ x. x.mask ≡ released_in x.placed x.cycle) openings o run.masks refl;
       subset = All-push (λ x. (p : Placed) → Contains x.placed p → Contains placed p) openings o run.subset (λ p among. among);
       complete = All-push (λ x. (p : Placed) → Contains placed p → p.origin ≤ x.cycle → Contains x.placed p) openings o run.complete (λ p among _. among);
@@ -234,15 +198,15 @@ IsRunning-open layout placed openings next trace frames short trigger good run f
           (λ k d here. let t = run.ended k d here in omega arith)
           (All-from_recursion (λ s. end_of s ≤ (next + 1) * layout.cycle) frames (mapped (IsOfCycle layout o) (λ s. end_of s ≤ (next + 1) * layout.cycle) frames (λ s t. t.ends) times));
       follows =
-          Follows-append (offered layout (openings ++ o ∷ [])) [] 0 (next * layout.cycle) ((next + 1) * layout.cycle) trace frames (omega arith) longer
+          Follows-append (offered layout requests (openings ++ o ∷ [])) [] 0 (next * layout.cycle) ((next + 1) * layout.cycle) trace frames (omega arith) longer
           (recursion_from_All (λ s. end_of s ≤ next * layout.cycle) trace run.ended)
-          (Follows-same (offered layout openings) (offered layout (openings ++ o ∷ [])) 0 [] 0 (next * layout.cycle) trace
+          (Follows-same (offered layout requests openings) (offered layout requests (openings ++ o ∷ [])) 0 [] 0 (next * layout.cycle) trace
           (λ p at frame _ _ offer. (offer.0, Contains-append_left openings (o ∷ []) offer.0 offer.1, offer.2))
-          (λ p at frame _ early offer. offered-before layout openings o p at frame room (omega arith) early offer)
+          (λ p at frame _ early offer. offered-before layout requests openings o p at frame room (omega arith) early offer)
           (omega arith) run.follows)
-          (Follows-same (offered_in layout o) (offered layout (openings ++ o ∷ [])) (next * layout.cycle) trace (next * layout.cycle) ((next + 1) * layout.cycle) frames
+          (Follows-same (offered_in layout requests o) (offered layout requests (openings ++ o ∷ [])) (next * layout.cycle) trace (next * layout.cycle) ((next + 1) * layout.cycle) frames
           (λ p at frame _ _ offer. (o, Contains-push openings o, offer))
-          (λ p at frame late _ offer. offered-after layout openings o p at frame (omega arith) run.numbered rooms late offer)
+          (λ p at frame late _ offer. offered-after layout requests openings o p at frame (omega arith) run.numbered rooms late offer)
           (omega arith) follows);
       cycles = All-push (λ x. RunsCycle layout x (frames_in layout x.cycle (trace ++ frames))) openings o
           (λ k d here.

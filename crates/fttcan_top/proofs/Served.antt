@@ -1,5 +1,5 @@
 -- What a run owes is served: each instance whose last cycle was run, and nothing else in its slot.
-use Rattle.std.proofs.Common.{◌≡◌, ℕ, ◌+◌, ◌*◌, ◌<◌, ◌≤◌, ◌&&◌, Bool, true, false, eqb, leb, List, [], ◌∷◌, get_or, Some, None, refl, ap, sym, ◌∙◌, arith, subst, inl, inr}
+use Rattle.std.proofs.Common.{◌≡◌, ℕ, ◌+◌, ◌*◌, ◌<◌, ◌≤◌, ◌⊎◌, ◌&&◌, Bool, true, false, eqb, leb, List, [], ◌∷◌, get_or, Some, None, refl, ap, sym, ◌∙◌, arith, subst, inl, inr}
 use Rattle.std.specs.Prelude.{Contains, option_map, IfSome}
 use Rattle.std.proofs.lemmas.Bool.{cases_eq, cases_lt, eq-eqb, ne_eqb, le-leb, leb-true, and_from, and_left, and_right, and_parts, false_from_ne_true, cond-false}
 use Rattle.std.proofs.lemmas.List.Elements.{All-contains, Contains-get_or}
@@ -11,9 +11,10 @@ use Rattle.requirement_table.specs.Slots.{contains_slot}
 use Rattle.requirement_table.specs.Instance.{release_of, payload, Exists, MaySend, IsReleasedIn, released_by}
 use Rattle.requirement_table.specs.Table.{released_in}
 use Rattle.requirement_table.specs.Instance.{bytes_of}
-use Rattle.fttcan_top.specs.Offered.{Opening, slots, first_identifier}
-use Rattle.fttcan_top.specs.Window.{of_slot, IsSentIn, IsSlotFrame, RunsCycle}
-use Rattle.fttcan_top.specs.Kept.{cycle_of, frames_of, IsInWindow, AllServed, NoStrangers}
+use Rattle.node_model.specs.Opening.{Opening, slots, first_identifier}
+use Rattle.fttcan_top.specs.Window.{of_slot, IsSentIn, IsSlotFrame, IsLaterFrame, RunsCycle}
+use Rattle.fttcan_top.specs.Kept.{cycle_of, frames_of, IsInWindow, AllServed, NoStrangers, AllGuarded}
+use Rattle.async_window.specs.declared.request.Request.{Request}
 use Rattle.fttcan_top.specs.Entries.{IsLive}
 use Rattle.fttcan_top.specs.Running.{frames_in, IsRunning}
 use Rattle.requirement_table.proofs.Latest.{instance_of-sent, released_by-released, IsReleasedIn-from_released_by}
@@ -37,10 +38,10 @@ exists-live p release none = subst (λ e. IfSome e (λ end. release < end)) (sym
 record IsUnflagged (opening : Opening) (slot : ℕ) : Type 0 where
   is : contains_slot opening.mask slot ≡ false
 
-unflagged-after : (layout : CycleLayout) (placed : List Placed) (openings : List Opening) (next : ℕ) (trace : List TimedFrame) (opening : Opening) (p : Placed) (k : ℕ)
-    → IsRunning layout placed openings next trace → Contains openings opening → Contains placed p
+unflagged-after : (layout : CycleLayout) (requests : List Request) (placed : List Placed) (openings : List Opening) (next : ℕ) (trace : List TimedFrame) (opening : Opening) (p : Placed) (k : ℕ)
+    → IsRunning layout requests placed openings next trace → Contains openings opening → Contains placed p
     → release_of p k < opening.cycle → opening.cycle < release_of p k + p.entry.deadline → IsUnflagged opening p.entry.slot
-unflagged-after layout placed openings next trace opening p k run opened stands after before = record {
+unflagged-after layout requests placed openings next trace opening p k run opened stands after before = record {
   is = false_from_ne_true _ (λ flagged.
       let mask : opening.mask ≡ released_in opening.placed opening.cycle = All-contains (λ o. o.mask ≡ released_in o.placed o.cycle) openings opening run.masks opened in
       let r = releasing-flagged opening.placed opening.cycle p.entry.slot (subst (λ m. contains_slot m p.entry.slot ≡ true) mask flagged) in
@@ -94,9 +95,9 @@ window-of layout openings opening slot frames some_time opened runs sent =
     }
 
 -- every instance whose last cycle was run is served
-pub all_served : (layout : CycleLayout) (placed : List Placed) (openings : List Opening) (next : ℕ) (trace : List TimedFrame) → 0 < layout.cycle
-    → IsRunning layout placed openings next trace → AllServed layout placed openings next trace
-all_served layout placed openings next trace some_time run p k last stands exists is_last before =
+pub all_served : (layout : CycleLayout) (requests : List Request) (placed : List Placed) (openings : List Opening) (next : ℕ) (trace : List TimedFrame) → 0 < layout.cycle
+    → IsRunning layout requests placed openings next trace → AllServed layout placed openings next trace
+all_served layout requests placed openings next trace some_time run p k last stands exists is_last before =
     let live = All-contains IsLive placed p run.live stands in
     let known = live.known in
     let deadline = live.deadline in
@@ -133,7 +134,7 @@ all_served layout placed openings next trace some_time run p k last stands exist
             let late = leb-true _ _ parts.0 in
             let early = leb-true _ _ parts.1 in
             let other = run.opened (cycle_of layout s) (omega arith) in
-            let unflagged = unflagged-after layout placed openings next trace other.0 p k run other.1 stands (let is = other.2 in omega arith) (let is = other.2 in omega arith) in
+            let unflagged = unflagged-after layout requests placed openings next trace other.0 p k run other.1 stands (let is = other.2 in omega arith) (let is = other.2 in omega arith) in
             let others = All-contains (λ x. RunsCycle layout x (frames_in layout x.cycle trace)) openings other.0 run.cycles other.1 in
             nothing-sent layout other.0 trace slot s known others unflagged among (sym other.2) same))
             ∙ sym (and_left _ _ (ne_eqb _ _ elsewhere))
@@ -150,24 +151,73 @@ all_served layout placed openings next trace some_time run p k last stands exist
       carries = cc;
     }
 
--- nothing else is sent in a slot
-pub no_strangers : (layout : CycleLayout) (placed : List Placed) (openings : List Opening) (next : ℕ) (trace : List TimedFrame) → 0 < layout.cycle
-    → IsRunning layout placed openings next trace → NoStrangers layout placed trace
-no_strangers layout placed openings next trace some_time run slot known k d here same =
-    let sent : TimedFrame = get_or trace k d in
-    let among : Contains trace sent = Contains-get_or trace k d here in
-    let started = run.started k d here in
+-- a frame with the identifier of a slot is a slot's
+slot_frame : (layout : CycleLayout) (opening : Opening) (sent : TimedFrame) (slot : ℕ) → slot < slots → sent.frame.identifier ≡ first_identifier + slot
+    → (sent.frame.identifier ≡ 0) ⊎ IsLaterFrame layout opening sent → IsSlotFrame layout opening sent
+slot_frame layout opening sent slot known same is =
+    elim is [
+      | inl trigger ↦ absurd (omega arith)
+      | inr later ↦ elim later [ inl frame ↦ absurd (let least = frame.identifier in let all : slots ≡ 40 = refl in omega arith) | inr frame ↦ frame ]
+    ]
+
+-- what a frame of a run is
+record IsFrameOf (layout : CycleLayout) (openings : List Opening) (sent : TimedFrame) : Type 0 where
+  opening : Opening
+  opened : Contains openings opening
+  cycle : opening.cycle ≡ cycle_of layout sent
+  is : (sent.frame.identifier ≡ 0) ⊎ IsLaterFrame layout opening sent
+
+frame-of : (layout : CycleLayout) (requests : List Request) (placed : List Placed) (openings : List Opening) (next : ℕ) (trace : List TimedFrame) → 0 < layout.cycle
+    → IsRunning layout requests placed openings next trace → (sent : TimedFrame) → Contains trace sent → IsFrameOf layout openings sent
+frame-of layout requests placed openings next trace some_time run sent among =
+    let started : sent.start < next * layout.cycle = All-contains (λ s. s.start < next * layout.cycle) trace sent run.started among in
     let opened = run.opened (cycle_of layout sent) ((div-lt_iff_lt-mul {k = layout.cycle} {x = sent.start} {y = next} some_time).1 started) in
     let o : Opening = opened.0 in
     let runs = All-contains (λ x. RunsCycle layout x (frames_in layout x.cycle trace)) openings o run.cycles opened.1 in
     let in_cycle : Contains (frames_in layout o.cycle trace) sent = Contains-filter (λ s. eqb (cycle_of layout s) o.cycle) trace sent among (eq-eqb (cycle_of layout sent) o.cycle (let is = opened.2 in omega arith)) in
-    let later = among-later layout o _ slot sent runs in_cycle same in
-    let frame : IsSlotFrame layout o sent = AllByRecursion-contains (IsSlotFrame layout o) runs.later sent runs.all later in
+    record {
+      opening = o;
+      opened = opened.1;
+      cycle = opened.2;
+      is = elim (Contains-cons_cases runs.trigger runs.later sent (subst (λ l. Contains l sent) runs.all_frames in_cycle)) [
+        | inl trigger ↦ inl (ap (λ s. s.frame.identifier) (sym trigger) ∙ runs.trigger_identifier)
+        | inr later ↦ inr (AllByRecursion-contains (IsLaterFrame layout o) runs.later sent runs.all later)
+      ];
+    }
+
+-- no frame of a request touches a trigger's time or a synchronous window
+pub all_guarded : (layout : CycleLayout) (requests : List Request) (placed : List Placed) (openings : List Opening) (next : ℕ) (trace : List TimedFrame) → 0 < layout.cycle
+    → IsRunning layout requests placed openings next trace → AllGuarded layout openings trace
+all_guarded layout requests placed openings next trace some_time run k d here request =
+    let sent : TimedFrame = get_or trace k d in
+    let frame = frame-of layout requests placed openings next trace some_time run sent (Contains-get_or trace k d here) in
+    elim frame.is [
+      | inl trigger ↦ absurd (omega arith)
+      | inr later ↦ elim later [
+        | inl asynchronous ↦ record {
+          opening = frame.opening;
+          opened = frame.opened;
+          cycle = frame.cycle;
+          after = asynchronous.after;
+          before = asynchronous.before;
+        }
+        | inr of_slot ↦ absurd (let is = of_slot.identifier in let known = of_slot.known in let all : slots ≡ 40 = refl in omega arith)
+      ]
+    ]
+
+-- nothing else is sent in a slot
+pub no_strangers : (layout : CycleLayout) (requests : List Request) (placed : List Placed) (openings : List Opening) (next : ℕ) (trace : List TimedFrame) → 0 < layout.cycle
+    → IsRunning layout requests placed openings next trace → NoStrangers layout placed trace
+no_strangers layout requests placed openings next trace some_time run slot known k d here same =
+    let sent : TimedFrame = get_or trace k d in
+    let of_run = frame-of layout requests placed openings next trace some_time run sent (Contains-get_or trace k d here) in
+    let o : Opening = of_run.opening in
+    let frame = slot_frame layout o sent slot known same of_run.is in
     let slot_is : frame.slot ≡ slot = (let id = frame.identifier in omega arith) in
-    let mask : o.mask ≡ released_in o.placed o.cycle = All-contains (λ x. x.mask ≡ released_in x.placed x.cycle) openings o run.masks opened.1 in
+    let mask : o.mask ≡ released_in o.placed o.cycle = All-contains (λ x. x.mask ≡ released_in x.placed x.cycle) openings o run.masks of_run.opened in
     let flagged : contains_slot (released_in o.placed o.cycle) slot ≡ true = ap (λ m. contains_slot m slot) (sym mask) ∙ ap (contains_slot o.mask) (let is : slot ≡ frame.slot = omega arith in is) ∙ frame.flagged in
     let r = releasing-flagged o.placed o.cycle slot flagged in
-    let stands = All-contains (λ x. (q : Placed) → Contains x.placed q → Contains placed q) openings o run.subset opened.1 r.p r.stands in
+    let stands = All-contains (λ x. (q : Placed) → Contains x.placed q → Contains placed q) openings o run.subset of_run.opened r.p r.stands in
     let live = All-contains IsLive placed r.p run.live stands in
     let sends = MaySend-released r.p r.k o.cycle live.some_time (IsReleasedIn-from_released_by r.p r.k o.cycle r.releases) in
     record {
@@ -175,5 +225,5 @@ no_strangers layout placed openings next trace some_time run slot known k d here
       k = r.k;
       stands = stands;
       of_slot = r.of_slot;
-      in_time = subst (λ c. MaySend r.p r.k c) opened.2 sends;
+      in_time = subst (λ c. MaySend r.p r.k c) of_run.cycle sends;
     }

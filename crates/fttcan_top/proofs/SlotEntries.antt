@@ -1,19 +1,17 @@
 -- What a run's table says of a flagged slot.
-use Rattle.std.proofs.Common.{◌≡◌, ℕ, ◌+◌, Bool, true, cond, List, [], ◌∷◌, ◌++◌, length, Some, None, refl, ap, sym, ◌∙◌, subst, add-one}
+use Rattle.std.proofs.Common.{◌≡◌, ℕ, ◌+◌, Bool, true, cond, List, [], length, Some, None, refl, ap, sym, ◌∙◌, subst, add-one}
 use Rattle.std.specs.Prelude.{option_map, unwrap_or}
 use Rattle.std.specs.List.{All}
 use Rattle.std.proofs.lemmas.List.Elements.{All-contains}
-use Rattle.can_frame.specs.DataFrame.{DataFrame}
 use Rattle.requirement_table.specs.declared.entries.Placed.{Placed}
 use Rattle.requirement_table.specs.Slots.{contains_slot, sum_where}
 use Rattle.requirement_table.specs.Instance.{worst, payload, instance_of, released_by}
 use Rattle.requirement_table.specs.Table.{released_in}
 use Rattle.requirement_table.specs.Instance.{bytes_of}
 use Rattle.requirement_table.proofs.Latest.{instance_of-sent, IsReleasedIn-from_released_by}
-use Rattle.fttcan_top.specs.declared.cycle.Queued.{Queued}
 use Rattle.fttcan_top.specs.Entries.{IsLive, AreDistinct}
-use Rattle.fttcan_top.specs.Offered.{Opening, next_opening, first_identifier, bytes_in, slot_cost}
-use Rattle.fttcan_top.specs.Cycle.{frame_of, frames_below, queued_from}
+use Rattle.node_model.specs.Opening.{bytes_in, slot_cost}
+use Rattle.fttcan_top.specs.Openings.{next_opening}
 use Rattle.fttcan_top.specs.Table.{entry_of}
 use Rattle.fttcan_top.proofs.Flagged.{MaySend-released, instance_in-only, unique-placed, length-payload}
 use Rattle.fttcan_top.proofs.Width.{releasing-flagged}
@@ -49,13 +47,6 @@ pub slot_cost-entry : (placed : List Placed) (slot cycle : ℕ) (p : Placed) →
 slot_cost-entry placed slot cycle p e =
     ap (λ b. worst (length (unwrap_or b []))) e.bytes ∙ ap worst (length-payload p.entry.length e.k)
 
-pub frame_of-entry : (placed : List Placed) (slot cycle k : ℕ) (p : Placed) → IsFlaggedEntry placed slot cycle p → instance_of p cycle ≡ Some k
-    → frame_of (next_opening placed cycle) slot ≡ record { identifier = first_identifier + slot; bytes = payload p.entry.length k }
-frame_of-entry placed slot cycle k p e sends =
-    let number : e.k ≡ k = (let s : Some e.k ≡ Some k = sym e.sends ∙ sends in cc) in
-    ap (λ b. record { identifier = first_identifier + slot; bytes = unwrap_or b [] }) e.bytes
-    ∙ ap (λ n. record { identifier = first_identifier + slot; bytes = payload p.entry.length n }) number
-
 -- one slot more
 pub sum_where-more : (n : ℕ) (p : ℕ → Bool) (f : ℕ → ℕ) → sum_where (n + 1) p f ≡ sum_where n p f + cond (p n) (f n) 0
 unfolding sum_where
@@ -64,34 +55,3 @@ sum_where-more n p f = rw add-one refl
 pub sum_where-none : (p : ℕ → Bool) (f : ℕ → ℕ) → sum_where 0 p f ≡ 0
 unfolding sum_where
 sum_where-none p f = refl
-
-pub frames_below-more : (opening : Opening) (n : ℕ) → frames_below opening (n + 1) ≡ frames_below opening n ++ cond (contains_slot opening.mask n) (frame_of opening n ∷ []) []
-unfolding frames_below
-frames_below-more opening n = rw add-one refl
-
-pub frames_below-none : (opening : Opening) → frames_below opening 0 ≡ []
-unfolding frames_below
-frames_below-none opening = refl
-
-pub queued_from-append : (time : ℕ) (front back : List DataFrame) → queued_from time (front ++ back) ≡ queued_from time front ++ queued_from time back
-queued_from-append time [] back = refl
-queued_from-append time (frame ∷ front) back = ap (λ l. record { from = time; frame = frame } ∷ l) (queued_from-append time front back)
-
--- The queue of a cycle as it is made
-
-pub queue-start : (head first : Queued) (from : ℕ) (opening : Opening) (empty items : List Queued) → empty ≡ [] → items ≡ empty ++ first ∷ []
-    → first.from ≡ head.from → first.frame ≡ head.frame → items ≡ head ∷ queued_from from (frames_below opening 0)
-queue-start head first from opening empty items none is time frame =
-    is ∙ ap (λ l. l ++ first ∷ []) none ∙ ap (λ t. record { from = t; frame = first.frame } ∷ []) time ∙ ap (λ f. record { from = head.from; frame = f } ∷ []) frame
-    ∙ ap (λ l. head ∷ queued_from from l) (sym (frames_below-none opening))
-
-pub queue-more : (head : Queued) (from time mask n : ℕ) (opening : Opening) (old new : List Queued) → time ≡ from → mask ≡ opening.mask
-    → old ≡ (head ∷ queued_from from (frames_below opening n))
-    → new ≡ old ++ queued_from time (cond (contains_slot mask n) (frame_of opening n ∷ []) [])
-    → new ≡ (head ∷ queued_from from (frames_below opening (n + 1)))
-queue-more head from time mask n opening old new is_time is_mask so_far is =
-    is ∙ ap (λ l. l ++ queued_from time (cond (contains_slot mask n) (frame_of opening n ∷ []) [])) so_far
-    ∙ ap (λ t. head ∷ (queued_from from (frames_below opening n) ++ queued_from t (cond (contains_slot mask n) (frame_of opening n ∷ []) []))) is_time
-    ∙ ap (λ m. head ∷ (queued_from from (frames_below opening n) ++ queued_from from (cond (contains_slot m n) (frame_of opening n ∷ []) []))) is_mask
-    ∙ ap (λ l. head ∷ l) (sym (queued_from-append from (frames_below opening n) _))
-    ∙ ap (λ l. head ∷ queued_from from l) (sym (frames_below-more opening n))

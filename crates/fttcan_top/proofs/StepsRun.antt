@@ -37,7 +37,7 @@ not-before front back number distinct among =
 can-add : (nodes : ℕ) (steps : List Step) (i caller start : ℕ) (entry : Entry) (placed : List Placed) (next : ℕ)
     → AreSteps nodes steps → IsAdd nodes caller start entry → next ≡ cycles_of (take i steps)
     → steps ≡ take i steps ++ Add caller start entry ∷ drop (i + 1) steps → AreInSlots (slots_of (take i steps)) placed
-    → CanRun placed next (Add caller start entry)
+    → CanRun nodes placed next (Add caller start entry)
 can-add nodes steps i caller start entry placed next are add is_next split slots =
     let few = are.together.few_cycles in
     let so_far = sum_by-take-le count_of steps i in
@@ -63,11 +63,12 @@ can-add nodes steps i caller start entry placed next are add is_next split slots
             absurd (not-before (slots_of (take i steps)) (slots_of (drop (i + 1) steps)) entry.slot distinct
             (subst (λ s. Contains (slots_of (take i steps)) s) found.of_slot (slots some.0 found.stands)))
       ],
+      add.known_node,
     )
 
 can-run-step : (nodes : ℕ) (steps : List Step) (i : ℕ) (step : Step) (placed : List Placed) (next : ℕ)
     → AreSteps nodes steps → IsStep nodes step → next ≡ cycles_of (take i steps) → cycles_of (take i steps) + count_of step ≤ cycles_of steps
-    → steps ≡ take i steps ++ step ∷ drop (i + 1) steps → AreInSlots (slots_of (take i steps)) placed → CanRun placed next step
+    → steps ≡ take i steps ++ step ∷ drop (i + 1) steps → AreInSlots (slots_of (take i steps)) placed → CanRun nodes placed next step
 can-run-step nodes steps i (Cycle count) placed next are is is_next within split slots = let few = are.together.few_cycles in omega arith
 can-run-step nodes steps i (Add caller start entry) placed next are is is_next within split slots =
     can-add nodes steps i caller start entry placed next are is is_next split slots
@@ -75,7 +76,7 @@ can-run-step nodes steps i (Add caller start entry) placed next are is is_next w
 -- the step at a place can be run when those before it were
 pub can-run : (nodes : ℕ) (steps : List Step) (i : ℕ) (d : Step) (placed : List Placed) (next : ℕ)
     → AreSteps nodes steps → i < length steps → next ≡ cycles_of (take i steps) → AreInSlots (slots_of (take i steps)) placed
-    → CanRun placed next (get_or steps i d)
+    → CanRun nodes placed next (get_or steps i d)
 can-run nodes steps i d placed next are within is_next slots =
     can-run-step nodes steps i (get_or steps i d) placed next are (are.each i d within) is_next (sum_by_more_le count_of steps i d within) (around steps i d within) slots
 

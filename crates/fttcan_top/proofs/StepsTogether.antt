@@ -1,9 +1,7 @@
 -- What holds of all steps of a file together, one step after the other.
-use Rattle.std.proofs.Common.{All, IfSome, length-append, ◌≢◌, ◌≡◌, ℕ, ◌+◌, ◌<◌, ◌≤◌, true, false, not, ◌&&◌, ◌||◌, List, [], ◌∷◌, ◌++◌, length, get_or, take, drop, nat_eq, nat_le, refl, sym, ap, ◌∙◌, arith, add-zero, inl, inr}
+use Rattle.std.proofs.Common.{All, IfSome, ◌≡◌, ℕ, ◌+◌, ◌<◌, ◌≤◌, true, false, not, ◌&&◌, ◌||◌, List, [], ◌∷◌, ◌++◌, length, get_or, take, drop, nat_eq, nat_le, refl, sym, ap, ◌∙◌, arith, add-zero, inl, inr}
 use Rattle.std.proofs.lemmas.Bool.Decides.{Decides-eqb, nat_tests}
 use Rattle.std.proofs.lemmas.Bool.{and_parts, cases_Bool, false≢true, or_parts}
-use Rattle.std.proofs.Math.ListN.{get_or-append}
-use Rattle.std.proofs.Math.Seq.{get_or-append_seam}
 use Rattle.std.proofs.Math.Bool.{and-false, or_comm, or-false, or-true}
 use Rattle.std.proofs.lemmas.List.Elements.{filter_map-append}
 use Rattle.std.proofs.lemmas.List.Folds.{list_any-append}
@@ -141,13 +139,3 @@ fit_together_from steps h =
     let in_time : start_in_time 0 steps ≡ true = in_time_from 0 steps (λ above below caller start entry e. omega (arith, h.in_time above below caller start entry e)) in
     let distinct : are_distinct (slots_of steps) ≡ true = distinct_from (slots_of steps) (IsDistinct-from_AllPairs Decides-eqb (slots_of steps) h.distinct_slots) in
     rw (few, in_time, distinct)
-
--- the slot of a step is none of those of the steps above it
-pub fresh_slot : (steps above below : List Step) (caller start : ℕ) (entry : Entry) → FitTogether steps → steps ≡ above ++ Add caller start entry ∷ below
-    → All (λ slot. slot ≢ entry.slot) (slots_of above)
-fresh_slot steps above below caller start entry fit split =
-    let slots : slots_of steps ≡ slots_of above ++ entry.slot ∷ slots_of below = ap slots_of split ∙ filter_map-append slot_of above (Add caller start entry ∷ below) in
-    let pairs = rw slots at fit.distinct_slots in
-    λ k d inside same.
-    pairs k (length (slots_of above)) d inside (omega (arith, length-append (slots_of above) (entry.slot ∷ slots_of below)))
-    (get_or-append (slots_of above) (entry.slot ∷ slots_of below) d k inside ∙ same ∙ sym (get_or-append_seam (slots_of above) entry.slot (slots_of below) d))

@@ -1,16 +1,26 @@
--- In its synchronous window a cycle sends each pending slot, one after the other without a gap.
-use Rattle.std.proofs.Common.{◌≡◌, ℕ, ◌+◌, ◌<◌, ◌≤◌, ◌⊎◌, ◌&&◌, not, eqb, true, false, List, [], ◌∷◌, ◌++◌, refl, ap, sym, ◌∙◌, arith, subst, inl, inr}
+-- What a cycle sends: asynchronous frames that end before its synchronous window, and in that window each pending slot, one after the other
+-- without a gap.
+use Rattle.std.proofs.Common.{◌≡◌, ℕ, ◌+◌, ◌<◌, ◌≤◌, ◌⊎◌, ◌&&◌, not, eqb, true, false, List, [], ◌∷◌, ◌++◌, length, get_or, refl, ap, sym, ◌∙◌, arith, subst, inl, inr}
 use Rattle.std.proofs.lemmas.Bool.{cases_eq, cases_lt, both_ways, and_from, and_parts, not-true, not_from_false, eq-eqb, ne_eqb, cond-true, cond-false}
 use Rattle.std.proofs.Common.{Some}
+use Rattle.std.specs.Prelude.{slice_get, unwrap_or}
+use Rattle.std.proofs.lemmas.List.Elements.{All-drop, All-filter, All-get_or}
+use Rattle.std.proofs.lemmas.Option.{slice_get_within, get_or_from_slice_get}
+use Rattle.requirement_table.specs.Instance.{worst}
 use Rattle.can_frame.specs.DataFrame.{DataFrame}
 use Rattle.can_frame.specs.declared.data_frame.TimedFrame.{TimedFrame}
 use Rattle.can_frame.specs.Wire.{wire_length}
-use Rattle.cycle_layout.specs.Layout.{CycleLayout}
+use Rattle.cycle_layout.specs.Layout.{CycleLayout, async_open}
 use Rattle.trigger_codec.specs.Bytes.{trigger_frame}
 use Rattle.requirement_table.specs.Slots.{contains_slot}
 use Rattle.bus_line.specs.Trace.{end_of, Follows, IsNext}
-use Rattle.fttcan_top.specs.Offered.{Opening, slots, first_identifier, bytes_in, slot_cost, width_of, start_of, end_of_cycle, window_start, OffersTrigger, OffersSlot, offered_in}
-use Rattle.fttcan_top.specs.Window.{was_sent, is_pending, pending_width, of_slot, SendsPending, IsFit, RunsCycle}
+use Rattle.node_model.specs.Opening.{Opening, slots, first_identifier, bytes_in, slot_cost, width_of, start_of, end_of_cycle, window_start}
+use Rattle.node_model.specs.Offered.{OffersTrigger, OffersRequest, OffersSlot}
+use Rattle.async_window.specs.declared.request.Request.{Request}
+use Rattle.async_window.specs.Waiting.{requests_of, frames_with, unsent_after}
+use Rattle.cycle_engine.specs.Offered.{offered_in, AreAsynchronous}
+use Rattle.fttcan_top.specs.Window.{is_pending, pending_width, of_slot, IsAsynchronousFrame, SendsPending, AreShort, IsFit, RunsCycle}
+use Rattle.node_model.specs.Own.{was_sent}
 use Rattle.std.specs.List.{All}
 use Rattle.std.proofs.Math.Bool.{and-true}
 use Rattle.fttcan_top.proofs.SlotSums.{sum_where-without, sum_where-member, sum_where-same}
@@ -25,6 +35,7 @@ offers_pending layout opening past slot at fit known pending late early =
     let p = fit.present slot known parts.0 in (
       record { identifier = first_identifier + slot; bytes = p.0 },
       record {
+        begun = (let room = fit.room in omega arith);
         late_enough = late;
         within = early;
         known = known;
@@ -67,23 +78,56 @@ of_slot-other : (slot : ℕ) (sent : TimedFrame) (later : List TimedFrame) → (
     → of_slot slot (sent ∷ later) ≡ of_slot slot later
 of_slot-other slot sent later other = cond-false (eqb sent.frame.identifier (first_identifier + slot)) _ _ (ne_eqb _ _ other)
 
+-- the frame of a slot takes no more than the slot's worst length
+slot-in_time : (opening : Opening) (slot : ℕ) (frame : DataFrame) → AreShort → bytes_in opening slot ≡ Some frame.bytes → wire_length frame ≤ slot_cost opening slot
+slot-in_time opening slot frame short bytes =
+    let cost : slot_cost opening slot ≡ worst (length frame.bytes) = ap (λ b. worst (length (unwrap_or b []))) bytes in
+    let in_time = short.in_time frame in
+    omega arith
+
 -- the next frame of the window starts as soon as the bus is free and the window has begun
-starts_now : (layout : CycleLayout) (opening : Opening) (past : List TimedFrame) (free now : ℕ) (sent : TimedFrame) (slot : ℕ)
+starts_now : (layout : CycleLayout) (requests : List Request) (opening : Opening) (past : List TimedFrame) (free now : ℕ) (sent : TimedFrame) (slot : ℕ)
     → IsFit layout opening → free ≤ now → window_start layout opening ≤ now → (now ≡ free) ⊎ (now ≡ window_start layout opening)
-    → IsNext (offered_in layout opening) past free (end_of_cycle layout opening) sent
+    → IsNext (offered_in layout requests opening) past free (end_of_cycle layout opening) sent
     → OffersSlot layout opening past sent.start sent.frame slot → sent.start ≡ now
-starts_now layout opening past free now sent slot fit is_free in_window which next offer =
+starts_now layout requests opening past free now sent slot fit is_free in_window which next offer =
     let no_later : sent.start ≤ now = elim (cases_lt now sent.start) [
       | inl gap ↦
           let pending = pending-offered layout opening past sent.start slot sent.frame offer in
           let within = next.within in
           let earlier = offers_pending layout opening past slot now fit offer.known pending in_window (omega arith) in
-          absurd (next.first now earlier.0 is_free gap (inr (slot, earlier.1)))
+          absurd (next.first now earlier.0 is_free gap (inr (inr (slot, earlier.1))))
       | inr no_gap ↦ no_gap
     ] in
     let when_free = next.when_free in
     let late_enough = offer.late_enough in
     elim which [ inl e ↦ omega arith | inr e ↦ omega arith ]
+
+-- the frame of a request, and its time
+pub record IsRequestFrame (layout : CycleLayout) (opening : Opening) (at : ℕ) (frame : DataFrame) : Type 0 where
+  pub identifier : 0x200 ≤ frame.identifier
+  pub after : async_open layout opening.cycle ≤ at
+  pub before : at + wire_length frame ≤ window_start layout opening
+
+-- a request among those of a list
+asynchronous-first : (requests : List Request) (past : List TimedFrame) (id : ℕ) (request : Request) → AreAsynchronous requests
+    → slice_get (unsent_after requests past id) 0 ≡ Some request → 0x200 ≤ request.frame.identifier
+asynchronous-first requests past id request asynchronous first =
+    let P : Request → Type 0 = λ r. (0x200 ≤ r.frame.identifier) × (r.frame.identifier ≤ 0x7EF) in
+    let unsent : List Request = unsent_after requests past id in
+    let all : All P unsent = All-drop P (frames_with past id) (requests_of requests id) (All-filter (λ r. eqb r.frame.identifier id) P requests asynchronous) in
+    let holds : P (get_or unsent 0 request) = All-get_or P unsent 0 request (slice_get_within unsent 0 request first) all in
+    (subst P (get_or_from_slice_get unsent 0 request request first) holds).0
+
+pub request_frame : (layout : CycleLayout) (requests : List Request) (opening : Opening) (past : List TimedFrame) (at : ℕ) (frame : DataFrame) → AreShort
+    → AreAsynchronous requests → OffersRequest layout requests opening past at frame → IsRequestFrame layout opening at frame
+request_frame layout requests opening past at frame short asynchronous offer =
+    let request : Request = offer.request in
+    let least = asynchronous-first requests past frame.identifier request asynchronous offer.may_start.waiting.first in
+    let in_time = short.in_time request.frame in
+    let whole = offer.may_start.allowed.whole in
+    subst (λ f. IsRequestFrame layout opening at f) (sym offer.its_frame)
+    (record { identifier = least; after = offer.may_start.allowed.opened; before = omega arith })
 
 -- the frame that starts now, and those after it
 joined : (layout : CycleLayout) (opening : Opening) (past : List TimedFrame) (sent : TimedFrame) (slot : ℕ) (later : List TimedFrame)
@@ -122,50 +166,93 @@ joined layout opening past sent slot later offer pending late ends rest =
           λ same. let is : x ≡ slot = (let id = offer.identifier in omega arith) in both_ways _ not_pending (subst (λ k. is_pending layout opening past k ≡ true) (sym is) pending) in
           of_slot-other x sent later other ∙ rest.none x known (is_pending-other layout opening past sent x other ∙ not_pending);
       all = (
-        record {
+        inr (record {
           slot = slot;
           known = offer.known;
           flagged = offer.flagged;
           identifier = offer.identifier;
           after = offer.late_enough;
           before = ends;
-        },
+        }),
         rest.all,
       );
     }
 
--- the window's frames: from the time `now` on, at which the bus is free and the window has begun, the pending slots have room until the
--- cycle's end, and so each is sent by then
-pub sends_pending : (layout : CycleLayout) (opening : Opening) (past : List TimedFrame) (free now : ℕ) (frames : List TimedFrame)
-    → IsFit layout opening → start_of layout opening < free → free ≤ now → window_start layout opening ≤ now
+-- an asynchronous frame, and those after it
+joined-asynchronous : (layout : CycleLayout) (opening : Opening) (past : List TimedFrame) (sent : TimedFrame) (later : List TimedFrame)
+    → IsAsynchronousFrame layout opening sent → SendsPending layout opening (past ++ sent ∷ []) later → SendsPending layout opening past (sent ∷ later)
+joined-asynchronous layout opening past sent later frame rest =
+    let other : (x : ℕ) → x < slots → sent.frame.identifier ≡ first_identifier + x → ⊥ =
+    λ x known same. let least = frame.identifier in let all : slots ≡ 40 = refl in omega arith in
+    let same : (x : ℕ) → x < slots → is_pending layout opening (past ++ sent ∷ []) x ≡ is_pending layout opening past x =
+    λ x known. is_pending-other layout opening past sent x (other x known) in
+    record {
+      each = λ x known is_pending_x.
+          let found = rest.each x known (same x known ∙ is_pending_x) in
+          record {
+            sent = found.sent;
+            once = of_slot-other x sent later (other x known) ∙ found.once;
+            after = found.after;
+            starts_before = found.starts_before;
+            before = found.before;
+            carries = found.carries;
+          };
+      none = λ x known not_pending. of_slot-other x sent later (other x known) ∙ rest.none x known (same x known ∙ not_pending);
+      all = (inl frame, rest.all);
+    }
+
+-- an asynchronous frame leaves the pending slots as they are
+pending_width-other : (layout : CycleLayout) (opening : Opening) (past : List TimedFrame) (sent : TimedFrame) → 0x200 ≤ sent.frame.identifier
+    → pending_width layout opening (past ++ sent ∷ []) ≡ pending_width layout opening past
+pending_width-other layout opening past sent least =
+    sum_where-same slots (is_pending layout opening (past ++ sent ∷ [])) (is_pending layout opening past) (slot_cost opening)
+    (λ x known. is_pending-other layout opening past sent x (λ same. let all : slots ≡ 40 = refl in omega arith))
+
+-- the frames behind the trigger: from the time `now` on, at which the bus is free and the synchronous window has begun, the pending slots
+-- have room until the cycle's end, and so each is sent by then
+pub sends_pending : (layout : CycleLayout) (requests : List Request) (opening : Opening) (past : List TimedFrame) (free now : ℕ) (frames : List TimedFrame)
+    → IsFit layout opening → AreAsynchronous requests → start_of layout opening < free → free ≤ now → window_start layout opening ≤ now
     → (now ≡ free) ⊎ (now ≡ window_start layout opening)
     → now + pending_width layout opening past ≤ end_of_cycle layout opening
-    → Follows (offered_in layout opening) past free (end_of_cycle layout opening) frames
+    → Follows (offered_in layout requests opening) past free (end_of_cycle layout opening) frames
     → SendsPending layout opening past frames
-sends_pending layout opening past free now [] fit begun is_free in_window which room nothing = record {
+sends_pending layout requests opening past free now [] fit asynchronous begun is_free in_window which room nothing = record {
   each = λ slot known pending.
       let wide = pending_width-positive layout opening past slot known pending in
       let offer = offers_pending layout opening past slot now fit known pending in_window (omega arith) in
-      absurd (nothing now offer.0 is_free (omega arith) (inr (slot, offer.1)));
+      absurd (nothing now offer.0 is_free (omega arith) (inr (inr (slot, offer.1))));
   none = λ slot known not_pending. refl;
   all = tt;
 }
-sends_pending layout opening past free now (sent ∷ later) fit begun is_free in_window which room follows =
+sends_pending layout requests opening past free now (sent ∷ later) fit asynchronous begun is_free in_window which room follows =
+    let whole = follows.0.whole in
+    let some_time = fit.short.some_time sent.frame in
+    let later_start = follows.0.when_free in
     elim follows.0.least.offered as (λ _. SendsPending layout opening past (sent ∷ later)) [
-      | inl trigger ↦ absurd (let at = trigger.time in let later_start = follows.0.when_free in omega arith)
-      | inr choice ↦
-          let slot : ℕ = choice.0 in
-          let offer : OffersSlot layout opening past sent.start sent.frame slot = choice.1 in
-          let pending = pending-offered layout opening past sent.start slot sent.frame offer in
-          let wide = pending_width-positive layout opening past slot offer.known pending in
-          let at_now : sent.start ≡ now = starts_now layout opening past free now sent slot fit is_free in_window which follows.0 offer in
-          let late : start_of layout opening ≤ sent.start = omega arith in
-          let less = pending_width-sent layout opening past sent slot offer.known pending offer.identifier late in
-          let in_time = fit.in_time slot sent.frame offer.known offer.identifier offer.bytes in
-          let some_time = fit.some_time slot sent.frame offer.known offer.identifier offer.bytes in
-          let whole = follows.0.whole in
-          let rest = sends_pending layout opening (past ++ sent ∷ []) (end_of sent) (end_of sent) later fit (omega arith) (omega arith) (omega arith) (inl refl) (omega arith) follows.1 in
-          joined layout opening past sent slot later offer pending late (omega arith) rest
+      | inl trigger ↦ absurd (let at = trigger.time in omega arith)
+      | inr choice ↦ elim choice as (λ _. SendsPending layout opening past (sent ∷ later)) [
+        | inl request ↦
+            let frame = request_frame layout requests opening past sent.start sent.frame fit.short asynchronous request in
+            let before = frame.before in
+            let at_window : now ≡ window_start layout opening = elim which [ inl e ↦ absurd (omega arith) | inr e ↦ e ] in
+            let same = pending_width-other layout opening past sent frame.identifier in
+            let rest = sends_pending layout requests opening (past ++ sent ∷ []) (end_of sent) now later fit asynchronous
+            (omega arith) (omega arith) in_window (inr at_window) (omega arith) follows.1 in
+            joined-asynchronous layout opening past sent later
+            (record { identifier = frame.identifier; after = frame.after; before = (let b = frame.before in omega arith) }) rest
+        | inr of_slot ↦
+            let slot : ℕ = of_slot.0 in
+            let offer : OffersSlot layout opening past sent.start sent.frame slot = of_slot.1 in
+            let pending = pending-offered layout opening past sent.start slot sent.frame offer in
+            let wide = pending_width-positive layout opening past slot offer.known pending in
+            let at_now : sent.start ≡ now = starts_now layout requests opening past free now sent slot fit is_free in_window which follows.0 offer in
+            let late : start_of layout opening ≤ sent.start = omega arith in
+            let less = pending_width-sent layout opening past sent slot offer.known pending offer.identifier late in
+            let in_time = slot-in_time opening slot sent.frame fit.short offer.bytes in
+            let rest = sends_pending layout requests opening (past ++ sent ∷ []) (end_of sent) (end_of sent) later fit asynchronous
+            (omega arith) (omega arith) (omega arith) (inl refl) (omega arith) follows.1 in
+            joined layout opening past sent slot later offer pending late (omega arith) rest
+      ]
     ]
 
 -- a slot of which nothing was sent in the cycle is pending where it is flagged
@@ -178,10 +265,10 @@ is_pending-at_start layout opening past sent slot before trigger =
     ∙ ap (λ b. contains_slot opening.mask slot && not b) unsent ∙ and-true _
 
 -- the first frame of a cycle is its trigger, at the cycle's start
-first_is_trigger : (layout : CycleLayout) (opening : Opening) (past : List TimedFrame) (sent : TimedFrame) → IsFit layout opening
-    → IsNext (offered_in layout opening) past (start_of layout opening) (end_of_cycle layout opening) sent
+first_is_trigger : (layout : CycleLayout) (requests : List Request) (opening : Opening) (past : List TimedFrame) (sent : TimedFrame) → IsFit layout opening
+    → IsNext (offered_in layout requests opening) past (start_of layout opening) (end_of_cycle layout opening) sent
     → (sent.start ≡ start_of layout opening) × (sent.frame ≡ trigger_frame opening.cycle (width_of opening) opening.mask)
-first_is_trigger layout opening past sent fit next =
+first_is_trigger layout requests opening past sent fit next =
     let offer : OffersTrigger layout opening (start_of layout opening) (trigger_frame opening.cycle (width_of opening) opening.mask) =
     record { time = refl; trigger = refl } in
     let room = fit.room in
@@ -192,21 +279,27 @@ first_is_trigger layout opening past sent fit next =
     ] in
     elim next.least.offered [
       | inl trigger ↦ (trigger.time, trigger.trigger)
-      | inr choice ↦ let late = choice.1.late_enough in absurd (omega arith)
+      | inr choice ↦ elim choice [
+        | inl request ↦ let late = request.may_start.allowed.opened in absurd (omega arith)
+        | inr of_slot ↦ let late = of_slot.1.late_enough in absurd (omega arith)
+      ]
     ]
 
 -- what a cycle sends
-pub runs_cycle : (layout : CycleLayout) (opening : Opening) (past frames : List TimedFrame) → IsFit layout opening
+pub runs_cycle : (layout : CycleLayout) (requests : List Request) (opening : Opening) (past frames : List TimedFrame) → IsFit layout opening
+    → AreAsynchronous requests
     → All (λ x. x.start < start_of layout opening) past
-    → Follows (offered_in layout opening) past (start_of layout opening) (end_of_cycle layout opening) frames
+    → Follows (offered_in layout requests opening) past (start_of layout opening) (end_of_cycle layout opening) frames
     → RunsCycle layout opening frames
-runs_cycle layout opening past [] fit before nothing =
+runs_cycle layout requests opening past [] fit asynchronous before nothing =
     let room = fit.room in
     absurd (nothing (start_of layout opening) _ (omega arith) (omega arith) (inl (record { time = refl; trigger = refl })))
-runs_cycle layout opening past (sent ∷ later) fit before follows =
-    let first = first_is_trigger layout opening past sent fit follows.0 in
-    let some_time : 0 < wire_length sent.frame = subst (λ f. 0 < wire_length f) (sym first.1) fit.trigger_some_time in
-    let in_time : wire_length sent.frame ≤ 135 = subst (λ f. wire_length f ≤ 135) (sym first.1) fit.trigger_in_time in
+runs_cycle layout requests opening past (sent ∷ later) fit asynchronous before follows =
+    let first = first_is_trigger layout requests opening past sent fit follows.0 in
+    let some_time = fit.short.some_time sent.frame in
+    let few : length sent.frame.bytes ≡ 8 = ap (λ f. length f.bytes) first.1 ∙ fit.trigger_bytes in
+    let short = fit.short.in_time sent.frame in
+    let in_time : wire_length sent.frame ≤ 135 = omega arith in
     let no_slot : sent.frame.identifier ≡ 0 = ap (λ f. f.identifier) first.1 ∙ fit.trigger_identifier in
     let whole = follows.0.whole in
     let room = fit.room in
@@ -215,7 +308,7 @@ runs_cycle layout opening past (sent ∷ later) fit before follows =
     λ slot. is_pending-at_start layout opening past sent slot before no_slot in
     let width : pending_width layout opening (past ++ sent ∷ []) ≡ width_of opening =
     sum_where-same slots (is_pending layout opening (past ++ sent ∷ [])) (contains_slot opening.mask) (slot_cost opening) (λ slot _. pending slot) in
-    let window = sends_pending layout opening (past ++ sent ∷ []) (end_of sent) (window_start layout opening) later fit
+    let window = sends_pending layout requests opening (past ++ sent ∷ []) (end_of sent) (window_start layout opening) later fit asynchronous
     (omega arith) (omega arith) (omega arith) (inr refl) (omega arith) follows.1 in
     record {
       trigger = sent;

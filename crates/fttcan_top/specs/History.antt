@@ -4,6 +4,7 @@ use Rattle.std.specs.List.{flat_map, list_all}
 use Rattle.requirement_table.specs.declared.entries.Entry.{Entry}
 use Rattle.requirement_table.specs.declared.entries.Placed.{Placed}
 use Rattle.requirement_table.specs.Table.{released_in}
+use Rattle.admission.specs.declared.Rules.{Rules}
 use Rattle.fttcan_top.specs.declared.input.steps.Step.{Step}
 use Rattle.fttcan_top.specs.declared.input.steps.Step.TheVariants.{Cycle, Add}
 use Rattle.fttcan_top.specs.Entries.{total_cost}
@@ -55,17 +56,17 @@ pub record IsLeastCommonPeriod (placed : List Placed) (multiple : ℕ) : Type 0 
   pub common : IsCommonPeriod placed multiple
   pub least : (other : ℕ) → IsCommonPeriod placed other → multiple ≤ other
 
--- the verdict on a change that makes this list of placed entries, planned from the cycle `from` in windows of at most `window` bit times:
--- the first of too heavy, beyond the horizon, and accepted
-abbrev pub IsVerdict : ℕ → List Placed → ℕ → Verdict → Type 0
-IsVerdict window placed from (TooHeavy sum limit) =
-    (sum ≡ total_cost placed) × (limit ≡ window) × (window < total_cost placed)
-IsVerdict window placed from (Horizon first walked) =
-    (total_cost placed ≤ window) × (first ≡ from) × (walked ≡ 10000)
-    × ((multiple : ℕ) → IsCommonPeriod placed multiple → from + 10000 < settled_from from placed + multiple)
-IsVerdict window placed from (Accepted first length) =
-    (total_cost placed ≤ window) × (first ≡ settled_from from placed) × IsLeastCommonPeriod placed length
-    × (first + length ≤ from + 10000)
+-- the verdict on a change that makes this list of placed entries, planned from the cycle `from` by these rules: the first of too heavy for
+-- the largest window, beyond the horizon, and accepted
+abbrev pub IsVerdict : Rules → List Placed → ℕ → Verdict → Type 0
+IsVerdict rules placed from (TooHeavy sum limit) =
+    (sum ≡ total_cost placed) × (limit ≡ rules.window) × (rules.window < total_cost placed)
+IsVerdict rules placed from (Horizon first walked) =
+    (total_cost placed ≤ rules.window) × (first ≡ from) × (walked ≡ rules.horizon)
+    × ((multiple : ℕ) → IsCommonPeriod placed multiple → from + rules.horizon < settled_from from placed + multiple)
+IsVerdict rules placed from (Accepted first length) =
+    (total_cost placed ≤ rules.window) × (first ≡ settled_from from placed) × IsLeastCommonPeriod placed length
+    × (first + length ≤ from + rules.horizon)
 
 -- Legal histories
 
@@ -80,20 +81,20 @@ next_of history = count_by is_open history
 
 -- the event is right after the events before it: a change is planned from the next cycle and has the verdict on the list with its
 -- entry; an opening is of the next cycle and flags the slots with an instance released in it
-abbrev pub IsRight : ℕ → List Event → Event → Type 0
-IsRight window before (Submit caller start entry from verdict) =
-    (from ≡ next_of before) × IsVerdict window (placed_of before ++ placed_at start entry ∷ []) from verdict
-IsRight window before (Open cycle mask) =
+abbrev pub IsRight : Rules → List Event → Event → Type 0
+IsRight rules before (Submit caller start entry from verdict) =
+    (from ≡ next_of before) × IsVerdict rules (placed_of before ++ placed_at start entry ∷ []) from verdict
+IsRight rules before (Open cycle mask) =
     (cycle ≡ next_of before) × (mask ≡ released_in (placed_of before) cycle)
 
 -- each of the events is right after those before it
-abbrev pub AreRight : ℕ → List Event → List Event → Type 0
-AreRight window before [] = Unit {0}
-AreRight window before (event ∷ later) = IsRight window before event × AreRight window (before ++ event ∷ []) later
+abbrev pub AreRight : Rules → List Event → List Event → Type 0
+AreRight rules before [] = Unit {0}
+AreRight rules before (event ∷ later) = IsRight rules before event × AreRight rules (before ++ event ∷ []) later
 
 -- *Legal history*: each event is right at its place
-abbrev pub IsLegal : ℕ → List Event → Type 0
-IsLegal window history = AreRight window [] history
+abbrev pub IsLegal : Rules → List Event → Type 0
+IsLegal rules history = AreRight rules [] history
 
 -- What was asked
 

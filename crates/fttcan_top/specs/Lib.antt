@@ -3,12 +3,10 @@ pub mod Words
 pub mod Status
 pub mod Chain
 pub mod StepsFile
-pub mod SystemFile
 pub mod History
 pub mod Output
 pub mod Loads
 pub mod Ends
-pub mod Offered
 pub mod Window
 pub mod Kept
 pub mod Log
@@ -17,5 +15,4 @@ pub mod Promise
 pub mod Progress
 pub mod Logged
 pub mod Table
-pub mod Cycle
 pub mod Running

@@ -1,9 +1,15 @@
 -- The cycles that a history opens.
-use Rattle.std.specs.Prelude.{List, [], ◌∷◌, ◌++◌}
+use Rattle.std.specs.Prelude.{ℕ, List, [], ◌∷◌, ◌++◌}
+use Rattle.requirement_table.specs.declared.entries.Placed.{Placed}
+use Rattle.requirement_table.specs.Table.{released_in}
+use Rattle.node_model.specs.Opening.{Opening}
 use Rattle.fttcan_top.specs.declared.history.Event.{Event}
 use Rattle.fttcan_top.specs.declared.history.Event.TheVariants.{Submit, Open}
 use Rattle.fttcan_top.specs.History.{placed_of}
-use Rattle.fttcan_top.specs.Offered.{Opening}
+
+-- the opening of a cycle by these entries: it flags the slots with an instance that is released in it
+abbrev pub next_opening : List Placed → ℕ → Opening
+next_opening placed cycle = record { cycle = cycle; mask = released_in placed cycle; placed = placed }
 
 -- the opening that an event is, after the events before it
 abbrev pub opening_of : List Event → Event → List Opening

@@ -5,29 +5,41 @@ use Rattle.ftt_io.specs.Files.{NamedFiles}
 use Rattle.ftt_io.specs.Puts.{Puts, PutsPrefix}
 use Rattle.fttcan_top.specs.Promise.{Kept}
 use Rattle.fttcan_top.specs.Log.{log_text}
-use Rattle.fttcan_top.specs.declared.input.system.System.{System}
+use Rattle.async_window.specs.declared.request.Owner.{Owner}
+use Rattle.async_window.specs.declared.request.Request.{Request}
+use Rattle.input_text.specs.SystemFile.{system_of}
+use Rattle.input_text.specs.SystemText.{system_fault_line}
+use Rattle.input_text.specs.RequestsFile.{requests_of}
+use Rattle.input_text.specs.RequestText.{text_of}
+use Rattle.input_text.specs.declared.system.System.{System}
+use Rattle.input_text.specs.declared.system_fault.SystemFault.{SystemFault}
+use Rattle.input_text.specs.declared.request_fault.RequestFault.{RequestFault}
 use Rattle.fttcan_top.specs.declared.input.steps.Step.{Step}
 use Rattle.fttcan_top.specs.declared.history.Event.{Event}
 use Rattle.fttcan_top.specs.declared.load.Source.{Source}
 use Rattle.fttcan_top.specs.declared.status.Status.{Status}
 use Rattle.fttcan_top.specs.declared.status.Status.TheVariants.{Done, Refused, Words, Input, Read, Write, Memory}
-use Rattle.fttcan_top.specs.SystemFile.{system_of}
 use Rattle.fttcan_top.specs.StepsFile.{steps_of}
 use Rattle.fttcan_top.specs.Words.{Command, replay, command_of}
 use Rattle.fttcan_top.specs.History.{AnswersSteps, all_accepted}
 
 -- What is asked
 
--- why a call has no run: the words are no command's, a file is refused, or a file is not there
+-- why a call has no run: the words are no command's; a file is longer than its limit; the text of one breaks a rule of its format; or a
+-- file is not there
 pub data Stopped : Type 0 where
   no_command : Stopped
-  refused : Source → Stopped
+  too_long : Source → Stopped
+  wrong_system : SystemFault → Stopped
+  wrong_steps : Stopped
+  wrong_requests : RequestFault → Stopped
   absent : Stopped
 
--- a run that is asked for: the system and the steps
+-- a run that is asked for: the system, the steps and the requests
 pub record Asked : Type 0 where
   pub system : System
   pub steps : List Step
+  pub requests : List Request
 
 -- the greatest number of bytes of a file
 abbrev pub file_limit : ℕ
@@ -42,28 +54,40 @@ Err why >>= next = Err why
 -- the bytes of a file that is there and within the limit
 abbrev pub within_limit : Source → Option (List ℕ) → Result (List ℕ) Stopped
 within_limit source None = Err absent
-within_limit source (Some bytes) = if nat_le (length bytes) file_limit then Ok bytes else Err (refused source)
+within_limit source (Some bytes) = if nat_le (length bytes) file_limit then Ok bytes else Err (too_long source)
 
 -- what a text means, where it keeps to its format
-abbrev pub taken : {A : Type 0} → Source → Option A → Result A Stopped
-taken source None = Err (refused source)
-taken source (Some value) = Ok value
+abbrev pub taken : {A : Type 0} → Option A → Stopped → Result A Stopped
+taken None why = Err why
+taken (Some value) why = Ok value
+
+-- the meaning of a text, or the fault in it as the reason why there is no run
+abbrev pub meant : {A Fault : Type 0} → (Fault → Stopped) → Result A Fault → Result A Stopped
+meant why (Ok value) = Ok value
+meant why (Err fault) = Err (why fault)
 
 -- the system in the file of this name
 abbrev pub system_in : NamedFiles → List ℕ → Result System Stopped
-system_in files name = within_limit Source.System (files name) >>= λ bytes. taken Source.System (system_of bytes)
+system_in files name = within_limit Source.System (files name) >>= λ bytes. meant wrong_system (system_of bytes)
 
 -- the steps in the file of this name, for so many nodes
 abbrev pub steps_in : NamedFiles → List ℕ → ℕ → Result (List Step) Stopped
-steps_in files name nodes = within_limit Source.Steps (files name) >>= λ bytes. taken Source.Steps (steps_of nodes bytes)
+steps_in files name nodes = within_limit Source.Steps (files name) >>= λ bytes. taken (steps_of nodes bytes) wrong_steps
 
--- what a command asks of the files: first the system's file and its text, then the steps'
+-- the requests in the file of this name, for these owners; none where no file is named
+abbrev pub requests_in : NamedFiles → Option (List ℕ) → List Owner → Result (List Request) Stopped
+requests_in files None owners = Ok []
+requests_in files (Some name) owners =
+    within_limit Source.Requests (files name) >>= λ bytes. meant wrong_requests (requests_of owners bytes)
+
+-- what a command asks of the files: first the system's file and its text, then the steps', then the requests'
 abbrev pub asked_by : NamedFiles → Option Command → Result Asked Stopped
 asked_by files None = Err no_command
-asked_by files (Some (replay system_name steps_name)) =
+asked_by files (Some (replay system_name steps_name requests_name)) =
     system_in files system_name >>= λ system.
-    steps_in files steps_name system.nodes >>= λ steps.
-    Ok (record { system = system; steps = steps })
+    steps_in files steps_name system.rules.nodes >>= λ steps.
+    requests_in files requests_name system.owners >>= λ requests.
+    Ok (record { system = system; steps = steps; requests = requests })
 
 -- *Input meaning*: what the words ask of the files
 abbrev pub asked : List (List ℕ) → NamedFiles → Result Asked Stopped
@@ -74,7 +98,7 @@ asked words files = asked_by files (command_of words)
 -- a run of what was asked: the history answers the steps, and history and trace keep what is promised
 pub record IsRunOf (job : Asked) (history : List Event) (trace : List TimedFrame) : Type 0 where
   pub answers : AnswersSteps history job.steps
-  pub kept : Kept job.system.layout history trace
+  pub kept : Kept job.system.rules job.system.layout job.requests history trace
 
 -- how a run ends: refused where some change was refused
 abbrev pub status_of : List Event → Status
@@ -127,33 +151,52 @@ IsStopped Read = ⊤
 IsStopped Write = ⊥
 IsStopped Memory = ⊥
 
+-- a file is refused
+abbrev pub IsRefusal : Stopped → Type 0
+IsRefusal no_command = ⊥
+IsRefusal (too_long source) = ⊤
+IsRefusal (wrong_system fault) = ⊤
+IsRefusal wrong_steps = ⊤
+IsRefusal (wrong_requests fault) = ⊤
+IsRefusal absent = ⊥
+
 -- the status is a true answer to what was asked, where `shelf_rose` and `out_rose` say that the shelf's and the output's count of
 -- faults rose in this call; memory may run out in any call
 abbrev pub IsAnswer : Result Asked Stopped → Type 0 → Type 0 → Status → Type 0
 IsAnswer asked_for shelf_rose out_rose Done = (job : Asked) × (asked_for ≡ Ok job)
 IsAnswer asked_for shelf_rose out_rose Refused = (job : Asked) × (asked_for ≡ Ok job)
 IsAnswer asked_for shelf_rose out_rose Words = asked_for ≡ Err no_command
-IsAnswer asked_for shelf_rose out_rose Input = (source : Source) × (asked_for ≡ Err (refused source))
+IsAnswer asked_for shelf_rose out_rose Input = (why : Stopped) × IsRefusal why × (asked_for ≡ Err why)
 IsAnswer asked_for shelf_rose out_rose Read = shelf_rose ⊎ (asked_for ≡ Err absent)
 IsAnswer asked_for shelf_rose out_rose Write = out_rose × ((job : Asked) × (asked_for ≡ Ok job))
 IsAnswer asked_for shelf_rose out_rose Memory = ⊤
 
 -- What is put to the error sink
 
--- the line for a file that is refused
-abbrev pub refusal : Source → List ℕ
-refusal Source.System = codes "system: input\n"
-refusal Source.Steps = codes "steps: input\n"
+-- the line for a file that is longer than its limit
+abbrev pub length_line : Source → List ℕ
+length_line Source.System = codes "system: longer than 4194304 bytes\n"
+length_line Source.Steps = codes "steps: input\n"
+length_line Source.Requests = codes "requests: longer than 4194304 bytes\n"
 
--- the lines of a status, where it is that of a refused file, of this one
-abbrev pub message_of : Status → Source → List ℕ
-message_of Done source = []
-message_of Refused source = []
-message_of Words source = codes "usage: fttcan replay SYSTEM STEPS [REQUESTS] [--tail N] [--report]\n"
-message_of Input source = refusal source
-message_of Read source = codes "read fault\n"
-message_of Write source = codes "write fault\n"
-message_of Memory source = codes "out of memory\n"
+-- the line for a file that is refused
+abbrev pub refusal : Stopped → List ℕ
+refusal no_command = []
+refusal (too_long source) = length_line source
+refusal (wrong_system fault) = system_fault_line fault
+refusal wrong_steps = codes "steps: input\n"
+refusal (wrong_requests fault) = text_of fault
+refusal absent = []
+
+-- the lines of a status, where it is that of a refused file, for this reason
+abbrev pub message_of : Status → Stopped → List ℕ
+message_of Done why = []
+message_of Refused why = []
+message_of Words why = codes "usage: fttcan replay SYSTEM STEPS [REQUESTS] [--tail N] [--report]\n"
+message_of Input why = refusal why
+message_of Read why = codes "read fault\n"
+message_of Write why = codes "write fault\n"
+message_of Memory why = codes "out of memory\n"
 
 -- the text was put to a sink, or its count of faults rose and the first bytes of the text were put
 abbrev pub Says : Option (List ℕ) → Option (List ℕ) → Type 0 → List ℕ → Type 0

@@ -1,21 +1,24 @@
 -- *Kept*: what is promised of a history and a trace.
-use Rattle.std.specs.Prelude.{◌*◌, List}
+use Rattle.std.specs.Prelude.{◌≡◌, List}
 use Rattle.can_frame.specs.declared.data_frame.TimedFrame.{TimedFrame}
 use Rattle.cycle_layout.specs.Layout.{CycleLayout}
-use Rattle.bus_line.specs.Trace.{IsTrace}
+use Rattle.admission.specs.declared.Rules.{Rules}
+use Rattle.async_window.specs.declared.request.Request.{Request}
+use Rattle.cycle_engine.specs.Offered.{IsCanTrace}
 use Rattle.fttcan_top.specs.declared.history.Event.{Event}
 use Rattle.fttcan_top.specs.History.{placed_of, next_of, IsLegal}
-use Rattle.fttcan_top.specs.Offered.{offered}
 use Rattle.fttcan_top.specs.Openings.{openings_of}
 use Rattle.fttcan_top.specs.Kept.{AllServed, NoStrangers, AllGuarded}
 
 -- *Kept*
-pub record Kept (layout : CycleLayout) (history : List Event) (trace : List TimedFrame) : Type 0 where
-  -- each change has its verdict and each opening its mask
-  pub legal : IsLegal layout.window history
+pub record Kept (rules : Rules) (layout : CycleLayout) (requests : List Request) (history : List Event) (trace : List TimedFrame) : Type 0 where
+  -- each change has its verdict by the rules, and each opening its mask
+  pub legal : IsLegal rules history
   -- the trace is that which arbitration decides: ordered, within the opened cycles, each frame the least offered one, and the bus is
   -- never idle while something is offered
-  pub can_trace : IsTrace (offered layout (openings_of history)) (next_of history * layout.cycle) trace
+  pub can_trace : IsCanTrace layout requests (openings_of history) (next_of history) trace
+  -- and there is no other such trace
+  pub only_trace : (other : List TimedFrame) → IsCanTrace layout requests (openings_of history) (next_of history) other → other ≡ trace
   -- each instance of an admitted entry whose last cycle was opened was sent whole, exactly once, in its time
   pub served : AllServed layout (placed_of history) (openings_of history) (next_of history) trace
   -- nothing else is sent with a slot's identifier

@@ -6,7 +6,9 @@ use Rattle.requirement_table.specs.declared.entries.Placed.{Placed}
 use Rattle.fttcan_top.specs.Entries.{IsLive, AreDistinct, total_cost}
 use Rattle.requirement_table.specs.Table.{released_in}
 use Rattle.bus_line.specs.Trace.{end_of, Follows}
-use Rattle.fttcan_top.specs.Offered.{Opening, offered}
+use Rattle.node_model.specs.Opening.{Opening}
+use Rattle.async_window.specs.declared.request.Request.{Request}
+use Rattle.cycle_engine.specs.Offered.{offered, AreAsynchronous, AreOfDistinctCycles}
 use Rattle.fttcan_top.specs.Window.{RunsCycle}
 use Rattle.fttcan_top.specs.Kept.{cycle_of}
 
@@ -14,8 +16,10 @@ use Rattle.fttcan_top.specs.Kept.{cycle_of}
 abbrev pub frames_in : CycleLayout → ℕ → List TimedFrame → List TimedFrame
 frames_in layout cycle trace = filter (λ sent. cycle_of layout sent == cycle) trace
 
--- the entries, the openings and the trace of a run that has opened the cycles below `next`
-pub record IsRunning (layout : CycleLayout) (placed : List Placed) (openings : List Opening) (next : ℕ) (trace : List TimedFrame) : Type 0 where
+-- the requests, the entries, the openings and the trace of a run that has opened the cycles below `next`
+pub record IsRunning (layout : CycleLayout) (requests : List Request) (placed : List Placed) (openings : List Opening) (next : ℕ) (trace : List TimedFrame) : Type 0 where
+  -- the requests
+  pub asynchronous : AreAsynchronous requests
   -- the entries: one for a slot, and together they fit into the window
   pub live : All IsLive placed
   pub distinct : AreDistinct placed
@@ -23,11 +27,12 @@ pub record IsRunning (layout : CycleLayout) (placed : List Placed) (openings : L
   -- the openings: one for each cycle, by the entries that were placed then, which are those of now with an origin up to the cycle, and others
   pub opened : (cycle : ℕ) → cycle < next → (opening : Opening) × Contains openings opening × (opening.cycle ≡ cycle)
   pub numbered : All (λ o. o.cycle < next) openings
+  pub each_once : AreOfDistinctCycles openings
   pub masks : All (λ o. o.mask ≡ released_in o.placed o.cycle) openings
   pub subset : All (λ o. (p : Placed) → Contains o.placed p → Contains placed p) openings
   pub complete : All (λ o. (p : Placed) → Contains placed p → p.origin ≤ o.cycle → Contains o.placed p) openings
   -- the trace: what arbitration decides, and in each cycle what it is to send
   pub started : All (λ sent. sent.start < next * layout.cycle) trace
   pub ended : All (λ sent. end_of sent ≤ next * layout.cycle) trace
-  pub follows : Follows (offered layout openings) [] 0 (next * layout.cycle) trace
+  pub follows : Follows (offered layout requests openings) [] 0 (next * layout.cycle) trace
   pub cycles : All (λ o. RunsCycle layout o (frames_in layout o.cycle trace)) openings

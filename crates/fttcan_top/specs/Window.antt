@@ -1,19 +1,16 @@
--- What the frames of a synchronous window are.
-use Rattle.std.specs.Prelude.{◌≡◌, ℕ, ◌+◌, ◌<◌, ◌≤◌, ◌&&◌, ◌==◌, not, nat_le, Bool, true, false, List, [], ◌∷◌, filter, Some}
-use Rattle.std.specs.List.{list_any, AllByRecursion}
+-- What the frames of a cycle are.
+use Rattle.std.specs.Prelude.{◌≡◌, ℕ, ◌+◌, ◌<◌, ◌≤◌, ◌⊎◌, ◌&&◌, ◌==◌, not, Bool, true, false, List, [], ◌∷◌, length, filter, Some}
+use Rattle.std.specs.List.{AllByRecursion}
+use Rattle.stuff_bound.specs.Stuffing.{worst}
 use Rattle.can_frame.specs.DataFrame.{DataFrame}
 use Rattle.can_frame.specs.declared.data_frame.TimedFrame.{TimedFrame}
 use Rattle.can_frame.specs.Wire.{wire_length}
-use Rattle.cycle_layout.specs.Layout.{CycleLayout}
+use Rattle.cycle_layout.specs.Layout.{CycleLayout, async_open}
 use Rattle.trigger_codec.specs.Bytes.{trigger_frame}
 use Rattle.requirement_table.specs.Slots.{contains_slot, sum_where}
 use Rattle.bus_line.specs.Trace.{end_of}
-use Rattle.fttcan_top.specs.Offered.{Opening, slots, first_identifier, bytes_in, slot_cost, width_of, start_of, end_of_cycle, window_start}
-
--- whether a frame of the slot started from the cycle's start on
-abbrev pub was_sent : CycleLayout → Opening → List TimedFrame → ℕ → Bool
-was_sent layout opening past slot =
-    list_any (λ sent. (sent.frame.identifier == first_identifier + slot) && nat_le (start_of layout opening) sent.start) past
+use Rattle.node_model.specs.Opening.{Opening, slots, first_identifier, bytes_in, slot_cost, width_of, start_of, end_of_cycle, window_start}
+use Rattle.node_model.specs.Own.{was_sent}
 
 -- whether the slot is flagged and was not sent yet
 abbrev pub is_pending : CycleLayout → Opening → List TimedFrame → ℕ → Bool
@@ -45,23 +42,37 @@ pub record IsSlotFrame (layout : CycleLayout) (opening : Opening) (sent : TimedF
   pub after : window_start layout opening ≤ sent.start
   pub before : end_of sent ≤ end_of_cycle layout opening
 
+-- an asynchronous frame, within the cycle's asynchronous window
+pub record IsAsynchronousFrame (layout : CycleLayout) (opening : Opening) (sent : TimedFrame) : Type 0 where
+  pub identifier : 0x200 ≤ sent.frame.identifier
+  pub after : async_open layout opening.cycle ≤ sent.start
+  pub before : end_of sent ≤ window_start layout opening
+
+-- a frame that may come behind the trigger of its cycle
+abbrev pub IsLaterFrame : CycleLayout → Opening → TimedFrame → Type 0
+IsLaterFrame layout opening sent = IsAsynchronousFrame layout opening sent ⊎ IsSlotFrame layout opening sent
+
 -- these frames, after the frames `past`, send each pending slot once and no other slot
 pub record SendsPending (layout : CycleLayout) (opening : Opening) (past frames : List TimedFrame) : Type 0 where
   pub each : (slot : ℕ) → slot < slots → is_pending layout opening past slot ≡ true → IsSentIn layout opening frames slot
   pub none : (slot : ℕ) → slot < slots → is_pending layout opening past slot ≡ false → of_slot slot frames ≡ []
-  pub all : AllByRecursion (IsSlotFrame layout opening) frames
+  pub all : AllByRecursion (IsLaterFrame layout opening) frames
+
+-- what a frame's wire takes
+pub record AreShort : Type 0 where
+  pub some_time : (frame : DataFrame) → 0 < wire_length frame
+  pub in_time : (frame : DataFrame) → wire_length frame ≤ worst (length frame.bytes)
 
 -- what makes a cycle one in which each flagged slot has its frame and its time
 pub record IsFit (layout : CycleLayout) (opening : Opening) : Type 0 where
+  pub short : AreShort
   pub present : (slot : ℕ) → slot < slots → contains_slot opening.mask slot ≡ true → (bytes : List ℕ) × (bytes_in opening slot ≡ Some bytes)
-  pub some_time : (slot : ℕ) (frame : DataFrame) → slot < slots → frame.identifier ≡ first_identifier + slot → bytes_in opening slot ≡ Some frame.bytes → 0 < wire_length frame
-  pub in_time : (slot : ℕ) (frame : DataFrame) → slot < slots → frame.identifier ≡ first_identifier + slot → bytes_in opening slot ≡ Some frame.bytes → wire_length frame ≤ slot_cost opening slot
   pub trigger_identifier : (trigger_frame opening.cycle (width_of opening) opening.mask).identifier ≡ 0
-  pub trigger_some_time : 0 < wire_length (trigger_frame opening.cycle (width_of opening) opening.mask)
-  pub trigger_in_time : wire_length (trigger_frame opening.cycle (width_of opening) opening.mask) ≤ 135
+  pub trigger_bytes : length (trigger_frame opening.cycle (width_of opening) opening.mask).bytes ≡ 8
   pub room : start_of layout opening + 135 + width_of opening ≤ end_of_cycle layout opening
 
--- what a cycle sends: its trigger at its start, ended before the synchronous window, and then a frame of each flagged slot, once, and of no other
+-- what a cycle sends: its trigger at its start, ended before the synchronous window; then asynchronous frames in the asynchronous window,
+-- and a frame of each flagged slot, once, and of no other slot, in the synchronous window
 pub record RunsCycle (layout : CycleLayout) (opening : Opening) (frames : List TimedFrame) : Type 0 where
   pub trigger : TimedFrame
   pub later : List TimedFrame
@@ -73,4 +84,4 @@ pub record RunsCycle (layout : CycleLayout) (opening : Opening) (frames : List T
   pub room : start_of layout opening + 135 + width_of opening ≤ end_of_cycle layout opening
   pub each : (slot : ℕ) → slot < slots → contains_slot opening.mask slot ≡ true → IsSentIn layout opening later slot
   pub none : (slot : ℕ) → slot < slots → contains_slot opening.mask slot ≡ false → of_slot slot later ≡ []
-  pub all : AllByRecursion (IsSlotFrame layout opening) later
+  pub all : AllByRecursion (IsLaterFrame layout opening) later

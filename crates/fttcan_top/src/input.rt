@@ -1,11 +1,10 @@
-//! The readings of the two files that a replay is given: the system file and the steps file.
+//! The readings of the steps file.
 
 use std::alloc::AllocFailed;
 use std::error::Error;
 use std::fmt;
 
 pub mod steps;
-pub mod system;
 
 /// Why a file was not taken.
 #[derive(Clone, Copy, Debug, PartialEq, Eq)]

@@ -1,17 +1,20 @@
 //! What is asked for, from the bytes of the files that the words name.
 
-ghost use Rattle.std.specs.Prelude.{◌≡◌, ◌+◌, ◌≤◌, ◌⊎◌, IfOk, IfErr, IsErrOf, IsSome, Ok, Some};
+ghost use Rattle.std.specs.Prelude.{◌≡◌, ◌+◌, ◌≤◌, ◌⊎◌, IfOk, IfErr, IsErrOf, IsSome, Ok, Some, option_map};
 ghost use Rattle.std.specs.Option.{ForSome};
 ghost use Rattle.ftt_io.specs.Counts.{next_count, Rose};
-ghost use Rattle.fttcan_top.specs.Output.{within_limit, system_in, steps_in, asked_by};
+ghost use Rattle.input_text.specs.SystemFile.{IsSystem};
+ghost use Rattle.input_text.specs.RequestsFile.{AreLegal};
+ghost use Rattle.fttcan_top.specs.Output.{within_limit, system_in, steps_in, requests_in, asked_by};
 ghost use Rattle.fttcan_top.specs.Loads.{Explains, asked_of};
 ghost use Rattle.fttcan_top.specs.StepsFile.{AreSteps};
-ghost use Rattle.fttcan_top.specs.Words.{replay};
+ghost use Rattle.fttcan_top.specs.Words.{named, replay};
 
 use crate::input::InputFault;
 use crate::input::steps::{Step, read_steps};
-use crate::input::system::{System, read_system};
+use async_window::{Owner, Request};
 use ftt_io::{FetchFault, Shelf};
+use input_text::{RequestFault, System, SystemFault, read_requests, read_system};
 use std::alloc::Global;
 
 /// The greatest number of bytes of a file.
@@ -22,13 +25,27 @@ const FILE_LIMIT: usize = 4_194_304;
 pub enum Source {
     System,
     Steps,
+    Requests,
+}
+
+/// Why a file is refused.
+#[derive(Debug, Drop)]
+pub enum Refusal {
+    /// The file is longer than its limit.
+    TooLong(Source),
+    /// The text of the system file breaks a rule of its format.
+    System(SystemFault),
+    /// The text of the steps file does.
+    Steps,
+    /// The text of the requests file does.
+    Requests(RequestFault),
 }
 
 /// Why there is nothing to run.
-#[derive(Clone, Copy, PartialEq, Eq, Debug)]
+#[derive(Debug, Drop)]
 pub enum Stop {
-    /// The file is too long, or its text breaks a rule of its format.
-    Input(Source),
+    /// A file is refused.
+    Input(Refusal),
     /// A file could not be read.
     Read,
     /// Memory ran out.
@@ -40,6 +57,7 @@ pub enum Stop {
 pub struct Job {
     pub system: System,
     pub steps: Vec<Step>,
+    pub requests: Vec<Request>,
 }
 
 /// Fetches a file's bytes.
@@ -61,19 +79,8 @@ fn fetch_file<S: Shelf>(
     match shelf.fetch(alloc, name, FILE_LIMIT) {
         Ok(bytes) => Ok(bytes),
         Err(FetchFault::Failed) => Err(Stop::Read),
-        Err(FetchFault::TooLong) => Err(Stop::Input(source)),
+        Err(FetchFault::TooLong) => Err(Stop::Input(Refusal::TooLong(source))),
         Err(FetchFault::Memory) => Err(Stop::Memory),
-    }
-}
-
-/// What a refused text means for the call.
-fn stop_of(source: Source, fault: InputFault) -> Stop
-    ensures refused { fault ≡ InputFault.Refused → result ≡ Stop.Input source }
-    ensures memory { fault ≡ InputFault.Memory → result ≡ Stop.Memory }
-{
-    match fault {
-        InputFault::Refused => Stop::Input(source),
-        InputFault::Memory => Stop::Memory,
     }
 }
 
@@ -83,6 +90,7 @@ fn load_system<S: Shelf>(alloc: Global, shelf: &mut S, name: &str) -> Result<Sys
     ensures counted { S.fetches shelf.new ≡ next_count (S.fetches shelf.old) }
     ensures fetches_never_fall { S.fetches shelf.old ≤ S.fetches shelf.new }
     ensures faults_never_fall { S.faults shelf.old ≤ S.faults shelf.new }
+    ensures valid { IfOk result IsSystem }
     ensures ok { IfOk result (λ system. ForSome (S.told_files shelf.old) (λ files. system_in files name.now ≡ Ok system)) }
     ensures stop { IfErr result (λ why. ForSome (S.told_files shelf.old)
         (λ files. Explains (system_in files name.now) (Rose (S.faults shelf.old) (S.faults shelf.new)) why)) }
@@ -91,7 +99,8 @@ fn load_system<S: Shelf>(alloc: Global, shelf: &mut S, name: &str) -> Result<Sys
     let bytes = fetch_file(alloc, shelf, Source::System, name)?;
     match read_system(alloc, bytes.as_slice()) {
         Ok(system) => Ok(system),
-        Err(fault) => Err(stop_of(Source::System, fault)),
+        Err(SystemFault::Memory) => Err(Stop::Memory),
+        Err(fault) => Err(Stop::Input(Refusal::System(fault))),
     }
 }
 
@@ -115,29 +124,88 @@ fn load_steps<S: Shelf>(
     let bytes = fetch_file(alloc, shelf, Source::Steps, name)?;
     match read_steps(alloc, bytes.as_slice(), nodes) {
         Ok(steps) => Ok(steps),
-        Err(fault) => Err(stop_of(Source::Steps, fault)),
+        Err(InputFault::Refused) => Err(Stop::Input(Refusal::Steps)),
+        Err(InputFault::Memory) => Err(Stop::Memory),
     }
 }
 
-/// What `replay` with these names asks for: the system's file and its text first, then the steps'.
+/// Fetches and reads the requests file, for these owners.
+fn load_requests<S: Shelf>(
+    alloc: Global,
+    shelf: &mut S,
+    name: &str,
+    owners: &[Owner],
+) -> Result<Vec<Request>, Stop>
+    ensures files_stay { S.told_files shelf.new ≡ S.told_files shelf.old }
+    ensures counted { S.fetches shelf.new ≡ next_count (S.fetches shelf.old) }
+    ensures fetches_never_fall { S.fetches shelf.old ≤ S.fetches shelf.new }
+    ensures faults_never_fall { S.faults shelf.old ≤ S.faults shelf.new }
+    ensures valid { IfOk result (λ requests. AreLegal owners.now requests.items) }
+    ensures ok { IfOk result (λ requests. ForSome (S.told_files shelf.old) (λ files. requests_in files (Some name.now) owners.now ≡ Ok requests.items)) }
+    ensures stop { IfErr result (λ why. ForSome (S.told_files shelf.old)
+        (λ files. Explains (requests_in files (Some name.now) owners.now) (Rose (S.faults shelf.old) (S.faults shelf.new)) why)) }
+    ensures read { IsErrOf result Stop.Read → Rose (S.faults shelf.old) (S.faults shelf.new) ⊎ IsSome (S.told_files shelf.old) }
+{
+    let bytes = fetch_file(alloc, shelf, Source::Requests, name)?;
+    match read_requests(alloc, bytes.as_slice(), owners) {
+        Ok(requests) => Ok(requests),
+        Err(RequestFault::Memory) => Err(Stop::Memory),
+        Err(fault) => Err(Stop::Input(Refusal::Requests(fault))),
+    }
+}
+
+/// The requests of a file, where one is named, and none otherwise.
+fn load_named_requests<S: Shelf>(
+    alloc: Global,
+    shelf: &mut S,
+    name: Option<&str>,
+    owners: &[Owner],
+) -> Result<Vec<Request>, Stop>
+    ensures files_stay { S.told_files shelf.new ≡ S.told_files shelf.old }
+    ensures counted { S.fetches shelf.new ≤ S.fetches shelf.old + named (option_map (λ word. word.now) name.entry) }
+    ensures fetches_never_fall { S.fetches shelf.old ≤ S.fetches shelf.new }
+    ensures faults_never_fall { S.faults shelf.old ≤ S.faults shelf.new }
+    ensures valid { IfOk result (λ requests. AreLegal owners.now requests.items) }
+    ensures ok { IfOk result (λ requests. ForSome (S.told_files shelf.old)
+        (λ files. requests_in files (option_map (λ word. word.now) name.entry) owners.now ≡ Ok requests.items)) }
+    ensures stop { IfErr result (λ why. ForSome (S.told_files shelf.old)
+        (λ files. Explains (requests_in files (option_map (λ word. word.now) name.entry) owners.now) (Rose (S.faults shelf.old) (S.faults shelf.new)) why)) }
+    ensures read { IsErrOf result Stop.Read → Rose (S.faults shelf.old) (S.faults shelf.new) ⊎ IsSome (S.told_files shelf.old) }
+{
+    match name {
+        Some(name) => load_requests(alloc, shelf, name, owners),
+        None => Ok(Vec::new(alloc)),
+    }
+}
+
+/// What `replay` with these names asks for: the system's file and its text first, then the steps', then the requests' where one is named.
 pub fn load<S: Shelf>(
     alloc: Global,
     shelf: &mut S,
     system_name: &str,
     steps_name: &str,
+    requests_name: Option<&str>,
 ) -> Result<Job, Stop>
     ensures files_stay { S.told_files shelf.new ≡ S.told_files shelf.old }
-    ensures counted { S.fetches shelf.new ≤ S.fetches shelf.old + 2 }
+    ensures counted { S.fetches shelf.new ≤ S.fetches shelf.old + (2 + named (option_map (λ word. word.now) requests_name.entry)) }
     ensures fetches_never_fall { S.fetches shelf.old ≤ S.fetches shelf.new }
     ensures faults_never_fall { S.faults shelf.old ≤ S.faults shelf.new }
-    ensures valid { IfOk result (λ job. AreSteps job.system.nodes job.steps.items) }
+    ensures system { IfOk result (λ job. IsSystem job.system) }
+    ensures steps { IfOk result (λ job. AreSteps job.system.rules.nodes job.steps.items) }
+    ensures requests { IfOk result (λ job. AreLegal job.system.owners job.requests.items) }
     ensures ok { IfOk result (λ job. ForSome (S.told_files shelf.old)
-        (λ files. asked_by files (Some (replay system_name.now steps_name.now)) ≡ Ok (asked_of job))) }
+        (λ files. asked_by files (Some (replay system_name.now steps_name.now (option_map (λ word. word.now) requests_name.entry))) ≡ Ok (asked_of job))) }
     ensures stop { IfErr result (λ why. ForSome (S.told_files shelf.old)
-        (λ files. Explains (asked_by files (Some (replay system_name.now steps_name.now))) (Rose (S.faults shelf.old) (S.faults shelf.new)) why)) }
+        (λ files. Explains (asked_by files (Some (replay system_name.now steps_name.now (option_map (λ word. word.now) requests_name.entry))))
+        (Rose (S.faults shelf.old) (S.faults shelf.new)) why)) }
     ensures read { IsErrOf result Stop.Read → Rose (S.faults shelf.old) (S.faults shelf.new) ⊎ IsSome (S.told_files shelf.old) }
 {
     let system = load_system(alloc, shelf, system_name)?;
-    let steps = load_steps(alloc, shelf, steps_name, system.nodes)?;
-    Ok(Job { system, steps })
+    let steps = load_steps(alloc, shelf, steps_name, system.rules.nodes)?;
+    let requests = load_named_requests(alloc, shelf, requests_name, system.owners.as_slice())?;
+    Ok(Job {
+        system,
+        steps,
+        requests,
+    })
 }

@@ -5,6 +5,7 @@ ghost use Rattle.std.specs.List.{flat_map, position_or_len};
 ghost use Rattle.std.specs.String.{string_bytes};
 ghost use Rattle.can_frame.specs.declared.data_frame.TimedFrame.{TimedFrame};
 ghost use Rattle.requirement_table.specs.Table.{released_in};
+ghost use Rattle.admission.specs.declared.Rules.{Rules};
 ghost use Rattle.fttcan_top.specs.Entries.{IsLive, AreDistinct};
 ghost use Rattle.fttcan_top.specs.History.{is_open, next_of, placed_of, placed_of_event, IsLegal};
 ghost use Rattle.fttcan_top.specs.Log.{hex_digits, verdict_fields, submit_row, open_row, frame_row, end_row, started_in, log_text};
@@ -227,7 +228,7 @@ pub fn log_text(
     history: &[Event],
     trace: &[TimedFrame],
 ) -> Result<String, AllocError>
-    requires legal { (window : ℕ) × IsLegal window history.now }
+    requires legal { (rules : Rules) × IsLegal rules history.now }
     requires live { All IsLive (placed_of history.now) }
     requires distinct { AreDistinct (placed_of history.now) }
     ensures text { IfOk result (λ text. string_bytes text ≡ log_text history.now trace.now) }

@@ -1,34 +1,36 @@
 //! The top call: from the words of a call and the files that they name to the bytes that are written.
 
-ghost use Rattle.std.specs.Prelude.{◌≡◌, ◌+◌, ◌≤◌, ◌↔◌, ◌⊎◌, ◌∷◌, [], List, ℕ, map, string_bytes, IsSome, Some, None, Ok, Err};
+ghost use Rattle.std.specs.Prelude.{◌≡◌, ◌+◌, ◌≤◌, ◌↔◌, ◌⊎◌, ◌∷◌, [], List, ℕ, map, string_bytes, IfOk, IsSome, Some, None, Ok, Err, option_map};
 ghost use Rattle.std.specs.Option.{ForSome};
 ghost use Rattle.ftt_io.specs.Counts.{Rose};
 ghost use Rattle.ftt_io.specs.Puts.{Puts, PutsPrefix};
-ghost use Rattle.fttcan_top.specs.declared.load.Source.{Source};
+ghost use Rattle.input_text.specs.SystemFile.{IsSystem};
+ghost use Rattle.input_text.specs.RequestsFile.{AreLegal};
+ghost use Rattle.fttcan_top.specs.declared.load.Refusal.{Refusal};
 ghost use Rattle.fttcan_top.specs.History.{refuses_nothing};
-ghost use Rattle.fttcan_top.specs.Ends.{end_status, end_source, stop_end, IsRunEnd};
-ghost use Rattle.fttcan_top.specs.Loads.{Explains, asked_of};
-ghost use Rattle.fttcan_top.specs.Output.{Asked, asked, asked_by, refused, IsAnswer, IsDone, IsCut, IsStopped, LogsRun, LogsFront, message_of, status_of, Says};
+ghost use Rattle.fttcan_top.specs.Ends.{end_status, end_reason, stop_end, IsRunEnd, IsStatusOf};
+ghost use Rattle.fttcan_top.specs.Loads.{Explains, asked_of, stopped_by};
+ghost use Rattle.fttcan_top.specs.Output.{Asked, Stopped, asked, asked_by, refusal, IsAnswer, IsDone, IsCut, IsStopped, LogsRun, LogsFront, message_of, status_of, Says};
 ghost use Rattle.fttcan_top.specs.StepsFile.{AreSteps};
-ghost use Rattle.fttcan_top.specs.Words.{replay, command_of, file_count};
+ghost use Rattle.fttcan_top.specs.Words.{replay, command_of, file_count, named};
 
 use crate::history::{Event, Verdict};
-use crate::load::{Job, Source, Stop, load};
+use crate::load::{Job, Refusal, Source, Stop, load};
 use crate::log::log_text;
 use crate::rows::put_rows;
 use crate::run::run;
 use crate::status::Status;
-use crate::words::is_replay;
+use crate::words::names_of;
 use ftt_io::{Shelf, Sink, write_all};
-use std::alloc::Global;
+use std::alloc::{AllocError, Global};
 
-/// How a call ended, with the file that was refused.
-#[derive(Clone, Copy, PartialEq, Eq, Debug)]
+/// How a call ended, with the reason where a file was refused.
+#[derive(Debug, Drop)]
 enum End {
     Done,
     Refused,
     Words,
-    Input(Source),
+    Input(Refusal),
     Read,
     Write,
     Memory,
@@ -36,8 +38,8 @@ enum End {
 
 impl End {
     /// How the call ended, for the caller.
-    fn status(self) -> Status
-        ensures status { result ≡ end_status self }
+    fn status(&self) -> Status
+        ensures status { result ≡ end_status self.now }
     {
         match self {
             End::Done => Status::Done,
@@ -49,21 +51,59 @@ impl End {
             End::Memory => Status::Memory,
         }
     }
+}
 
-    /// The lines for the error sink, each with its line feed.
-    fn message(self) -> &'static str
-        ensures message { result.now ≡ message_of (end_status self) (end_source self) }
+impl Refusal {
+    /// The line for the error sink, with its line feed.
+    fn message(&self, alloc: Global) -> Result<String, AllocError>
+        ensures line { IfOk result (λ text. string_bytes text ≡ refusal (stopped_by self.now)) }
     {
         match self {
-            End::Done | End::Refused => "",
-            End::Words => "usage: fttcan replay SYSTEM STEPS [REQUESTS] [--tail N] [--report]\n",
-            End::Input(Source::System) => "system: input\n",
-            End::Input(Source::Steps) => "steps: input\n",
-            End::Read => "read fault\n",
-            End::Write => "write fault\n",
-            End::Memory => "out of memory\n",
+            Refusal::TooLong(Source::System) => {
+                String::from_str(alloc, "system: longer than 4194304 bytes\n")
+            }
+            Refusal::TooLong(Source::Requests) => {
+                String::from_str(alloc, "requests: longer than 4194304 bytes\n")
+            }
+            Refusal::TooLong(Source::Steps) | Refusal::Steps => {
+                String::from_str(alloc, "steps: input\n")
+            }
+            Refusal::System(fault) => fault.message(alloc),
+            Refusal::Requests(fault) => fault.message(alloc),
         }
     }
+}
+
+/// The lines for the error sink that a status has, each with its line feed; those for a refused file say more.
+fn line_of(status: Status) -> &'static str
+    ensures line { (why : Stopped) → (status ≡ Status.Input → ⊥) → result.now ≡ message_of status why }
+{
+    match status {
+        Status::Done | Status::Refused | Status::Input => "",
+        Status::Words => "usage: fttcan replay SYSTEM STEPS [REQUESTS] [--tail N] [--report]\n",
+        Status::Read => "read fault\n",
+        Status::Write => "write fault\n",
+        Status::Memory => "out of memory\n",
+    }
+}
+
+/// Says on the error sink how the call ended, and answers its status. Where memory runs out for the line of a refused file, it ends so.
+fn tell<R: Sink>(alloc: Global, end: &End, err: &mut R) -> Status
+    ensures status { IsStatusOf end.now result }
+    ensures message { Says (R.told_bytes err.old) (R.told_bytes err.new) (Rose (R.faults err.old) (R.faults err.new)) (message_of result (end_reason end.now)) }
+    ensures faults_never_fall { R.faults err.old ≤ R.faults err.new }
+{
+    if let End::Input(refusal) = end {
+        if let Ok(text) = refusal.message(alloc) {
+            let _ = write_all(err, text.as_bytes());
+            return Status::Input;
+        }
+        let _ = write_all(err, line_of(Status::Memory).as_bytes());
+        return Status::Memory;
+    }
+    let status = end.status();
+    let _ = write_all(err, line_of(status).as_bytes());
+    status
 }
 
 impl Stop {
@@ -72,7 +112,7 @@ impl Stop {
         ensures end { result ≡ stop_end self }
     {
         match self {
-            Stop::Input(source) => End::Input(source),
+            Stop::Input(refusal) => End::Input(refusal),
             Stop::Read => End::Read,
             Stop::Memory => End::Memory,
         }
@@ -108,7 +148,9 @@ fn run_end(history: &[Event]) -> End
 
 /// Runs what was asked and writes the log.
 fn run_job<O: Sink>(alloc: Global, job: &Job, out: &mut O) -> End
-    requires steps { AreSteps job.now.system.nodes job.now.steps.items }
+    requires system { IsSystem job.now.system }
+    requires steps { AreSteps job.now.system.rules.nodes job.now.steps.items }
+    requires requests { AreLegal job.now.system.owners job.now.requests.items }
     ensures faults_never_fall { O.faults out.old ≤ O.faults out.new }
     ensures run { IsRunEnd result }
     ensures done { IsDone (end_status result) → LogsRun (asked_of job.now) (end_status result) (O.told_bytes out.old) (O.told_bytes out.new) }
@@ -117,9 +159,9 @@ fn run_job<O: Sink>(alloc: Global, job: &Job, out: &mut O) -> End
 {
     let Ok(outcome) = run(
         alloc,
-        &job.system.layout,
+        &job.system,
         job.steps.as_slice(),
-        job.system.nodes,
+        job.requests.as_slice(),
     ) else {
         return End::Memory;
     };
@@ -137,30 +179,32 @@ fn replay<S: Shelf, O: Sink>(
     alloc: Global,
     system: &str,
     steps: &str,
+    requests: Option<&str>,
     shelf: &mut S,
     out: &mut O,
 ) -> End
-    ensures answer { ForSome (S.told_files shelf.old) (λ files. IsAnswer (asked_by files (Some (replay system.now steps.now)))
+    ensures answer { ForSome (S.told_files shelf.old) (λ files. IsAnswer (asked_by files (Some (replay system.now steps.now (option_map (λ word. word.now) requests.entry))))
         (Rose (S.faults shelf.old) (S.faults shelf.new)) (Rose (O.faults out.old) (O.faults out.new)) (end_status result)) }
-    ensures source { (source : Source) → result ≡ End.Input source
-        → ForSome (S.told_files shelf.old) (λ files. asked_by files (Some (replay system.now steps.now)) ≡ Err (refused source)) }
+    ensures refusal { (refusal : Refusal) → result ≡ End.Input refusal
+        → ForSome (S.told_files shelf.old)
+        (λ files. asked_by files (Some (replay system.now steps.now (option_map (λ word. word.now) requests.entry))) ≡ Err (stopped_by refusal)) }
     ensures command { result ≡ End.Words → ⊥ }
     ensures read { result ≡ End.Read → Rose (S.faults shelf.old) (S.faults shelf.new) ⊎ IsSome (S.told_files shelf.old) }
     ensures write { result ≡ End.Write → Rose (O.faults out.old) (O.faults out.new) }
     ensures done { IsDone (end_status result) → (job : Asked)
-        × ForSome (S.told_files shelf.old) (λ files. asked_by files (Some (replay system.now steps.now)) ≡ Ok job)
+        × ForSome (S.told_files shelf.old) (λ files. asked_by files (Some (replay system.now steps.now (option_map (λ word. word.now) requests.entry))) ≡ Ok job)
         × LogsRun job (end_status result) (O.told_bytes out.old) (O.told_bytes out.new) }
     ensures cut { IsCut (end_status result) → (O.told_bytes out.new ≡ O.told_bytes out.old) ⊎ ((job : Asked)
-        × ForSome (S.told_files shelf.old) (λ files. asked_by files (Some (replay system.now steps.now)) ≡ Ok job)
+        × ForSome (S.told_files shelf.old) (λ files. asked_by files (Some (replay system.now steps.now (option_map (λ word. word.now) requests.entry))) ≡ Ok job)
         × LogsFront job (O.told_bytes out.old) (O.told_bytes out.new)) }
     ensures nothing { IsStopped (end_status result) → O.told_bytes out.new ≡ O.told_bytes out.old }
-    ensures fetches { S.fetches shelf.new ≤ S.fetches shelf.old + 2 }
+    ensures fetches { S.fetches shelf.new ≤ S.fetches shelf.old + (2 + named (option_map (λ word. word.now) requests.entry)) }
     ensures files_stay { S.told_files shelf.new ≡ S.told_files shelf.old }
     ensures fetches_never_fall { S.fetches shelf.old ≤ S.fetches shelf.new }
     ensures faults_never_fall { S.faults shelf.old ≤ S.faults shelf.new }
     ensures out_faults_never_fall { O.faults out.old ≤ O.faults out.new }
 {
-    match load(alloc, shelf, system, steps) {
+    match load(alloc, shelf, system, steps, requests) {
         Ok(job) => run_job(alloc, &job, out),
         Err(stop) => stop.end(),
     }
@@ -170,8 +214,8 @@ fn replay<S: Shelf, O: Sink>(
 fn call<S: Shelf, O: Sink>(alloc: Global, words: &[String], shelf: &mut S, out: &mut O) -> End
     ensures answer { ForSome (S.told_files shelf.old) (λ files. IsAnswer (asked (map string_bytes words.now) files)
         (Rose (S.faults shelf.old) (S.faults shelf.new)) (Rose (O.faults out.old) (O.faults out.new)) (end_status result)) }
-    ensures source { (source : Source) → result ≡ End.Input source
-        → ForSome (S.told_files shelf.old) (λ files. asked (map string_bytes words.now) files ≡ Err (refused source)) }
+    ensures refusal { (refusal : Refusal) → result ≡ End.Input refusal
+        → ForSome (S.told_files shelf.old) (λ files. asked (map string_bytes words.now) files ≡ Err (stopped_by refusal)) }
     ensures command { (result ≡ End.Words) ↔ (command_of (map string_bytes words.now) ≡ None) }
     ensures read { result ≡ End.Read → Rose (S.faults shelf.old) (S.faults shelf.new) ⊎ IsSome (S.told_files shelf.old) }
     ensures write { result ≡ End.Write → Rose (O.faults out.old) (O.faults out.new) }
@@ -188,20 +232,14 @@ fn call<S: Shelf, O: Sink>(alloc: Global, words: &[String], shelf: &mut S, out: 
     ensures faults_never_fall { S.faults shelf.old ≤ S.faults shelf.new }
     ensures out_faults_never_fall { O.faults out.old ≤ O.faults out.new }
 {
-    match words {
-        [word, system, steps] => {
-            if is_replay(word.as_str(), system.as_str(), steps.as_str()) {
-                replay(alloc, system.as_str(), steps.as_str(), shelf, out)
-            } else {
-                End::Words
-            }
-        }
-        _ => End::Words,
+    match names_of(words) {
+        Some(names) => replay(alloc, names.system, names.steps, names.requests, shelf, out),
+        None => End::Words,
     }
 }
 
 /// Carries out the words of a call, the program's name left out: `replay SYSTEM STEPS` runs the steps of a file in the system of
-/// another and writes the log to `out`. Lines on what went wrong go to `err`; a failure of `err` changes no status.
+/// another and writes the log to `out`, and `replay SYSTEM STEPS REQUESTS` with the requests of a third. Lines on what went wrong go to `err`; a failure of `err` changes no status.
 pub fn plain<S: Shelf, O: Sink, R: Sink>(
     alloc: Global,
     words: &[String],
@@ -226,9 +264,9 @@ pub fn plain<S: Shelf, O: Sink, R: Sink>(
     ensures nothing { IsStopped result → O.told_bytes out.new ≡ O.told_bytes out.old }
 
     // What was put to `err`, and how often a file was fetched.
-    ensures message { (source : Source)
-        × (result ≡ Status.Input → ForSome (S.told_files shelf.old) (λ files. asked (map string_bytes words.now) files ≡ Err (refused source)))
-        × Says (R.told_bytes err.old) (R.told_bytes err.new) (Rose (R.faults err.old) (R.faults err.new)) (message_of result source) }
+    ensures message { (why : Stopped)
+        × (result ≡ Status.Input → ForSome (S.told_files shelf.old) (λ files. asked (map string_bytes words.now) files ≡ Err why))
+        × Says (R.told_bytes err.old) (R.told_bytes err.new) (Rose (R.faults err.old) (R.faults err.new)) (message_of result why) }
     ensures fetches { S.fetches shelf.new ≤ S.fetches shelf.old + file_count (map string_bytes words.now) }
 
     // The files stay, and no count falls.
@@ -239,6 +277,5 @@ pub fn plain<S: Shelf, O: Sink, R: Sink>(
     ensures err_faults_never_fall { R.faults err.old ≤ R.faults err.new }
 {
     let end = call(alloc, words, shelf, out);
-    let _ = write_all(err, end.message().as_bytes());
-    end.status()
+    tell(alloc, &end, err)
 }

@@ -1,27 +1,30 @@
 //! The run of a steps file: the history that answers its steps, and what is sent on the bus meanwhile.
 
-ghost use Rattle.std.specs.Prelude.{◌≡◌, ℕ, ◌+◌, ◌^◌, ◌<◌, ◌≤◌, ◌++◌, ◌∷◌, [], ◌⊎◌, List, All, OnOk, IfOk, None, length, map, replicate, vec_capacity};
+ghost use Rattle.std.specs.Prelude.{◌≡◌, ℕ, ◌+◌, ◌^◌, ◌<◌, ◌≤◌, ◌++◌, ◌∷◌, [], List, All, OnOk, IfOk, None, map, replicate};
+ghost use Rattle.input_text.specs.SystemFile.{IsSystem};
+ghost use Rattle.input_text.specs.RequestsFile.{AreLegal};
 ghost use Rattle.fttcan_top.specs.Entries.{IsLive, AreDistinct, total_cost};
-ghost use Rattle.fttcan_top.specs.History.{placed_at, placed_by, placed_of, IsVerdict, call_of_event, change, opening, calls_of_step, AnswersSteps};
+ghost use Rattle.fttcan_top.specs.History.{placed_at, placed_by, placed_of, is_accepted, IsVerdict, call_of_event, change, opening, calls_of_step, AnswersSteps};
 ghost use Rattle.fttcan_top.specs.Promise.{Kept};
-ghost use Rattle.fttcan_top.specs.Progress.{IsUnderWay, AreInSlots, IsFresh, CanRun};
+ghost use Rattle.fttcan_top.specs.Progress.{Setting, IsSetting, IsOnTheWay, AreInSlots, CanRun, setting_of};
 ghost use Rattle.fttcan_top.specs.StepsFile.{AreSteps, count_of, slots_of};
 ghost use Rattle.fttcan_top.specs.Table.{entry_of};
 ghost use Rattle.fttcan_top.specs.declared.history.Verdict.{Verdict};
 
-use crate::cycle::run_cycle;
+use crate::cycle::order;
 use crate::history::{Event, Verdict};
 use crate::input::steps::Step;
 use crate::table::Table;
 use crate::verdict::verdict;
+use admission::Rules;
+use async_window::Request;
 use can_frame::TimedFrame;
 use can_frame::laws::wire_lengths;
-use cycle_layout::Layout;
+use cycle_engine::laws::one_can_trace;
+use cycle_engine::{Nodes, run_cycle};
+use input_text::System;
 use requirement_table::{Entry, Placed};
 use std::alloc::{AllocError, Global};
-
-/// Room for the frames of one cycle: the longest cycle, 100,000 bit times, over the shortest frame, 47 bit times, and one more.
-const SEGMENT_ROOM: usize = 2_128;
 
 /// What a run gives.
 #[derive(Drop)]
@@ -36,32 +39,35 @@ pub struct Outcome {
 #[derive(Drop)]
 struct Progress {
     table: Table,
+    /// Whether the table changed since the last opening, so that the nodes do not know it.
+    changed: bool,
     /// The next cycle to be opened.
     next: u64,
     history: Vec<Event>,
     trace: Vec<TimedFrame>,
-    /// The frames of the last cycle.
-    segment: Vec<TimedFrame>,
+    nodes: Nodes,
 }
 
 /// Opens the next cycle and runs it on the bus.
-fn open_cycle(progress: &mut Progress, alloc: Global, layout: &Layout) -> Result<(), AllocError>
-    requires under_way { IsUnderWay layout.now progress.old.table progress.old.next progress.old.history.items progress.old.trace.items }
+fn open_cycle(progress: &mut Progress, alloc: Global) -> Result<(), AllocError>
+    ghost setting: { Setting }
+    requires on_the_way { IsOnTheWay setting progress.old }
     requires few { progress.old.next < 20000 }
-    requires room { 2128 ≤ vec_capacity progress.old.segment }
-    ensures under_way { OnOk result (IsUnderWay layout.now progress.new.table progress.new.next progress.new.history.items progress.new.trace.items) }
+    ensures on_the_way { OnOk result (IsOnTheWay setting progress.new) }
     ensures calls { OnOk result (map call_of_event progress.new.history.items ≡ map call_of_event progress.old.history.items ++ opening ∷ []) }
     ensures table { OnOk result (progress.new.table ≡ progress.old.table) }
     ensures next { OnOk result (progress.new.next ≡ progress.old.next + 1) }
-    ensures room { OnOk result (2128 ≤ vec_capacity progress.new.segment) }
 {
     wire_lengths();
     let cycle = progress.next;
-    let mask = run_cycle(alloc, layout, &progress.table, cycle, &mut progress.segment)?;
-    progress
-        .trace
-        .extend_from_slice(progress.segment.as_slice())?;
-    progress.history.push(Event::Open { cycle, mask })?;
+    let order = order(alloc, &progress.table, cycle, progress.changed)?;
+    let segment = run_cycle(alloc, &order, &mut progress.nodes)?;
+    progress.trace.extend_from_slice(segment.frames())?;
+    progress.history.push(Event::Open {
+        cycle,
+        mask: order.mask,
+    })?;
+    progress.changed = false;
     progress.next = cycle + 1;
     Ok(())
 }
@@ -71,51 +77,61 @@ fn judge(
     alloc: Global,
     table: &Table,
     placed: Placed,
-    window: u32,
+    rules: &Rules,
     from: u64,
 ) -> Result<Verdict, AllocError>
     requires live { All IsLive table.now }
     requires light { total_cost table.now ≤ 16383 }
     requires placed { IsLive placed }
     requires from { from < 2 ^ 42 }
-    ensures verdict { IfOk result (IsVerdict window (table.now ++ placed ∷ []) from) }
+    requires horizon { rules.now.horizon ≤ 100000 }
+    ensures verdict { IfOk result (IsVerdict rules.now (table.now ++ placed ∷ []) from) }
 {
     let mut changed = Vec::from_slice(alloc, table.as_slice())?;
     changed.push(placed)?;
-    Ok(verdict(changed.as_slice(), window, from))
+    Ok(verdict(changed.as_slice(), rules, from))
 }
 
-/// Places the entry of a change where the change was accepted.
-fn place_if_accepted(table: &mut Table, placed: Placed, verdict: Verdict) -> Result<(), AllocError>
+/// Places the entry of a change where the change was accepted, and answers whether it was.
+fn place_if_accepted(
+    table: &mut Table,
+    placed: Placed,
+    verdict: Verdict,
+) -> Result<bool, AllocError>
     requires live { IsLive placed }
     requires free { entry_of table.old placed.entry.slot ≡ None }
     ensures ok { OnOk result (table.new ≡ table.old ++ placed_by verdict placed) }
+    ensures accepted { IfOk result (λ accepted. accepted ≡ is_accepted verdict) }
 {
     if let Verdict::Accepted { .. } = verdict {
         table.place(placed)?;
+        return Ok(true);
     }
-    Ok(())
+    Ok(false)
 }
 
 /// Answers a change that asks for one entry.
 fn submit(
     progress: &mut Progress,
     alloc: Global,
-    layout: &Layout,
+    rules: &Rules,
     caller: u8,
     start: u64,
     entry: Entry,
 ) -> Result<(), AllocError>
-    requires under_way { IsUnderWay layout.now progress.old.table progress.old.next progress.old.history.items progress.old.trace.items }
+    ghost setting: { Setting }
+    requires rules { rules.now ≡ setting.rules }
+    requires horizon { setting.rules.horizon ≤ 100000 }
+    requires on_the_way { IsOnTheWay setting progress.old }
     requires few { progress.old.next ≤ 20000 }
     requires live { IsLive (placed_at start entry) }
     requires late { progress.old.next ≤ start }
     requires free { entry_of progress.old.table entry.slot ≡ None }
-    ensures under_way { OnOk result (IsUnderWay layout.now progress.new.table progress.new.next progress.new.history.items progress.new.trace.items) }
+    requires node { entry.node < setting.rules.nodes }
+    ensures on_the_way { OnOk result (IsOnTheWay setting progress.new) }
     ensures calls { OnOk result (map call_of_event progress.new.history.items ≡ map call_of_event progress.old.history.items ++ change caller start entry ∷ []) }
     ensures table { OnOk result ((verdict : Verdict) × (progress.new.table ≡ progress.old.table ++ placed_by verdict (placed_at start entry))) }
     ensures next { OnOk result (progress.new.next ≡ progress.old.next) }
-    ensures room { OnOk result (vec_capacity progress.new.segment ≡ vec_capacity progress.old.segment) }
 {
     let placed = Placed {
         entry,
@@ -123,8 +139,9 @@ fn submit(
         end: None,
     };
     let from = progress.next;
-    let verdict = judge(alloc, &progress.table, placed, layout.window(), from)?;
-    place_if_accepted(&mut progress.table, placed, verdict)?;
+    let verdict = judge(alloc, &progress.table, placed, rules, from)?;
+    let accepted = place_if_accepted(&mut progress.table, placed, verdict)?;
+    progress.changed |= accepted;
     progress.history.push(Event::Submit {
         caller,
         start,
@@ -136,23 +153,17 @@ fn submit(
 }
 
 /// Opens so many cycles.
-fn open_cycles(
-    progress: &mut Progress,
-    alloc: Global,
-    layout: &Layout,
-    count: u64,
-) -> Result<(), AllocError>
-    requires under_way { IsUnderWay layout.now progress.old.table progress.old.next progress.old.history.items progress.old.trace.items }
+fn open_cycles(progress: &mut Progress, alloc: Global, count: u64) -> Result<(), AllocError>
+    ghost setting: { Setting }
+    requires on_the_way { IsOnTheWay setting progress.old }
     requires few { progress.old.next + count ≤ 20000 }
-    requires room { 2128 ≤ vec_capacity progress.old.segment }
-    ensures under_way { OnOk result (IsUnderWay layout.now progress.new.table progress.new.next progress.new.history.items progress.new.trace.items) }
+    ensures on_the_way { OnOk result (IsOnTheWay setting progress.new) }
     ensures calls { OnOk result (map call_of_event progress.new.history.items ≡ map call_of_event progress.old.history.items ++ replicate count opening) }
     ensures table { OnOk result (progress.new.table ≡ progress.old.table) }
     ensures next { OnOk result (progress.new.next ≡ progress.old.next + count) }
-    ensures room { OnOk result (2128 ≤ vec_capacity progress.new.segment) }
 {
     for _ in 0..count {
-        open_cycle(progress, alloc, layout)?;
+        open_cycle(progress, alloc)?;
     }
     Ok(())
 }
@@ -161,67 +172,81 @@ fn open_cycles(
 fn run_step(
     progress: &mut Progress,
     alloc: Global,
-    layout: &Layout,
+    rules: &Rules,
     step: Step,
 ) -> Result<(), AllocError>
-    requires under_way { IsUnderWay layout.now progress.old.table progress.old.next progress.old.history.items progress.old.trace.items }
-    requires step { CanRun progress.old.table progress.old.next step }
-    requires room { 2128 ≤ vec_capacity progress.old.segment }
-    ensures under_way { OnOk result (IsUnderWay layout.now progress.new.table progress.new.next progress.new.history.items progress.new.trace.items) }
+    ghost setting: { Setting }
+    requires rules { rules.now ≡ setting.rules }
+    requires horizon { setting.rules.horizon ≤ 100000 }
+    requires on_the_way { IsOnTheWay setting progress.old }
+    requires step { CanRun setting.rules.nodes progress.old.table progress.old.next step }
+    ensures on_the_way { OnOk result (IsOnTheWay setting progress.new) }
     ensures calls { OnOk result (map call_of_event progress.new.history.items ≡ map call_of_event progress.old.history.items ++ calls_of_step step) }
     ensures slots { OnOk result ((slots : List ℕ) → AreInSlots slots progress.old.table → AreInSlots (slots ++ slots_of (step ∷ [])) progress.new.table) }
     ensures next { OnOk result (progress.new.next ≡ progress.old.next + count_of step) }
-    ensures room { OnOk result (2128 ≤ vec_capacity progress.new.segment) }
 {
     match step {
-        Step::Cycle { count } => open_cycles(progress, alloc, layout, count),
+        Step::Cycle { count } => open_cycles(progress, alloc, count),
         Step::Add {
             caller,
             start,
             entry,
-        } => submit(progress, alloc, layout, caller, start, entry),
+        } => submit(progress, alloc, rules, caller, start, entry),
     }
 }
 
-/// Answers the steps, in their order.
+/// Answers the steps, in their order, on the bus of a system: a run behind the last step.
 fn run_steps(
-    progress: &mut Progress,
     alloc: Global,
-    layout: &Layout,
+    system: &System,
     steps: &[Step],
-    nodes: u8,
-) -> Result<(), AllocError>
-    requires under_way { IsUnderWay layout.now progress.old.table progress.old.next progress.old.history.items progress.old.trace.items }
-    requires fresh { IsFresh progress.old.table progress.old.next progress.old.history.items }
-    requires steps { AreSteps nodes steps.now }
-    requires room { 2128 ≤ vec_capacity progress.old.segment }
-    ensures under_way { OnOk result (IsUnderWay layout.now progress.new.table progress.new.next progress.new.history.items progress.new.trace.items) }
-    ensures answers { OnOk result (AnswersSteps progress.new.history.items steps.now) }
-{
-    for step in steps {
-        run_step(progress, alloc, layout, *step)?;
-    }
-    Ok(())
-}
-
-/// Runs the steps of a file in a system of so many nodes: the history answers them, and history and trace keep what is promised.
-pub fn run(alloc: Global, layout: &Layout, steps: &[Step], nodes: u8) -> Result<Outcome, AllocError>
-    requires steps { AreSteps nodes steps.now }
+    requests: &[Request],
+) -> Result<Progress, AllocError>
+    ghost setting: { Setting }
+    requires given { setting ≡ setting_of system.now requests.now }
+    requires setting { IsSetting setting }
+    requires steps { AreSteps setting.rules.nodes steps.now }
+    ensures on_the_way { IfOk result (IsOnTheWay setting) }
     ensures answers { IfOk result (λ run. AnswersSteps run.history.items steps.now) }
-    ensures kept { IfOk result (λ run. Kept layout.now run.history.items run.trace.items) }
-    ensures live { IfOk result (λ run. All IsLive (placed_of run.history.items)) }
-    ensures distinct { IfOk result (λ run. AreDistinct (placed_of run.history.items)) }
 {
+    let System {
+        layout,
+        rules,
+        owners,
+    } = system;
     let mut progress = Progress {
         table: Table::new(alloc),
+        changed: false,
         next: 0,
         history: Vec::new(alloc),
         trace: Vec::new(alloc),
-        segment: Vec::with_capacity(alloc, SEGMENT_ROOM)?,
+        nodes: Nodes::new(alloc, *layout, rules.nodes, owners.as_slice(), requests)?,
     };
-    wire_lengths();
     let _ = layout.cycle();
-    run_steps(&mut progress, alloc, layout, steps, nodes)?;
-    let Progress { history, trace, .. } = progress;
+    for step in steps {
+        run_step(&mut progress, alloc, rules, *step)?;
+    }
+    Ok(progress)
+}
+
+/// Runs the steps of a file on the bus of a system, with these requests: the history answers the steps, and history and trace keep what
+/// is promised.
+pub fn run(
+    alloc: Global,
+    system: &System,
+    steps: &[Step],
+    requests: &[Request],
+) -> Result<Outcome, AllocError>
+    requires system { IsSystem system.now }
+    requires steps { AreSteps system.now.rules.nodes steps.now }
+    requires requests { AreLegal system.now.owners requests.now }
+    ensures answers { IfOk result (λ run. AnswersSteps run.history.items steps.now) }
+    ensures kept { IfOk result (λ run. Kept system.now.rules system.now.layout requests.now run.history.items run.trace.items) }
+    ensures live { IfOk result (λ run. All IsLive (placed_of run.history.items)) }
+    ensures distinct { IfOk result (λ run. AreDistinct (placed_of run.history.items)) }
+{
+    wire_lengths();
+    one_can_trace();
+    let Progress { history, trace, .. } = run_steps(alloc, system, steps, requests)?;
     Ok(Outcome { history, trace })
 }

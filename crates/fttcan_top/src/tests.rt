@@ -1,6 +1,9 @@
 //! Whole calls over files and streams in memory.
 
+mod backlog;
+mod body_network;
 mod entries_while_running;
+mod guard_edges;
 mod trigger_wraps;
 mod twelve_entries;
 
@@ -17,8 +20,38 @@ const ONE_TRIGGER: &str = "open,0,0000000000,0\nframe,0,127,000,0000000000000000
 
 const USAGE: &str = "usage: fttcan replay SYSTEM STEPS [REQUESTS] [--tail N] [--report]\n";
 
+/// Two nodes with an asynchronous identifier each, and no entry.
+const TWO_OWNERS: &str =
+    "[bus]\ncycle = 1000\nwindow = 135\nnodes = 2\n\n[[async]]\nid = 0x200\nnode = 0\n\n[[async]]\nid = 0x201\nnode = 1\n";
+
+/// One node with one asynchronous identifier.
+const ONE_OWNER: &str =
+    "[bus]\ncycle = 1000\nwindow = 135\nnodes = 1\n\n[[async]]\nid = 0x200\nnode = 0\n";
+
+/// A cycle whose synchronous window leaves no asynchronous one.
+const NO_WINDOW: &str =
+    "[bus]\ncycle = 405\nwindow = 270\nnodes = 1\n\n[[async]]\nid = 0x200\nnode = 0\n";
+
+/// No request is ever sent where the synchronous window leaves no time for one.
+const NO_WINDOW_LOG: &str = "\
+submit,1,0,accepted,0,1
+submit,1,0,accepted,0,1
+open,0,0000000003,270
+frame,0,125,000,00010e0300000000
+frame,135,126,100,0000000000000000
+frame,261,126,101,0000000000000000
+open,1,0000000003,270
+frame,405,124,000,01010e0300000000
+frame,540,126,100,0000000000000001
+frame,666,126,101,0000000000000001
+end,2
+";
+
 /// The words of a replay of two files.
 const REPLAY: [&str; 3] = ["replay", "system", "steps"];
+
+/// The words of a replay of three files.
+const REPLAY_REQUESTS: [&str; 4] = ["replay", "system", "steps", "requests"];
 
 /// Room for each log and each message here, in bytes.
 const ROOM: usize = 65_536;
@@ -36,15 +69,20 @@ struct Answer {
     read_faults: u64,
 }
 
-/// A system file and a steps file; the fetches with the numbers of `failing` fail.
+/// A system file, a steps file and no requests; the fetches with the numbers of `failing` fail.
 fn shelf(
     alloc: Global,
     system: &str,
     steps: &str,
     failing: Vec<u64>,
 ) -> Result<MemShelf, AllocError> {
+    shelf_of(alloc, [system, steps, ""], failing)
+}
+
+/// Files of these texts: the system, the steps and the requests.
+fn shelf_of(alloc: Global, texts: [&str; 3], failing: Vec<u64>) -> Result<MemShelf, AllocError> {
     let mut files = Vec::new(alloc);
-    for (name, text) in [("system", system), ("steps", steps)] {
+    for (name, text) in ["system", "steps", "requests"].into_iter().zip(texts) {
         files.push((
             String::from_str(alloc, name)?,
             text.as_bytes().to_vec(alloc)?,
@@ -91,6 +129,12 @@ fn is_refusal(answer: &Answer, status: Status, message: &str, read_faults: u64) 
         && answer.out.bytes().is_empty()
         && answer.err.bytes() == message.as_bytes()
         && answer.read_faults == read_faults
+}
+
+/// Replays these steps with these requests where nothing fails.
+fn replay_requests(alloc: Global, texts: [&str; 3]) -> Result<Answer, AllocError> {
+    let shelf = shelf_of(alloc, texts, Vec::new(alloc))?;
+    call(alloc, &REPLAY_REQUESTS, shelf, sink(alloc)?)
 }
 
 /// Replays these steps where nothing fails.
@@ -150,13 +194,85 @@ fn a_replay_writes_its_log(rt: HostRuntime) -> Result<(), Fail> {
 }
 
 #[test]
+fn a_replay_with_requests_writes_its_log(rt: HostRuntime) -> Result<(), Fail> {
+    for (texts, log) in [
+        (
+            [TWO_OWNERS, "cycle,1\n", "200,513,\n200,512,\n"],
+            "open,0,0000000000,0\nframe,0,127,000,0000000000000000\nframe,200,51,200,\nframe,251,50,201,\nend,1\n",
+        ),
+        (
+            [
+                TWO_OWNERS,
+                "cycle,2\n",
+                "880,0x200,0102030405060708\n880,0x201,\n",
+            ],
+            "open,0,0000000000,0\nframe,0,127,000,0000000000000000\nframe,880,50,201,\nopen,1,0000000000,0\nframe,1000,127,000,0100000000000000\nframe,1135,121,200,0102030405060708\nend,2\n",
+        ),
+        (
+            [
+                ONE_OWNER,
+                "add,1,0,0,0,8,0,1,1,0\ncycle,1\n",
+                "730,512,0011223344556677\n",
+            ],
+            "submit,1,0,accepted,0,1\nopen,0,0000000001,135\nframe,0,125,000,0000870100000000\nframe,730,115,200,0011223344556677\nframe,865,126,100,0000000000000000\nend,1\n",
+        ),
+        (
+            [
+                ONE_OWNER,
+                "add,1,0,0,0,8,0,1,1,0\ncycle,2\n",
+                "731,512,0011223344556677\n",
+            ],
+            "submit,1,0,accepted,0,1\nopen,0,0000000001,135\nframe,0,125,000,0000870100000000\nframe,865,126,100,0000000000000000\nopen,1,0000000001,135\nframe,1000,124,000,0100870100000000\nframe,1135,115,200,0011223344556677\nframe,1865,126,100,0000000000000001\nend,2\n",
+        ),
+        (
+            [ONE_OWNER, "add,1,0,0,0,8,0,1,1,0\ncycle,1\n", "810,512,\n"],
+            "submit,1,0,accepted,0,1\nopen,0,0000000001,135\nframe,0,125,000,0000870100000000\nframe,810,51,200,\nframe,865,126,100,0000000000000000\nend,1\n",
+        ),
+        (
+            [
+                NO_WINDOW,
+                "add,1,0,0,0,8,0,1,1,0\nadd,1,0,1,0,8,0,1,1,0\ncycle,2\n",
+                "0,512,\n",
+            ],
+            NO_WINDOW_LOG,
+        ),
+        (
+            [
+                body_network::SYSTEM,
+                body_network::STEPS,
+                body_network::REQUESTS,
+            ],
+            body_network::LOG,
+        ),
+        (
+            [
+                guard_edges::SYSTEM,
+                guard_edges::STEPS,
+                guard_edges::REQUESTS,
+            ],
+            guard_edges::LOG,
+        ),
+        (
+            [backlog::SYSTEM, backlog::STEPS, backlog::REQUESTS],
+            backlog::LOG,
+        ),
+    ] {
+        let answer = replay_requests(rt.alloc(), texts)?;
+        assert_eq!(rt; answer.status, Status::Done, "{texts:?}");
+        assert_eq!(rt; str::from_utf8(answer.out.bytes()), Ok(log), "{texts:?}");
+        assert!(rt; answer.err.bytes().is_empty(), "{texts:?}");
+    }
+    Ok(())
+}
+
+#[test]
 fn words_of_no_command_are_refused(rt: HostRuntime) -> Result<(), Fail> {
     let alloc = rt.alloc();
     let cases: [&[&str]; 4] = [
         &["replay", "a"],
         &[],
-        &["replay", "system", "steps", "requests"],
-        &["replay", "system", "-s"],
+        &["replay", "system", "steps", "requests", "more"],
+        &["replay", "system", "steps", "-s"],
     ];
     for words in cases {
         let shelf = shelf(alloc, TWO_NODES, "cycle,1\n", Vec::new(alloc))?;
@@ -170,12 +286,65 @@ fn words_of_no_command_are_refused(rt: HostRuntime) -> Result<(), Fail> {
 fn texts_outside_their_formats_are_refused(rt: HostRuntime) -> Result<(), Fail> {
     let alloc = rt.alloc();
     let long = spaces(alloc, MAX_FILE + 1)?;
-    let row = replay(alloc, ONE_NODE, "look,1\n")?;
-    assert!(rt; is_refusal(&row, Status::Input, "steps: input\n", 0));
-    let steps = replay(alloc, ONE_NODE, long.as_str())?;
-    assert!(rt; is_refusal(&steps, Status::Input, "steps: input\n", 0));
-    let system = replay(alloc, long.as_str(), "cycle,1\n")?;
-    assert!(rt; is_refusal(&system, Status::Input, "system: input\n", 0));
+    let long = long.as_str();
+    for (texts, message) in [
+        ([ONE_NODE, "look,1\n", ""], "steps: input\n"),
+        ([ONE_NODE, long, ""], "steps: input\n"),
+        (
+            [long, "cycle,1\n", ""],
+            "system: longer than 4194304 bytes\n",
+        ),
+        (
+            [ONE_NODE, "cycle,1\n", long],
+            "requests: longer than 4194304 bytes\n",
+        ),
+        (["[bus", "look,1\n", ""], "system: toml\n"),
+        (
+            ["[bus]\nwindow = 135\nnodes = 1\n", "", ""],
+            "system: key bus.cycle\n",
+        ),
+        (
+            ["[bus]\ncycle = 399\nwindow = 135\nnodes = 1\n", "", ""],
+            "system: range bus.cycle\n",
+        ),
+        (
+            [
+                "[bus]\ncycle = 400\nturnaround = 0\nwindow = 300\nnodes = 1\n",
+                "",
+                "",
+            ],
+            "system: narrow 435 400\n",
+        ),
+        (
+            [TWO_OWNERS, "cycle,1\n", "0,512,\n0,514,\n"],
+            "requests: row 2 identifier\n",
+        ),
+    ] {
+        let answer = replay_requests(alloc, texts)?;
+        assert!(rt;
+            is_refusal(&answer, Status::Input, message, 0),
+            "{message:?}"
+        );
+    }
+    Ok(())
+}
+
+#[test]
+fn the_horizon_is_that_of_the_system(rt: HostRuntime) -> Result<(), Fail> {
+    for (horizon, status, answered) in [
+        (10_402, Status::Refused, "horizon,0,10402"),
+        (10_403, Status::Done, "accepted,0,10403"),
+    ] {
+        let alloc = rt.alloc();
+        let system = format!(in alloc;
+            "{ONE_NODE}\n[plan]\npolicy = \"edf\"\nhorizon = {horizon}\n"
+        )?;
+        let steps = "add,1,0,0,0,0,0,101,101,0\nadd,1,0,1,0,0,0,103,103,0\n";
+        let log = format!(in alloc; "submit,1,0,accepted,0,101\nsubmit,1,0,{answered}\nend,0\n")?;
+        let answer = replay(alloc, system.as_str(), steps)?;
+        assert_eq!(rt; answer.status, status, "{horizon}");
+        assert_eq!(rt; str::from_utf8(answer.out.bytes()), Ok(log.as_str()));
+    }
     Ok(())
 }
 
@@ -190,9 +359,9 @@ fn files_that_are_not_read_are_named(rt: HostRuntime) -> Result<(), Fail> {
             "{name:?}"
         );
     }
-    for fetch in [0, 1] {
+    for fetch in [0, 1, 2] {
         let shelf = shelf(alloc, TWO_NODES, "cycle,1\n", vec![in alloc; fetch]?)?;
-        let answer = call(alloc, &REPLAY, shelf, sink(alloc)?)?;
+        let answer = call(alloc, &REPLAY_REQUESTS, shelf, sink(alloc)?)?;
         assert!(rt;
             is_refusal(&answer, Status::Read, "read fault\n", 1),
             "{fetch}"

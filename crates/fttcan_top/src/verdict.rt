@@ -5,10 +5,8 @@ ghost use Rattle.fttcan_top.specs.Entries.{IsLive, total_cost};
 ghost use Rattle.fttcan_top.specs.History.{settled_from, IsCommonPeriod, IsLeastCommonPeriod, IsVerdict};
 
 use crate::history::Verdict;
+use admission::Rules;
 use requirement_table::{Placed, cost};
-
-/// The number of cycles from the planning's first one within which a repeat of the plan has to be found.
-pub const HORIZON: u64 = 10_000;
 
 /// The worst lengths of all entries together, in bit times.
 pub fn total_cost(placed: &[Placed]) -> u32
@@ -73,25 +71,28 @@ fn common_period(placed: &[Placed], limit: u64) -> Option<u64>
     None
 }
 
-/// The verdict on a change that makes this list of placed entries, planned from the cycle `from`, where a synchronous window has at
-/// most `window` bit times.
-pub fn verdict(placed: &[Placed], window: u32, from: u64) -> Verdict
+/// The verdict on a change that makes this list of placed entries, planned from the cycle `from` by these rules.
+pub fn verdict(placed: &[Placed], rules: &Rules, from: u64) -> Verdict
     requires few { length placed.now ≤ 300 }
     requires live { All IsLive placed.now }
     requires origins { All (λ p. p.origin < 2 ^ 40) placed.now }
     requires from { from < 2 ^ 42 }
-    ensures verdict { IsVerdict window placed.now from result }
+    requires horizon { rules.now.horizon ≤ 100000 }
+    ensures verdict { IsVerdict rules.now placed.now from result }
 {
     let sum = total_cost(placed);
-    if sum > window {
-        return Verdict::TooHeavy { sum, window };
+    if sum > rules.window {
+        return Verdict::TooHeavy {
+            sum,
+            window: rules.window,
+        };
     }
     let first = settled_from(placed, from);
-    match common_period(placed, (from + HORIZON).saturating_sub(first)) {
+    match common_period(placed, (from + rules.horizon).saturating_sub(first)) {
         Some(length) => Verdict::Accepted { first, length },
         None => Verdict::Horizon {
             from,
-            walked: HORIZON,
+            walked: rules.horizon,
         },
     }
 }

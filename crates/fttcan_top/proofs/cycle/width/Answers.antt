@@ -1,6 +1,7 @@
 use Rattle.std.proofs.Common.{sym, arith}
 use Rattle.requirement_table.specs.Slots.{contains_slot}
-use Rattle.fttcan_top.specs.Offered.{next_opening, slot_cost}
+use Rattle.node_model.specs.Opening.{slot_cost}
+use Rattle.fttcan_top.specs.Openings.{next_opening}
 use Rattle.fttcan_top.proofs.SlotEntries.{sum_where-more, sum_where-none}
 use Rattle.fttcan_top.proofs.cycle.width.Goals as goal
 

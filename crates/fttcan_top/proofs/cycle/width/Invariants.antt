@@ -1,6 +1,7 @@
 use Rattle.std.proofs.Common.{◌≡◌, ◌*◌, ◌≤◌}
 use Rattle.requirement_table.specs.Slots.{contains_slot, sum_where}
-use Rattle.fttcan_top.specs.Offered.{next_opening, slot_cost}
+use Rattle.node_model.specs.Opening.{slot_cost}
+use Rattle.fttcan_top.specs.Openings.{next_opening}
 use Rattle.fttcan_top.proofs.cycle.width.Given as goal
 
 abbrev pub invariant-loop-slot : goal.invariant-loop-slot

@@ -1,12 +1,21 @@
-use Rattle.std.proofs.Common.{sym, ◌∙◌}
-use Rattle.fttcan_top.specs.Ends.{end_source}
-use Rattle.fttcan_top.proofs.EndLemmas.{end-input, says-at}
+use Rattle.std.proofs.Common.{◌≡◌, sym, subst, Err}
+use Rattle.std.specs.Option.{ForSome}
+use Rattle.std.specs.Prelude.{map, string_bytes}
+use Rattle.fttcan_top.specs.declared.status.Status.TheVariants.{Input}
+use Rattle.fttcan_top.specs.Ends.{end_reason}
+use Rattle.fttcan_top.specs.Output.{asked}
+use Rattle.fttcan_top.proofs.EndLemmas.{at_status, end-input}
 use Rattle.fttcan_top.proofs.program.plain.Goals as goal
 
 pub returns-clause-message : goal.returns-clause-message
 returns-clause-message g c = (
-  end_source c.call-end.result,
-  λ is. c.call-end.ensures.source (end_source c.call-end.result) (end-input c.call-end.result (sym c.status.ensures.status ∙ is)),
-  says-at c.write_all.result _ _ _ _ _ c.call-end.result _ c.as_bytes.ensures.value c.message.ensures.message c.status.ensures.status
-      c.write_all.ensures.all c.write_all.ensures.failed c.write_all.ensures.prefix,
+  end_reason c.call-end.result,
+  at_status (λ status. status ≡ Input → ForSome (g.S.Shelf.told_files c.args.shelf.now)
+      (λ files. asked (map string_bytes c.args.words.now) files ≡ Err (end_reason c.call-end.result)))
+      c.call-end.result c.tell.result c.tell.ensures.status
+      (λ is. let found = end-input c.call-end.result is in
+      subst (λ end. ForSome (g.S.Shelf.told_files c.args.shelf.now) (λ files. asked (map string_bytes c.args.words.now) files ≡ Err (end_reason end)))
+      (sym found.1) (c.call-end.ensures.refusal found.0 found.1))
+      (λ input is. absurd (cc)),
+  c.tell.ensures.message,
 )

@@ -1,10 +1,34 @@
-use Rattle.fttcan_top.proofs.CycleRuns.{are-short}
-use Rattle.fttcan_top.proofs.Histories.{IsUnderWay-open}
+use Rattle.std.proofs.Common.{◌≤◌, sym, subst}
+use Rattle.fttcan_top.proofs.Histories.{are-short}
+use Rattle.fttcan_top.proofs.Buses.{opened, window-ordered}
 use Rattle.fttcan_top.proofs.run.open_cycle.Goals as goal
 
-pub returns-clause-under_way : goal.returns-clause-under_way
-returns-clause-under_way c =
-    rw (c.in_ok-push.ensures.items, c.in_ok-extend_from_slice.ensures.items, c.as_slice.ensures.value)
-    (IsUnderWay-open c.args.layout.now c.args.progress.now.table c.args.progress.now.next c.in_ok-mask.mask _ _ _
-    (are-short c.wire_lengths.ensures.not_empty c.wire_lengths.ensures.at_most) c.in_ok-mask.ensures.known c.requires.under_way c.in_ok-mask.ensures.mask
-    (c.in_ok-mask.ensures.runs _ c.requires.under_way.running.started))
+pub run_cycle-requires-clause-window : goal.run_cycle-requires-clause-window
+run_cycle-requires-clause-window g c =
+    let (on_the_way, few) = c.requires in
+    subst (λ l. c.in_ok-order.order.l ≤ l.window) (sym on_the_way.ready.same_layout)
+    (window-ordered g.setting.rules g.setting.layout g.setting.requests c.args.progress.now.table c.args.progress.now.next _ _ _ on_the_way.under_way c.in_ok-order.ensures.window)
+
+pub returns-clause-on_the_way : goal.returns-clause-on_the_way
+returns-clause-on_the_way g c =
+    let (on_the_way, few) = c.requires in
+    let p = c.args.progress.now in
+    let o = c.in_ok-order.order in
+    let both = opened g.setting p.table p.changed p.next o.cycle o.mask o.l o.learned p.history.items p.trace.items c.in_ok-segment.segment p.nodes c.run_cycle.new.nodes
+    (are-short c.wire_lengths.ensures.not_empty c.wire_lengths.ensures.at_most) on_the_way.under_way on_the_way.ready
+    (record {
+      cycle_is = c.in_ok-order.ensures.cycle;
+      mask_is = c.in_ok-order.ensures.mask;
+      window_is = c.in_ok-order.ensures.window;
+      learned_is = c.in_ok-order.ensures.learned;
+    })
+    c.run_cycle.ensures.layout c.in_ok-segment.ensures.heard (record {
+      runs = λ owners requests placed past bus fits before.
+          c.in_ok-segment.ensures.runs owners requests placed past (record { bus = bus; fits = fits; before = before });
+      stand = λ owners requests placed past bus fits before.
+          c.in_ok-segment.ensures.stand owners requests placed past (record { bus = bus; fits = fits; before = before });
+    }) in
+    record {
+      under_way = rw (c.in_ok-push.ensures.items, c.in_ok-extend_from_slice.ensures.items, c.frames.ensures.list) both.0;
+      ready = rw (c.in_ok-extend_from_slice.ensures.items, c.frames.ensures.list) both.1;
+    }

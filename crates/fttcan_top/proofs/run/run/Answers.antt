@@ -1,16 +1,16 @@
-use Rattle.std.proofs.Common.{subst}
-use Rattle.std.specs.List.{All}
-use Rattle.fttcan_top.specs.Entries.{IsLive, AreDistinct}
+use Rattle.std.proofs.Common.{refl}
 use Rattle.fttcan_top.proofs.Histories.{Kept-under_way}
+use Rattle.fttcan_top.proofs.Settings.{is_setting}
 use Rattle.fttcan_top.proofs.run.run.Goals as goal
 
 pub returns-clause-kept : goal.returns-clause-kept
-returns-clause-kept c = Kept-under_way c.wire_lengths.ensures.not_empty c.args.layout.now _ _ _ _ c.cycle.ensures.known c.in_ok-run_steps.ensures.under_way
+returns-clause-kept c =
+    let way = c.in_ok-history.ensures.on_the_way.under_way in
+    Kept-under_way c.wire_lengths.ensures.not_empty c.args.system.now.rules c.args.system.now.layout c.args.requests.now _ _ _ _
+    (record {
+      is = λ openings count one other distinct. c.one_can_trace.ensures.only_one c.args.system.now.layout c.args.requests.now openings count one other
+          way.known way.running.asynchronous distinct;
+    }) way
 
-pub returns-clause-live : goal.returns-clause-live
-returns-clause-live c =
-    let way = c.in_ok-run_steps.ensures.under_way in subst (λ l. All IsLive l) way.placed_is way.running.live
-
-pub returns-clause-distinct : goal.returns-clause-distinct
-returns-clause-distinct c =
-    let way = c.in_ok-run_steps.ensures.under_way in subst AreDistinct way.placed_is way.running.distinct
+pub run_steps-requires : goal.run_steps-requires
+run_steps-requires c = (refl, (is_setting c.args.system.now c.args.requests.now c.requires.system c.requires.requests, c.requires.steps))
