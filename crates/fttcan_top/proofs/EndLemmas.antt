@@ -32,7 +32,7 @@ at_status P end now (inl same) here memory = subst P (sym same) here
 at_status P end now (inr (input, is)) here memory = subst P (sym is) (memory input)
 
 -- every refusal of a file is one
-is_refusal : (refusal : Refusal) → IsRefusal (stopped_by refusal)
+pub is_refusal : (refusal : Refusal) → IsRefusal (stopped_by refusal)
 is_refusal (TooLong source) = tt
 is_refusal (System fault) = tt
 is_refusal Steps = tt

@@ -10,7 +10,7 @@ ghost use Rattle.fttcan_top.specs.declared.load.Refusal.{Refusal};
 ghost use Rattle.fttcan_top.specs.History.{refuses_nothing};
 ghost use Rattle.fttcan_top.specs.Ends.{end_status, end_reason, stop_end, IsRunEnd, IsStatusOf};
 ghost use Rattle.fttcan_top.specs.Loads.{Explains, asked_of, stopped_by};
-ghost use Rattle.fttcan_top.specs.Output.{Asked, Stopped, asked, asked_by, refusal, IsAnswer, IsDone, IsCut, IsStopped, LogsRun, LogsFront, message_of, status_of, Says};
+ghost use Rattle.fttcan_top.specs.Output.{Asked, Stopped, asked, asked_by, refusal, IsAnswer, IsDone, IsCut, IsRefusal, IsStopped, LogsRun, LogsFront, message_of, status_of, Says};
 ghost use Rattle.fttcan_top.specs.StepsFile.{AreSteps};
 ghost use Rattle.fttcan_top.specs.Words.{replay, command_of, file_count, named};
 
@@ -265,7 +265,7 @@ pub fn plain<S: Shelf, O: Sink, R: Sink>(
 
     // What was put to `err`, and how often a file was fetched.
     ensures message { (why : Stopped)
-        × (result ≡ Status.Input → ForSome (S.told_files shelf.old) (λ files. asked (map string_bytes words.now) files ≡ Err why))
+        × (result ≡ Status.Input → IsRefusal why × ForSome (S.told_files shelf.old) (λ files. asked (map string_bytes words.now) files ≡ Err why))
         × Says (R.told_bytes err.old) (R.told_bytes err.new) (Rose (R.faults err.old) (R.faults err.new)) (message_of result why) }
     ensures fetches { S.fetches shelf.new ≤ S.fetches shelf.old + file_count (map string_bytes words.now) }
 
