@@ -11,7 +11,8 @@ use Rattle.csv.specs.declared.reader.Trim.TheVariants as trim
 use Rattle.csv.specs.declared.parser.Action.{Action}
 use Rattle.csv.specs.declared.parser.State.{State}
 use Rattle.csv.specs.declared.parser.State.TheVariants as st
-use Rattle.fttcan_top.specs.StepsFile.{rows_of, step_of_row, steps_of_rows, trimmed}
+use Rattle.input_text.specs.CsvRows.{rows_of, trimmed}
+use Rattle.fttcan_top.specs.StepsFile.{step_of_row, steps_of_rows}
 use Rattle.fttcan_top.specs.declared.input.steps.Step.{Step}
 
 -- the reader stands between two records

@@ -9,7 +9,7 @@ use Rattle.std.specs.Result.{result_ok}
 use Rattle.std.specs.Str.{IsAscii, IsUtf8}
 use Rattle.std.specs.Str.Parse.{AllDigits, IsNumeral, ParsesUnsigned, digits_value, without_leading_plus}
 use Rattle.csv.specs.Records.{field_at}
-use Rattle.fttcan_top.specs.StepsFile.{number_of, within}
+use Rattle.input_text.specs.CsvRows.{number_of, within}
 
 -- the field at a place, when each field is changed alike
 pub field_at-map : (change : List ℕ → List ℕ) (row : List (List ℕ)) (place : ℕ) → field_at (map change row) place ≡ option_map change (field_at row place)

@@ -1,44 +1,14 @@
 -- What a steps file means: the rows of its text, the step that each row asks for, and what has to hold of all steps together.
-use Rattle.std.specs.Prelude.{◌≡◌, ℕ, ◌+◌, ◌-◌, ◌^◌, ◌<◌, ◌≤◌, ◌==◌, ◌&&◌, Bool, true, not, if◌then◌else◌, nat_eq, nat_lt, nat_le, List, [], ◌∷◌, ◌++◌, length, map, reverse, sum_by, All, Option, Some, None, option_map, codes, AllPairs, ◌≢◌}
-use Rattle.std.specs.Char.{is_ascii_digit}
-use Rattle.std.specs.List.{list_all, list_any, filter_map}
+use Rattle.std.specs.Prelude.{if◌then◌else◌, ◌≡◌, ℕ, ◌+◌, ◌-◌, ◌^◌, ◌<◌, ◌≤◌, ◌==◌, ◌&&◌, Bool, true, not, nat_eq, nat_lt, nat_le, List, [], ◌∷◌, ◌++◌, length, sum_by, All, Option, Some, None, option_map, codes, AllPairs, ◌≢◌}
+use Rattle.std.specs.List.{list_any, filter_map}
 use Rattle.std.specs.Str.{bytes_eq}
-use Rattle.std.specs.Str.Parse.{digits_value}
-use Rattle.csv.specs.Reading.{default_config, records, strip_bom}
 use Rattle.csv.specs.Records.{field_at}
 use Rattle.requirement_table.specs.declared.entries.Entry.{Entry}
+use Rattle.input_text.specs.CsvRows.{number_at, rows_of}
 use Rattle.requirement_table.specs.declared.slots.TheConstants.{SLOTS}
 use Rattle.fttcan_top.specs.Chain.{◌>>=◌}
 use Rattle.fttcan_top.specs.declared.input.steps.Step.{Step}
 use Rattle.fttcan_top.specs.declared.input.steps.Step.TheVariants.{Cycle, Add}
-
--- a field without the spaces at its start
-abbrev pub without_leading_spaces : List ℕ → List ℕ
-without_leading_spaces [] = []
-without_leading_spaces (byte ∷ rest) = if byte == 32 then without_leading_spaces rest else byte ∷ rest
-
--- a field without the spaces at both ends
-abbrev pub trimmed : List ℕ → List ℕ
-trimmed field = reverse (without_leading_spaces (reverse (without_leading_spaces field)))
-
--- the rows of a text: its records of comma-separated fields, without a byte order mark at the start and without a header, each field trimmed
-abbrev pub rows_of : List ℕ → List (List (List ℕ))
-rows_of bytes = map (map trimmed) (records default_config (strip_bom bytes))
-
--- the number that a field writes: one ASCII digit or more, and nothing else
-abbrev pub number_of : List ℕ → Option ℕ
-number_of field = if not (length field == 0) && list_all is_ascii_digit field then Some (digits_value 10 field) else None
-
--- a number, where it is from low to high
-abbrev pub within : ℕ → ℕ → ℕ → Option ℕ
-within low high number = if nat_le low number && nat_le number high then Some number else None
-
--- the number in the field at this place of a row, where it is from low to high
-abbrev pub number_at : List (List ℕ) → ℕ → ℕ → ℕ → Option ℕ
-number_at row place low high = do
-  field ← field_at row place
-  number ← number_of field
-  within low high number
 
 -- the entry that the fields from SLOT to PRIORITY describe
 abbrev pub entry_of_row : List (List ℕ) → Option Entry

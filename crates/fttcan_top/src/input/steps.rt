@@ -11,7 +11,8 @@ ghost use Rattle.std.specs.Char.{is_ascii_digit};
 ghost use Rattle.std.specs.List.{list_all};
 ghost use Rattle.std.specs.Range.{range_inclusive_start, range_inclusive_end};
 ghost use Rattle.csv.specs.Records.{field_at, fields_of};
-ghost use Rattle.fttcan_top.specs.StepsFile.{without_leading_spaces, trimmed, number_of, within, number_at, entry_of_row, cycle_row, add_fields, add_row, step_of_row, steps_of_rows, rows_of, cycles_of, start_in_time, are_distinct, slot_of, slots_of, fit_together, FitTogether, IsEntry, IsStep, AreSteps, steps_of};
+ghost use Rattle.input_text.specs.CsvRows.{without_leading_spaces, trimmed, number_of, within, number_at, rows_of};
+ghost use Rattle.fttcan_top.specs.StepsFile.{entry_of_row, cycle_row, add_fields, add_row, step_of_row, steps_of_rows, cycles_of, start_in_time, are_distinct, slot_of, slots_of, fit_together, FitTogether, IsEntry, IsStep, AreSteps, steps_of};
 
 use super::InputFault;
 use csv::{ByteRecord, ReaderBuilder};

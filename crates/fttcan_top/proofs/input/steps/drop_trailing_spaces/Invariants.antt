@@ -1,5 +1,5 @@
 use Rattle.std.proofs.Common.{◌≡◌, length, reverse}
-use Rattle.fttcan_top.specs.StepsFile.{without_leading_spaces}
+use Rattle.input_text.specs.CsvRows.{without_leading_spaces}
 use Rattle.fttcan_top.proofs.input.steps.drop_trailing_spaces.Given as goal
 
 abbrev pub invariant-loop-field : goal.invariant-loop-field
