@@ -12,9 +12,13 @@ worst n = 55 + 10 * n
 abbrev pub release_of : Placed → ℕ → ℕ
 release_of p k = p.origin + p.entry.phase + k * p.entry.period
 
+-- the cycle before whose start instance `k` is to be sent: release + deadline
+abbrev pub deadline_of : Placed → ℕ → ℕ
+deadline_of p k = release_of p k + p.entry.deadline
+
 -- `c` is the last cycle in which instance `k` may be sent: release + deadline - 1
 abbrev pub IsLastCycle : Placed → ℕ → ℕ → Type 0
-IsLastCycle p k c = c + 1 ≡ release_of p k + p.entry.deadline
+IsLastCycle p k c = c + 1 ≡ deadline_of p k
 
 -- an instance with this release exists: the entry has no end, or the release is below it
 abbrev pub Exists : Placed → ℕ → Type 0
@@ -30,7 +34,7 @@ pub record IsReleasedIn (p : Placed) (k c : ℕ) : Type 0 where
 pub record MaySend (p : Placed) (k c : ℕ) : Type 0 where
   pub exists : Exists p (release_of p k)
   pub released : release_of p k ≤ c
-  pub in_time : c < release_of p k + p.entry.deadline
+  pub in_time : c < deadline_of p k
 
 -- the number of the latest release at or before `c`, as if there were no end
 abbrev pub latest : Placed → ℕ → ℕ
@@ -43,7 +47,7 @@ exists p release = option_map_or (λ end. nat_lt release end) p.end true
 -- the test of `MaySend`
 abbrev pub may_send : Placed → ℕ → ℕ → Bool
 may_send p k c =
-    exists p (release_of p k) && nat_le (release_of p k) c && nat_lt c (release_of p k + p.entry.deadline)
+    exists p (release_of p k) && nat_le (release_of p k) c && nat_lt c (deadline_of p k)
 
 -- the number of the instance that is released in cycle `c`
 abbrev pub released_by : Placed → ℕ → Option ℕ
@@ -67,3 +71,7 @@ pub record Instance : Type 0 where
 -- the bytes that an instance carries
 abbrev pub bytes_of : Instance → List ℕ
 bytes_of i = payload i.placed.entry.length i.number
+
+-- the worst length of its frame, in bit times
+abbrev pub worst_of : Instance → ℕ
+worst_of i = worst i.placed.entry.length

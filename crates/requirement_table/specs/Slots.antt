@@ -2,6 +2,10 @@
 use Rattle.std.specs.Prelude.{ℕ, suc, zero, ◌+◌, ◌^◌, Bool, nat_eq, if◌then◌else◌}
 use Rattle.std.specs.Int.{bit_at}
 
+-- the number of slots of the table; slots are numbered from 0
+abbrev pub slots : ℕ
+slots = 40
+
 -- whether the slot stands in the set
 abbrev pub contains_slot : ℕ → ℕ → Bool
 contains_slot mask slot = nat_eq (bit_at mask slot) 1

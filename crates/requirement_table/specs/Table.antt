@@ -1,24 +1,35 @@
 -- Lists of placed entries: when a list is well placed, and what its entries release and may send.
-use Rattle.std.specs.Prelude.{◌≡◌, ℕ, ◌+◌, ◌^◌, ◌<◌, ◌≤◌, Bool, ◌&&◌, nat_eq, if◌then◌else◌, Option, None, IfSome, IsSomeAnd, is_some, List, All, AllPairs, slice_get, option_map}
+use Rattle.std.specs.Prelude.{◌≡◌, ℕ, zero, suc, ◌+◌, ◌-◌, ◌^◌, ◌<◌, ◌≤◌, Bool, false, not, ◌&&◌, ◌||◌, nat_eq, if◌then◌else◌, Option, None, IfSome, IsSomeAnd, is_some, List, All, AllPairs, slice_get, option_map}
+use Rattle.std.specs.Option.{option_map_or}
 use Rattle.std.specs.List.{list_any, filter_map}
 use Rattle.requirement_table.specs.declared.entries.Placed.{Placed}
-use Rattle.requirement_table.specs.declared.slots.TheConstants.{SLOTS}
-use Rattle.requirement_table.specs.Instance.{Instance, instance_of, released_by}
-use Rattle.requirement_table.specs.Slots.{set_of}
+use Rattle.requirement_table.specs.declared.entries.Entry.{Entry}
+use Rattle.requirement_table.specs.Instance.{Instance, deadline_of, instance_of, released_by, worst_of}
+use Rattle.requirement_table.specs.Slots.{set_of, slots, sum_where}
+
+-- the fields of an entry are in range; how many nodes there are is not known here
+pub record IsEntry (entry : Entry) : Type 0 where
+  pub slot : entry.slot < slots
+  pub length : entry.length ≤ 8
+  pub phase : entry.phase < 2 ^ 16
+  pub period : entry.period < 2 ^ 16
+  pub priority : entry.priority < 2 ^ 8
+  pub some_time : 1 ≤ entry.deadline
+  pub deadline : entry.deadline ≤ entry.period
 
 -- the fields of a placed entry are in range
 pub record IsInRange (p : Placed) : Type 0 where
-  pub slot : p.entry.slot < SLOTS
-  pub length : p.entry.length ≤ 8
-  pub deadline : 1 ≤ p.entry.deadline
-  pub period : p.entry.deadline ≤ p.entry.period
+  pub entry : IsEntry p.entry
   pub origin : p.origin < 2 ^ 42
   pub end : IfSome p.end (λ end. (p.origin ≤ end) × (end < 2 ^ 42))
 
--- the slot of a placed entry is free again at cycle `c`: the entry has an end, and `c` is at or
--- above end + deadline - 1
+-- the cycle from which the slot of a placed entry is free again: end + deadline - 1
+abbrev pub free_from : Placed → Option ℕ
+free_from p = option_map (λ end. end + p.entry.deadline - 1) p.end
+
+-- the slot of a placed entry is free again at cycle `c`
 abbrev pub IsFreeAt : Placed → ℕ → Type 0
-IsFreeAt p c = IsSomeAnd p.end (λ end. end + p.entry.deadline ≤ c + 1)
+IsFreeAt p c = IsSomeAnd (free_from p) (λ from. from ≤ c)
 
 -- of two entries in one slot the earlier one has an end and is free before the later one's origin
 abbrev pub GoesBefore : Placed → Placed → Type 0
@@ -46,4 +57,24 @@ releases_in placed c slot = list_any (λ p. nat_eq p.entry.slot slot && is_some 
 
 -- the set of the slots with an instance released in cycle `c`
 abbrev pub released_in : List Placed → ℕ → ℕ
-released_in placed c = set_of SLOTS (releases_in placed c)
+released_in placed c = set_of slots (releases_in placed c)
+
+-- whether `c` is the last cycle in which the slot's instance may be sent that may be sent in it
+abbrev pub is_last_in : List Placed → ℕ → ℕ → Bool
+is_last_in placed c slot = option_map_or (λ i. nat_eq (deadline_of i.placed i.number) (c + 1)) (instance_in placed slot c) false
+
+-- what the slot costs in cycle `c`, in bit times: the worst length of the frame of its instance that may be sent; 0 where there
+-- is none
+abbrev pub worst_in : List Placed → ℕ → ℕ → ℕ
+worst_in placed c slot = option_map_or worst_of (instance_in placed slot c) 0
+
+-- what the slots of which `flagged` holds cost together in cycle `c`, in bit times
+abbrev pub width_in : List Placed → ℕ → (ℕ → Bool) → ℕ
+width_in placed c flagged = sum_where slots flagged (worst_in placed c)
+
+-- whether the slot holds an instance, released before the cycle `from + n` and not sent before it: `held` are the slots that hold
+-- one before `from`, and `flags c slot` says that the slot is sent in cycle `c`
+unfoldable pub held_before : List Placed → (ℕ → ℕ → Bool) → ℕ → (ℕ → Bool) → ℕ → ℕ → Bool
+held_before placed flags from held zero slot = held slot
+held_before placed flags from held (suc n) slot =
+    (held_before placed flags from held n slot || releases_in placed (from + n) slot) && not (flags (from + n) slot)
