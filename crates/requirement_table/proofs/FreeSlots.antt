@@ -1,5 +1,5 @@
 -- From which cycle on a slot is free, after some placed entries.
-use Rattle.std.proofs.Common.{◌≡◌, ◌≢◌, ℕ, ◌+◌, ◌^◌, ◌<◌, ◌≤◌, ◌↔◌, Option, Some, None, IfSome, IsSomeAnd, List, [], ◌∷◌, ◌++◌, All, length, get_or, set, take, replicate, length-take, sym, ⊎_elim, arith}
+use Rattle.std.proofs.Common.{◌≡◌, ◌≢◌, ℕ, ◌+◌, ◌-◌, ◌^◌, ◌<◌, ◌≤◌, ◌↔◌, Option, Some, None, IfSome, IsSomeAnd, option_map, List, [], ◌∷◌, ◌++◌, All, length, get_or, set, take, replicate, length-take, sym, ⊎_elim, arith}
 use Rattle.std.proofs.lemmas.List.Elements.{All-nil, All-push, All-take, All-same, All-contains, Contains-push, All-from_get_or}
 use Rattle.std.proofs.lemmas.List.Quantifiers.{all_pairs_push}
 use Rattle.std.proofs.Math.Seq.{take-append_seam}
@@ -29,16 +29,18 @@ All-front : {X : Type 0} (P : X → Type 0) (xs ys : List X) → All P (xs ++ ys
 All-front P xs ys all = All-same P xs (take (length xs) (xs ++ ys)) (sym (take-append_seam xs ys)) (All-take P (length xs) (xs ++ ys) all)
 
 -- an end that frees the slot at `c` stands above the origin
-end-above : (end : Option ℕ) (origin deadline c : ℕ) → IfSome end (λ e. (origin ≤ e) × (e < 2 ^ 42)) → 1 ≤ deadline → IsSomeAnd end (λ e. e + deadline ≤ c + 1) → origin ≤ c
+end-above : (end : Option ℕ) (origin deadline c : ℕ) → IfSome end (λ e. (origin ≤ e) × (e < 2 ^ 42)) → 1 ≤ deadline
+    → IsSomeAnd (option_map (λ e. e + deadline - 1) end) (λ from. from ≤ c) → origin ≤ c
 end-above None origin deadline c within positive free = absurd free
 end-above (Some e) origin deadline c within positive free = let low = within.0 in omega arith
 
-free-later : (end : Option ℕ) (deadline c d : ℕ) → c ≤ d → IsSomeAnd end (λ e. e + deadline ≤ c + 1) → IsSomeAnd end (λ e. e + deadline ≤ d + 1)
+free-later : (end : Option ℕ) (deadline c d : ℕ) → c ≤ d → IsSomeAnd (option_map (λ e. e + deadline - 1) end) (λ from. from ≤ c)
+    → IsSomeAnd (option_map (λ e. e + deadline - 1) end) (λ from. from ≤ d)
 free-later None deadline c d later free = free
 free-later (Some e) deadline c d later free = omega arith
 
 pub origin-below : (p : Placed) (c : ℕ) → IsInRange p → IsFreeAt p c → p.origin ≤ c
-origin-below p c range free = end-above p.end p.origin p.entry.deadline c range.end range.deadline free
+origin-below p c range free = end-above p.end p.origin p.entry.deadline c range.end range.entry.some_time free
 
 all-later : (placed : List Placed) (slot c d : ℕ) → c ≤ d → AllFreeAt placed slot c → AllFreeAt placed slot d
 all-later placed slot c d later all k x within same = free-later (get_or placed k x).end (get_or placed k x).entry.deadline c d later (all k x within same)

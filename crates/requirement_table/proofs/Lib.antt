@@ -1,5 +1,6 @@
-pub mod Bytes
-pub mod FreeSlots
-pub mod Latest
-pub mod SlotInstances
-pub mod SlotSets
+mod Bytes
+mod FreeSlots
+mod Latest
+pub mod Shared
+mod SlotInstances
+mod SlotSets

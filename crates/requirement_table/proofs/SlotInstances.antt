@@ -1,5 +1,5 @@
 -- The instances of a slot in a list of placed entries.
-use Rattle.std.proofs.Common.{◌≡◌, ℕ, zero, suc, ◌+◌, ◌<◌, ◌≤◌, ◌&&◌, Bool, true, false, Option, Some, None, IfSome, IsSomeAnd, List, [], ◌∷◌, Any, Contains, slice_get, length, get_or, nat_eq, nat_lt, is_some, if◌then◌else◌, refl, sym, ap, ◌∙◌, arith, ⊎_elim}
+use Rattle.std.proofs.Common.{◌≡◌, ℕ, zero, suc, ◌+◌, ◌-◌, ◌<◌, ◌≤◌, ◌&&◌, Bool, true, false, Option, Some, None, IfSome, IsSomeAnd, List, [], ◌∷◌, Any, Contains, slice_get, length, get_or, nat_eq, nat_lt, is_some, if◌then◌else◌, refl, sym, ap, ◌∙◌, arith, ⊎_elim}
 use Rattle.std.specs.List.{filter_map, cons_option}
 use Rattle.std.specs.Option.{option_map}
 use Rattle.std.proofs.lemmas.Bool.{cases_order, eq-eqb, eqb-true, cond-true, and_parts, and_from, lt-ltb}
@@ -7,14 +7,14 @@ use Rattle.std.proofs.lemmas.Option.{slice_get_within, get_or_from_slice_get, sa
 use Rattle.std.proofs.lemmas.List.Folds.{Any-from_list_any, list_any-from_Any}
 use Rattle.requirement_table.specs.declared.entries.Placed.{Placed}
 use Rattle.requirement_table.specs.Instance.{Instance, MaySend, IsReleasedIn, release_of, instance_of, released_by}
-use Rattle.requirement_table.specs.declared.slots.TheConstants.{SLOTS}
-use Rattle.requirement_table.specs.Slots.{contains_slot}
+use Rattle.requirement_table.specs.Slots.{contains_slot, slots}
 use Rattle.requirement_table.specs.Table.{IsInRange, IsFreeAt, GoesBefore, IsWellPlaced, sendable, instance_in, releases_in, released_in}
 use Rattle.requirement_table.proofs.SlotSets.{contains_slot-set_of}
 use Rattle.requirement_table.proofs.Latest.{latest-of_sent, instance_of-sent, MaySend-from_instance, released_by-released, IsReleasedIn-from_released_by}
 
 -- what may be sent before an end that frees the slot comes before the cycle in which it is free
-sent-before_free : (end : Option ℕ) (release deadline c origin : ℕ) → IfSome end (λ e. release < e) → c < release + deadline → IsSomeAnd end (λ e. e + deadline ≤ origin + 1) → c < origin
+sent-before_free : (end : Option ℕ) (release deadline c origin : ℕ) → IfSome end (λ e. release < e) → c < release + deadline
+    → IsSomeAnd (option_map (λ e. e + deadline - 1) end) (λ from. from ≤ origin) → c < origin
 sent-before_free None release deadline c origin there in_time free = absurd free
 sent-before_free (Some e) release deadline c origin there in_time free = omega arith
 
@@ -45,7 +45,7 @@ one_instance placed well i j k m c p q at_i at_j same sends other =
     ⊎_elim
     (λ (here : i ≡ j).
     let equal = same_Some p q (sym at_i ∙ ap (slice_get placed) here ∙ at_j) in
-    (here, same_number p q k m c equal (in_range-at placed i p well at_i).period sends other))
+    (here, same_number p q k m c equal (in_range-at placed i p well at_i).entry.deadline sends other))
     (⊎_elim
     (λ (before : i < j). absurd (apart p q k m c (free-at placed i j p q well at_i at_j before same) sends other))
     (λ (behind : j < i). absurd (apart q p m k c (free-at placed j i q p well at_j at_i behind (sym same)) other sends)))
@@ -107,7 +107,7 @@ first_found (q ∷ rest) slot c i k p at slot_is period sends only =
 -- in a well placed list the instance that may be sent is the one that is found
 pub instance_in-found : (placed : List Placed) → IsWellPlaced placed → (i k c : ℕ) (p : Placed) → slice_get placed i ≡ Some p → MaySend p k c → instance_in placed p.entry.slot c ≡ Some (record { placed = p; number = k })
 instance_in-found placed well i k c p at sends =
-    first_found placed p.entry.slot c i k p at refl (in_range-at placed i p well at).period sends
+    first_found placed p.entry.slot c i k p at refl (in_range-at placed i p well at).entry.deadline sends
     (λ j m q there same also. one_instance placed well i j k m c p q at there (sym same) sends also)
 
 -- an instance that is found is one of the list's, of the slot, and may be sent
@@ -155,18 +155,18 @@ in_range-of placed i p well within at = rw at at (well.in_range i p within)
 
 pub released_in-sound : (placed : List Placed) (slot c : ℕ) → contains_slot (released_in placed c) slot ≡ true → Any (IsReleasedOf slot c) placed
 released_in-sound placed slot c contains =
-    let parts = and_parts (nat_lt slot SLOTS) (releases_in placed c slot) (sym (contains_slot-set_of SLOTS (releases_in placed c) slot) ∙ contains) in
+    let parts = and_parts (nat_lt slot slots) (releases_in placed c slot) (sym (contains_slot-set_of slots (releases_in placed c) slot) ∙ contains) in
     let any = Any-from_list_any (λ p. nat_eq p.entry.slot slot && is_some (released_by p c)) placed parts.1 in
     (any.0, any.1, any.2, any.3, released-parts slot c any.1 any.4)
 
 pub released_in-complete : (placed : List Placed) (slot c : ℕ) → IsWellPlaced placed → Any (IsReleasedOf slot c) placed → contains_slot (released_in placed c) slot ≡ true
 released_in-complete placed slot c well any =
     let range = in_range-of placed any.0 any.1 well any.2 any.3 in
-    let known = range.slot in
+    let known = range.entry.slot in
     let slot_is = any.4.0 in
-    let deadline = range.deadline in
-    let period = range.period in
+    let deadline = range.entry.some_time in
+    let period = range.entry.deadline in
     let test = released-test slot c any.1 (omega arith) any.4 in
-    contains_slot-set_of SLOTS (releases_in placed c) slot
-    ∙ and_from _ _ (lt-ltb slot SLOTS (omega arith))
+    contains_slot-set_of slots (releases_in placed c) slot
+    ∙ and_from _ _ (lt-ltb slot slots (omega arith))
     (list_any-from_Any (λ p. nat_eq p.entry.slot slot && is_some (released_by p c)) placed (any.0, any.1, any.2, any.3, test))

@@ -1,13 +1,11 @@
 //! Laws about the definitions of this crate. Each function has an empty body, and its contract is the
 //! law.
 
-ghost use Rattle.std.specs.Prelude.{◌≡◌, ℕ, ◌^◌, ◌<◌, ◌≤◌, ◌↔◌, ◌&&◌, Bool, nat_lt, IsTrue, Some, IfSome, Any, Contains, slice_get};
+ghost use Rattle.std.specs.Prelude.{◌≡◌, ℕ, ◌^◌, ◌<◌, ◌≤◌, ◌↔◌, ◌&&◌, Bool, nat_lt, IsTrue, Some, IfSome, List, Any, Contains, slice_get};
 ghost use Rattle.requirement_table.specs.declared.entries.Placed.{Placed};
 ghost use Rattle.requirement_table.specs.Instance.{IsReleasedIn, MaySend, instance_of, released_by};
 ghost use Rattle.requirement_table.specs.Slots.{contains_slot, set_of};
 ghost use Rattle.requirement_table.specs.Table.{IsWellPlaced, instance_in, released_in};
-
-use crate::entries::Placed;
 
 /// A set of slots made of a test contains the slots below `n` that pass it, and no other.
 pub fn sets_of_slots()
@@ -18,26 +16,28 @@ pub fn sets_of_slots()
         → ((slot : ℕ) → slot < n → p slot ≡ q slot) → set_of n p ≡ set_of n q }
 {}
 
-/// The functions of an entry and a cycle find the instance that the relations describe.
-pub fn instances_of_an_entry(placed: &Placed)
-    requires deadline { 1 ≤ placed.now.entry.deadline }
-    requires period { placed.now.entry.deadline ≤ placed.now.entry.period }
-    ensures released { (k c : ℕ) → (released_by placed.now c ≡ Some k) ↔ IsReleasedIn placed.now k c }
-    ensures sendable { (k c : ℕ) → (instance_of placed.now c ≡ Some k) ↔ MaySend placed.now k c }
+/// The functions of an entry and a cycle find the instance that the relations describe, where the
+/// deadline is 1 to the period.
+pub fn instances_of_an_entry()
+    ensures released { (p : Placed) (k c : ℕ) → 1 ≤ p.entry.deadline → p.entry.deadline ≤ p.entry.period
+        → (released_by p c ≡ Some k) ↔ IsReleasedIn p k c }
+    ensures sendable { (p : Placed) (k c : ℕ) → 1 ≤ p.entry.deadline → p.entry.deadline ≤ p.entry.period
+        → (instance_of p c ≡ Some k) ↔ MaySend p k c }
 {}
 
 /// In a well placed list at most one instance of a slot may be sent in a cycle, and `instance_in` is
 /// that instance. A slot is in `released_in` exactly where one of its entries has an instance that is
 /// released in the cycle.
-pub fn instances_of_a_slot(placed: &[Placed])
-    requires { IsWellPlaced placed.now }
-    ensures one { (i j k m c : ℕ) (p q : Placed)
-        → slice_get placed.now i ≡ Some p → slice_get placed.now j ≡ Some q
+pub fn instances_of_a_slot()
+    ensures one { (placed : List Placed) (i j k m c : ℕ) (p q : Placed) → IsWellPlaced placed
+        → slice_get placed i ≡ Some p → slice_get placed j ≡ Some q
         → p.entry.slot ≡ q.entry.slot → MaySend p k c → MaySend q m c → (i ≡ j) × (k ≡ m) }
-    ensures found { (i k c : ℕ) (p : Placed) → slice_get placed.now i ≡ Some p → MaySend p k c
-        → instance_in placed.now p.entry.slot c ≡ Some (record { placed = p; number = k }) }
-    ensures sound { (slot c : ℕ) → IfSome (instance_in placed.now slot c)
-        (λ i. Contains placed.now i.placed × (i.placed.entry.slot ≡ slot) × MaySend i.placed i.number c) }
-    ensures released { (slot c : ℕ) → IsTrue (contains_slot (released_in placed.now c) slot)
-        ↔ Any (λ p. (p.entry.slot ≡ slot) × ((k : ℕ) × IsReleasedIn p k c)) placed.now }
+    ensures found { (placed : List Placed) (i k c : ℕ) (p : Placed) → IsWellPlaced placed
+        → slice_get placed i ≡ Some p → MaySend p k c
+        → instance_in placed p.entry.slot c ≡ Some (record { placed = p; number = k }) }
+    ensures sound { (placed : List Placed) (slot c : ℕ) → IfSome (instance_in placed slot c)
+        (λ i. Contains placed i.placed × (i.placed.entry.slot ≡ slot) × MaySend i.placed i.number c) }
+    ensures released { (placed : List Placed) (slot c : ℕ) → IsWellPlaced placed
+        → IsTrue (contains_slot (released_in placed c) slot)
+        ↔ Any (λ p. (p.entry.slot ≡ slot) × ((k : ℕ) × IsReleasedIn p k c)) placed }
 {}

@@ -1,9 +1,9 @@
 //! Lists of placed entries.
 
 ghost use Rattle.std.specs.Prelude.{◌≡◌, ℕ, ◌+◌, ◌^◌, ◌<◌, ◌≤◌, ◌↔◌, IsTrue, Some, IsSomeAnd, All};
-ghost use Rattle.requirement_table.specs.Table.{IsInRange, IsFreeAt, IsWellPlaced, released_in};
+ghost use Rattle.requirement_table.specs.Table.{IsEntry, IsInRange, IsWellPlaced, free_from, released_in};
 
-use crate::entries::Placed;
+use crate::entries::{Entry, Placed};
 use crate::instances::releases;
 use crate::slots::{Mask, SLOTS};
 
@@ -33,12 +33,17 @@ pub fn well_placed(placed: &[Placed]) -> bool
 fn is_in_range(p: &Placed) -> bool
     ensures { IsTrue result ↔ IsInRange p.now }
 {
-    let entry = &p.entry;
-    entry.slot < SLOTS
-        && entry.length <= 8
-        && (1..=entry.period).contains(&entry.deadline)
+    is_entry(p.entry)
         && p.origin < CYCLES
         && p.end.is_none_or(|end| p.origin <= end && end < CYCLES)
+}
+
+/// Whether all fields of an entry are in range: the slot, at most 8 bytes, and a deadline from 1 to the
+/// period. Phase, period and priority are in range by their types.
+fn is_entry(entry: Entry) -> bool
+    ensures { IsTrue result ↔ IsEntry entry }
+{
+    entry.slot < SLOTS && entry.length <= 8 && (1..=entry.period).contains(&entry.deadline)
 }
 
 /// Whether a slot that is free from a cycle on, where it is, is free at `cycle`.
@@ -51,7 +56,7 @@ fn is_free(free_from: Option<u64>, cycle: u64) -> bool
 /// The cycle from which the slot of a placed entry is free again: end + deadline - 1.
 fn free_after(p: &Placed) -> Option<u64>
     requires { IsInRange p.now }
-    ensures { (c : ℕ) → IsSomeAnd result (λ from. from ≤ c) ↔ IsFreeAt p.now c }
+    ensures { result ≡ free_from p.now }
 {
     p.end.map(|end| end + u64::from(p.entry.deadline) - 1)
 }

@@ -25,7 +25,7 @@ returns-then-not-is_in_range c = record {
         elim c.then-not-is_in_range.branch [
           | then-not-is_in_range-via-then-not-is_in_range w ↦ sym w.if-not-is_in_range.true ∙ c.is_in_range.ensures.1 range
           | then-not-is_in_range-via-else-not-is_in_range+then-not-is_free w ↦
-              let free = (c.loop-p.invariant.free p.entry.slot range.slot p.origin).1 (free-before placed i no_entry c.loop-p-test.true well) in
+              let free = (c.loop-p.invariant.free p.entry.slot range.entry.slot p.origin).1 (free-before placed i no_entry c.loop-p-test.true well) in
               sym w.if-not-is_free.true ∙ w.is_free.ensures.1 (rw w.from.ensures free)
         ],
   );
@@ -39,7 +39,7 @@ loop-p-preserved c =
     let range : IsInRange p = c.is_in_range.ensures.0 c.if-not-is_in_range.false in
     let now : IsSomeAnd (get_or c.loop-p.free_from p.entry.slot None) (λ from. from ≤ p.origin) = rw c.from.ensures at (c.is_free.ensures.0 c.if-not-is_free.false) in
     rw (take_more placed i no_entry c.loop-p-test.true, c.from-in-loop-p.ensures) (record {
-      well_placed = well_placed-more (take i placed) p (get_or c.loop-p.free_from p.entry.slot None) c.loop-p.invariant.well_placed range (c.loop-p.invariant.free p.entry.slot range.slot) now;
+      well_placed = well_placed-more (take i placed) p (get_or c.loop-p.free_from p.entry.slot None) c.loop-p.invariant.well_placed range (c.loop-p.invariant.free p.entry.slot range.entry.slot) now;
       room = simp length-set c.loop-p.invariant.room;
-      free = free-more 40 c.loop-p.free_from (take i placed) p c.free_after.result c.loop-p.invariant.room range.slot range c.loop-p.invariant.free now c.free_after.ensures;
+      free = free-more 40 c.loop-p.free_from (take i placed) p c.free_after.result c.loop-p.invariant.room range.entry.slot range c.loop-p.invariant.free now (λ d. rw c.free_after.ensures (λ free. free, λ free. free));
     })
