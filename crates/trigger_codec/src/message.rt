@@ -2,12 +2,13 @@
 
 ghost use Rattle.std.specs.Prelude.{◌≡◌, ℕ, ◌%◌, ◌^◌, ◌<◌, ◌≤◌, Ok, IfOk, IfErr, length};
 ghost use Rattle.std.specs.Result.{result_ok};
+ghost use Rattle.requirement_table.specs.Slots.{slots};
 ghost use Rattle.trigger_codec.specs.Bytes.{trigger_frame, trigger_of, flags_in};
 ghost use Rattle.trigger_codec.specs.Refusal.{Refuses};
 
 use crate::trigger_fault::TriggerFault;
 use can_frame::Frame;
-use requirement_table::{Mask, SLOTS};
+use requirement_table::Mask;
 
 /// The identifier of a trigger: the least there is, so it wins every arbitration.
 pub const TRIGGER_IDENTIFIER: u16 = 0;
@@ -54,7 +55,7 @@ pub fn encode(cycle: u64, l: u32, mask: Mask) -> Frame
 pub fn decode(frame: &Frame) -> Result<Trigger, TriggerFault>
     ensures trigger { IfOk result
         (λ t. (t.l ≤ 16383) × (frame.now ≡ trigger_frame t.low t.l t.mask)) }
-    ensures every { (cycle l mask : ℕ) → l ≤ 16383 → mask < 2 ^ SLOTS
+    ensures every { (cycle l mask : ℕ) → l ≤ 16383 → mask < 2 ^ slots
         → frame.now ≡ trigger_frame cycle l mask
         → result ≡ Ok (record { low = cycle % 256; l = l; mask = mask }) }
     ensures fault { IfErr result (Refuses frame.now) }
