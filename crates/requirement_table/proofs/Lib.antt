@@ -1,4 +1,5 @@
 mod Bytes
+mod FlaggedOnce
 mod FreeSlots
 mod Latest
 pub mod Shared

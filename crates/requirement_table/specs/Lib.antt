@@ -1,3 +1,4 @@
+pub mod Flags
 pub mod Instance
 pub mod Slots
 pub mod Table

@@ -1,9 +1,10 @@
 //! Laws about the definitions of this crate. Each function has an empty body, and its contract is the
 //! law.
 
-ghost use Rattle.std.specs.Prelude.{◌≡◌, ℕ, ◌^◌, ◌<◌, ◌≤◌, ◌↔◌, ◌&&◌, Bool, nat_lt, IsTrue, Some, IfSome, List, Any, Contains, slice_get};
+ghost use Rattle.std.specs.Prelude.{◌≡◌, ℕ, ◌+◌, ◌^◌, ◌<◌, ◌≤◌, ◌↔◌, ◌&&◌, Bool, nat_lt, IsTrue, Some, IfSome, List, Any, Contains, slice_get};
 ghost use Rattle.requirement_table.specs.declared.entries.Placed.{Placed};
-ghost use Rattle.requirement_table.specs.Instance.{IsReleasedIn, MaySend, instance_of, released_by};
+ghost use Rattle.requirement_table.specs.Instance.{Exists, IsLastCycle, IsReleasedIn, MaySend, instance_of, release_of, released_by};
+ghost use Rattle.requirement_table.specs.Flags.{IsFlaggedOnce, IsGoodCycle};
 ghost use Rattle.requirement_table.specs.Slots.{contains_slot, set_of};
 ghost use Rattle.requirement_table.specs.Table.{IsWellPlaced, instance_in, released_in};
 
@@ -40,4 +41,13 @@ pub fn instances_of_a_slot()
     ensures released { (placed : List Placed) (slot c : ℕ) → IsWellPlaced placed
         → IsTrue (contains_slot (released_in placed c) slot)
         ↔ Any (λ p. (p.entry.slot ≡ slot) × ((k : ℕ) × IsReleasedIn p k c)) placed }
+{}
+
+/// Where the cycles from `from` to below `from + n` are good, each instance that is released in them and
+/// whose last cycle is among them is flagged in exactly one cycle, from its release to its last cycle.
+pub fn flagged_once()
+    ensures once { (placed : List Placed) (flags : ℕ → ℕ → Bool) (from n : ℕ) (held : ℕ → Bool) → IsWellPlaced placed
+        → ((m : ℕ) → m < n → IsGoodCycle placed flags from held m)
+        → (p : Placed) (k last : ℕ) → Contains placed p → Exists p (release_of p k) → from ≤ release_of p k
+        → IsLastCycle p k last → last < from + n → IsFlaggedOnce flags p.entry.slot (release_of p k) last }
 {}
