@@ -1,5 +1,5 @@
 -- Lists of placed entries: when a list is well placed, and what its entries release and may send.
-use Rattle.std.specs.Prelude.{◌≡◌, ℕ, zero, suc, ◌+◌, ◌-◌, ◌^◌, ◌<◌, ◌≤◌, Bool, false, not, ◌&&◌, ◌||◌, nat_eq, if◌then◌else◌, Option, None, IfSome, IsSomeAnd, is_some, List, All, AllPairs, slice_get, option_map}
+use Rattle.std.specs.Prelude.{◌≡◌, ℕ, zero, suc, ◌+◌, ◌-◌, ◌^◌, ◌<◌, ◌≤◌, Bool, false, not, ◌&&◌, ◌||◌, nat_eq, nat_le, if◌then◌else◌, Option, None, IfSome, IsSomeAnd, is_some, List, filter, All, AllPairs, slice_get, option_map}
 use Rattle.std.specs.Option.{option_map_or}
 use Rattle.std.specs.List.{list_any, filter_map}
 use Rattle.requirement_table.specs.declared.entries.Placed.{Placed}
@@ -30,6 +30,14 @@ free_from p = option_map (λ end. end + p.entry.deadline - 1) p.end
 -- the slot of a placed entry is free again at cycle `c`
 abbrev pub IsFreeAt : Placed → ℕ → Type 0
 IsFreeAt p c = IsSomeAnd (free_from p) (λ from. from ≤ c)
+
+-- whether the entry is over by cycle `c`: its slot is free again, and none of its instances may be sent any more
+abbrev pub is_over : ℕ → Placed → Bool
+is_over c p = option_map_or (λ from. nat_le from c) (free_from p) false
+
+-- the placed entries that are not over by cycle `c`, in their order
+abbrev pub not_over : ℕ → List Placed → List Placed
+not_over c placed = filter (λ p. not (is_over c p)) placed
 
 -- of two entries in one slot the earlier one has an end and is free before the later one's origin
 abbrev pub GoesBefore : Placed → Placed → Type 0

@@ -6,7 +6,7 @@ ghost use Rattle.requirement_table.specs.declared.entries.Placed.{Placed};
 ghost use Rattle.requirement_table.specs.Instance.{Exists, IsLastCycle, IsReleasedIn, MaySend, instance_of, release_of, released_by};
 ghost use Rattle.requirement_table.specs.Flags.{IsFlaggedOnce, IsGoodCycle};
 ghost use Rattle.requirement_table.specs.Slots.{contains_slot, set_of};
-ghost use Rattle.requirement_table.specs.Table.{IsWellPlaced, instance_in, released_in};
+ghost use Rattle.requirement_table.specs.Table.{IsWellPlaced, instance_in, not_over, released_in, releases_in};
 
 /// A set of slots made of a test contains the slots below `n` that pass it, and no other.
 pub fn sets_of_slots()
@@ -50,4 +50,14 @@ pub fn flagged_once()
         → ((m : ℕ) → m < n → IsGoodCycle placed flags from held m)
         → (p : Placed) (k last : ℕ) → Contains placed p → Exists p (release_of p k) → from ≤ release_of p k
         → IsLastCycle p k last → last < from + n → IsFlaggedOnce flags p.entry.slot (release_of p k) last }
+{}
+
+/// The entries that are not over by a cycle are well placed where the whole list is, and from that cycle on
+/// they have the same instances to release and to send.
+pub fn entries_that_are_over()
+    ensures well_placed { (since : ℕ) (placed : List Placed) → IsWellPlaced placed → IsWellPlaced (not_over since placed) }
+    ensures instances { (since : ℕ) (placed : List Placed) (slot c : ℕ) → since ≤ c
+        → instance_in (not_over since placed) slot c ≡ instance_in placed slot c }
+    ensures releases { (since : ℕ) (placed : List Placed) (slot c : ℕ) → IsWellPlaced placed → since ≤ c
+        → releases_in (not_over since placed) c slot ≡ releases_in placed c slot }
 {}

@@ -1,11 +1,12 @@
 //! Lists of placed entries.
 
-ghost use Rattle.std.specs.Prelude.{◌≡◌, ℕ, ◌+◌, ◌^◌, ◌<◌, ◌≤◌, ◌↔◌, IsTrue, Some, IsSomeAnd, All};
-ghost use Rattle.requirement_table.specs.Table.{IsEntry, IsInRange, IsWellPlaced, free_from, released_in};
+ghost use Rattle.std.specs.Prelude.{◌≡◌, ℕ, ◌+◌, ◌^◌, ◌<◌, ◌≤◌, ◌↔◌, IsTrue, Some, IsSomeAnd, IfOk, All};
+ghost use Rattle.requirement_table.specs.Table.{IsEntry, IsInRange, IsWellPlaced, free_from, is_over, not_over, released_in};
 
 use crate::entries::{Entry, Placed};
 use crate::instances::releases;
 use crate::slots::{Mask, SLOTS};
+use std::alloc::{AllocError, Global};
 
 /// Cycle numbers are below this.
 const CYCLES: u64 = 1 << 42;
@@ -59,6 +60,29 @@ fn free_after(p: &Placed) -> Option<u64>
     ensures { result ≡ free_from p.now }
 {
     p.end.map(|end| end + u64::from(p.entry.deadline) - 1)
+}
+
+/// Whether a placed entry is over by `cycle`: its slot is free again.
+fn is_over(p: &Placed, cycle: u64) -> bool
+    requires { IsInRange p.now }
+    ensures { result ≡ is_over cycle p.now }
+{
+    free_after(p).is_some_and(|from| from <= cycle)
+}
+
+/// The placed entries that are not over by `cycle`, in their order: those with an instance that may be sent
+/// in it or later.
+pub fn not_over(alloc: Global, placed: &[Placed], cycle: u64) -> Result<Vec<Placed>, AllocError>
+    requires { IsWellPlaced placed.now }
+    ensures list { IfOk result (λ left. left.items ≡ not_over cycle placed.now) }
+{
+    let mut left = Vec::new(alloc);
+    for p in placed {
+        if !is_over(p, cycle) {
+            left.push(*p)?;
+        }
+    }
+    Ok(left)
 }
 
 /// The set of the slots with an instance that is released in `cycle`.

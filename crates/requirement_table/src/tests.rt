@@ -3,8 +3,8 @@
 ghost use Rattle.std.specs.Prelude.{◌≡◌, ◌+◌};
 
 use crate::{
-    Entry, Mask, Order, Payload, Placed, PlacedList, SLOTS, cost, current, due, released_in,
-    releases, well_placed,
+    Entry, Mask, Order, Payload, Placed, PlacedList, SLOTS, cost, current, due, not_over,
+    released_in, releases, well_placed,
 };
 use std::test::Fail;
 
@@ -162,6 +162,12 @@ fn lists_of_placed_entries(rt: HostRuntime) -> Result<(), Fail> {
     for (list, wanted) in cases {
         assert_eq!(rt; well_placed(list.as_slice()), wanted, "{list:?}");
     }
+
+    let ended = [first, later(15)];
+    let left = not_over(rt.alloc(), ended.as_slice(), 14)?;
+    assert_eq!(rt; left.as_slice(), ended.as_slice());
+    let left = not_over(rt.alloc(), ended.as_slice(), 15)?;
+    assert_eq!(rt; left.as_slice(), [later(15)].as_slice());
 
     let list = PlacedList::of(vec![in rt.alloc(); first, placed(8, None)]?);
     assert!(rt; well_placed(list.as_slice()));
