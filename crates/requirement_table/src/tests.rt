@@ -164,6 +164,7 @@ fn lists_of_placed_entries(rt: HostRuntime) -> Result<(), Fail> {
     }
 
     let ended = [first, later(15)];
+    assert!(rt; well_placed(ended.as_slice()));
     let left = not_over(rt.alloc(), ended.as_slice(), 14)?;
     assert_eq!(rt; left.as_slice(), ended.as_slice());
     let left = not_over(rt.alloc(), ended.as_slice(), 15)?;
