@@ -1,4 +1,5 @@
 pub mod Flags
 pub mod Instance
+pub mod Opening
 pub mod Slots
 pub mod Table
