@@ -1,0 +1,3 @@
+pub mod Shared
+mod Answering
+mod Walking

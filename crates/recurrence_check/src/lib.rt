@@ -1,0 +1,16 @@
+//! The first repeat of a walk: of a walk from state to state, the least number of steps after which
+//! it is in a state that is the same as an earlier one. Two states are the same by the walk's own
+//! rule, which it proves to be kept by every step. So a walk goes round for ever behind its first
+//! repeat.
+#![tactic(auto)]
+
+mod by_keys;
+mod compared;
+mod walk;
+
+pub use by_keys::lasso_keyed;
+pub use compared::lasso;
+pub use walk::{Keyed, Repeat, Walk, WalkEnd};
+
+#[cfg(test)]
+mod tests;
