@@ -1,7 +1,7 @@
 -- There is one answer about the first repeat of a walk.
-use Rattle.std.proofs.Common.{◌≡◌, ◌≢◌, ℕ, ◌+◌, ◌<◌, ◌≤◌, Some, None, Ok, Err, Result, ap, ◌∙◌, sym, refl, arith, subst}
-use Rattle.recurrence_check.specs.Course.{Course, state_after, IsRepeat, IsLeastRepeat, Breaks, StaysNew}
-use Rattle.recurrence_check.specs.Ends.{IsFirstRepeat, IsEnd, IsAnswer}
+use Rattle.std.proofs.Common.{◌≡◌, ◌≢◌, ℕ, ◌+◌, ◌<◌, ◌≤◌, Ok, Err, Result, ap, ◌∙◌, sym, refl, arith, subst}
+use Rattle.recurrence_check.specs.Course.{Course, IsRepeat, IsLeastRepeat, Breaks, StaysNew}
+use Rattle.recurrence_check.specs.Ends.{IsAnswer}
 use Rattle.recurrence_check.specs.declared.walk.Repeat.{Repeat}
 use Rattle.recurrence_check.specs.declared.walk.WalkEnd.{WalkEnd}
 use Rattle.recurrence_check.specs.declared.walk.WalkEnd.TheVariants.{Broken, NoRepeat, Memory}

@@ -1,5 +1,5 @@
 -- The states of a walk one after the other.
-use Rattle.std.proofs.Common.{◌≡◌, ℕ, zero, suc, ◌+◌, ◌-◌, ◌<◌, ◌≤◌, Some, None, ap, ◌∙◌, sym, refl, arith, add-one, add-zero, add-suc, subst, inl, inr}
+use Rattle.std.proofs.Common.{◌≡◌, ℕ, zero, suc, ◌+◌, ◌-◌, ◌≤◌, Some, None, ◌∙◌, refl, arith, add-one, add-zero, add-suc, inl, inr}
 use Rattle.std.proofs.lemmas.Bool.{cases_lt}
 use Rattle.std.specs.Prelude.{Option}
 use Rattle.recurrence_check.specs.Course.{Course, state_after, Breaks}

@@ -1,8 +1,9 @@
 -- A walk that has come to a state without a repeat, and what is then to be answered.
-use Rattle.std.proofs.Common.{◌≡◌, ℕ, ◌+◌, ◌<◌, ◌≤◌, Some, None, sym, ◌∙◌, ap, arith, subst, inl, inr}
+use Rattle.std.proofs.Common.{◌≡◌, ℕ, ◌+◌, ◌-◌, ◌<◌, ◌≤◌, Some, sym, ◌∙◌, ap, arith, subst, inl, inr}
 use Rattle.std.proofs.lemmas.Bool.{cases_lt}
 use Rattle.recurrence_check.specs.Course.{Course, state_after, HasNoRepeat, IsRepeat, IsLeastRepeat}
-use Rattle.recurrence_check.proofs.Shared.{state_after-start, state_after-next, state_before}
+use Rattle.recurrence_check.specs.Ends.{IsFirstRepeat}
+use Rattle.recurrence_check.proofs.Shared.{state_after-start, state_after-next}
 
 module _ {State : Type 0} (course : Course State) where
   -- nothing repeats where no step was taken
@@ -33,6 +34,15 @@ module _ {State : Type 0} (course : Course State) where
       | inr later ↦ later
     ];
   }
+
+  -- and it is what is to be answered
+  pub IsFirstRepeat-new : (n earlier horizon : ℕ) → n < horizon → HasNoRepeat course n → IsRepeat course earlier (n + 1)
+      → ((one : ℕ) → one < earlier → ¬ IsRepeat course one (n + 1))
+      → IsFirstRepeat course horizon (record { first = earlier; length = n + 1 - earlier })
+  IsFirstRepeat-new n earlier horizon below before repeats first =
+      let order : earlier < n + 1 = repeats.order in
+      let sum : n + 1 ≡ earlier + (n + 1 - earlier) = omega arith in
+      (omega arith, subst (λ later. IsLeastRepeat course earlier later) sum (IsLeastRepeat-new n earlier before repeats first))
 
   module _ (is_good : State → Type 0) (number : State → ℕ) where
     -- the walk has come to the state after n steps; all states are good, under their numbers, and none repeats

@@ -1,8 +1,10 @@
 //! The first repeat, found by an ordered map from the keys of the states to their steps.
 
 ghost use Rattle.std.specs.Prelude.{◌≡◌, ◌≢◌, ◌+◌, ◌<◌, ◌≤◌, ℕ, IfOk, IfErr, Result};
-ghost use Rattle.recurrence_check.specs.Course.{Course, IsLeastRepeat};
+ghost use Rattle.std.specs.BTreeMap.{get};
+ghost use Rattle.recurrence_check.specs.Course.{IsLeastRepeat};
 ghost use Rattle.recurrence_check.specs.Ends.{IsAnswer, IsEnd};
+ghost use Rattle.recurrence_check.specs.Keys.{Meets};
 ghost use Rattle.recurrence_check.specs.declared.walk.Repeat.{Repeat};
 ghost use Rattle.recurrence_check.specs.declared.walk.WalkEnd.{WalkEnd};
 
@@ -56,7 +58,10 @@ fn meet(
     steps_to: &mut BTreeMap<Key, u64>,
     key: Option<Key>,
     steps: u64,
-) -> Result<Option<u64>, AllocFailed<(Key, u64)>> {
+) -> Result<Option<u64>, AllocFailed<(Key, u64)>>
+    ensures met { IfOk result (λ before. Meets
+        (get ⟦<Key as Ord>⟧.cmp steps_to.old) (get ⟦<Key as Ord>⟧.cmp steps_to.new) key steps before) }
+{
     let Some(key) = key else {
         return Ok(None);
     };
