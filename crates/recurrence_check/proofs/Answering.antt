@@ -2,9 +2,9 @@
 use Rattle.std.proofs.Common.{◌≡◌, ◌≢◌, ℕ, ◌+◌, ◌<◌, ◌≤◌, Ok, Err, Result, ap, ◌∙◌, sym, refl, arith, subst}
 use Rattle.recurrence_check.specs.Course.{Course, IsRepeat, IsLeastRepeat, Breaks, StaysNew}
 use Rattle.recurrence_check.specs.Ends.{IsAnswer}
-use Rattle.recurrence_check.specs.declared.walk.Repeat.{Repeat}
-use Rattle.recurrence_check.specs.declared.walk.WalkEnd.{WalkEnd}
-use Rattle.recurrence_check.specs.declared.walk.WalkEnd.TheVariants.{Broken, NoRepeat, Memory}
+use Rattle.recurrence_check.specs.declared.walk_end.Repeat.{Repeat}
+use Rattle.recurrence_check.specs.declared.walk_end.WalkEnd.{WalkEnd}
+use Rattle.recurrence_check.specs.declared.walk_end.WalkEnd.TheVariants.{Broken, NoRepeat, Memory}
 use Rattle.recurrence_check.proofs.Shared.{Breaks-last}
 
 -- repeats with the same parts are the same

@@ -15,12 +15,12 @@ unfoldable pub state_after : {State : Type 0} → Course State → ℕ → Optio
 state_after course zero = Some course.start
 state_after course (suc n) = option_and_then course.next (state_after course n)
 
--- where the walk goes on from two states: from neither, or from both to states that are the same
-abbrev pub GoOnAlike : {State : Type 0} → Course State → Option State → Option State → Type 0
-GoOnAlike course None None = Unit {0}
-GoOnAlike course None (Some other) = ⊥
-GoOnAlike course (Some one) None = ⊥
-GoOnAlike course (Some one) (Some other) = course.alike one other
+-- what stands behind two states is the same: nothing behind both, or states that are the same
+abbrev pub GoOnAlike : {State : Type 0} → (State → State → Type 0) → Option State → Option State → Type 0
+GoOnAlike alike None None = Unit {0}
+GoOnAlike alike None (Some other) = ⊥
+GoOnAlike alike (Some one) None = ⊥
+GoOnAlike alike (Some one) (Some other) = alike one other
 
 -- after `later` steps the walk is in a state that is the same as the one after `earlier` steps
 pub record IsRepeat {State : Type 0} (course : Course State) (earlier later : ℕ) : Type 0 where

@@ -1,9 +1,9 @@
 -- What is to be answered about the first repeat of a walk.
 use Rattle.std.specs.Prelude.{◌≡◌, ℕ, ◌+◌, ◌<◌, ◌≤◌, Result, Ok, Err}
 use Rattle.recurrence_check.specs.Course.{Course, IsLeastRepeat, Breaks, StaysNew}
-use Rattle.recurrence_check.specs.declared.walk.Repeat.{Repeat}
-use Rattle.recurrence_check.specs.declared.walk.WalkEnd.{WalkEnd}
-use Rattle.recurrence_check.specs.declared.walk.WalkEnd.TheVariants.{Broken, NoRepeat, Memory}
+use Rattle.recurrence_check.specs.declared.walk_end.Repeat.{Repeat}
+use Rattle.recurrence_check.specs.declared.walk_end.WalkEnd.{WalkEnd}
+use Rattle.recurrence_check.specs.declared.walk_end.WalkEnd.TheVariants.{Broken, NoRepeat, Memory}
 
 -- this is the walk's least repeat, and it ends at or below the horizon
 abbrev pub IsFirstRepeat : {State : Type 0} → Course State → ℕ → Repeat → Type 0

@@ -5,10 +5,11 @@ ghost use Rattle.std.specs.BTreeMap.{get};
 ghost use Rattle.recurrence_check.specs.Course.{IsLeastRepeat};
 ghost use Rattle.recurrence_check.specs.Ends.{IsAnswer, IsEnd};
 ghost use Rattle.recurrence_check.specs.Keys.{Meets};
-ghost use Rattle.recurrence_check.specs.declared.walk.Repeat.{Repeat};
-ghost use Rattle.recurrence_check.specs.declared.walk.WalkEnd.{WalkEnd};
+ghost use Rattle.recurrence_check.specs.declared.walk_end.Repeat.{Repeat};
+ghost use Rattle.recurrence_check.specs.declared.walk_end.WalkEnd.{WalkEnd};
 
-use crate::walk::{Keyed, Repeat, WalkEnd};
+use crate::walk::Keyed;
+use crate::walk_end::{Repeat, WalkEnd};
 use std::alloc::{AllocFailed, Global};
 use std::collections::BTreeMap;
 

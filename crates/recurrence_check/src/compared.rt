@@ -4,10 +4,11 @@ ghost use Rattle.std.specs.Prelude.{◌≡◌, ◌≢◌, ◌+◌, ◌<◌, ◌�
 ghost use Rattle.std.specs.List.{slice_get};
 ghost use Rattle.recurrence_check.specs.Course.{IsFirstSame, IsLeastRepeat, NoneSame};
 ghost use Rattle.recurrence_check.specs.Ends.{IsAnswer, IsEnd};
-ghost use Rattle.recurrence_check.specs.declared.walk.Repeat.{Repeat};
-ghost use Rattle.recurrence_check.specs.declared.walk.WalkEnd.{WalkEnd};
+ghost use Rattle.recurrence_check.specs.declared.walk_end.Repeat.{Repeat};
+ghost use Rattle.recurrence_check.specs.declared.walk_end.WalkEnd.{WalkEnd};
 
-use crate::walk::{Repeat, Walk, WalkEnd};
+use crate::walk::Walk;
+use crate::walk_end::{Repeat, WalkEnd};
 use std::alloc::Global;
 
 /// Walks until a state is the same as an earlier one, at most `horizon` steps, and compares each

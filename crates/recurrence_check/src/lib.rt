@@ -7,10 +7,12 @@
 mod by_keys;
 mod compared;
 mod walk;
+mod walk_end;
 
 pub use by_keys::lasso_keyed;
 pub use compared::lasso;
-pub use walk::{Keyed, Repeat, Walk, WalkEnd};
+pub use walk::{Keyed, Walk};
+pub use walk_end::{Repeat, WalkEnd};
 
 #[cfg(test)]
 mod tests;

@@ -1,9 +1,7 @@
-//! Walks from state to state, and what is told of their first repeat.
+//! Walks from state to state.
 
 ghost use Rattle.std.specs.Prelude.{◌≡◌, ◌+◌, ◌*◌, ◌<◌, ◌≤◌, ◌↔◌, ℕ, IfSome, IsTrue, Option, Some};
 ghost use Rattle.recurrence_check.specs.Course.{Course, GoOnAlike};
-
-use std::alloc::AllocFailed;
 
 /// A walk from state to state.
 ///
@@ -55,7 +53,7 @@ pub trait Walk {
         → is_good walk one → is_good walk other
         → number walk one < 100000 → number walk other < 100000
         → (course walk).alike one other
-        → GoOnAlike (course walk) ((course walk).next one) ((course walk).next other) };
+        → GoOnAlike (course walk).alike ((course walk).next one) ((course walk).next other) };
 }
 
 /// A walk whose states have keys that tell which of them are the same.
@@ -71,42 +69,4 @@ pub trait Keyed: Walk {
         → Self.number walk one ≤ 100000 → Self.number walk other ≤ 100000
         → (Self.course walk).alike one other
         ↔ ((key : ℕ × ℕ) × (key_of walk one ≡ Some key) × (key_of walk other ≡ Some key)) };
-}
-
-/// A repeat of a walk: the state after `first + length` steps is the same as the one after `first`
-/// steps.
-#[derive(Clone, Copy, PartialEq, Eq, Debug)]
-pub struct Repeat {
-    /// The steps to the earlier state, from 0.
-    pub first: u64,
-    /// The steps from there until it is there again, at least 1.
-    pub length: u64,
-}
-
-/// Why no repeat of a walk was found.
-#[derive(Clone, Copy, PartialEq, Eq, Debug)]
-pub enum WalkEnd {
-    /// The walk does not go on from the state after `at` steps, and no state up to it is the same
-    /// as an earlier one.
-    Broken {
-        /// The steps to the last state.
-        at: u64,
-    },
-    /// No two states up to the horizon are the same.
-    NoRepeat {
-        /// The steps that were taken, which is the horizon.
-        walked: u64,
-    },
-    /// There was no memory for the states.
-    Memory,
-}
-
-impl<T: Drop> From<AllocFailed<T>> for WalkEnd {
-    ghost use Rattle.recurrence_check.specs.declared.walk.WalkEnd.TheVariants.{Memory};
-
-    ghost from_gives = { λ _ end. end ≡ Memory };
-
-    fn from(_failed: AllocFailed<T>) -> WalkEnd {
-        WalkEnd::Memory
-    }
 }

@@ -1,7 +1,7 @@
 use Rattle.std.proofs.Common.{◌≡◌, ◌+◌, ◌-◌, ◌<◌, Ok, Err, arith, subst, sym, refl}
 use Rattle.std.specs.BTreeMap.{get}
 use Rattle.recurrence_check.specs.Course.{StaysNew}
-use Rattle.recurrence_check.specs.declared.walk.WalkEnd.TheVariants.{Broken, NoRepeat}
+use Rattle.recurrence_check.specs.declared.walk_end.WalkEnd.TheVariants.{Broken, NoRepeat}
 use Rattle.recurrence_check.proofs.Walking.{Walking-start}
 use Rattle.recurrence_check.proofs.Noted.{Noted-start, Meeting, Meeting-found, Meeting-first, Meeting-next, Meeting-noted, key_cmp}
 use Rattle.recurrence_check.proofs.Answering.{only_answer}

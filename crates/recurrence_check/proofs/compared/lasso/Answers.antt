@@ -1,5 +1,5 @@
 use Rattle.std.proofs.Common.{◌≡◌, ◌+◌, ◌<◌, ◌-◌, Ok, Err, arith, subst, sym, refl, ◌∙◌}
-use Rattle.recurrence_check.specs.declared.walk.WalkEnd.TheVariants.{Broken, NoRepeat}
+use Rattle.recurrence_check.specs.declared.walk_end.WalkEnd.TheVariants.{Broken, NoRepeat}
 use Rattle.recurrence_check.specs.Course.{StaysNew}
 use Rattle.recurrence_check.proofs.Walking.{Walking-start}
 use Rattle.recurrence_check.proofs.Listed.{Listed, Listed-start, Searching, Searching-listed, Searching-good, Searching-found, Searching-first, Searching-next}
