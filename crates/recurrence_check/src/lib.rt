@@ -1,7 +1,6 @@
-//! The first repeat of a walk: of a walk from state to state, the least number of steps after which
-//! it is in a state that is the same as an earlier one. Two states are the same by the walk's own
-//! rule, which it proves to be kept by every step. So a walk goes round for ever behind its first
-//! repeat.
+//! The first repeat of a walk from state to state: the least number of steps after which it is in a
+//! state that is the same as an earlier one. Which states are the same is the walk's own rule,
+//! which it proves to be symmetric and transitive and to be kept by every step.
 #![tactic(auto)]
 
 mod by_keys;
