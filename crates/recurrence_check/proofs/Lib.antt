@@ -1,0 +1,5 @@
+pub mod Shared
+mod Answering
+mod Listed
+mod Noted
+mod Walking

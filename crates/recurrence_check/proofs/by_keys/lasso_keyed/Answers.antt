@@ -1,0 +1,74 @@
+use Rattle.std.proofs.Common.{◌≡◌, ◌+◌, ◌-◌, ◌<◌, Ok, Err, arith, subst, sym, refl}
+use Rattle.std.specs.BTreeMap.{get}
+use Rattle.recurrence_check.specs.Course.{StaysNew}
+use Rattle.recurrence_check.specs.declared.walk_end.WalkEnd.TheVariants.{Broken, NoRepeat}
+use Rattle.recurrence_check.proofs.Walking.{Walking-start}
+use Rattle.recurrence_check.proofs.Noted.{Noted-start, Meeting, Meeting-found, Meeting-first, Meeting-next, Meeting-noted, key_cmp}
+use Rattle.recurrence_check.proofs.Answering.{only_answer}
+use Rattle.recurrence_check.proofs.by_keys.lasso_keyed.Goals as goal
+use Rattle.recurrence_check.proofs.by_keys.lasso_keyed.Goals.{In_ok-first}
+use Rattle.recurrence_check.proofs.by_keys.lasso_keyed.Given.{Over}
+
+-- once the key of the next state was looked up
+meeting : (g : Over) (c : In_ok-first g) → Meeting (g.W.Walk.course c.args.walk.now) (g.W.Keyed.key_of c.args.walk.now) (g.W.Walk.is_good c.args.walk.now) (g.W.Walk.number c.args.walk.now) c.loop-walked.walked c.loop-walked.here c.in-Some.next (get key_cmp c.loop-walked.steps_to) (get key_cmp c.meet-in-loop-walked.new.steps_to) c.key-in-loop-walked.result c.in_ok-first.field-0
+meeting g c = record {
+  tells = g.met.W.Keyed.keyed c.args.walk.now;
+  below = omega arith;
+  walking = c.loop-walked.invariant.walking;
+  noted = c.loop-walked.invariant.noted;
+  goes_on = c.in-Some.ensures.next;
+  good = c.in-Some.ensures.good;
+  number_is = c.in-Some.ensures.number;
+  key_is = c.key-in-loop-walked.ensures.key;
+  met = c.in_ok-first.ensures.met;
+}
+
+pub loop-walked-init : goal.loop-walked-init
+loop-walked-init g c =
+    let course = g.W.Walk.course c.args.walk.now in
+    record {
+      walking = Walking-start course (g.W.Walk.is_good c.args.walk.now) (g.W.Walk.number c.args.walk.now) c.first-here.result c.first-here.ensures.start c.first-here.ensures.good c.first-here.ensures.number;
+      noted = Noted-start course (g.W.Keyed.key_of c.args.walk.now) (get key_cmp c.new-steps_to.result) (get key_cmp c.meet.new.steps_to) c.first-here.result c.key.result c.in_ok-meet.field-0 c.first-here.ensures.start c.key.ensures.key (λ q. rw c.new-steps_to.ensures.empty) c.in_ok-meet.ensures.met;
+    }
+
+pub overflow_sub-result : goal.overflow_sub-result
+overflow_sub-result g c =
+    let repeats = Meeting-found _ _ _ _ _ _ _ _ _ _ _ (meeting g (goal.at.overflow_sub-result g c).In_ok-first) c.in-Some-2.first c.in-Some-2.is in
+    let order : c.in-Some-2.first < c.loop-walked.walked + 1 = repeats.order in
+    omega arith
+
+pub returns-in-Some-2-clause-repeat : goal.returns-in-Some-2-clause-repeat
+returns-in-Some-2-clause-repeat g c =
+    let first = Meeting-first _ _ _ _ _ _ _ _ _ _ _ (meeting g (goal.at.returns-in-Some-2-clause-repeat g c).In_ok-first) c.in-Some-2.first c.args.horizon (omega arith) c.in-Some-2.is in
+    first.1
+
+pub returns-in-Some-2-clause-within : goal.returns-in-Some-2-clause-within
+returns-in-Some-2-clause-within g c =
+    let first = Meeting-first _ _ _ _ _ _ _ _ _ _ _ (meeting g (goal.at.returns-in-Some-2-clause-within g c).In_ok-first) c.in-Some-2.first c.args.horizon (omega arith) c.in-Some-2.is in
+    first.0
+
+pub returns-in-Some-2-clause-only : goal.returns-in-Some-2-clause-only
+returns-in-Some-2-clause-only g c = λ other.
+    let first = Meeting-first _ _ _ _ _ _ _ _ _ _ _ (meeting g (goal.at.returns-in-Some-2-clause-only g c).In_ok-first) c.in-Some-2.first c.args.horizon (omega arith) c.in-Some-2.is in
+    only_answer (g.W.Walk.course c.args.walk.now) c.args.horizon (Ok (record { first = c.in-Some-2.first; length = c.loop-walked.walked + 1 - c.in-Some-2.first })) other first
+
+pub returns-in_default-clause-only : goal.returns-in_default-clause-only
+returns-in_default-clause-only g c = λ other.
+    let walking = c.loop-walked.invariant.walking in
+    only_answer (g.W.Walk.course c.args.walk.now) c.args.horizon (Err (Broken c.loop-walked.walked)) other
+    (omega arith, record { last = c.loop-walked.here; last_is = walking.here_is; ends = sym {b = (g.W.Walk.course c.args.walk.now).next c.loop-walked.here} c.in_default.ensures.next; new = walking.new })
+
+pub loop-walked-preserved : goal.loop-walked-preserved
+loop-walked-preserved g c =
+    let at = meeting g (goal.at.loop-walked-preserved g c).In_ok-first in
+    record {
+      walking = Meeting-next _ _ _ _ _ _ _ _ _ _ _ at c.in_default-2.is;
+      noted = Meeting-noted _ _ _ _ _ _ _ _ _ _ _ at c.in_default-2.is;
+    }
+
+pub returns-clause-only : goal.returns-clause-only
+returns-clause-only g c = λ other.
+    let walking = c.loop-walked.invariant.walking in
+    let all : c.loop-walked.walked ≡ c.args.horizon = omega arith in
+    let stays : StaysNew (g.W.Walk.course c.args.walk.now) c.args.horizon = subst (λ n. StaysNew (g.W.Walk.course c.args.walk.now) n) all (record { last = c.loop-walked.here; last_is = walking.here_is; new = walking.new }) in
+    only_answer (g.W.Walk.course c.args.walk.now) c.args.horizon (Err (NoRepeat c.args.horizon)) other (refl, stays)

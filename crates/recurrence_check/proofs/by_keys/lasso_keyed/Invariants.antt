@@ -1,0 +1,12 @@
+use Rattle.std.proofs.Common.{◌+◌}
+use Rattle.std.specs.BTreeMap.{get}
+use Rattle.recurrence_check.proofs.Noted.{Noted, key_cmp}
+use Rattle.recurrence_check.proofs.Walking.{Walking}
+use Rattle.recurrence_check.proofs.by_keys.lasso_keyed.Given as goal
+
+-- no state repeats yet, and the keys of those up to this one are noted
+abbrev pub invariant-loop-walked : goal.invariant-loop-walked
+invariant-loop-walked g l = record {
+  walking : Walking (g.W.Walk.course l.walk) (g.W.Walk.is_good l.walk) (g.W.Walk.number l.walk) l.walked l.here;
+  noted : Noted (g.W.Walk.course l.walk) (g.W.Keyed.key_of l.walk) (get key_cmp l.steps_to) (l.walked + 1);
+}

@@ -1,0 +1,160 @@
+//! Both searches over walks that are worked by hand.
+
+ghost use Rattle.std.specs.Prelude.{◌≡◌, ◌+◌, ◌<◌, ◌≤◌, Some, None, nat_lt, nat_eq, if◌then◌else◌};
+
+use crate::by_keys::lasso_keyed;
+use crate::compared::lasso;
+use crate::walk::{Keyed, Walk};
+use crate::walk_end::{Repeat, WalkEnd};
+use std::test::Fail;
+
+/// The values 0, 1, 2 and so on up to `top`, and then again those from `back` to `top`. The walk
+/// does not go on from the value `stop`. States with the same value are the same.
+#[derive(Clone, Copy)]
+struct Values {
+    back: u64,
+    top: u64,
+    stop: u64,
+}
+
+/// A value, and the number of steps to it.
+#[derive(Clone, Copy)]
+struct Place {
+    value: u64,
+    steps: u64,
+}
+
+impl Values {
+    /// The value behind a value.
+    fn behind(&self, value: u64) -> Option<u64>
+        ensures behind { result ≡ (if nat_eq value self.now.stop then None
+            else Some (if nat_lt value self.now.top then value + 1 else self.now.back)) }
+    {
+        if value == self.stop {
+            None
+        } else if value < self.top {
+            Some(value + 1)
+        } else {
+            Some(self.back)
+        }
+    }
+}
+
+impl Walk for Values {
+    type State = Place;
+
+    ghost use Rattle.std.specs.Prelude.{Option};
+    ghost use Rattle.std.specs.Option.{option_map};
+    ghost use Rattle.std.proofs.Common.{refl, subst, sym, ◌∙◌, ℕ};
+    ghost use Rattle.recurrence_check.specs.Course.{GoOnAlike};
+    ghost use Rattle.recurrence_check.specs.declared.tests.Place.{Place};
+    ghost use Rattle.recurrence_check.specs.declared.tests.Values.{Values};
+
+    ghost course = { λ walk. record {
+      start = record { value = 0; steps = 0 };
+      next = λ place. option_map (λ value. record { value = value; steps = place.steps + 1 })
+          (if nat_eq place.value walk.stop then None
+          else Some (if nat_lt place.value walk.top then place.value + 1 else walk.back));
+      alike = λ one other. one.value ≡ other.value;
+    } };
+
+    ghost is_good = { λ walk place. Unit {0} };
+
+    ghost number = { λ walk place. place.steps };
+
+    fn first(&self) -> Place {
+        Place { value: 0, steps: 0 }
+    }
+
+    fn step(&self, state: &Place) -> Option<Place> {
+        let value = self.behind(state.value)?;
+        Some(Place {
+            value,
+            steps: state.steps + 1,
+        })
+    }
+
+    fn same(&self, one: &Place, other: &Place) -> bool {
+        one.value == other.value
+    }
+
+    ghost symmetric = { λ walk one other same. sym same };
+
+    ghost transitive = { λ walk one other third same again. same ∙ again };
+
+    ghost kept = { λ walk one other _ _ _ _ same.
+        let behind : ℕ → Option ℕ = λ value. if nat_eq value walk.stop then None
+        else Some (if nat_lt value walk.top then value + 1 else walk.back) in
+        let place : ℕ → ℕ → Place = λ steps value. record { value = value; steps = steps + 1 } in
+        let alike : Option Place → Option Place → Type 0 =
+        GoOnAlike (λ (one other : Place). one.value ≡ other.value) in
+        subst (λ value. alike (option_map (place one.steps) (behind one.value))
+        (option_map (place other.steps) (behind value))) same
+        (elim (behind one.value) as (λ found. alike (option_map (place one.steps) found)
+        (option_map (place other.steps) found)) [ None ↦ tt | Some value ↦ refl ]) };
+}
+
+impl Keyed for Values {
+    ghost use Rattle.std.proofs.Common.{ap, refl, sym, ◌∙◌, ℕ};
+    ghost use Rattle.std.proofs.lemmas.Option.{same_Some};
+
+    ghost key_of = { λ walk place. Some (place.value, 0) };
+
+    fn key(&self, state: &Place) -> Option<(u128, u64)> {
+        Some((u128::from(state.value), 0))
+    }
+
+    ghost keyed = { λ walk one other _ _ _ _. (
+      λ same. ((one.value, 0), refl, ap (λ value. Some (value, 0)) (sym same)),
+      λ keys. ap (λ (key : ℕ × ℕ). key.0)
+          (same_Some (one.value, 0) (other.value, 0) (keys.1 ∙ sym keys.2)),
+    ) };
+}
+
+#[test]
+fn first_repeats(rt: HostRuntime) -> Result<(), Fail> {
+    let twos = Values {
+        back: 1,
+        top: 2,
+        stop: 3,
+    };
+    let breaks = Values {
+        back: 0,
+        top: 9,
+        stop: 3,
+    };
+    let thousand = Values {
+        back: 7,
+        top: 1_006,
+        stop: 2_000,
+    };
+    let rows = [
+        (
+            twos,
+            3,
+            Ok(Repeat {
+                first: 1,
+                length: 2,
+            }),
+        ),
+        (twos, 2, Err(WalkEnd::NoRepeat { walked: 2 })),
+        (twos, 0, Err(WalkEnd::NoRepeat { walked: 0 })),
+        (breaks, 9, Err(WalkEnd::Broken { at: 3 })),
+        (breaks, 4, Err(WalkEnd::Broken { at: 3 })),
+        (breaks, 3, Err(WalkEnd::NoRepeat { walked: 3 })),
+        (
+            thousand,
+            2_000,
+            Ok(Repeat {
+                first: 7,
+                length: 1_000,
+            }),
+        ),
+        (thousand, 1_006, Err(WalkEnd::NoRepeat { walked: 1_006 })),
+    ];
+    for (walk, horizon, answer) in rows {
+        assert_eq!(rt; lasso(rt.alloc(), &walk, horizon), answer);
+        assert_eq!(rt; lasso_keyed(rt.alloc(), &walk, horizon), answer);
+    }
+    Ok(())
+}
