@@ -1,1 +1,3 @@
+pub mod Applied
 pub mod Code
+pub mod Malformed
