@@ -1,5 +1,5 @@
 -- The placed entries after a change. Cycles are elementary cycles, counted from 0.
-use Rattle.std.specs.Prelude.{◌≡◌, ℕ, ◌+◌, ◌-◌, ◌≤◌, ◌⊎◌, Bool, false, ◌&&◌, nat_eq, max, if◌then◌else◌, Option, Some, None, is_none, List, [], ◌∷◌, ◌++◌, All, map}
+use Rattle.std.specs.Prelude.{◌≡◌, ℕ, ◌+◌, ◌-◌, ◌≤◌, ◌⊎◌, Bool, ◌&&◌, nat_eq, max, if◌then◌else◌, Option, Some, None, is_none, List, [], ◌∷◌, ◌++◌, All, map}
 use Rattle.std.specs.List.{filter_map, find, list_any}
 use Rattle.std.specs.Option.{option_map_or}
 use Rattle.requirement_table.specs.declared.entries.Entry.{Entry}
@@ -9,6 +9,7 @@ use Rattle.requirement_table.specs.Table.{free_from}
 use Rattle.change_protocol.specs.declared.operations.Op.{Op}
 use Rattle.change_protocol.specs.declared.operations.Op.TheVariants.{Add, Remove, Change}
 use Rattle.change_protocol.specs.declared.operations.Change.{Change as TableChange}
+use Rattle.change_protocol.specs.Operations.{ends}
 
 -- the placed entry has the slot and is live
 abbrev pub lives_in : ℕ → Placed → Bool
@@ -26,12 +27,6 @@ freed_by slot p = if nat_eq p.entry.slot slot then option_map_or (λ from. from)
 abbrev pub free_in : List Placed → ℕ → ℕ
 free_in [] slot = 0
 free_in (p ∷ placed) slot = max (freed_by slot p) (free_in placed slot)
-
--- the operation ends the slot's live entry
-abbrev pub ends : ℕ → Op → Bool
-ends slot (Add entry) = false
-ends slot (Remove other) = nat_eq other slot
-ends slot (Change entry) = nat_eq entry.slot slot
 
 -- a placed entry after the operations: where one of them ends it, its end is the start of the change
 abbrev pub ended : ℕ → List Op → Placed → Placed

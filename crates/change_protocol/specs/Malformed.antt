@@ -1,6 +1,6 @@
 -- When a change is malformed. `faults` lists every rule that it breaks, in the order in which they are tested: the rules of the whole
 -- change, and then those of each operation in its order. The first of these is the answer.
-use Rattle.std.specs.Prelude.{◌≡◌, ℕ, ◌^◌, ◌&&◌, ◌||◌, Bool, false, true, nat_eq, nat_lt, nat_le, if◌then◌else◌, Option, Some, None, is_none, is_some, List, [], ◌∷◌, ◌++◌, length, map, slice_get}
+use Rattle.std.specs.Prelude.{◌≡◌, ℕ, ◌^◌, ◌||◌, Bool, false, nat_eq, nat_lt, nat_le, if◌then◌else◌, Option, Some, None, is_none, List, [], ◌∷◌, ◌++◌, length, map, slice_get}
 use Rattle.std.specs.List.{list_any}
 use Rattle.std.specs.Option.{option_map_or}
 use Rattle.requirement_table.specs.declared.entries.Entry.{Entry}
@@ -12,19 +12,12 @@ use Rattle.change_protocol.specs.declared.malformed.Why.{Why}
 use Rattle.change_protocol.specs.declared.malformed.Why.TheVariants.{NoOps, TooManyOps, StartRange, SlotRange, SlotTwice, NodeUnknown, LengthRange, PeriodZero, DeadlineRange, SlotBusy, SlotEmpty}
 use Rattle.change_protocol.specs.declared.malformed.ApplyFault.{ApplyFault}
 use Rattle.change_protocol.specs.declared.malformed.ApplyFault.TheVariants.{Malformed, Memory}
+use Rattle.change_protocol.specs.Operations.{entry_of, slot_of}
 use Rattle.change_protocol.specs.Applied.{free_in, live_in}
 
--- the slot of an operation
-abbrev pub slot_of : Op → ℕ
-slot_of (Add entry) = entry.slot
-slot_of (Remove slot) = slot
-slot_of (Change entry) = entry.slot
-
--- the entry of an operation that has a new one passes the test
-abbrev pub entry_passes : (Entry → Bool) → Op → Bool
-entry_passes test (Add entry) = test entry
-entry_passes test (Remove slot) = false
-entry_passes test (Change entry) = test entry
+-- the operation places an entry that passes the test
+abbrev pub places : (Entry → Bool) → Op → Bool
+places test op = option_map_or test (entry_of op) false
 
 -- the rule is broken where the test holds
 abbrev pub where_holds : Bool → Why → List Why
@@ -50,33 +43,38 @@ abbrev pub slot_twice : List Op → Op → List Why
 slot_twice earlier op = where_holds (list_any (λ other. nat_eq (slot_of other) (slot_of op)) earlier) SlotTwice
 
 abbrev pub node_unknown : ℕ → Op → List Why
-node_unknown nodes op = where_holds (entry_passes (λ entry. nat_le nodes entry.node) op) NodeUnknown
+node_unknown nodes op = where_holds (places (λ entry. nat_le nodes entry.node) op) NodeUnknown
 
 abbrev pub length_range : Op → List Why
-length_range op = where_holds (entry_passes (λ entry. nat_lt 8 entry.length) op) LengthRange
+length_range op = where_holds (places (λ entry. nat_lt 8 entry.length) op) LengthRange
 
 abbrev pub period_zero : Op → List Why
-period_zero op = where_holds (entry_passes (λ entry. nat_eq entry.period 0) op) PeriodZero
+period_zero op = where_holds (places (λ entry. nat_eq entry.period 0) op) PeriodZero
 
 abbrev pub deadline_range : Op → List Why
 deadline_range op =
-    where_holds (entry_passes (λ entry. nat_eq entry.deadline 0 || nat_lt entry.period entry.deadline) op) DeadlineRange
+    where_holds (places (λ entry. nat_eq entry.deadline 0 || nat_lt entry.period entry.deadline) op) DeadlineRange
 
--- until when the slot is in use for an entry that is added at `start`, where its live entry and the greatest end + deadline - 1 of its
--- entries are these; with no known end where an entry is live
-abbrev pub add_busy : Option Placed → ℕ → ℕ → List Why
-add_busy (Some live) free start = SlotBusy None ∷ []
-add_busy None free start = where_holds (nat_lt start free) (SlotBusy (Some free))
+-- an entry is added: the slot's live entry is in the way, with no known end, or else its last entry, to the greatest end + deadline - 1
+abbrev pub add_busy_by : Option Placed → ℕ → ℕ → List Why
+add_busy_by (Some live) free start = SlotBusy None ∷ []
+add_busy_by None free start = where_holds (nat_lt start free) (SlotBusy (Some free))
 
--- until when the slot's live entry can not be ended: its origin, where that is above `start`
-abbrev pub end_busy : Option Placed → ℕ → List Why
-end_busy (Some live) start = where_holds (nat_lt start live.origin) (SlotBusy (Some live.origin))
-end_busy None start = []
+abbrev pub add_busy : List Placed → ℕ → ℕ → List Why
+add_busy placed start slot = add_busy_by (live_in placed slot) (free_in placed slot) start
+
+-- the slot's live entry is to end at `start`: it can not where its origin is above that
+abbrev pub end_busy_by : Option Placed → ℕ → List Why
+end_busy_by (Some live) start = where_holds (nat_lt start live.origin) (SlotBusy (Some live.origin))
+end_busy_by None start = []
+
+abbrev pub end_busy : List Placed → ℕ → ℕ → List Why
+end_busy placed start slot = end_busy_by (live_in placed slot) start
 
 abbrev pub slot_busy : List Placed → ℕ → Op → List Why
-slot_busy placed start (Add entry) = add_busy (live_in placed entry.slot) (free_in placed entry.slot) start
-slot_busy placed start (Remove slot) = end_busy (live_in placed slot) start
-slot_busy placed start (Change entry) = end_busy (live_in placed entry.slot) start
+slot_busy placed start (Add entry) = add_busy placed start entry.slot
+slot_busy placed start (Remove slot) = end_busy placed start slot
+slot_busy placed start (Change entry) = end_busy placed start entry.slot
 
 abbrev pub slot_empty : List Placed → Op → List Why
 slot_empty placed (Add entry) = []
@@ -103,12 +101,12 @@ pub record Broken : Type 0 where
 abbrev pub broken : ℕ → Why → Broken
 broken op why = record { op = op; why = why }
 
--- the rules that the whole change breaks
-abbrev pub change_faults : TableChange → List Broken
-change_faults change =
-    map (broken 0) (no_ops change.ops)
-    ++ map (broken 16) (too_many_ops change.ops)
-    ++ map (broken 0) (start_range change.start)
+-- the rules that a whole change breaks
+abbrev pub change_faults : ℕ → List Op → List Broken
+change_faults start ops =
+    map (broken 0) (no_ops ops)
+    ++ map (broken 16) (too_many_ops ops)
+    ++ map (broken 0) (start_range start)
 
 -- the rules that operations break which stand behind these earlier ones
 abbrev pub op_faults : List Placed → ℕ → ℕ → List Op → List Op → List Broken
@@ -119,7 +117,7 @@ op_faults placed nodes start earlier (op ∷ ops) =
 
 -- all rules that a change breaks, for a table of these placed entries and for this number of nodes
 abbrev pub faults : List Placed → ℕ → TableChange → List Broken
-faults placed nodes change = change_faults change ++ op_faults placed nodes change.start [] change.ops
+faults placed nodes change = change_faults change.start change.ops ++ op_faults placed nodes change.start [] change.ops
 
 -- the first rule that a change breaks
 abbrev pub first_fault : List Placed → ℕ → TableChange → Option Broken

@@ -4,8 +4,12 @@
 //! Time is counted in elementary cycles from 0.
 #![tactic(auto)]
 
+mod applying;
+pub mod laws;
 mod malformed;
 mod operations;
+mod rules;
+mod slots;
 
 pub use malformed::{ApplyFault, Why};
 pub use operations::{Act, Change, Op, Ops};

@@ -1,6 +1,7 @@
 //! Changes and their operations.
 
 ghost use Rattle.std.specs.Prelude.{◌≡◌};
+ghost use Rattle.change_protocol.specs.Operations.{entry_of, slot_of};
 
 use requirement_table::Entry;
 use std::marker::Model;
@@ -15,6 +16,28 @@ pub enum Op {
     /// Sets the end of the live entry of the entry's slot to `start`, and places the entry with no end and with the origin
     /// `start` + deadline - 1, where the deadline is that of the ended entry.
     Change { entry: Entry },
+}
+
+impl Op {
+    /// The slot of the operation.
+    pub fn slot(&self) -> u8
+        ensures slot { result ≡ slot_of self.now }
+    {
+        match self {
+            Op::Add { entry } | Op::Change { entry } => entry.slot,
+            Op::Remove { slot } => *slot,
+        }
+    }
+
+    /// The entry that the operation places.
+    pub fn entry(&self) -> Option<Entry>
+        ensures entry { result ≡ entry_of self.now }
+    {
+        match self {
+            Op::Add { entry } | Op::Change { entry } => Some(*entry),
+            Op::Remove { .. } => None,
+        }
+    }
 }
 
 /// A list of operations that a value holds. Contracts see the list.
