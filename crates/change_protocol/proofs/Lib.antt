@@ -1,1 +1,3 @@
 mod First
+mod OpFaults
+mod Uses
