@@ -1,3 +1,4 @@
 mod First
+mod Live
 mod OpFaults
 mod Uses

@@ -1,5 +1,5 @@
 -- The operations of a change.
-use Rattle.std.specs.Prelude.{ℕ, Bool, false, nat_eq, Option, Some, None}
+use Rattle.std.specs.Prelude.{ℕ, ◌^◌, ◌<◌, Bool, false, nat_eq, Option, Some, None, IfSome}
 use Rattle.requirement_table.specs.declared.entries.Entry.{Entry}
 use Rattle.change_protocol.specs.declared.operations.Op.{Op}
 use Rattle.change_protocol.specs.declared.operations.Op.TheVariants.{Add, Remove, Change}
@@ -21,3 +21,13 @@ abbrev pub ends : ℕ → Op → Bool
 ends slot (Add entry) = false
 ends slot (Remove other) = nat_eq other slot
 ends slot (Change entry) = nat_eq entry.slot slot
+
+-- the numbers of an entry that no rule bounds are in the ranges of their types
+pub record IsTyped (entry : Entry) : Type 0 where
+  pub phase : entry.phase < 2 ^ 16
+  pub period : entry.period < 2 ^ 16
+  pub priority : entry.priority < 2 ^ 8
+
+-- so are those of the entry that an operation places
+abbrev pub HasTypes : Op → Type 0
+HasTypes op = IfSome (entry_of op) IsTyped

@@ -11,5 +11,6 @@ mod operations;
 mod rules;
 mod slots;
 
+pub use applying::apply;
 pub use malformed::{ApplyFault, Why};
 pub use operations::{Act, Change, Op, Ops};

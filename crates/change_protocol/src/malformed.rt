@@ -3,6 +3,8 @@
 ghost use Rattle.std.specs.Prelude.{◌≡◌};
 ghost use Rattle.change_protocol.specs.Code.{code_of};
 
+use std::alloc::AllocFailed;
+
 /// The rule that a malformed change breaks. The rules are tested in this order: the first three of the whole change, and
 /// then the others for each operation in its order.
 #[derive(Clone, Copy, PartialEq, Eq, Debug)]
@@ -69,4 +71,15 @@ pub enum ApplyFault {
     },
     /// Memory ran out, which says nothing of the change.
     Memory,
+}
+
+impl<T: Drop> From<AllocFailed<T>> for ApplyFault {
+    ghost use Rattle.std.specs.Prelude.{◌≡◌};
+    ghost use Rattle.change_protocol.specs.declared.malformed.ApplyFault.TheVariants.{Memory};
+
+    ghost from_gives = { λ _ fault. fault ≡ Memory };
+
+    fn from(_: AllocFailed<T>) -> ApplyFault {
+        ApplyFault::Memory
+    }
 }

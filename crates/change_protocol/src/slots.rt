@@ -1,6 +1,7 @@
 //! What the placed entries make of each slot.
 
-ghost use Rattle.std.specs.Prelude.{◌≡◌, ◌<◌};
+ghost use Rattle.std.specs.Prelude.{◌≡◌, ◌<◌, IfSome};
+ghost use Rattle.std.proofs.Props.{props};
 ghost use Rattle.requirement_table.specs.Table.{IsInRange, IsWellPlaced};
 ghost use Rattle.change_protocol.specs.Slots.{AreUses, use_after, use_of};
 
@@ -36,9 +37,11 @@ impl SlotUse {
 }
 
 // The placed entries, and what they make of each slot.
+#[derive(Drop)]
 pub struct Table<'a> {
     pub placed: &'a [Placed],
     uses: [SlotUse; SLOTS as usize],
+    ghost well_placed: { IsWellPlaced placed.now } by { Prim.hlevel props },
     ghost counted: { AreUses placed.now uses },
 }
 
@@ -63,7 +66,8 @@ impl<'a> Table<'a> {
     // What the placed entries make of this slot.
     pub fn slot(&self, slot: u8) -> SlotUse
         requires { slot < 40 }
-        ensures { result ≡ use_of self.now.placed.now slot }
+        ensures held { result ≡ use_of self.now.placed.now slot }
+        ensures live { IfSome result.live IsInRange }
     {
         self.uses[usize::from(slot)]
     }
