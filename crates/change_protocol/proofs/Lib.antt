@@ -1,4 +1,9 @@
+mod Allowed
 mod First
+mod Kept
 mod Live
 mod OpFaults
+mod Pairs
+mod Placing
 mod Uses
+mod WellPlaced

@@ -1,7 +1,7 @@
 //! The application of a change.
 
-ghost use Rattle.std.specs.Prelude.{◌≡◌, ◌<◌, ◌^◌, ◌++◌, ◌&&◌, ◌||◌, ℕ, Some, None, All, IfErr, IfOk, OnOk, is_none, if◌then◌else◌, map};
-ghost use Rattle.std.specs.List.{filter_map, list_any};
+ghost use Rattle.std.specs.Prelude.{◌≡◌, ◌<◌, ◌^◌, ◌++◌, ◌&&◌, ◌||◌, ℕ, [], Some, None, All, IfErr, IfOk, OnOk, is_none, if◌then◌else◌, map};
+ghost use Rattle.std.specs.List.{cons_option, filter_map, list_any};
 ghost use Rattle.requirement_table.specs.Slots.{contains_slot};
 ghost use Rattle.requirement_table.specs.Table.{IsWellPlaced};
 ghost use Rattle.change_protocol.specs.Applied.{IsChangedAt, applied, ended, origin_behind, placed_by};
@@ -56,7 +56,12 @@ fn after(p: &Placed, ended: Mask, start: u64) -> Placed
 }
 
 // The placed entries with the ends that the operations set.
-fn with_ends(alloc: Global, placed: &[Placed], start: u64, ops: &[Op]) -> Result<Vec<Placed>, ApplyFault>
+fn with_ends(
+    alloc: Global,
+    placed: &[Placed],
+    start: u64,
+    ops: &[Op],
+) -> Result<Vec<Placed>, ApplyFault>
     requires placed { All (λ p. p.entry.slot < 40) placed.now }
     requires ops { All (λ op. slot_of op < 40) ops.now }
     ensures list { IfOk result (λ list. list.items ≡ map (ended start ops.now) placed.now) }
@@ -111,6 +116,17 @@ fn placed_by(table: &Table, start: u64, op: &Op) -> Option<Placed>
     }
 }
 
+// Puts the placed entry behind the list, where there is one.
+fn put(list: &mut Vec<Placed>, p: Option<Placed>) -> Result<(), ApplyFault>
+    ensures list { OnOk result (list.new.items ≡ list.old.items ++ cons_option p []) }
+    ensures fault { IfErr result (λ fault. fault ≡ Memory) }
+{
+    if let Some(p) = p {
+        list.push(p)?;
+    }
+    Ok(())
+}
+
 // Puts the entries behind the list that the operations place.
 fn place(list: &mut Vec<Placed>, table: &Table, start: u64, ops: &[Op]) -> Result<(), ApplyFault>
     requires slots { All (λ op. slot_of op < 40) ops.now }
@@ -121,9 +137,7 @@ fn place(list: &mut Vec<Placed>, table: &Table, start: u64, ops: &[Op]) -> Resul
     ensures fault { IfErr result (λ fault. fault ≡ Memory) }
 {
     for op in ops {
-        if let Some(p) = placed_by(table, start, op) {
-            list.push(p)?;
-        }
+        put(list, placed_by(table, start, op))?;
     }
     Ok(())
 }
@@ -138,7 +152,12 @@ fn place(list: &mut Vec<Placed>, table: &Table, start: u64, ops: &[Op]) -> Resul
 ///
 /// `Malformed` exactly where the change breaks a rule, with the first rule that it breaks. `Memory` where memory ran out,
 /// which is only asked for where no rule is broken.
-pub fn apply(alloc: Global, placed: &[Placed], nodes: u8, change: &Change) -> Result<Vec<Placed>, ApplyFault>
+pub fn apply(
+    alloc: Global,
+    placed: &[Placed],
+    nodes: u8,
+    change: &Change,
+) -> Result<Vec<Placed>, ApplyFault>
     requires { IsWellPlaced placed.now }
     ensures ok { IfOk result (λ list. list.items ≡ applied placed.now change.now) }
     ensures well_formed { IfOk result (λ _. IsWellFormed placed.now nodes change.now) }
