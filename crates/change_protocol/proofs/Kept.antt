@@ -1,9 +1,9 @@
 -- The placed entries of a list after a change of it.
-use Rattle.std.proofs.Common.{◌≡◌, ℕ, ◌+◌, ◌-◌, ◌≤◌, Bool, true, false, ◌&&◌, if◌then◌else◌, Option, Some, None, IfSome, is_none, List, [], ◌∷◌, ◌++◌, map, All, refl, inl, inr, arith}
+use Rattle.std.proofs.Common.{◌≡◌, ℕ, zero, suc, ◌+◌, ◌-◌, ◌≤◌, Bool, true, false, ◌&&◌, if◌then◌else◌, Option, Some, None, IfSome, IsSomeAnd, is_none, List, [], ◌∷◌, ◌++◌, length, slice_get, map, All, refl, inl, inr, arith}
 use Rattle.std.specs.List.{list_any, filter_map}
 use Rattle.std.specs.Option.{option_map_or}
 use Rattle.std.proofs.lemmas.Bool.{and_parts}
-use Rattle.std.proofs.lemmas.Option.{IfSome_then}
+use Rattle.std.proofs.lemmas.Option.{IfSome_then, get_or_from_slice_get, same_Some, slice_get_within}
 use Rattle.requirement_table.specs.declared.entries.Placed.{Placed}
 use Rattle.requirement_table.specs.Table.{IsInRange}
 use Rattle.change_protocol.specs.declared.operations.Op.{Op}
@@ -48,3 +48,20 @@ pub changed-applied : (placed : List Placed) (change : TableChange) → All IsIn
 changed-applied placed change all =
     changed-map change.start change.ops placed (filter_map (placed_by placed change.start) change.ops)
     (all-filter_map (IsNewFrom change.start) (placed_by placed change.start) change.ops (λ k d within. placed-new placed change.start all _))
+
+nothing-at : (place : ℕ) (p : Placed) → slice_get {X = Placed} [] place ≡ Some p → ⊥
+nothing-at place p at = let within = slice_get_within [] place p at in absurd (omega arith)
+
+-- each old entry stands in its place
+pub kept-at : (start place : ℕ) (old new : List Placed) (p : Placed) → IsChangedAt start old new → slice_get old place ≡ Some p → IsSomeAnd (slice_get new place) (IsKept start p)
+kept-at start place [] new p changed at = absurd (nothing-at place p at)
+kept-at start place (q ∷ old) [] p changed at = absurd changed
+kept-at start zero (q ∷ old) (r ∷ new) p changed at = let same : q ≡ p = same_Some q p at in rw (← same) changed.0
+kept-at start (suc place) (q ∷ old) (r ∷ new) p changed at = kept-at start place old new p changed.1 at
+
+-- and those behind the old ones are new
+pub new-at : (start place : ℕ) (old new : List Placed) (q : Placed) → IsChangedAt start old new → length old ≤ place → slice_get new place ≡ Some q → IsNewFrom start q
+new-at start place [] new q changed behind at = rw (get_or_from_slice_get new place q q at) at (changed place q (slice_get_within new place q at))
+new-at start place (p ∷ old) [] q changed behind at = absurd changed
+new-at start zero (p ∷ old) (r ∷ new) q changed behind at = absurd (omega arith)
+new-at start (suc place) (p ∷ old) (r ∷ new) q changed behind at = new-at start place old new q changed.1 (omega arith) at
