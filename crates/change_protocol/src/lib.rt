@@ -14,3 +14,6 @@ mod slots;
 pub use applying::apply;
 pub use malformed::{ApplyFault, Why};
 pub use operations::{Act, Change, Op, Ops};
+
+#[cfg(test)]
+mod tests;

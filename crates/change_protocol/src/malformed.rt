@@ -4,6 +4,8 @@ ghost use Rattle.std.specs.Prelude.{◌≡◌};
 ghost use Rattle.change_protocol.specs.Code.{code_of};
 
 use std::alloc::AllocFailed;
+use std::error::Error;
+use std::fmt;
 
 /// The rule that a malformed change breaks. The rules are tested in this order: the first three of the whole change, and
 /// then the others for each operation in its order.
@@ -58,6 +60,25 @@ impl Why {
     }
 }
 
+impl fmt::Display for Why {
+    fn fmt<W: fmt::Write>(&self, f: &mut fmt::Formatter<W>) -> fmt::Result {
+        match self {
+            Why::NoOps => f.write_str("no operation"),
+            Why::TooManyOps => f.write_str("more than 16 operations"),
+            Why::StartRange => f.write_str("a start of 2^40 or more"),
+            Why::SlotRange => f.write_str("a slot above 39"),
+            Why::SlotTwice => f.write_str("the slot of an earlier operation"),
+            Why::NodeUnknown => f.write_str("a node that is not there"),
+            Why::LengthRange => f.write_str("a length above 8"),
+            Why::PeriodZero => f.write_str("a period of 0"),
+            Why::DeadlineRange => f.write_str("a deadline of 0 or above the period"),
+            Why::SlotBusy { until: Some(until) } => write!(f, "a slot in use until cycle {until}"),
+            Why::SlotBusy { until: None } => f.write_str("a slot with a live entry"),
+            Why::SlotEmpty => f.write_str("a slot with no live entry"),
+        }
+    }
+}
+
 /// Why a change was not applied.
 #[derive(Clone, Copy, PartialEq, Eq, Debug)]
 pub enum ApplyFault {
@@ -83,3 +104,14 @@ impl<T: Drop> From<AllocFailed<T>> for ApplyFault {
         ApplyFault::Memory
     }
 }
+
+impl fmt::Display for ApplyFault {
+    fn fmt<W: fmt::Write>(&self, f: &mut fmt::Formatter<W>) -> fmt::Result {
+        match self {
+            ApplyFault::Malformed { op, why } => write!(f, "operation {op}: {why}"),
+            ApplyFault::Memory => f.write_str("out of memory"),
+        }
+    }
+}
+
+impl Error for ApplyFault {}
