@@ -1,0 +1,119 @@
+-- What holds of the operations of a change that breaks no rule.
+use Rattle.std.proofs.Common.{◌≡◌, ◌≢◌, ℕ, ◌<◌, ◌≤◌, ◌^◌, Bool, true, false, ◌||◌, nat_eq, nat_lt, nat_le, Option, Some, None, IfSome, IsSomeAnd, is_none, List, [], ◌∷◌, ◌++◌, length, map, All, AllPairs, append_assoc, refl, append-nil, arith}
+use Rattle.std.specs.List.{list_any}
+use Rattle.std.specs.Option.{option_map_or}
+use Rattle.std.proofs.lemmas.Bool.{eqb-false, or_parts}
+use Rattle.std.proofs.lemmas.List.Elements.{All-nil, All-cons, All-weaker}
+use Rattle.std.proofs.lemmas.List.Quantifiers.{all_pairs_push}
+use Rattle.std.proofs.lemmas.Bool.Decides.{nat_tests}
+use Rattle.requirement_table.specs.declared.entries.Entry.{Entry}
+use Rattle.requirement_table.specs.declared.entries.Placed.{Placed}
+use Rattle.change_protocol.specs.declared.operations.Op.{Op}
+use Rattle.change_protocol.specs.declared.operations.Op.TheVariants.{Add, Remove, Change}
+use Rattle.change_protocol.specs.declared.malformed.Why.{Why}
+use Rattle.change_protocol.specs.Operations.{entry_of, slot_of}
+use Rattle.change_protocol.specs.Applied.{free_in, live_in}
+use Rattle.change_protocol.specs.Malformed.{Broken, add_busy_by, broken, deadline_range, end_busy_by, length_range, node_unknown, op_faults, period_zero, places, slot_busy, slot_empty, slot_range, slot_twice, where_holds, whys}
+
+-- the slot has a live entry that does not begin behind the start
+abbrev pub CanEnd : List Placed → ℕ → ℕ → Type 0
+CanEnd placed start slot = IsSomeAnd (live_in placed slot) (λ live. live.origin ≤ start)
+
+-- the operation fits the placed entries of its slot
+abbrev pub FitsIn : List Placed → ℕ → Op → Type 0
+FitsIn placed start (Add entry) = (live_in placed entry.slot ≡ None) × (free_in placed entry.slot ≤ start)
+FitsIn placed start (Remove slot) = CanEnd placed start slot
+FitsIn placed start (Change entry) = CanEnd placed start entry.slot
+
+-- the lengths and the times of an entry are in range
+pub record IsSound (entry : Entry) : Type 0 where
+  pub length : entry.length ≤ 8
+  pub some_time : 1 ≤ entry.deadline
+  pub deadline : entry.deadline ≤ entry.period
+
+pub record IsAllowed (placed : List Placed) (start : ℕ) (op : Op) : Type 0 where
+  pub slot : slot_of op < 40
+  pub entry : IfSome (entry_of op) IsSound
+  pub fits : FitsIn placed start op
+
+-- two operations have different slots
+abbrev pub Differ : Op → Op → Type 0
+Differ one other = slot_of one ≢ slot_of other
+
+pub both-none : {A : Type 0} (xs ys : List A) → xs ++ ys ≡ [] → (xs ≡ []) × (ys ≡ [])
+both-none [] ys e = (refl, e)
+both-none (x ∷ xs) ys e = absurd (cc)
+
+pub none-mapped : {A B : Type 0} (f : A → B) (xs : List A) → map f xs ≡ [] → xs ≡ []
+none-mapped f [] e = refl
+none-mapped f (x ∷ xs) e = absurd (cc)
+
+pub not-held : (test : Bool) (why : Why) → where_holds test why ≡ [] → test ≡ false
+not-held false why e = refl
+not-held true why e = absurd (cc)
+
+sound : (placed_entry : Option Entry) → option_map_or (λ entry. nat_lt 8 entry.length) placed_entry false ≡ false
+    → option_map_or (λ entry. nat_eq entry.deadline 0 || nat_lt entry.period entry.deadline) placed_entry false ≡ false
+    → IfSome placed_entry IsSound
+sound None short in_time = tt
+sound (Some entry) short in_time = record {
+  length = grind (arith, nat_tests);
+  some_time = grind (arith, nat_tests);
+  deadline = grind (arith, nat_tests);
+}
+
+add-fits : (live : Option Placed) (free start : ℕ) → add_busy_by live free start ≡ [] → (live ≡ None) × (free ≤ start)
+add-fits None free start e = let test = not-held _ _ e in (refl, grind (arith, nat_tests))
+add-fits (Some p) free start e = absurd (cc)
+
+end-fits : (live : Option Placed) (start : ℕ) (why : Why) → end_busy_by live start ≡ [] → where_holds (is_none live) why ≡ [] → IsSomeAnd live (λ p. p.origin ≤ start)
+end-fits None start why busy empty = absurd (cc)
+end-fits (Some p) start why busy empty = let test = not-held _ _ busy in grind (arith, nat_tests)
+
+fits : (placed : List Placed) (start : ℕ) (op : Op) → slot_busy placed start op ≡ [] → slot_empty placed op ≡ [] → FitsIn placed start op
+fits placed start (Add entry) busy empty = add-fits (live_in placed entry.slot) (free_in placed entry.slot) start busy
+fits placed start (Remove slot) busy empty = end-fits (live_in placed slot) start _ busy empty
+fits placed start (Change entry) busy empty = end-fits (live_in placed entry.slot) start _ busy empty
+
+none-passes : {X : Type 0} (test : X → Bool) (xs : List X) → list_any test xs ≡ false → All (λ x. test x ≡ false) xs
+none-passes test [] none = All-nil (λ x. test x ≡ false)
+none-passes test (x ∷ xs) none =
+    All-cons (λ x. test x ≡ false) x xs (or_parts (test x) (list_any test xs) none).0 (none-passes test xs (or_parts (test x) (list_any test xs) none).1)
+
+-- what no fault of an operation says of it
+allowed-at : (placed : List Placed) (nodes start : ℕ) (earlier : List Op) (op : Op) → whys placed nodes start earlier op ≡ [] → IsAllowed placed start op × All (λ other. Differ other op) earlier
+allowed-at placed nodes start earlier op none =
+    let upto_busy = both-none (slot_range op ++ slot_twice earlier op ++ node_unknown nodes op ++ length_range op ++ period_zero op ++ deadline_range op ++ slot_busy placed start op) (slot_empty placed op) none in
+    let upto_deadline = both-none (slot_range op ++ slot_twice earlier op ++ node_unknown nodes op ++ length_range op ++ period_zero op ++ deadline_range op) (slot_busy placed start op) upto_busy.0 in
+    let upto_period = both-none (slot_range op ++ slot_twice earlier op ++ node_unknown nodes op ++ length_range op ++ period_zero op) (deadline_range op) upto_deadline.0 in
+    let upto_length = both-none (slot_range op ++ slot_twice earlier op ++ node_unknown nodes op ++ length_range op) (period_zero op) upto_period.0 in
+    let upto_node = both-none (slot_range op ++ slot_twice earlier op ++ node_unknown nodes op) (length_range op) upto_length.0 in
+    let upto_twice = both-none (slot_range op ++ slot_twice earlier op) (node_unknown nodes op) upto_node.0 in
+    let upto_range = both-none (slot_range op) (slot_twice earlier op) upto_twice.0 in
+    let range : nat_lt 39 (slot_of op) ≡ false = not-held _ _ upto_range.0 in (
+      record {
+        slot = grind (arith, nat_tests);
+        entry = sound (entry_of op) (not-held _ _ upto_node.1) (not-held _ _ upto_period.1);
+        fits = fits placed start op upto_deadline.1 upto_busy.1;
+      },
+      All-weaker (λ other. nat_eq (slot_of other) (slot_of op) ≡ false) (λ other. Differ other op) (λ other no. eqb-false (slot_of other) (slot_of op) no) earlier
+          (none-passes (λ other. nat_eq (slot_of other) (slot_of op)) earlier (not-held _ _ upto_range.1)),
+    )
+
+-- where no operation breaks a rule, each is allowed
+pub all-allowed : (placed : List Placed) (nodes start : ℕ) (earlier ops : List Op) → op_faults placed nodes start earlier ops ≡ [] → All (IsAllowed placed start) ops
+all-allowed placed nodes start earlier [] none = All-nil (IsAllowed placed start)
+all-allowed placed nodes start earlier (op ∷ ops) none =
+    let parts = both-none (map (broken (length earlier)) (whys placed nodes start earlier op)) (op_faults placed nodes start (earlier ++ op ∷ []) ops) none in
+    All-cons (IsAllowed placed start) op ops
+    (allowed-at placed nodes start earlier op (none-mapped (broken (length earlier)) (whys placed nodes start earlier op) parts.0)).0
+    (all-allowed placed nodes start (earlier ++ op ∷ []) ops parts.1)
+
+-- and they have different slots
+pub all-differ : (placed : List Placed) (nodes start : ℕ) (earlier ops : List Op) → op_faults placed nodes start earlier ops ≡ [] → AllPairs Differ earlier → AllPairs Differ (earlier ++ ops)
+all-differ placed nodes start earlier [] none differ = rw (append-nil earlier) differ
+all-differ placed nodes start earlier (op ∷ ops) none differ =
+    let parts = both-none (map (broken (length earlier)) (whys placed nodes start earlier op)) (op_faults placed nodes start (earlier ++ op ∷ []) ops) none in
+    let others = (allowed-at placed nodes start earlier op (none-mapped (broken (length earlier)) (whys placed nodes start earlier op) parts.0)).1 in
+    let more = all_pairs_push Differ earlier op differ (λ k d within. others k d within) in
+    rw append_assoc at (all-differ placed nodes start (earlier ++ op ∷ []) ops parts.1 more)

@@ -1,0 +1,11 @@
+mod Allowed
+mod First
+mod Kept
+mod Live
+mod NotFelt
+mod OpFaults
+mod Pairs
+mod Placing
+pub mod Shared
+mod Uses
+mod WellPlaced

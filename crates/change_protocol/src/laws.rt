@@ -1,0 +1,58 @@
+//! Laws about the definitions of this crate. Each function has an empty body, and its contract is the law.
+
+ghost use Rattle.std.specs.Prelude.{◌≡◌, ℕ, ◌<◌, ◌≤◌, List, Some, All, IsSomeAnd, length, slice_get};
+ghost use Rattle.std.specs.Option.{option_map};
+ghost use Rattle.requirement_table.specs.declared.entries.Placed.{Placed};
+ghost use Rattle.requirement_table.specs.Instance.{Instance, release_of};
+ghost use Rattle.requirement_table.specs.Table.{IsWellPlaced, instance_in, is_last_in, released_in, releases_in, worst_in};
+ghost use Rattle.change_protocol.specs.declared.operations.Change.{Change};
+ghost use Rattle.change_protocol.specs.Applied.{IsChangedAt, IsKept, IsNewFrom, applied, without_end};
+ghost use Rattle.change_protocol.specs.Malformed.{IsWellFormed};
+ghost use Rattle.change_protocol.specs.Operations.{HasTypes};
+
+/// What a change makes of a well placed list came from it by a change with that start, and it is well placed where the
+/// change is well formed.
+pub fn lists_after_a_change()
+    ensures changed { (placed : List Placed) (change : Change) → IsWellPlaced placed
+        → IsChangedAt change.start placed (applied placed change) }
+    ensures well_placed { (placed : List Placed) (nodes : ℕ) (change : Change) → IsWellPlaced placed
+        → All HasTypes change.ops → IsWellFormed placed nodes change → IsWellPlaced (applied placed change) }
+{}
+
+/// After a change each entry stands in its place, unchanged or with the start of the change as its end, where it was live. Those
+/// behind are new.
+pub fn entries_after_a_change()
+    ensures kept { (start place : ℕ) (old new : List Placed) (p : Placed) → IsChangedAt start old new
+        → slice_get old place ≡ Some p → IsSomeAnd (slice_get new place) (IsKept start p) }
+    ensures new { (start place : ℕ) (old new : List Placed) (q : Placed) → IsChangedAt start old new
+        → length old ≤ place → slice_get new place ≡ Some q → IsNewFrom start q }
+{}
+
+/// A change is not felt before its start: in each cycle before it the same slots have a release, and each slot may send the
+/// same instance, which costs the same and has the same last cycle.
+pub fn cycles_before_the_start()
+    ensures released { (start c : ℕ) (old new : List Placed) → IsChangedAt start old new → c < start
+        → released_in new c ≡ released_in old c }
+    ensures releases { (start c slot : ℕ) (old new : List Placed) → IsChangedAt start old new → c < start
+        → releases_in new c slot ≡ releases_in old c slot }
+    ensures instance { (start c slot : ℕ) (old new : List Placed) → IsChangedAt start old new → c < start
+        → option_map without_end (instance_in new slot c) ≡ option_map without_end (instance_in old slot c) }
+    ensures worst { (start c slot : ℕ) (old new : List Placed) → IsChangedAt start old new → c < start
+        → worst_in new c slot ≡ worst_in old c slot }
+    ensures last { (start c slot : ℕ) (old new : List Placed) → IsChangedAt start old new → c < start
+        → is_last_in new c slot ≡ is_last_in old c slot }
+{}
+
+/// An instance that was released before the start of a change may be sent until its last cycle as if there had been no
+/// change.
+pub fn instances_released_before_the_start()
+    ensures instance { (start c slot : ℕ) (old new : List Placed) (i : Instance) → IsChangedAt start old new
+        → instance_in old slot c ≡ Some i → release_of i.placed i.number < start
+        → option_map without_end (instance_in new slot c) ≡ Some (without_end i) }
+    ensures worst { (start c slot : ℕ) (old new : List Placed) (i : Instance) → IsChangedAt start old new
+        → instance_in old slot c ≡ Some i → release_of i.placed i.number < start
+        → worst_in new c slot ≡ worst_in old c slot }
+    ensures last { (start c slot : ℕ) (old new : List Placed) (i : Instance) → IsChangedAt start old new
+        → instance_in old slot c ≡ Some i → release_of i.placed i.number < start
+        → is_last_in new c slot ≡ is_last_in old c slot }
+{}
