@@ -2,3 +2,4 @@ mod Lists
 mod Quiet
 mod Running
 pub mod Traces
+mod Sooner
