@@ -1,5 +1,5 @@
 use Rattle.std.proofs.Common.{refl, sym, ◌∙◌}
-use Rattle.async_window.proofs.Unsent.{IsMail-without}
+use Rattle.async_window.proofs.Shared.{IsMail-without}
 use Rattle.node_model.proofs.Mail.{without_first-none, none-found}
 use Rattle.node_model.proofs.node.Node.take_request.Goals as goal
 
