@@ -1,11 +1,10 @@
 -- An opened cycle, and the frames of its flagged slots. Times and lengths are bit times.
-use Rattle.std.specs.Prelude.{ℕ, ◌+◌, ◌-◌, ◌*◌, List, [], length, Option, option_map, unwrap_or}
+use Rattle.std.specs.Prelude.{ℕ, ◌+◌, ◌-◌, ◌*◌, List, Option, option_map}
 use Rattle.cycle_layout.specs.Layout.{CycleLayout}
 use Rattle.requirement_table.specs.declared.entries.Placed.{Placed}
-use Rattle.requirement_table.specs.declared.slots.TheConstants.{SLOTS}
-use Rattle.requirement_table.specs.Slots.{contains_slot, sum_where}
-use Rattle.requirement_table.specs.Instance.{worst, bytes_of}
-use Rattle.requirement_table.specs.Table.{instance_in}
+use Rattle.requirement_table.specs.Slots.{contains_slot}
+use Rattle.requirement_table.specs.Instance.{bytes_of}
+use Rattle.requirement_table.specs.Table.{instance_in, width_in}
 
 -- an opened cycle: its number, the slots that its trigger flags, and the entries that were placed when it was opened
 pub record Opening : Type 0 where
@@ -13,10 +12,7 @@ pub record Opening : Type 0 where
   pub mask : ℕ
   pub placed : List Placed
 
--- the number of slots, and the identifier of slot 0
-abbrev pub slots : ℕ
-slots = SLOTS
-
+-- the identifier of slot 0; that of slot s is s more
 abbrev pub first_identifier : ℕ
 first_identifier = 0x100
 
@@ -24,13 +20,9 @@ first_identifier = 0x100
 abbrev pub bytes_in : Opening → ℕ → Option (List ℕ)
 bytes_in opening slot = option_map bytes_of (instance_in opening.placed slot opening.cycle)
 
--- the worst length of the slot's frame in the cycle
-abbrev pub slot_cost : Opening → ℕ → ℕ
-slot_cost opening slot = worst (length (unwrap_or (bytes_in opening slot) []))
-
--- the length of the cycle's synchronous window: the worst lengths of its flagged slots together
+-- the length of the cycle's synchronous window: what its flagged slots cost together
 abbrev pub width_of : Opening → ℕ
-width_of opening = sum_where slots (contains_slot opening.mask) (slot_cost opening)
+width_of opening = width_in opening.placed opening.cycle (contains_slot opening.mask)
 
 -- the times at which the cycle, the next cycle and the cycle's synchronous window start
 abbrev pub start_of : CycleLayout → Opening → ℕ
