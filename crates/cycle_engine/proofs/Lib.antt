@@ -10,3 +10,4 @@ mod NextCycle
 mod OneCycle
 mod FreshNodes
 mod Left
+mod Waking

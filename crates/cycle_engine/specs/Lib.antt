@@ -1,3 +1,3 @@
-pub mod Offered
 pub mod Nodes
+pub mod Offered
 pub mod Stations

@@ -7,6 +7,7 @@ mod Apart
 mod StaysNode
 mod Least
 mod Sendable
+pub mod Shared
 mod Known
 mod Mail
 mod Offers
