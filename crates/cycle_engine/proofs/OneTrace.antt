@@ -38,7 +38,7 @@ is_asynchronous requests past id request all first =
 
 module _ (layout : CycleLayout) (requests : List Request) where
   -- what is offered in a cycle is offered at a time of the cycle
-  in_cycle : IsLayout layout → (opening : Opening) (past : List TimedFrame) (at : ℕ) (frame : DataFrame)
+  pub in_cycle : IsLayout layout → (opening : Opening) (past : List TimedFrame) (at : ℕ) (frame : DataFrame)
       → offered_in layout requests opening past at frame → (start_of layout opening ≤ at) × (at < end_of_cycle layout opening)
   in_cycle is opening past at frame (inl trigger) =
       let longer = add-mul opening.cycle 1 layout.cycle in
