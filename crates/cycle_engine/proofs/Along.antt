@@ -16,7 +16,8 @@ use Rattle.async_window.specs.declared.request.Owner.{Owner}
 use Rattle.async_window.specs.declared.request.Request.{Request}
 use Rattle.bus_line.specs.Trace.{Follows, IsNext, NothingOffered, end_of}
 use Rattle.bus_line.specs.Stations.{IsOffered, offers_of, told}
-use Rattle.node_model.specs.Opening.{Opening, end_of_cycle, start_of, width_of}
+use Rattle.requirement_table.specs.Opening.{Opening, width_of}
+use Rattle.node_model.specs.Opening.{end_of_cycle, start_of}
 use Rattle.node_model.specs.Node.{IsNode, NodeState, after_hearing, identifiers_of, is_own_slot}
 use Rattle.async_window.specs.Owners.{AreOwners}
 use Rattle.node_model.specs.Own.{OffersLeastOwn, OffersOwn, Stands, StandsIn}

@@ -13,7 +13,7 @@ use Rattle.requirement_table.specs.Table.{IsWellPlaced, instance_in}
 use Rattle.async_window.specs.declared.request.Owner.{Owner}
 use Rattle.async_window.specs.declared.request.Request.{Request}
 use Rattle.async_window.specs.Waiting.{frames_with, requests_of, unsent_after}
-use Rattle.node_model.specs.Opening.{Opening}
+use Rattle.requirement_table.specs.Opening.{Opening}
 use Rattle.node_model.specs.Offered.{OffersRequest, OffersSlot}
 use Rattle.node_model.specs.Node.{NodeState, entries_of, identifiers_of}
 use Rattle.node_model.specs.Own.{OffersOwn, Stands}

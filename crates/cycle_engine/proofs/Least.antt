@@ -11,7 +11,8 @@ use Rattle.async_window.specs.declared.request.Owner.{Owner}
 use Rattle.async_window.specs.declared.request.Request.{Request}
 use Rattle.bus_line.specs.Trace.{IsLeastOffered}
 use Rattle.bus_line.specs.Stations.{IsOffered}
-use Rattle.node_model.specs.Opening.{Opening, start_of}
+use Rattle.requirement_table.specs.Opening.{Opening}
+use Rattle.node_model.specs.Opening.{start_of}
 use Rattle.node_model.specs.Node.{NodeState, node_frame, node_offer}
 use Rattle.node_model.specs.Own.{OffersLeastOwn, OffersOwn}
 use Rattle.cycle_engine.specs.Nodes.{IsOwned}

@@ -12,7 +12,8 @@ use Rattle.requirement_table.specs.Instance.{Instance}
 use Rattle.requirement_table.specs.Table.{instance_in}
 use Rattle.async_window.specs.declared.request.Request.{Request}
 use Rattle.bus_line.specs.Trace.{AgreeAlong, Follows, IsTrace, end_of, free_after}
-use Rattle.node_model.specs.Opening.{Opening, start_of, end_of_cycle, width_of, window_start}
+use Rattle.requirement_table.specs.Opening.{Opening, width_of}
+use Rattle.node_model.specs.Opening.{start_of, end_of_cycle, window_start}
 use Rattle.cycle_engine.specs.Cycle.{FitsWindow, FollowsTrace, IsRequestFrame, IsSlotFrame, RunsCycle, RunsCycles, cycle_of, frames_in}
 use Rattle.cycle_engine.specs.Offered.{AreAsynchronous, IsCanTrace, offered, offered_in}
 use Rattle.cycle_engine.proofs.Lists.{Contains-here, Contains-later}

@@ -10,7 +10,8 @@ use Rattle.cycle_layout.specs.Layout.{CycleLayout, IsLayout}
 use Rattle.async_window.specs.declared.request.Request.{Request}
 use Rattle.async_window.specs.Waiting.{requests_of, unsent_after, frames_with}
 use Rattle.bus_line.specs.Trace.{IsDetermined}
-use Rattle.node_model.specs.Opening.{Opening, bytes_in, start_of, end_of_cycle}
+use Rattle.requirement_table.specs.Opening.{Opening, bytes_in}
+use Rattle.node_model.specs.Opening.{start_of, end_of_cycle}
 use Rattle.node_model.specs.Offered.{OffersTrigger, OffersRequest, OffersSlot}
 use Rattle.cycle_engine.specs.Offered.{AreAsynchronous, AreOfDistinctCycles, offered, offered_in}
 use Rattle.cycle_engine.proofs.Lists.{Contains-slice_get, same_by_number}

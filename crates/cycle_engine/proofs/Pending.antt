@@ -9,7 +9,8 @@ use Rattle.can_frame.specs.declared.data_frame.TimedFrame.{TimedFrame}
 use Rattle.cycle_layout.specs.Layout.{CycleLayout}
 use Rattle.requirement_table.specs.Slots.{contains_slot}
 use Rattle.requirement_table.specs.Table.{width_in}
-use Rattle.node_model.specs.Opening.{Opening, first_identifier, start_of}
+use Rattle.requirement_table.specs.Opening.{Opening}
+use Rattle.node_model.specs.Opening.{first_identifier, start_of}
 use Rattle.node_model.specs.Offered.{IsUnsent}
 use Rattle.node_model.specs.Own.{was_sent}
 

@@ -20,7 +20,8 @@ use Rattle.trigger_codec.specs.Bytes.{trigger_frame}
 use Rattle.async_window.specs.declared.request.Request.{Request}
 use Rattle.async_window.specs.Waiting.{requests_of, frames_with, unsent_after}
 use Rattle.bus_line.specs.Trace.{end_of, Follows, IsNext}
-use Rattle.node_model.specs.Opening.{Opening, first_identifier, bytes_in, width_of, start_of, end_of_cycle, window_start}
+use Rattle.requirement_table.specs.Opening.{Opening, bytes_in, width_of}
+use Rattle.node_model.specs.Opening.{first_identifier, start_of, end_of_cycle, window_start}
 use Rattle.node_model.specs.Offered.{OffersTrigger, OffersRequest, OffersSlot}
 use Rattle.node_model.specs.Own.{was_sent}
 use Rattle.cycle_engine.specs.Cycle.{IsRequestFrame, IsSentOnce, IsSlotFrame, RunsCycle, of_slot}

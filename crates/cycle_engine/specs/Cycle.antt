@@ -7,7 +7,8 @@ use Rattle.requirement_table.specs.Table.{instance_in}
 use Rattle.trigger_codec.specs.Bytes.{trigger_frame}
 use Rattle.async_window.specs.declared.request.Request.{Request}
 use Rattle.bus_line.specs.Trace.{Follows, end_of}
-use Rattle.node_model.specs.Opening.{Opening, first_identifier, bytes_in, width_of, start_of, end_of_cycle, window_start}
+use Rattle.requirement_table.specs.Opening.{Opening, bytes_in, width_of}
+use Rattle.node_model.specs.Opening.{first_identifier, start_of, end_of_cycle, window_start}
 use Rattle.cycle_engine.specs.Offered.{IsCanTrace, offered_in}
 
 -- the cycle in which a frame starts

@@ -8,7 +8,7 @@ use Rattle.requirement_table.specs.Slots.{contains_slot, slots}
 use Rattle.requirement_table.specs.Table.{IsWellPlaced, instance_in}
 use Rattle.async_window.specs.declared.request.Owner.{Owner}
 use Rattle.async_window.specs.declared.request.Request.{Request}
-use Rattle.node_model.specs.Opening.{Opening, width_of}
+use Rattle.requirement_table.specs.Opening.{Opening, width_of}
 use Rattle.async_window.specs.Mailbox.{left}
 use Rattle.node_model.specs.Node.{NodeState, NodeView, after_hearing, learnt}
 use Rattle.async_window.specs.Owners.{AreOwners}

@@ -5,7 +5,8 @@ ghost use Rattle.can_frame.specs.declared.data_frame.TimedFrame.{TimedFrame};
 ghost use Rattle.cycle_layout.specs.Layout.{CycleLayout, IsLayout};
 ghost use Rattle.async_window.specs.declared.request.Request.{Request};
 ghost use Rattle.bus_line.specs.Trace.{end_of};
-ghost use Rattle.node_model.specs.Opening.{Opening, end_of_cycle};
+ghost use Rattle.requirement_table.specs.Opening.{Opening};
+ghost use Rattle.node_model.specs.Opening.{end_of_cycle};
 ghost use Rattle.cycle_engine.specs.Cycle.{FitsWindow, FollowsTrace, RunsCycle, RunsCycles};
 ghost use Rattle.cycle_engine.specs.Offered.{AreAsynchronous, AreOfDistinctCycles, IsCanTrace, offered, offered_in};
 

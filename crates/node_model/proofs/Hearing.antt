@@ -18,7 +18,8 @@ use Rattle.async_window.specs.declared.request.Owner.{Owner}
 use Rattle.async_window.specs.declared.request.Request.{Request}
 use Rattle.async_window.specs.Mailbox.{Mail, mail_after, taken_from, without_first}
 use Rattle.async_window.specs.Waiting.{unsent_after}
-use Rattle.node_model.specs.Opening.{Opening, first_identifier, width_of, start_of}
+use Rattle.requirement_table.specs.Opening.{Opening, width_of}
+use Rattle.node_model.specs.Opening.{first_identifier, start_of}
 use Rattle.node_model.specs.Node.{NodeState, Opened, after_hearing, counted, entries_of, identifiers_of, is_own_slot, next_trigger, opened_by}
 use Rattle.async_window.specs.Owners.{AreOwners}
 use Rattle.node_model.specs.Own.{Stands, StandsIn, was_sent}

@@ -17,7 +17,8 @@ use Rattle.async_window.specs.declared.request.Owner.{Owner}
 use Rattle.async_window.specs.declared.request.Request.{Request}
 use Rattle.async_window.specs.Waiting.{MayStart, frames_with, requests_of, unsent_after}
 use Rattle.async_window.specs.Mailbox.{IsLeastWith, IsMail, Mail, Offers, mail_after, mail_offer, unsent_of}
-use Rattle.node_model.specs.Opening.{Opening, first_identifier, width_of, start_of, window_start}
+use Rattle.requirement_table.specs.Opening.{Opening, width_of}
+use Rattle.node_model.specs.Opening.{first_identifier, start_of, window_start}
 use Rattle.node_model.specs.Offered.{IsUnsent}
 use Rattle.node_model.specs.Node.{IsNode, NodeState, entries_of, identifiers_of, is_due, least_where, node_bytes, node_frame, node_offer}
 use Rattle.node_model.specs.Own.{OffersLeastOwn, OffersOwn, StandsIn, was_sent}

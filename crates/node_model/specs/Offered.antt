@@ -8,7 +8,8 @@ use Rattle.requirement_table.specs.Slots.{contains_slot, slots}
 use Rattle.trigger_codec.specs.Bytes.{trigger_frame}
 use Rattle.async_window.specs.declared.request.Request.{Request}
 use Rattle.async_window.specs.Waiting.{unsent_after, MayStart}
-use Rattle.node_model.specs.Opening.{Opening, first_identifier, bytes_in, width_of, start_of, end_of_cycle, window_start}
+use Rattle.requirement_table.specs.Opening.{Opening, bytes_in, width_of}
+use Rattle.node_model.specs.Opening.{first_identifier, start_of, end_of_cycle, window_start}
 
 -- the trigger is offered at the cycle's start
 pub record OffersTrigger (layout : CycleLayout) (opening : Opening) (at : ℕ) (frame : DataFrame) : Type 0 where

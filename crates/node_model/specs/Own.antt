@@ -11,7 +11,8 @@ use Rattle.requirement_table.specs.Table.{instance_in}
 use Rattle.async_window.specs.declared.request.Owner.{Owner}
 use Rattle.async_window.specs.declared.request.Request.{Request}
 use Rattle.async_window.specs.Mailbox.{mail_after}
-use Rattle.node_model.specs.Opening.{Opening, first_identifier, width_of, start_of}
+use Rattle.requirement_table.specs.Opening.{Opening, width_of}
+use Rattle.node_model.specs.Opening.{first_identifier, start_of}
 use Rattle.node_model.specs.Offered.{OffersRequest, OffersSlot}
 use Rattle.node_model.specs.Node.{NodeState, Opened, entries_of, identifiers_of, node_offer, node_frame}
 
