@@ -1,5 +1,6 @@
-pub mod Unsent
-pub mod Offered
-pub mod Table
-pub mod Steps
-pub mod Literals
+mod Literals
+mod Offered
+pub mod Shared
+mod Steps
+mod Table
+mod Unsent

@@ -1,3 +1,4 @@
 pub mod Waiting
 pub mod Mailbox
 pub mod Adding
+pub mod Owners

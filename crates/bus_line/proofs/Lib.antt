@@ -1,4 +1,5 @@
 mod Lists
 mod Quiet
 mod Running
-pub mod Traces
+mod Traces
+mod Sooner

@@ -1,5 +1,5 @@
 -- What stations on a bus offer, how that changes as frames are sent, and what a run of the bus over them is.
-use Rattle.std.specs.Prelude.{◌≡◌, ℕ, ◌<◌, List, [], ◌++◌, Option, Some, None, Contains, fold}
+use Rattle.std.specs.Prelude.{◌≡◌, ◌≢◌, ℕ, ◌<◌, List, [], ◌++◌, Option, Some, None, Contains, fold, min}
 use Rattle.can_frame.specs.DataFrame.{DataFrame}
 use Rattle.can_frame.specs.Wire.{wire_length}
 use Rattle.can_frame.specs.declared.data_frame.TimedFrame.{TimedFrame}
@@ -25,11 +25,18 @@ told line state frames = fold line.next state frames
 abbrev pub offers_of : {State : Type 0} → Line State → State → Offers
 offers_of line state past at frame = IsOffered line (told line state past) at frame
 
--- nothing is newly offered after `at` and before the answer, or ever where there is no answer
+-- the answer is the least time after `at` at which something is offered, of what is offered at each time; there is none
+-- where nothing is offered at any time after `at`
 abbrev pub IsWake : (ℕ → List ℕ) → ℕ → Option ℕ → Type 0
-IsWake offered at None = (later id : ℕ) → at < later → Contains (offered later) id → Contains (offered at) id
+IsWake offered at None = (later : ℕ) → at < later → offered later ≡ []
 IsWake offered at (Some next) =
-    (at < next) × ((later id : ℕ) → at < later → later < next → Contains (offered later) id → Contains (offered at) id)
+    (at < next) × (offered next ≢ []) × ((later : ℕ) → at < later → later < next → offered later ≡ [])
+
+-- the sooner of two times, where there is one
+abbrev pub sooner : Option ℕ → Option ℕ → Option ℕ
+sooner None other = other
+sooner (Some one) None = Some one
+sooner (Some one) (Some other) = Some (min one other)
 
 -- the frame is one that stations in this state offer at its start, and has its wire length
 pub record IsSending {State : Type 0} (line : Line State) (state : State) (sent : TimedFrame) : Type 0 where

@@ -1,9 +1,9 @@
 //! Laws of traces, for the crates whose contracts speak of them.
 
-ghost use Rattle.std.specs.Prelude.{◌≡◌, ◌↔◌, ◌<◌, ◌≤◌, ℕ, All, List, [], ◌++◌, max};
+ghost use Rattle.std.specs.Prelude.{◌≡◌, ◌↔◌, ◌<◌, ◌≤◌, ℕ, All, List, [], ◌++◌, Option, max};
 ghost use Rattle.can_frame.specs.declared.data_frame.TimedFrame.{TimedFrame};
 ghost use Rattle.bus_line.specs.Trace.{AgreeAlong, Follows, IsDetermined, IsOrdered, IsTrace, Offers, free_after};
-ghost use Rattle.bus_line.specs.Stations.{offers_of};
+ghost use Rattle.bus_line.specs.Stations.{IsWake, offers_of, sooner};
 
 use crate::stations::Stations;
 use can_frame::laws::wire_lengths;
@@ -72,4 +72,12 @@ pub fn same_along<One: Offering, Other: Offering>()
         → AgreeAlong (One.offers one) (Other.offers other) past other_past free until frames
         → Follows (One.offers one) past free until frames
         → Follows (Other.offers other) other_past free until frames }
+{}
+
+/// The sooner of two times is that at which something is offered of both together. The function
+/// does nothing.
+pub fn sooner_wake()
+    ensures together { (one other : ℕ → List ℕ) (at : ℕ) (first second : Option ℕ)
+        → IsWake one at first → IsWake other at second
+        → IsWake (λ later. one later ++ other later) at (sooner first second) }
 {}

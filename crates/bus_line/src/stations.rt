@@ -23,8 +23,8 @@ pub trait Stations {
         ensures offered { ids.new ≡ line.offered (state self.now) at }
         ensures range { All (λ id. id ≤ 0x7EF) ids.new };
 
-    /// The least time after `at` at which an offer may appear while nothing is sent; `None` where
-    /// none can.
+    /// The least time after `at` at which something is offered while nothing is sent; `None`
+    /// exactly where nothing is offered at any later time.
     fn wake(&self, at: u64) -> Option<u64>
         requires time { at < 2 ^ 60 }
         ensures wake { IsWake (line.offered (state self.now)) at result };

@@ -1,16 +1,15 @@
 //! The run over three scripted stations, against a trace written down by hand.
 
-ghost use Rattle.std.specs.Prelude.{◌≡◌, ◌==◌, ◌&&◌, ◌++◌, ◌∷◌, ◌<◌, ◌≤◌, ℕ, List, [], Contains, length, nat_le, nat_lt, if◌then◌else◌};
+ghost use Rattle.std.specs.Prelude.{◌≡◌, ◌==◌, ◌&&◌, ◌++◌, ◌∷◌, ◌^◌, ◌<◌, ◌≤◌, ℕ, List, [], Contains, length, nat_le, nat_lt, if◌then◌else◌};
 ghost use Rattle.can_frame.specs.declared.data_frame.TimedFrame.{TimedFrame};
+ghost use Rattle.bus_line.specs.Stations.{IsWake, sooner};
 
+use crate::laws::sooner_wake;
 use crate::line::run_until;
 use crate::stations::Stations;
 use arbitration::Contenders;
 use can_frame::{Frame, TimedFrame};
 use std::test::Fail;
-
-/// The greatest time.
-const GREATEST: u64 = u64::MAX;
 
 /// A station that offers an empty frame from one time to below another, and once that is sent, from
 /// `again` to below `again_until`.
@@ -37,19 +36,15 @@ impl Station {
         }
     }
 
-    /// The time at which the offer appears, or the greatest time where it does not appear later.
-    fn appears_after(&self, at: u64) -> u64
-        ensures appears { at < self.now.from → self.now.from < self.now.until
-            → result ≤ self.now.from }
-        ensures later { at < GREATEST → at < result }
-        ensures ends { self.now.until ≤ GREATEST }
+    /// The least time behind `at` at which the station offers its frame.
+    fn wake(&self, at: u64) -> Option<u64>
+        requires time { at < 2 ^ 60 }
+        ensures wake { IsWake
+            (λ later. if nat_le self.now.from later && nat_lt later self.now.until
+            then self.now.id ∷ [] else []) at result }
     {
-        let Station { from, until, .. } = *self;
-        if at < from && from < until {
-            from
-        } else {
-            GREATEST
-        }
+        let next = self.from.max(at + 1);
+        (next < self.until).then_some(next)
     }
 
     /// The station once a frame was sent.
@@ -110,12 +105,11 @@ impl Stations for Scripted {
     }
 
     fn wake(&self, at: u64) -> Option<u64> {
-        let next = self
-            .low
-            .appears_after(at)
-            .min(self.middle.appears_after(at))
-            .min(self.high.appears_after(at));
-        if next < GREATEST { Some(next) } else { None }
+        sooner_wake();
+        let low = self.low.wake(at);
+        let middle = self.middle.wake(at);
+        let high = self.high.wake(at);
+        sooner(sooner(low, middle), high)
     }
 
     fn frame(&self, _at: u64, id: u16) -> Frame {
@@ -130,6 +124,17 @@ impl Stations for Scripted {
         self.low = self.low.heard(id);
         self.middle = self.middle.heard(id);
         self.high = self.high.heard(id);
+    }
+}
+
+/// The sooner of two times, where there is one.
+fn sooner(one: Option<u64>, other: Option<u64>) -> Option<u64>
+    ensures sooner { result ≡ sooner one other }
+{
+    match (one, other) {
+        (Some(one), Some(other)) => Some(one.min(other)),
+        (one, None) => one,
+        (None, other) => other,
     }
 }
 

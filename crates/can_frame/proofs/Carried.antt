@@ -2,7 +2,7 @@
 use Rattle.std.proofs.Common.{◌≡◌, ◌<◌, ◌≤◌, Bool, true, false, cond, List, [], ◌∷◌, ◌++◌, reverse, append_assoc, refl, sym, ap, subst, ◌∙◌}
 use Rattle.std.proofs.lemmas.List.{reverse-append, reverse-reverse}
 use Rattle.stuff_bound.specs.Stuffing.{run, HasNoSix, at_stuff_place, without_stuff, Stuffs}
-use Rattle.stuff_bound.proofs.Stuffs.{without_stuff-full, without_stuff-below}
+use Rattle.stuff_bound.proofs.Shared.{without_stuff-full, without_stuff-below}
 use Rattle.can_frame.specs.Reading.{carried}
 
 -- one more bit, newest first

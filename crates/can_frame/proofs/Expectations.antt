@@ -3,7 +3,7 @@ use Rattle.std.proofs.Common.{◌≡◌, ◌≢◌, ℕ, ◌+◌, ◌*◌, ◌/�
 use Rattle.std.specs.List.{flat_map}
 use Rattle.std.proofs.lemmas.List.{append-nil, length-append, length-take-le, reverse-reverse, drop_at}
 use Rattle.stuff_bound.specs.Stuffing.{run, HasNoSix, stuffed}
-use Rattle.stuff_bound.proofs.Stuffs.{stuffed_only}
+use Rattle.stuff_bound.proofs.Shared.{stuffed_only}
 use Rattle.can_frame.specs.declared.wire_fault.WireFault.TheVariants.{Form}
 use Rattle.can_frame.specs.DataFrame.{DataFrame}
 use Rattle.can_frame.specs.Number.{bits, number}

@@ -1,8 +1,8 @@
-pub mod Carried
-pub mod Expectations
-pub mod Fields
-pub mod Finish
-pub mod OneAnswer
-pub mod Plain
-pub mod Remainder
-pub mod Steps
+mod Carried
+mod Expectations
+mod Fields
+mod Finish
+mod OneAnswer
+mod Plain
+mod Remainder
+mod Steps

@@ -3,7 +3,7 @@ use Rattle.std.proofs.Common.{◌≡◌, ◌≢◌, ℕ, ◌+◌, ◌^◌, ◌<�
 use Rattle.std.specs.Bool.{beq}
 use Rattle.std.proofs.lemmas.List.{append-nil, length-append}
 use Rattle.stuff_bound.specs.Stuffing.{run, stuffed}
-use Rattle.stuff_bound.proofs.Stuffs.{run-more, Stuffs-stuffed}
+use Rattle.stuff_bound.proofs.Shared.{run-more, Stuffs-stuffed}
 use Rattle.can_frame.specs.declared.wire_fault.WireFault.{WireFault}
 use Rattle.can_frame.specs.declared.wire_fault.WireFault.TheVariants.{Stuff, Form, Crc, Short, Tail, Memory}
 use Rattle.can_frame.specs.DataFrame.{DataFrame, IsFrame}

@@ -4,7 +4,7 @@ use Rattle.std.proofs.lemmas.List.{append-nil, length-append}
 use Rattle.std.proofs.Math.Nat.{pow-suc}
 use mir.Val.{bool_byte}
 use Rattle.stuff_bound.specs.Stuffing.{run, HasNoSix}
-use Rattle.stuff_bound.proofs.Stuffs.{run-more}
+use Rattle.stuff_bound.proofs.Shared.{run-more}
 use Rattle.can_frame.specs.declared.wire_fault.WireFault.TheVariants.{Form, Short}
 use Rattle.can_frame.specs.Number.{bits}
 use Rattle.can_frame.specs.Reading.{carried, plain_length, IsMisplaced, IsPlaced, IsBegun, GoesOn, EndsInside, Reads}

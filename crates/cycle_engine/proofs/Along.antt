@@ -9,20 +9,23 @@ use Rattle.can_frame.specs.DataFrame.{DataFrame}
 use Rattle.can_frame.specs.Wire.{wire_length}
 use Rattle.can_frame.specs.declared.data_frame.TimedFrame.{TimedFrame}
 use Rattle.cycle_layout.specs.Layout.{CycleLayout, IsLayout}
-use Rattle.requirement_table.specs.declared.slots.TheConstants.{SLOTS}
+use Rattle.requirement_table.specs.Slots.{slots}
 use Rattle.requirement_table.specs.Table.{IsWellPlaced}
 use Rattle.trigger_codec.specs.Bytes.{trigger_frame}
 use Rattle.async_window.specs.declared.request.Owner.{Owner}
 use Rattle.async_window.specs.declared.request.Request.{Request}
 use Rattle.bus_line.specs.Trace.{Follows, IsNext, NothingOffered, end_of}
 use Rattle.bus_line.specs.Stations.{IsOffered, offers_of, told}
-use Rattle.node_model.specs.Opening.{Opening, end_of_cycle, start_of, width_of}
+use Rattle.requirement_table.specs.Opening.{Opening, width_of}
+use Rattle.node_model.specs.Opening.{end_of_cycle, start_of}
 use Rattle.node_model.specs.Node.{IsNode, NodeState, after_hearing, identifiers_of, is_own_slot}
-use Rattle.node_model.specs.Own.{AreOwners, OffersLeastOwn, OffersOwn, Stands, StandsIn}
+use Rattle.async_window.specs.Owners.{AreOwners}
+use Rattle.node_model.specs.Own.{OffersLeastOwn, OffersOwn, Stands, StandsIn}
 use Rattle.cycle_engine.specs.Nodes.{IsNumber, IsOwned, heard_by}
 use Rattle.cycle_engine.specs.Offered.{offered_in}
 use Rattle.cycle_engine.specs.Stations.{Stationed, all_hear, announced, cycle_line, frame_by_nodes, offered_by_nodes}
 use Rattle.cycle_engine.proofs.Lists.{Contains-here}
+use Rattle.cycle_engine.proofs.Belongs.{HaveSenders}
 use Rattle.cycle_engine.proofs.Least.{alone, is_own, least_by_nodes, some_by_nodes}
 
 -- the laws of nodes and of wires on which this stands
@@ -32,7 +35,7 @@ pub record NodeLaws : Type 0 where
       → IsNode node → IsWellPlaced opening.placed → StandsIn layout owners requests opening past node → at / layout.cycle ≡ opening.cycle
       → OffersLeastOwn layout owners requests opening past at node
   pub trigger : (layout : CycleLayout) (owners : List Owner) (requests : List Request) (opening : Opening) (past : List TimedFrame) (sent : TimedFrame) (node : NodeState)
-      → AreOwners owners → width_of opening ≤ layout.window → layout.window ≤ 16383 → opening.mask < 2 ^ SLOTS
+      → AreOwners owners → width_of opening ≤ layout.window → layout.window ≤ 16383 → opening.mask < 2 ^ slots
       → All (λ earlier. earlier.start < start_of layout opening) past
       → sent.frame ≡ trigger_frame opening.cycle (width_of opening) opening.mask
       → Stands layout owners requests opening.placed past opening.cycle node
@@ -80,11 +83,15 @@ IsOwned-kept owners nodes sent request is = record {
   node = IsNumber-kept nodes sent is.owner.node is.node;
 }
 
+HaveSenders-kept : (opening : Opening) (nodes : List NodeState) (sent : TimedFrame) → HaveSenders nodes opening → HaveSenders (all_hear nodes sent) opening
+HaveSenders-kept opening nodes sent senders slot within flagged =
+    let sender = senders slot within flagged in (sender.0, sender.1, IsNumber-kept nodes sent sender.0.placed.entry.node sender.2)
+
 -- the nodes of a bus within an opened cycle
 pub record Standing (layout : CycleLayout) (owners : List Owner) (requests : List Request) (opening : Opening) (past : List TimedFrame) (nodes : List NodeState) : Type 0 where
   pub are : All IsNode nodes
   pub stand : All (StandsIn layout owners requests opening past) nodes
-  pub entries : All (λ p. IsNumber nodes p.entry.node) opening.placed
+  pub senders : HaveSenders nodes opening
   pub owned : All (IsOwned owners nodes) requests
 
 module _ (laws : NodeLaws) (layout : CycleLayout) (owners : List Owner) (requests : List Request) (opening : Opening)
@@ -97,7 +104,7 @@ module _ (laws : NodeLaws) (layout : CycleLayout) (owners : List Owner) (request
     stand = All-map (StandsIn layout owners requests opening (past ++ sent ∷ [])) (λ node. after_hearing node sent) nodes
         (All-weaker (StandsIn layout owners requests opening past) (λ node. StandsIn layout owners requests opening (past ++ sent ∷ []) (after_hearing node sent))
         (λ node. laws.later layout owners requests opening past sent node are_owners well_placed other begun) nodes standing.stand);
-    entries = All-weaker (λ p. IsNumber nodes p.entry.node) (λ p. IsNumber (all_hear nodes sent) p.entry.node) (λ p. IsNumber-kept nodes sent p.entry.node) opening.placed standing.entries;
+    senders = HaveSenders-kept opening nodes sent standing.senders;
     owned = All-weaker (IsOwned owners nodes) (IsOwned owners (all_hear nodes sent)) (IsOwned-kept owners nodes sent) requests standing.owned;
   }
 
@@ -119,7 +126,7 @@ module _ (laws : NodeLaws) (layout : CycleLayout) (owners : List Owner) (request
       → NothingOffered (offers_of cycle_line before) sofar low high → NothingOffered (offered_in layout requests opening) past low high
   NothingOffered-nodes before sofar past nodes low high now standing begun within nothing at frame from early offered =
       let parts = parts_at past nodes at (omega (arith, begun, from)) (omega (arith, early, within)) standing in
-      let one = some_by_nodes layout owners requests opening past at nodes parts standing.entries standing.owned (omega (arith, begun, from)) frame offered in
+      let one = some_by_nodes layout owners requests opening past at nodes parts standing.senders standing.owned (omega (arith, begun, from)) frame offered in
       nothing at one.0 from early (subst (λ s. IsOffered cycle_line s at one.0) (sym now) one.1)
 
   -- what is next among the nodes is next on the bus, and has not the trigger's identifier
@@ -129,10 +136,10 @@ module _ (laws : NodeLaws) (layout : CycleLayout) (owners : List Owner) (request
   IsNext-nodes before sofar past nodes free sent now standing begun next =
       let behind : start_of layout opening < sent.start = omega (arith, begun, next.when_free) in
       let parts = parts_at past nodes sent.start behind next.within standing in
-      let least = least_by_nodes layout owners requests opening past sent.start nodes parts standing.entries standing.owned behind sent.frame
+      let least = least_by_nodes layout owners requests opening past sent.start nodes parts standing.senders standing.owned behind sent.frame
       (subst (λ s. IsOffered cycle_line s sent.start sent.frame) now next.least.offered)
       (λ other offers. next.least.least other (subst (λ s. IsOffered cycle_line s sent.start other) (sym now) offers)) in
-      let own = is_own layout owners requests opening past sent.start nodes parts standing.entries standing.owned behind sent.frame least.offered in (
+      let own = is_own layout owners requests opening past sent.start nodes parts standing.senders standing.owned behind sent.frame least.offered in (
         record {
           when_free = next.when_free;
           within = next.within;
@@ -196,11 +203,11 @@ pub record Waiting (layout : CycleLayout) (owners : List Owner) (requests : List
   pub is_layout : IsLayout layout
   pub cycle : opening.cycle < 2 ^ 42
   pub width : width_of opening ≤ layout.window
-  pub mask : opening.mask < 2 ^ SLOTS
+  pub mask : opening.mask < 2 ^ slots
   pub before : All (λ sent. sent.start < start_of layout opening) past
   pub are : All IsNode nodes
   pub stand : All (Stands layout owners requests opening.placed past opening.cycle) nodes
-  pub entries : All (λ p. IsNumber nodes p.entry.node) opening.placed
+  pub senders : HaveSenders nodes opening
   pub owned : All (IsOwned owners nodes) requests
 
 module _ (laws : NodeLaws) (layout : CycleLayout) (owners : List Owner) (requests : List Request) (opening : Opening)
@@ -215,7 +222,7 @@ module _ (laws : NodeLaws) (layout : CycleLayout) (owners : List Owner) (request
     stand = All-map (StandsIn layout owners requests opening (past ++ sent ∷ [])) (λ node. after_hearing node sent) nodes
         (All-weaker (Stands layout owners requests opening.placed past opening.cycle) (λ node. StandsIn layout owners requests opening (past ++ sent ∷ []) (after_hearing node sent))
         (λ node. laws.trigger layout owners requests opening past sent node are_owners waiting.width waiting.is_layout.window_range.below waiting.mask waiting.before is) nodes waiting.stand);
-    entries = All-weaker (λ p. IsNumber nodes p.entry.node) (λ p. IsNumber (all_hear nodes sent) p.entry.node) (λ p. IsNumber-kept nodes sent p.entry.node) opening.placed waiting.entries;
+    senders = HaveSenders-kept opening nodes sent waiting.senders;
     owned = All-weaker (IsOwned owners nodes) (IsOwned owners (all_hear nodes sent)) (IsOwned-kept owners nodes sent) requests waiting.owned;
   }
 

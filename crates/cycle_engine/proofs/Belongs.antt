@@ -1,25 +1,25 @@
 -- Each frame that is offered in a cycle besides the trigger is one node's own.
-use Rattle.std.proofs.Common.{◌≡◌, ℕ, Bool, true, false, cond, List, All, Contains, Option, None, Some, inl, inr, refl, sym, ap, ◌∙◌, subst}
-use Rattle.std.specs.Prelude.{◌==◌, option_map, filter, filter_map}
+use Rattle.std.proofs.Common.{◌≡◌, ℕ, ◌<◌, Bool, true, List, All, Contains, Option, None, Some, IsSome, inl, inr, refl, sym, ap, ◌∙◌, subst}
+use Rattle.std.specs.Prelude.{◌==◌, filter, map}
 use Rattle.std.specs.List.{slice_get}
-use Rattle.std.proofs.lemmas.Bool.{eq-eqb}
-use Rattle.std.proofs.lemmas.Option.{none-some, same_Some}
+use Rattle.std.proofs.lemmas.Bool.{eq-eqb, false≢true}
 use Rattle.std.proofs.lemmas.List.Elements.{All-contains, All-contains_itself, All-drop, All-filter}
 use Rattle.can_frame.specs.DataFrame.{DataFrame}
 use Rattle.can_frame.specs.declared.data_frame.TimedFrame.{TimedFrame}
 use Rattle.cycle_layout.specs.Layout.{CycleLayout}
-use Rattle.requirement_table.specs.declared.entries.Placed.{Placed}
-use Rattle.requirement_table.specs.Instance.{Instance, bytes_of, instance_of}
-use Rattle.requirement_table.specs.Table.{instance_in, sendable}
+use Rattle.requirement_table.specs.Instance.{Instance}
+use Rattle.requirement_table.specs.Slots.{contains_slot, slots}
+use Rattle.requirement_table.specs.Table.{IsWellPlaced, instance_in}
 use Rattle.async_window.specs.declared.request.Owner.{Owner}
 use Rattle.async_window.specs.declared.request.Request.{Request}
 use Rattle.async_window.specs.Waiting.{frames_with, requests_of, unsent_after}
-use Rattle.node_model.specs.Opening.{Opening}
+use Rattle.requirement_table.specs.Opening.{Opening}
 use Rattle.node_model.specs.Offered.{OffersRequest, OffersSlot}
-use Rattle.node_model.specs.Node.{NodeState, identifiers_of}
-use Rattle.node_model.specs.Own.{OffersOwn}
-use Rattle.cycle_engine.specs.Nodes.{IsNumber, IsOwned}
-use Rattle.cycle_engine.proofs.Lists.{Contains-slice_get, Contains-map, Contains-from_map, Contains-filter, Contains-from_filter_map}
+use Rattle.node_model.specs.Node.{NodeState, entries_of, identifiers_of}
+use Rattle.node_model.specs.Own.{OffersOwn, Stands}
+use Rattle.node_model.proofs.Shared.{instance-of_all}
+use Rattle.cycle_engine.specs.Nodes.{IsKnown, IsNumber, IsOwned}
+use Rattle.cycle_engine.proofs.Lists.{Contains-slice_get, Contains-map, Contains-from_map, Contains-filter}
 
 -- the first unsent request of an identifier is one of the requests
 is_request : (requests : List Request) (past : List TimedFrame) (id : ℕ) (request : Request)
@@ -36,22 +36,29 @@ Contains-identifiers number owners owner has same =
     let Own : Owner → Bool = λ x. x.node == number in
     Contains-map (λ x. x.id) (filter Own owners) owner (Contains-filter Own owners owner has (eq-eqb owner.node number same))
 
--- the entry of an instance that may be sent
-its_entry : (p : Placed) (b : Bool) (o : Option ℕ) (instance : Instance)
-    → cond b (option_map (λ k. record { placed = p; number = k }) o) None ≡ Some instance → p ≡ instance.placed
-its_entry p true (Some k) instance is = ap (λ i. i.placed) (same_Some (record { placed = p; number = k }) instance is)
-its_entry p true None instance is = absurd (none-some instance is)
-its_entry p false o instance is = absurd (none-some instance is)
+-- each flagged slot has an instance that may be sent in the cycle, of an entry of one of the nodes
+abbrev pub HaveSenders : List NodeState → Opening → Type 0
+HaveSenders nodes opening = (slot : ℕ) → slot < slots → contains_slot opening.mask slot ≡ true
+    → (instance : Instance) × (instance_in opening.placed slot opening.cycle ≡ Some instance) × IsNumber nodes instance.placed.entry.node
 
-is_placed : (placed : List Placed) (slot cycle : ℕ) (instance : Instance) → instance_in placed slot cycle ≡ Some instance → Contains placed instance.placed
-is_placed placed slot cycle instance is =
-    let found = Contains-from_filter_map (sendable slot cycle) placed instance (Contains-slice_get (filter_map (sendable slot cycle) placed) 0 instance is) in
-    let p = found.0 in
-    subst (Contains placed) (its_entry p (p.entry.slot == slot) (instance_of p cycle) instance found.2) found.1
+some_instance : (o : Option Instance) → IsSome o → (instance : Instance) × (o ≡ Some instance)
+some_instance (Some instance) some = (instance, refl)
+some_instance None some = absurd (false≢true some)
 
-some_instance : (o : Option Instance) (bytes : List ℕ) → option_map bytes_of o ≡ Some bytes → (instance : Instance) × (o ≡ Some instance)
-some_instance (Some instance) bytes is = (instance, refl)
-some_instance None bytes is = absurd (none-some bytes is)
+-- what a node knows of its slots stands in the list that it learnt
+pub known-senders : (layout : CycleLayout) (owners : List Owner) (requests : List Request) (past : List TimedFrame) (next : ℕ) (opening : Opening) (nodes : List NodeState)
+    → IsWellPlaced opening.placed → All (Stands layout owners requests opening.placed past next) nodes
+    → ((slot : ℕ) → slot < slots → contains_slot opening.mask slot ≡ true → IsKnown nodes opening.cycle slot) → HaveSenders nodes opening
+known-senders layout owners requests past next opening nodes well stand known slot within flagged =
+    let is = known slot within flagged in
+    let node : NodeState = is.1 in
+    let has : Contains nodes node = (is.0, is.2, is.3) in
+    let stands = All-contains (Stands layout owners requests opening.placed past next) nodes node stand has in
+    let found = some_instance (instance_in node.entries slot opening.cycle) is.4 in
+    let own : instance_in (entries_of node.number opening.placed) slot opening.cycle ≡ Some found.0 =
+    ap (λ entries. instance_in entries slot opening.cycle) (sym stands.own_entries) ∙ found.1 in
+    let of_all = instance-of_all node.number opening.placed slot opening.cycle found.0 well own in
+    (found.0, of_all.0, subst (Contains (map (λ n. n.number) nodes)) (sym of_all.1) (Contains-map (λ n. n.number) nodes node has))
 
 module _ (layout : CycleLayout) (owners : List Owner) (requests : List Request) (opening : Opening) (past : List TimedFrame) (at : ℕ) (nodes : List NodeState) where
   -- the frame belongs to the part of a node
@@ -68,10 +75,8 @@ module _ (layout : CycleLayout) (owners : List Owner) (requests : List Request) 
       let contains = subst (Contains (identifiers_of node.number owners)) same (Contains-identifiers node.number owners own.owner own.owns (sym found.2)) in
       (node, found.1, inl (offers, contains))
 
-  pub IsOwn-slot : All (λ p. IsNumber nodes p.entry.node) opening.placed → (frame : DataFrame) (slot : ℕ) → OffersSlot layout opening past at frame slot → IsOwn frame
-  IsOwn-slot entries frame slot offers =
-      let has = some_instance (instance_in opening.placed slot opening.cycle) frame.bytes offers.bytes in
-      let instance = has.0 in
-      let number = All-contains (λ p. IsNumber nodes p.entry.node) opening.placed instance.placed entries (is_placed opening.placed slot opening.cycle instance has.1) in
-      let found = Contains-from_map (λ n. n.number) nodes instance.placed.entry.node number in
-      (found.0, found.1, inr (slot, offers, (instance, has.1, sym found.2)))
+  pub IsOwn-slot : HaveSenders nodes opening → (frame : DataFrame) (slot : ℕ) → OffersSlot layout opening past at frame slot → IsOwn frame
+  IsOwn-slot senders frame slot offers =
+      let sender = senders slot offers.known offers.flagged in
+      let found = Contains-from_map (λ n. n.number) nodes sender.0.placed.entry.node sender.2 in
+      (found.0, found.1, inr (slot, offers, (sender.0, sender.1, sym found.2)))

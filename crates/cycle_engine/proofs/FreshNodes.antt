@@ -9,15 +9,16 @@ use Rattle.requirement_table.specs.Table.{IsInRange, IsWellPlaced}
 use Rattle.async_window.specs.declared.request.Owner.{Owner}
 use Rattle.async_window.specs.declared.request.Request.{Request}
 use Rattle.node_model.specs.Node.{IsNode, NodeState, NodeView}
-use Rattle.node_model.specs.Own.{AreApart, AreOwners, Stands}
+use Rattle.async_window.specs.Owners.{AreOwners}
+use Rattle.node_model.specs.Own.{AreApart, Stands}
 use Rattle.node_model.specs.Node.{fresh_node}
-use Rattle.cycle_engine.specs.Nodes.{IsBus, IsNumber, IsOwned}
-use Rattle.cycle_engine.specs.Stations.{AreNodes, known_by}
+use Rattle.cycle_engine.specs.Nodes.{IsBus, IsNumber, IsOwned, states_of}
+use Rattle.cycle_engine.specs.Stations.{AreNodes}
 use Rattle.cycle_engine.proofs.Lists.{Contains-map}
 
 -- what nodes know, place by place
 pub known-each : (P : ℕ → NodeState) (nodes : List NodeView) (count : ℕ) → length nodes ≡ count → ((k : ℕ) (d : NodeView) → k < count → (get_or nodes k d).state ≡ P k)
-    → (k : ℕ) (d : NodeState) → k < count → get_or (known_by nodes) k d ≡ P k
+    → (k : ℕ) (d : NodeState) → k < count → get_or (states_of nodes) k d ≡ P k
 known-each P nodes count long each k d within =
     let filler : NodeView = record { state = d; spare = 0 } in
     get_or-map (λ x. x.state) nodes k filler d (omega (arith, within, long)) ∙ each k filler within
@@ -71,7 +72,6 @@ module _ (layout : CycleLayout) (owners : List Owner) (requests : List Request) 
     well_placed = no_entries;
     are_owners = are_owners;
     stand = λ k d within. stands k d (omega (arith, within, long));
-    entries = All-nil (λ p. IsNumber nodes p.entry.node);
     owned = λ k d within. IsOwned-any below (get_or requests k d) (owned k d within);
   }
 

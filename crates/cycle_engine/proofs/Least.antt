@@ -11,14 +11,15 @@ use Rattle.async_window.specs.declared.request.Owner.{Owner}
 use Rattle.async_window.specs.declared.request.Request.{Request}
 use Rattle.bus_line.specs.Trace.{IsLeastOffered}
 use Rattle.bus_line.specs.Stations.{IsOffered}
-use Rattle.node_model.specs.Opening.{Opening, start_of}
+use Rattle.requirement_table.specs.Opening.{Opening}
+use Rattle.node_model.specs.Opening.{start_of}
 use Rattle.node_model.specs.Node.{NodeState, node_frame, node_offer}
 use Rattle.node_model.specs.Own.{OffersLeastOwn, OffersOwn}
-use Rattle.cycle_engine.specs.Nodes.{IsNumber, IsOwned}
+use Rattle.cycle_engine.specs.Nodes.{IsOwned}
 use Rattle.cycle_engine.specs.Offered.{offered_in}
 use Rattle.cycle_engine.specs.Stations.{Stationed, cycle_line, frame_by_nodes, offered_by_nodes, offers_this}
 use Rattle.cycle_engine.proofs.Lists.{Contains-filter_map, find-offered}
-use Rattle.cycle_engine.proofs.Belongs.{IsOwn, IsOwn-request, IsOwn-slot}
+use Rattle.cycle_engine.proofs.Belongs.{HaveSenders, IsOwn, IsOwn-request, IsOwn-slot}
 
 -- the frame behind an identifier has it
 found_id : (at id : ℕ) (o : Option NodeState) → (option_map_or (λ node. node_frame node at id) o (record { identifier = id; bytes = [] })).identifier ≡ id
@@ -42,7 +43,7 @@ alone layout nodes = record { layout = layout; trigger = None; nodes = nodes }
 -- the parts of the nodes at a time, which are together what is offered but for the trigger
 module _ (layout : CycleLayout) (owners : List Owner) (requests : List Request) (opening : Opening) (past : List TimedFrame) (at : ℕ) (nodes : List NodeState)
     (parts : All (OffersLeastOwn layout owners requests opening past at) nodes)
-    (entries : All (λ p. IsNumber nodes p.entry.node) opening.placed) (owned : All (IsOwned owners nodes) requests) where
+    (senders : HaveSenders nodes opening) (owned : All (IsOwned owners nodes) requests) where
   own_is_offered : (frame : DataFrame) → IsOwn layout owners requests opening past at nodes frame
       → (id : ℕ) × Contains (offered_by_nodes nodes at) id × (id ≤ frame.identifier)
   own_is_offered frame (node, has, own) =
@@ -67,7 +68,7 @@ module _ (layout : CycleLayout) (owners : List Owner) (requests : List Request) 
   pub is_own : start_of layout opening < at → (frame : DataFrame) → offered_in layout requests opening past at frame → IsOwn layout owners requests opening past at nodes frame
   is_own begun frame (inl trigger) = absurd (omega (arith, begun, trigger.time))
   is_own begun frame (inr (inl request)) = IsOwn-request layout owners requests opening past at nodes owned frame request
-  is_own begun frame (inr (inr (slot, offers))) = IsOwn-slot layout owners requests opening past at nodes entries frame slot offers
+  is_own begun frame (inr (inr (slot, offers))) = IsOwn-slot layout owners requests opening past at nodes senders frame slot offers
 
   -- where something is offered on the bus, a node offers an identifier that is not greater
   pub some_by_nodes : start_of layout opening < at → (frame : DataFrame) → offered_in layout requests opening past at frame

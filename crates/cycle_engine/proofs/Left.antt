@@ -15,8 +15,8 @@ use Rattle.async_window.specs.Mailbox.{Mail, left, taken_from, without_first}
 use Rattle.node_model.specs.Node.{IsNode, NodeState, NodeView, after_hearing, identifiers_of, is_own_slot, learnt}
 use Rattle.node_model.specs.Own.{AreApart}
 use Rattle.node_model.specs.Node.{fresh_node}
-use Rattle.cycle_engine.specs.Nodes.{heard_by}
-use Rattle.cycle_engine.specs.Stations.{AreNodes, known_by}
+use Rattle.cycle_engine.specs.Nodes.{heard_by, states_of}
+use Rattle.cycle_engine.specs.Stations.{AreNodes}
 use Rattle.cycle_engine.proofs.Lists.{AllPairs-cons, AllPairs-head, AllPairs-tail, AllPairs-map, All-from_contains}
 
 -- Sums
@@ -173,5 +173,5 @@ left-heard frames nodes =
 pub left-learnt : (placed : List Placed) (nodes : List NodeState) → sum_by (λ node. left node.mail) (map (learnt placed) nodes) ≡ sum_by (λ node. left node.mail) nodes
 left-learnt placed nodes = sum_by-map (λ node. left node.mail) (learnt placed) nodes
 
-pub left-known : (nodes : List NodeView) → sum_by (λ node. left node.state.mail) nodes ≡ sum_by (λ node. left node.mail) (known_by nodes)
+pub left-known : (nodes : List NodeView) → sum_by (λ node. left node.state.mail) nodes ≡ sum_by (λ node. left node.mail) (states_of nodes)
 left-known nodes = sym (sum_by-map (λ node. left node.mail) (λ x. x.state) nodes)

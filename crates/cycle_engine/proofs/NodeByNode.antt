@@ -5,7 +5,7 @@ use Rattle.std.proofs.lemmas.Bool.{cases_lt, cases_eq}
 use Rattle.std.proofs.Math.Seq.{get_or-append_seam}
 use Rattle.std.proofs.lemmas.List.{get_or_append_left, get_or_default, get_or-set_same, get_or-set_other}
 use Rattle.node_model.specs.Node.{NodeState, NodeView}
-use Rattle.cycle_engine.specs.Stations.{known_by}
+use Rattle.cycle_engine.specs.Nodes.{states_of}
 use Rattle.cycle_engine.proofs.Lists.{All-from_map}
 
 module _ (f : NodeState → NodeState) where
@@ -35,33 +35,33 @@ module _ (f : NodeState → NodeState) where
     rest = λ k d behind. get_or-set_other new place k after d (λ same. absurd (omega (arith, same, behind))) ∙ so_far.rest k d (omega (arith, behind));
   }
 
-  known_by_each : (old new : List NodeView) → length new ≡ length old → ((k : ℕ) (d : NodeView) → k < length old → (get_or new k d).state ≡ f (get_or old k d).state)
-      → known_by new ≡ map f (known_by old)
-  known_by_each [] [] same each = refl
-  known_by_each [] (y ∷ ys) same each = absurd (omega arith)
-  known_by_each (x ∷ xs) [] same each = absurd (omega arith)
-  known_by_each (x ∷ xs) (y ∷ ys) same each =
-      let rest = known_by_each xs ys (omega arith) (λ k d within. each (suc k) d (omega arith)) in
-      ap (λ s. s ∷ known_by ys) (each 0 x (omega arith)) ∙ ap (λ s. f x.state ∷ s) rest
+  states_of-each : (old new : List NodeView) → length new ≡ length old → ((k : ℕ) (d : NodeView) → k < length old → (get_or new k d).state ≡ f (get_or old k d).state)
+      → states_of new ≡ map f (states_of old)
+  states_of-each [] [] same each = refl
+  states_of-each [] (y ∷ ys) same each = absurd (omega arith)
+  states_of-each (x ∷ xs) [] same each = absurd (omega arith)
+  states_of-each (x ∷ xs) (y ∷ ys) same each =
+      let rest = states_of-each xs ys (omega arith) (λ k d within. each (suc k) d (omega arith)) in
+      ap (λ s. s ∷ states_of ys) (each 0 x (omega arith)) ∙ ap (λ s. f x.state ∷ s) rest
 
   pub DoneBefore-all : (place : ℕ) (old new : List NodeView) → length new ≡ length old → length old ≤ place → DoneBefore place old new
-      → known_by new ≡ map f (known_by old)
-  DoneBefore-all place old new same all so_far = known_by_each old new same (λ k d within. so_far.done k d (omega (arith, within, all)))
+      → states_of new ≡ map f (states_of old)
+  DoneBefore-all place old new same all so_far = states_of-each old new same (λ k d within. so_far.done k d (omega (arith, within, all)))
 
 -- where nothing that they know changes
 map-same : (xs : List NodeState) → map (λ x. x) xs ≡ xs
 map-same [] = refl
 map-same (x ∷ xs) = ap (λ ys. x ∷ ys) (map-same xs)
 
-pub DoneBefore-same : (place : ℕ) (old new : List NodeView) → length new ≡ length old → DoneBefore (λ node. node) place old new → known_by new ≡ known_by old
+pub DoneBefore-same : (place : ℕ) (old new : List NodeView) → length new ≡ length old → DoneBefore (λ node. node) place old new → states_of new ≡ states_of old
 DoneBefore-same place old new same so_far =
-    known_by_each (λ node. node) old new same (λ k d _. elim (cases_lt k place) [
+    states_of-each (λ node. node) old new same (λ k d _. elim (cases_lt k place) [
       | inl before ↦ so_far.done k d before
       | inr behind ↦ ap (λ x. x.state) (so_far.rest k d behind)
-    ]) ∙ map-same (known_by old)
+    ]) ∙ map-same (states_of old)
 
 -- what holds of all that the nodes know holds at each node that is as it was
-pub known_at : (P : NodeState → Type 0) (old new : List NodeView) (place : ℕ) (d : NodeView) → All P (known_by old) → place < length old
+pub known_at : (P : NodeState → Type 0) (old new : List NodeView) (place : ℕ) (d : NodeView) → All P (states_of old) → place < length old
     → get_or new place d ≡ get_or old place d → P (get_or new place d).state
 known_at P old new place d all inside same =
     subst (λ x. P x.state) (sym same) (All-from_map (λ x. x.state) P old all place d inside)

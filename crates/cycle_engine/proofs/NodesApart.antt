@@ -9,11 +9,10 @@ use Rattle.can_frame.specs.declared.data_frame.TimedFrame.{TimedFrame}
 use Rattle.cycle_layout.specs.Layout.{CycleLayout}
 use Rattle.requirement_table.specs.declared.entries.Placed.{Placed}
 use Rattle.node_model.specs.Node.{IsNode, NodeState, after_hearing, learnt, node_offer}
-use Rattle.bus_line.specs.Stations.{IsWake}
 use Rattle.node_model.specs.Own.{AreApart}
 use Rattle.cycle_engine.specs.declared.stations.DueTrigger.{DueTrigger}
 use Rattle.cycle_engine.specs.Stations.{AreNodes, AreStations, Stationed, all_hear, cycle_line, offered_by_nodes, offered_trigger}
-use Rattle.cycle_engine.proofs.Lists.{AllPairs-cons, AllPairs-filter_map, AllPairs-map, All-from_contains, Contains-from_filter_map, Contains-nil, filter_map-none}
+use Rattle.cycle_engine.proofs.Lists.{AllPairs-cons, AllPairs-filter_map, AllPairs-map, All-from_contains, Contains-from_filter_map}
 use Rattle.cycle_engine.proofs.Along.{layout_kept, number_kept}
 
 -- nodes that change, and keep their numbers and layouts
@@ -105,17 +104,3 @@ AreStations-learning stations placed stays apart before = record {
   trigger = before.trigger;
   next = λ some. All-map (λ node. node.next < 2 ^ 42) (learnt placed) stations.nodes (before.next some);
 }
-
--- where no trigger and no node offers anything up to a time, nothing is newly offered before it
-pub IsWake-quiet : (stations : Stationed) (at wake : ℕ) → at < wake
-    → ((later : ℕ) → at < later → later < wake → offered_trigger stations.trigger later ≡ [])
-    → ((later : ℕ) → at < later → later < wake → All (λ node. node_offer node later ≡ None) stations.nodes)
-    → IsWake (cycle_line.offered stations) at (Some wake)
-IsWake-quiet stations at wake behind trigger nodes = (
-  behind,
-  λ later id after early has.
-      let none : cycle_line.offered stations later ≡ [] =
-      ap (λ ids. ids ++ offered_by_nodes stations.nodes later) (trigger later after early)
-      ∙ filter_map-none (λ node. node_offer node later) stations.nodes (nodes later after early) in
-      absurd (Contains-nil id (subst (λ ids. Contains ids id) none has)),
-)

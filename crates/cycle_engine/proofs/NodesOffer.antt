@@ -1,16 +1,15 @@
--- Loops over the nodes of a bus, which put together what they offer, find a frame, and look for a later offer.
+-- Loops over the nodes of a bus, which put together what they offer, and find a frame.
 use Rattle.std.proofs.Common.{◌≡◌, ℕ, ◌+◌, ◌*◌, ◌/◌, ◌<◌, ◌≤◌, true, false, cond, List, [], ◌∷◌, ◌++◌, length, drop, get_or, min, nat_eq, Contains, Option, None, Some, inl, inr, refl, sym, ap, ◌∙◌, subst, arith, append_assoc, append-nil, length-append}
-use Rattle.std.specs.Prelude.{filter_map, find, unwrap_or, IsSome}
+use Rattle.std.specs.Prelude.{filter_map, find}
 use Rattle.std.specs.List.{cons_option}
 use Rattle.std.specs.Option.{option_eq}
-use Rattle.std.proofs.Math.Nat.{div-eq_of_lt-le, div-mul-le_self}
 use Rattle.std.proofs.Math.Seq.{get_or-append_seam}
-use Rattle.std.proofs.lemmas.Bool.{cases_eq, eq-eqb}
-use Rattle.std.proofs.lemmas.List.{at_drop_more, at_drop_all, get_or_default, get_or_append_left}
+use Rattle.std.proofs.lemmas.Bool.{eq-eqb}
+use Rattle.std.proofs.lemmas.List.{at_drop_more, at_drop_all, get_or_append_left}
 use Rattle.arbitration.specs.Arbitration.{AreDistinct}
-use Rattle.async_window.specs.Mailbox.{IsNextInCycle}
 use Rattle.node_model.specs.Node.{NodeState, NodeView}
-use Rattle.cycle_engine.specs.Stations.{known_by, offers_this}
+use Rattle.cycle_engine.specs.Nodes.{states_of}
+use Rattle.cycle_engine.specs.Stations.{offers_this}
 
 -- in a list of distinct numbers, none stands before its place
 distinct_before : (front : List ℕ) (x : ℕ) (back : List ℕ) → AreDistinct (front ++ x ∷ back) → Contains front x → ⊥
@@ -22,17 +21,17 @@ distinct_before front x back distinct (place, within, is) =
 module _ (offer : NodeState → Option ℕ) (nodes : List NodeView) where
   -- what the nodes from a place on offer
   abbrev pub offered_from : ℕ → List ℕ
-  offered_from place = filter_map offer (known_by (drop place nodes))
+  offered_from place = filter_map offer (states_of (drop place nodes))
 
   offered_from-more : (place : ℕ) (node : NodeView) → place < length nodes → node ≡ get_or nodes place node
       → offered_from place ≡ cons_option (offer node.state) (offered_from (place + 1))
   offered_from-more place node inside is =
-      at_drop_more (λ xs. filter_map offer (known_by xs)) nodes place node inside
+      at_drop_more (λ xs. filter_map offer (states_of xs)) nodes place node inside
       ∙ ap (λ x. cons_option (offer x.state) (offered_from (place + 1))) (sym is)
 
   -- the contenders so far, with what the nodes from a place on offer, are all contenders
   pub record PushedBefore (place : ℕ) (old new : List ℕ) : Type 0 where
-    pub all : new ++ offered_from place ≡ old ++ filter_map offer (known_by nodes)
+    pub all : new ++ offered_from place ≡ old ++ filter_map offer (states_of nodes)
     pub few : length new ≤ length old + place
 
   pub PushedBefore-none : (old : List ℕ) → PushedBefore 0 old old
@@ -56,17 +55,17 @@ module _ (offer : NodeState → Option ℕ) (nodes : List NodeView) where
   }
 
   pub PushedBefore-other : (place : ℕ) (node : NodeView) (id : ℕ) (old new : List ℕ) → place < length nodes → node ≡ get_or nodes place node
-      → offer node.state ≡ Some id → AreDistinct (old ++ filter_map offer (known_by nodes)) → PushedBefore place old new → Contains new id → ⊥
+      → offer node.state ≡ Some id → AreDistinct (old ++ filter_map offer (states_of nodes)) → PushedBefore place old new → Contains new id → ⊥
   PushedBefore-other place node id old new inside is offers distinct so_far =
-      let whole : new ++ id ∷ offered_from (place + 1) ≡ old ++ filter_map offer (known_by nodes) =
+      let whole : new ++ id ∷ offered_from (place + 1) ≡ old ++ filter_map offer (states_of nodes) =
       ap (λ o. new ++ cons_option o (offered_from (place + 1))) (sym offers)
       ∙ ap (λ xs. new ++ xs) (sym (offered_from-more place node inside is)) ∙ so_far.all in
       distinct_before new id (offered_from (place + 1)) (subst AreDistinct (sym whole) distinct)
 
   pub PushedBefore-all : (place : ℕ) (old new : List ℕ) → length nodes ≤ place → PushedBefore place old new
-      → new ≡ old ++ filter_map offer (known_by nodes)
+      → new ≡ old ++ filter_map offer (states_of nodes)
   PushedBefore-all place old new behind so_far =
-      sym (append-nil new) ∙ ap (λ xs. new ++ xs) (sym (at_drop_all (λ xs. filter_map offer (known_by xs)) nodes place behind)) ∙ so_far.all
+      sym (append-nil new) ∙ ap (λ xs. new ++ xs) (sym (at_drop_all (λ xs. filter_map offer (states_of xs)) nodes place behind)) ∙ so_far.all
 
 -- whether an identifier is offered
 offers_this-is : (o : Option ℕ) (id : ℕ) → o ≡ Some id → offers_this id o ≡ true
@@ -79,12 +78,12 @@ option_eq-this (Some own) id = refl
 -- no node before a place offers the identifier
 module _ (offer : NodeState → Option ℕ) (nodes : List NodeView) (id : ℕ) where
   abbrev pub first_from : ℕ → Option NodeState
-  first_from place = find (λ node. offers_this id (offer node)) (known_by (drop place nodes))
+  first_from place = find (λ node. offers_this id (offer node)) (states_of (drop place nodes))
 
   first_from-more : (place : ℕ) (node : NodeView) → place < length nodes → node ≡ get_or nodes place node
       → first_from place ≡ cond (offers_this id (offer node.state)) (Some node.state) (first_from (place + 1))
   first_from-more place node inside is =
-      at_drop_more (λ xs. find (λ n. offers_this id (offer n)) (known_by xs)) nodes place node inside
+      at_drop_more (λ xs. find (λ n. offers_this id (offer n)) (states_of xs)) nodes place node inside
       ∙ ap (λ x. cond (offers_this id (offer x.state)) (Some x.state) (first_from (place + 1))) (sym is)
 
   pub first_from-this : (place : ℕ) (node : NodeView) (o : Option ℕ) → place < length nodes → node ≡ get_or nodes place node
@@ -100,42 +99,4 @@ module _ (offer : NodeState → Option ℕ) (nodes : List NodeView) (id : ℕ) w
       ∙ ap (λ b. cond b (Some node.state) (first_from (place + 1))) (ap (offers_this id) (sym offers) ∙ sym (option_eq-this o id) ∙ equal)
 
   pub first_from-none : (place : ℕ) → length nodes ≤ place → first_from place ≡ None
-  first_from-none place behind = at_drop_all (λ xs. find (λ n. offers_this id (offer n)) (known_by xs)) nodes place behind
-
--- an option in which nothing can be
-none-of : {X : Type 0} (o : Option X) → (IsSome o → ⊥) → o ≡ None
-none-of None never = refl
-none-of (Some x) never = absurd (never refl)
-
--- times of the cycle of a time
-same_cycle_behind : (length at later : ℕ) → at < later → later < (at / length + 1) * length → later / length ≡ at / length
-same_cycle_behind length at later behind within =
-    let begun = div-mul-le_self at length in
-    let from : at / length * length ≤ later = omega (arith, begun, behind) in
-    div-eq_of_lt-le length from within
-
--- up to the sooner one of a time in the cycle and of a node's next offer, the node offers nothing
-pub wake_sooner : (offer : ℕ → Option ℕ) (cycle at next : ℕ) (o : Option ℕ) → at < next → next ≤ (at / cycle + 1) * cycle
-    → IsNextInCycle cycle at (λ later. IsSome (offer later)) o
-    → (at < min next (unwrap_or o next)) × ((later : ℕ) → at < later → later < min next (unwrap_or o next) → offer later ≡ None)
-wake_sooner offer cycle at next None behind within never = (
-  omega arith,
-  λ later after before. none-of (offer later) (λ some. never later (after, same_cycle_behind cycle at later after (omega (arith, before, within)), some)),
-)
-wake_sooner offer cycle at next (Some wake) behind within found = (
-  omega (arith, behind, found.0.0),
-  λ later after before. none-of (offer later) (λ some.
-      let least = found.1 later (after, same_cycle_behind cycle at later after (omega (arith, before, within)), some) in omega (arith, least, before)),
-)
-
--- the nodes before a place, and the node there, offer nothing up to a time
-pub quiet_more : (offer : NodeState → ℕ → Option ℕ) (nodes : List NodeView) (place : ℕ) (node : NodeView) (at next sooner : ℕ) → place < length nodes
-    → node ≡ get_or nodes place node → sooner ≤ next → ((later : ℕ) → at < later → later < sooner → offer node.state later ≡ None)
-    → ((k : ℕ) (d : NodeView) → k < place → (later : ℕ) → at < later → later < next → offer (get_or nodes k d).state later ≡ None)
-    → (k : ℕ) (d : NodeView) → k < place + 1 → (later : ℕ) → at < later → later < sooner → offer (get_or nodes k d).state later ≡ None
-quiet_more offer nodes place node at next sooner inside is order here before k d within later after early = elim (cases_eq k place) [
-  | inl same ↦
-      let this : get_or nodes k d ≡ node = ap (λ j. get_or nodes j d) same ∙ get_or_default nodes place d node inside ∙ sym is in
-      ap (λ x. offer x.state later) this ∙ here later after early
-  | inr other ↦ before k d (omega (arith, within, other)) later after (omega (arith, early, order))
-]
+  first_from-none place behind = at_drop_all (λ xs. find (λ n. offers_this id (offer n)) (states_of xs)) nodes place behind

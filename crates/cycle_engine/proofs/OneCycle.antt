@@ -5,7 +5,7 @@ use Rattle.std.proofs.lemmas.List.Elements.{All-map, All-weaker}
 use Rattle.can_frame.specs.DataFrame.{DataFrame}
 use Rattle.can_frame.specs.declared.data_frame.TimedFrame.{TimedFrame}
 use Rattle.cycle_layout.specs.Layout.{CycleLayout, IsLayout}
-use Rattle.requirement_table.specs.declared.slots.TheConstants.{SLOTS}
+use Rattle.requirement_table.specs.Slots.{slots}
 use Rattle.requirement_table.specs.declared.entries.Order.{Order}
 use Rattle.requirement_table.specs.declared.entries.Placed.{Placed}
 use Rattle.requirement_table.specs.Table.{IsWellPlaced}
@@ -19,6 +19,7 @@ use Rattle.node_model.specs.Own.{Stands, StandsIn}
 use Rattle.cycle_engine.specs.Nodes.{IsBefore, IsBus, heard_by, learnt_by, opening_of}
 use Rattle.cycle_engine.specs.Offered.{offered_in}
 use Rattle.cycle_engine.specs.Stations.{Stationed, announced, cycle_line}
+use Rattle.cycle_engine.proofs.Belongs.{known-senders}
 use Rattle.cycle_engine.proofs.Along.{Follows-cycle, NodeLaws, Standing, Waiting, announcing, told-heard}
 
 -- what nodes announce, by its parts
@@ -50,7 +51,7 @@ learnt_by-are (Some placed) nodes stays well_placed all =
     All-map IsNode (learnt placed) nodes (λ k d within. stays placed (get_or nodes k d) well_placed (all k d within))
 
 module _ (laws : NodeLaws) (layout : CycleLayout) (order : Order) (nodes : List NodeState) (frames : List TimedFrame)
-    (is_layout : IsLayout layout) (cycle : order.cycle < 2 ^ 42) (window : order.l ≤ layout.window) (mask : order.mask < 2 ^ SLOTS) (are : All IsNode nodes)
+    (is_layout : IsLayout layout) (cycle : order.cycle < 2 ^ 42) (window : order.l ≤ layout.window) (mask : order.mask < 2 ^ slots) (are : All IsNode nodes)
     (follows : Follows (offers_of cycle_line (announced layout (order.cycle * layout.cycle) (trigger_frame order.cycle order.l order.mask) nodes))
     [] (order.cycle * layout.cycle) ((order.cycle + 1) * layout.cycle) frames)
     (owners : List Owner) (requests : List Request) (placed : List Placed) (past : List TimedFrame) (before : IsBefore layout owners requests placed past order nodes) where
@@ -63,7 +64,7 @@ module _ (laws : NodeLaws) (layout : CycleLayout) (order : Order) (nodes : List 
     before = before.before;
     are = are;
     stand = before.bus.stand;
-    entries = before.bus.entries;
+    senders = known-senders layout owners requests past order.cycle (opening_of order placed) nodes before.bus.well_placed before.bus.stand before.fits.present;
     owned = before.bus.owned;
   }
 
@@ -86,6 +87,5 @@ module _ (laws : NodeLaws) (layout : CycleLayout) (order : Order) (nodes : List 
         are_owners = before.bus.are_owners;
         stand = All-weaker (StandsIn layout owners requests opening (past ++ frames)) (Stands layout owners requests placed (past ++ frames) (order.cycle + 1))
             (λ node stands. stands.stands) (heard_by frames nodes) standing.stand;
-        entries = standing.entries;
         owned = standing.owned;
       }

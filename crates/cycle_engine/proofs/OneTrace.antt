@@ -10,7 +10,8 @@ use Rattle.cycle_layout.specs.Layout.{CycleLayout, IsLayout}
 use Rattle.async_window.specs.declared.request.Request.{Request}
 use Rattle.async_window.specs.Waiting.{requests_of, unsent_after, frames_with}
 use Rattle.bus_line.specs.Trace.{IsDetermined}
-use Rattle.node_model.specs.Opening.{Opening, bytes_in, start_of, end_of_cycle}
+use Rattle.requirement_table.specs.Opening.{Opening, bytes_in}
+use Rattle.node_model.specs.Opening.{start_of, end_of_cycle}
 use Rattle.node_model.specs.Offered.{OffersTrigger, OffersRequest, OffersSlot}
 use Rattle.cycle_engine.specs.Offered.{AreAsynchronous, AreOfDistinctCycles, offered, offered_in}
 use Rattle.cycle_engine.proofs.Lists.{Contains-slice_get, same_by_number}
@@ -38,7 +39,7 @@ is_asynchronous requests past id request all first =
 
 module _ (layout : CycleLayout) (requests : List Request) where
   -- what is offered in a cycle is offered at a time of the cycle
-  in_cycle : IsLayout layout → (opening : Opening) (past : List TimedFrame) (at : ℕ) (frame : DataFrame)
+  pub in_cycle : IsLayout layout → (opening : Opening) (past : List TimedFrame) (at : ℕ) (frame : DataFrame)
       → offered_in layout requests opening past at frame → (start_of layout opening ≤ at) × (at < end_of_cycle layout opening)
   in_cycle is opening past at frame (inl trigger) =
       let longer = add-mul opening.cycle 1 layout.cycle in

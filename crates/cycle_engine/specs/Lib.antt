@@ -1,3 +1,4 @@
-pub mod Offered
+pub mod Cycle
 pub mod Nodes
+pub mod Offered
 pub mod Stations

@@ -1,26 +1,27 @@
 -- The nodes of a bus together.
-use Rattle.std.specs.Prelude.{◌≡◌, ℕ, ◌*◌, ◌<◌, List, All, Contains, map, fold, sum_by, Option, Some, None, IsSome, true}
+use Rattle.std.specs.Prelude.{◌≡◌, ℕ, ◌*◌, ◌<◌, List, All, Any, Contains, map, fold, sum_by, Option, Some, None, IsSome, true}
 use Rattle.can_frame.specs.declared.data_frame.TimedFrame.{TimedFrame}
 use Rattle.cycle_layout.specs.Layout.{CycleLayout}
 use Rattle.requirement_table.specs.declared.entries.Placed.{Placed}
 use Rattle.requirement_table.specs.declared.entries.Order.{Order}
-use Rattle.requirement_table.specs.Slots.{contains_slot}
-use Rattle.requirement_table.specs.Table.{IsWellPlaced}
+use Rattle.requirement_table.specs.Slots.{contains_slot, slots}
+use Rattle.requirement_table.specs.Table.{IsWellPlaced, instance_in}
 use Rattle.async_window.specs.declared.request.Owner.{Owner}
 use Rattle.async_window.specs.declared.request.Request.{Request}
-use Rattle.node_model.specs.Opening.{Opening, slots, bytes_in, width_of}
+use Rattle.requirement_table.specs.Opening.{Opening, width_of}
 use Rattle.async_window.specs.Mailbox.{left}
 use Rattle.node_model.specs.Node.{NodeState, NodeView, after_hearing, learnt}
-use Rattle.node_model.specs.Own.{AreOwners, Stands}
+use Rattle.async_window.specs.Owners.{AreOwners}
+use Rattle.node_model.specs.Own.{Stands}
 
 -- the layout of a bus, and its nodes
 pub record NodesView : Type 0 where
   pub layout : CycleLayout
   pub nodes : List NodeView
 
--- what the nodes know
-abbrev pub states_of : NodesView → List NodeState
-states_of view = map (λ node. node.state) view.nodes
+-- what nodes know
+abbrev pub states_of : List NodeView → List NodeState
+states_of nodes = map (λ node. node.state) nodes
 
 -- nodes that have learnt a list, where there is one
 abbrev pub learnt_by : Option (List Placed) → List NodeState → List NodeState
@@ -47,18 +48,21 @@ pub record IsOwned (owners : List Owner) (nodes : List NodeState) (request : Req
   pub node : IsNumber nodes owner.node
 
 -- the nodes of a bus before the cycle `next`: each knows its entries of a list, and its unsent requests after the frames `past`; and
--- each entry of the list and each request is that of a node
+-- each request is that of a node
 pub record IsBus (layout : CycleLayout) (owners : List Owner) (requests : List Request) (placed : List Placed) (past : List TimedFrame) (next : ℕ) (nodes : List NodeState) : Type 0 where
   pub well_placed : IsWellPlaced placed
   pub are_owners : AreOwners owners
   pub stand : All (Stands layout owners requests placed past next) nodes
-  pub entries : All (λ p. IsNumber nodes p.entry.node) placed
   pub owned : All (IsOwned owners nodes) requests
 
--- each flagged slot has an instance that may be sent in the cycle, and the window has the length of their frames
-pub record FitsOrder (l : ℕ) (opening : Opening) : Type 0 where
+-- a node knows an instance of the slot that may be sent in the cycle
+abbrev pub IsKnown : List NodeState → ℕ → ℕ → Type 0
+IsKnown nodes cycle slot = Any (λ node. IsSome (instance_in node.entries slot cycle)) nodes
+
+-- nodes know an instance of each flagged slot that may be sent in the cycle, and the window has the length of all these frames
+pub record FitsOrder (l : ℕ) (opening : Opening) (nodes : List NodeState) : Type 0 where
   pub width : l ≡ width_of opening
-  pub present : (slot : ℕ) → slot < slots → contains_slot opening.mask slot ≡ true → IsSome (bytes_in opening slot)
+  pub present : (slot : ℕ) → slot < slots → contains_slot opening.mask slot ≡ true → IsKnown nodes opening.cycle slot
 
 -- the cycle that an order opens, where this list is placed
 abbrev pub opening_of : Order → List Placed → Opening
@@ -67,5 +71,5 @@ opening_of order placed = record { cycle = order.cycle; mask = order.mask; place
 -- the nodes of a bus before the cycle of an order, after the frames `past` of the cycles before it
 pub record IsBefore (layout : CycleLayout) (owners : List Owner) (requests : List Request) (placed : List Placed) (past : List TimedFrame) (order : Order) (nodes : List NodeState) : Type 0 where
   pub bus : IsBus layout owners requests placed past order.cycle nodes
-  pub fits : FitsOrder order.l (opening_of order placed)
+  pub fits : FitsOrder order.l (opening_of order placed) nodes
   pub before : All (λ sent. sent.start < order.cycle * layout.cycle) past

@@ -4,7 +4,7 @@ use Rattle.can_frame.specs.declared.data_frame.TimedFrame.{TimedFrame}
 use Rattle.cycle_layout.specs.Layout.{CycleLayout}
 use Rattle.async_window.specs.declared.request.Request.{Request}
 use Rattle.bus_line.specs.Trace.{IsTrace, Offers}
-use Rattle.node_model.specs.Opening.{Opening}
+use Rattle.requirement_table.specs.Opening.{Opening}
 use Rattle.node_model.specs.Offered.{OffersTrigger, OffersRequest, OffersSlot}
 
 -- what is offered in one opened cycle: its trigger, the requests that may start in its asynchronous window, and the frames of its flagged

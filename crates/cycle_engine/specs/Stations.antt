@@ -7,6 +7,7 @@ use Rattle.cycle_layout.specs.Layout.{CycleLayout}
 use Rattle.bus_line.specs.Stations.{Line}
 use Rattle.node_model.specs.Node.{IsNode, NodeState, NodeView, after_hearing, node_frame, node_offer}
 use Rattle.node_model.specs.Own.{AreApart}
+use Rattle.cycle_engine.specs.Nodes.{states_of}
 use Rattle.cycle_engine.specs.declared.stations.DueTrigger.{DueTrigger}
 
 -- the layout of a bus, the trigger that is not yet sent, where there is one, and what the nodes know
@@ -21,12 +22,8 @@ pub record StationsView : Type 0 where
   pub trigger : Option DueTrigger
   pub nodes : List NodeView
 
--- what nodes know
-abbrev pub known_by : List NodeView → List NodeState
-known_by nodes = map (λ node. node.state) nodes
-
 abbrev pub stationed : StationsView → Stationed
-stationed view = record { layout = view.layout; trigger = view.trigger; nodes = known_by view.nodes }
+stationed view = record { layout = view.layout; trigger = view.trigger; nodes = states_of view.nodes }
 
 -- the identifiers that nodes offer at a time, in the order of the nodes
 abbrev pub offered_by_nodes : List NodeState → ℕ → List ℕ

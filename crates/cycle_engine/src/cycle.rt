@@ -28,24 +28,24 @@ const SHORTEST_FRAME: u32 = 47;
 /// memory is taken first: after an error the nodes are as before, and the call may be made again.
 pub fn run_cycle(alloc: Global, order: &Order, nodes: &mut Nodes) -> Result<Segment, AllocError>
     requires cycle { order.now.cycle < 2 ^ 42 }
-    requires next { All (λ node. node.next ≡ order.now.cycle) (states_of nodes.old) }
+    requires next { All (λ node. node.next ≡ order.now.cycle) (states_of nodes.old.nodes) }
     requires learned { IfSome order.now.learned IsWellPlaced }
     requires window { order.now.l ≤ nodes.old.layout.window }
     // The nodes have learnt the list, then heard the frames of the segment, in their order, and nothing else.
     ensures layout { nodes.new.layout ≡ nodes.old.layout }
-    ensures heard { IfOk result (λ segment. states_of nodes.new
-        ≡ heard_by segment (learnt_by order.now.learned (states_of nodes.old))) }
-    ensures next { OnOk result (All (λ node. node.next ≡ order.now.cycle + 1) (states_of nodes.new)) }
-    ensures memory { OnErr result (states_of nodes.new ≡ states_of nodes.old) }
+    ensures heard { IfOk result (λ segment. states_of nodes.new.nodes
+        ≡ heard_by segment (learnt_by order.now.learned (states_of nodes.old.nodes))) }
+    ensures next { OnOk result (All (λ node. node.next ≡ order.now.cycle + 1) (states_of nodes.new.nodes)) }
+    ensures memory { OnErr result (states_of nodes.new.nodes ≡ states_of nodes.old.nodes) }
     // The segment is the part of the CAN trace in the order's cycle, whatever bus the nodes stand for.
     ensures runs { IfOk result (λ segment. (owners : List Owner) (requests : List Request) (placed : List Placed) (past : List TimedFrame)
-        → IsBefore nodes.old.layout owners requests placed past order.now (learnt_by order.now.learned (states_of nodes.old))
+        → IsBefore nodes.old.layout owners requests placed past order.now (learnt_by order.now.learned (states_of nodes.old.nodes))
         → Follows (offered_in nodes.old.layout requests (opening_of order.now placed)) past
         (order.now.cycle * nodes.old.layout.cycle) ((order.now.cycle + 1) * nodes.old.layout.cycle) segment) }
     // Afterwards they stand for that bus before the next cycle.
     ensures stand { IfOk result (λ segment. (owners : List Owner) (requests : List Request) (placed : List Placed) (past : List TimedFrame)
-        → IsBefore nodes.old.layout owners requests placed past order.now (learnt_by order.now.learned (states_of nodes.old))
-        → IsBus nodes.old.layout owners requests placed (past ++ segment) (order.now.cycle + 1) (states_of nodes.new)) }
+        → IsBefore nodes.old.layout owners requests placed past order.now (learnt_by order.now.learned (states_of nodes.old.nodes))
+        → IsBus nodes.old.layout owners requests placed (past ++ segment) (order.now.cycle + 1) (states_of nodes.new.nodes)) }
 {
     wire_lengths();
     offers_its_part();

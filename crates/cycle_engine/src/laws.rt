@@ -1,13 +1,17 @@
 //! Laws about the definitions of this crate. Each function has an empty body but for calls of other laws, and its contract is the law.
 
-ghost use Rattle.std.specs.Prelude.{◌≡◌, ℕ, List};
+ghost use Rattle.std.specs.Prelude.{◌≡◌, ℕ, ◌+◌, ◌≤◌, List, [], ◌∷◌, ◌++◌, All};
 ghost use Rattle.can_frame.specs.declared.data_frame.TimedFrame.{TimedFrame};
 ghost use Rattle.cycle_layout.specs.Layout.{CycleLayout, IsLayout};
 ghost use Rattle.async_window.specs.declared.request.Request.{Request};
-ghost use Rattle.node_model.specs.Opening.{Opening};
-ghost use Rattle.cycle_engine.specs.Offered.{AreAsynchronous, AreOfDistinctCycles, IsCanTrace, offered};
+ghost use Rattle.bus_line.specs.Trace.{end_of};
+ghost use Rattle.requirement_table.specs.Opening.{Opening};
+ghost use Rattle.node_model.specs.Opening.{end_of_cycle};
+ghost use Rattle.cycle_engine.specs.Cycle.{FitsWindow, FollowsTrace, RunsCycle, RunsCycles};
+ghost use Rattle.cycle_engine.specs.Offered.{AreAsynchronous, AreOfDistinctCycles, IsCanTrace, offered, offered_in};
 
-use bus_line::laws::{Offering, trace_laws};
+use bus_line::laws::{Offering, same_along, trace_laws};
+use can_frame::laws::wire_lengths;
 
 /// What is offered on the bus in opened cycles, as the laws of the bus speak of it.
 pub struct OpenedCycles;
@@ -16,6 +20,15 @@ impl Offering for OpenedCycles {
     ghost Setting = { CycleLayout × List Request × List Opening };
 
     ghost offers = { λ setting. offered setting.0 setting.1 setting.2 };
+}
+
+/// What is offered on the bus in one opened cycle, as the laws of the bus speak of it.
+pub struct OneCycle;
+
+impl Offering for OneCycle {
+    ghost Setting = { CycleLayout × List Request × Opening };
+
+    ghost offers = { λ setting. offered_in setting.0 setting.1 setting.2 };
 }
 
 /// There is only one CAN trace of some opened cycles.
@@ -27,4 +40,31 @@ pub fn one_can_trace()
         → one ≡ other }
 {
     trace_laws::<OpenedCycles>();
+}
+
+/// One opened cycle more. Where the trace so far is the CAN trace of the openings so far, all of cycles below the new one, and has ended
+/// by its start, and the frames of the new cycle follow it by what is offered in that cycle, then trace and frames are the CAN trace of
+/// the openings with the new one. Where its flagged slots each have an instance that may be sent, and together fit into the largest
+/// synchronous window, all frames end by the cycle's end, and the cycle sends what its opening says.
+pub fn next_cycle()
+    ensures can_trace { (layout : CycleLayout) (requests : List Request) (openings : List Opening) (opening : Opening)
+        → (trace frames : List TimedFrame) → IsLayout layout → FollowsTrace layout requests openings opening trace frames
+        → IsCanTrace layout requests (openings ++ opening ∷ []) (opening.cycle + 1) (trace ++ frames) }
+    ensures ended { (layout : CycleLayout) (requests : List Request) (openings : List Opening) (opening : Opening)
+        → (trace frames : List TimedFrame) → IsLayout layout → FollowsTrace layout requests openings opening trace frames
+        → AreAsynchronous requests → FitsWindow layout opening
+        → All (λ sent. end_of sent ≤ end_of_cycle layout opening) (trace ++ frames) }
+    ensures runs { (layout : CycleLayout) (requests : List Request) (openings : List Opening) (opening : Opening)
+        → (trace frames : List TimedFrame) → IsLayout layout → FollowsTrace layout requests openings opening trace frames
+        → AreAsynchronous requests → FitsWindow layout opening → RunsCycle layout opening frames }
+    ensures all_run { (layout : CycleLayout) (requests : List Request) (openings : List Opening) (opening : Opening)
+        → (trace frames : List TimedFrame) → IsLayout layout → FollowsTrace layout requests openings opening trace frames
+        → AreAsynchronous requests → FitsWindow layout opening
+        → RunsCycles layout openings trace → RunsCycles layout (openings ++ opening ∷ []) (trace ++ frames) }
+{
+    wire_lengths();
+    trace_laws::<OpenedCycles>();
+    trace_laws::<OneCycle>();
+    same_along::<OpenedCycles, OpenedCycles>();
+    same_along::<OneCycle, OpenedCycles>();
 }

@@ -2,16 +2,15 @@
 
 ghost use Rattle.std.specs.Prelude.{◌≡◌, ◌≢◌, ℕ, ◌+◌, ◌*◌, ◌/◌, ◌^◌, ◌<◌, ◌≤◌, [], All, AllPairs, Any, IfOk, IfSome, OnErr, OnOk, Some, length, slice_get, slice_index_or, vec_len, vec_capacity};
 ghost use Rattle.cycle_layout.specs.Layout.{IsLayout};
-ghost use Rattle.requirement_table.specs.declared.slots.TheConstants.{SLOTS};
 ghost use Rattle.requirement_table.specs.Table.{IsWellPlaced};
 ghost use Rattle.trigger_codec.specs.Bytes.{trigger_frame};
 ghost use Rattle.bus_line.specs.Trace.{Follows};
 ghost use Rattle.bus_line.specs.Stations.{offers_of};
 ghost use Rattle.node_model.specs.Node.{IsNode, NodeView};
-ghost use Rattle.node_model.specs.Own.{AreOwners};
+ghost use Rattle.async_window.specs.Owners.{AreOwners};
 ghost use Rattle.node_model.specs.Node.{fresh_node};
 ghost use Rattle.cycle_engine.specs.Nodes.{IsBus, IsNumber, heard_by, learnt_by, left_in, states_of};
-ghost use Rattle.cycle_engine.specs.Stations.{announced, cycle_line, known_by};
+ghost use Rattle.cycle_engine.specs.Stations.{announced, cycle_line};
 
 use crate::stations::NodeStations;
 use async_window::{Owner, Request};
@@ -33,14 +32,13 @@ pub struct Nodes {
 
 impl Model for Nodes {
     ghost use Rattle.std.specs.Prelude.{◌^◌, ◌<◌};
-    ghost use Rattle.cycle_engine.specs.Nodes.{NodesView, left_in};
-    ghost use Rattle.cycle_engine.specs.Stations.{known_by};
+    ghost use Rattle.cycle_engine.specs.Nodes.{NodesView, left_in, states_of};
 
     ghost Value = { NodesView };
 
     ghost view = { λ n. record { layout = n.stations.layout; nodes = n.stations.nodes } };
 
-    ghost invariant = { λ n. left_in (known_by n.stations.nodes) < 2 ^ 64 };
+    ghost invariant = { λ n. left_in (states_of n.stations.nodes) < 2 ^ 64 };
 }
 
 impl Nodes {
@@ -63,11 +61,11 @@ impl Nodes {
         requires arrivals { AllPairs (λ one other. one.at ≤ other.at) requests.now }
         requires early { All (λ request. request.at < 2 ^ 40) requests.now }
         ensures layout { IfOk result (λ bus. bus.layout ≡ layout) }
-        ensures count { IfOk result (λ bus. length (states_of bus) ≡ nodes) }
+        ensures count { IfOk result (λ bus. length (states_of bus.nodes) ≡ nodes) }
         ensures each { IfOk result (λ bus. (number : ℕ) → number < nodes
-            → slice_get (states_of bus) number ≡ Some (fresh_node layout owners.now requests.now number)) }
-        ensures numbers { IfOk result (λ bus. (number : ℕ) → number < nodes → IsNumber (states_of bus) number) }
-        ensures bus { IfOk result (λ bus. IsBus layout owners.now requests.now [] [] 0 (states_of bus)) }
+            → slice_get (states_of bus.nodes) number ≡ Some (fresh_node layout owners.now requests.now number)) }
+        ensures numbers { IfOk result (λ bus. (number : ℕ) → number < nodes → IsNumber (states_of bus.nodes) number) }
+        ensures bus { IfOk result (λ bus. IsBus layout owners.now requests.now [] [] 0 (states_of bus.nodes)) }
     {
         nodes_are_apart();
         let _ = number_of(requests);
@@ -79,7 +77,7 @@ impl Nodes {
 
     /// The number of requests that are not sent.
     pub fn left(&self) -> usize
-        ensures left { result ≡ left_in (states_of self.now) }
+        ensures left { result ≡ left_in (states_of self.now.nodes) }
     {
         self.stations.left()
     }
@@ -87,7 +85,7 @@ impl Nodes {
     /// The layout of the bus.
     pub(crate) fn layout(&self) -> Layout
         ensures layout { result ≡ self.now.layout }
-        ensures are { All IsNode (states_of self.now) }
+        ensures are { All IsNode (states_of self.now.nodes) }
         ensures known { IsLayout self.now.layout }
     {
         let layout = self.stations.layout();
@@ -103,8 +101,8 @@ impl Nodes {
     ) -> Result<(), AllocError>
         requires well_placed { IfSome learned.now IsWellPlaced }
         ensures layout { self.new.layout ≡ self.old.layout }
-        ensures learnt { OnOk result (states_of self.new ≡ learnt_by learned.now (states_of self.old)) }
-        ensures same { OnErr result (states_of self.new ≡ states_of self.old) }
+        ensures learnt { OnOk result (states_of self.new.nodes ≡ learnt_by learned.now (states_of self.old.nodes)) }
+        ensures same { OnErr result (states_of self.new.nodes ≡ states_of self.old.nodes) }
     {
         if let Some(list) = learned {
             let placed = list.as_slice();
@@ -117,14 +115,14 @@ impl Nodes {
     /// Runs the bus over the nodes through the cycle of an order, and puts the frames into `frames`, which has room for them.
     pub(crate) fn run(&mut self, order: &Order, frames: &mut Vec<TimedFrame>)
         requires cycle { order.now.cycle < 2 ^ 42 }
-        requires next { All (λ node. node.next ≡ order.now.cycle) (states_of self.old) }
+        requires next { All (λ node. node.next ≡ order.now.cycle) (states_of self.old.nodes) }
         requires window { order.now.l ≤ self.old.layout.window }
         requires empty { frames.old.items ≡ [] }
         requires room { self.old.layout.cycle / 47 + 1 ≤ vec_capacity frames.old }
         ensures layout { self.new.layout ≡ self.old.layout }
-        ensures heard { states_of self.new ≡ heard_by frames.new.items (states_of self.old) }
+        ensures heard { states_of self.new.nodes ≡ heard_by frames.new.items (states_of self.old.nodes) }
         ensures runs { Follows (offers_of cycle_line (announced self.old.layout (order.now.cycle * self.old.layout.cycle)
-            (trigger_frame order.now.cycle order.now.l order.now.mask) (states_of self.old)))
+            (trigger_frame order.now.cycle order.now.l order.now.mask) (states_of self.old.nodes)))
             [] (order.now.cycle * self.old.layout.cycle) ((order.now.cycle + 1) * self.old.layout.cycle) frames.new.items }
     {
         let layout = self.layout();
@@ -157,7 +155,7 @@ fn fresh_nodes(
     ensures count { IfOk result (λ made. length made.items ≡ nodes) }
     ensures each { IfOk result (λ made. (number : ℕ) (d : NodeView) → number < nodes
         → (slice_index_or made.items number d).state ≡ fresh_node layout owners.now requests.now number) }
-    ensures are { IfOk result (λ made. All IsNode (known_by made.items)) }
+    ensures are { IfOk result (λ made. All IsNode (states_of made.items)) }
 {
     let mut made = Vec::with_capacity(alloc, usize::from(nodes))?;
     for number in 0..nodes {

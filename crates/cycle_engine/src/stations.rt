@@ -4,12 +4,14 @@ ghost use Rattle.std.specs.Prelude.{◌≡◌, ◌^◌, ◌<◌, ◌≤◌, ℕ,
 ghost use Rattle.cycle_layout.specs.Layout.{IsLayout};
 ghost use Rattle.requirement_table.specs.Table.{IsWellPlaced};
 ghost use Rattle.node_model.specs.Node.{learnt};
-ghost use Rattle.cycle_engine.specs.Nodes.{left_in};
-ghost use Rattle.cycle_engine.specs.Stations.{AreNodes, known_by, offered_trigger};
+ghost use Rattle.cycle_engine.specs.Nodes.{left_in, states_of};
+ghost use Rattle.bus_line.specs.Stations.{IsWake};
+ghost use Rattle.cycle_engine.specs.Stations.{AreNodes, offered_trigger};
 
 use crate::each;
 use arbitration::Contenders;
 use bus_line::Stations;
+use bus_line::laws::sooner_wake;
 use can_frame::{Frame, TimedFrame};
 use cycle_layout::Layout;
 use node_model::Node;
@@ -36,19 +38,20 @@ pub struct NodeStations {
 }
 
 impl Model for NodeStations {
-    ghost use Rattle.cycle_engine.specs.Stations.{AreStations, StationsView, known_by};
+    ghost use Rattle.cycle_engine.specs.Nodes.{states_of};
+    ghost use Rattle.cycle_engine.specs.Stations.{AreStations, StationsView};
 
     ghost Value = { StationsView };
 
     ghost view = { λ s. record { layout = s.layout; trigger = s.trigger; nodes = s.nodes.items } };
 
-    ghost invariant = { λ s. AreStations (record { layout = s.layout; trigger = s.trigger; nodes = known_by s.nodes.items }) };
+    ghost invariant = { λ s. AreStations (record { layout = s.layout; trigger = s.trigger; nodes = states_of s.nodes.items }) };
 }
 
 impl NodeStations {
     /// The stations without a trigger.
     pub fn new(layout: Layout, nodes: Vec<Node>) -> NodeStations
-        requires nodes { AreNodes layout (known_by nodes.items) }
+        requires nodes { AreNodes layout (states_of nodes.items) }
         ensures stations { result ≡ record { layout = layout; trigger = None; nodes = nodes.items } }
     {
         NodeStations {
@@ -61,15 +64,15 @@ impl NodeStations {
     /// The layout of the bus.
     pub fn layout(&self) -> Layout
         ensures layout { result ≡ self.now.layout }
-        ensures known { AreNodes self.now.layout (known_by self.now.nodes) }
+        ensures known { AreNodes self.now.layout (states_of self.now.nodes) }
     {
         self.layout
     }
 
     /// The number of requests that are not sent.
     pub fn left(&self) -> usize
-        requires fits { left_in (known_by self.now.nodes) < 2 ^ 64 }
-        ensures left { result ≡ left_in (known_by self.now.nodes) }
+        requires fits { left_in (states_of self.now.nodes) < 2 ^ 64 }
+        ensures left { result ≡ left_in (states_of self.now.nodes) }
     {
         each::left(self.nodes.as_slice())
     }
@@ -78,7 +81,7 @@ impl NodeStations {
     pub fn reserve(&mut self, alloc: Global, entries: usize) -> Result<(), AllocError>
         ensures room { OnOk result (All (λ node. entries ≤ node.spare) self.new.nodes) }
         ensures layout { self.new.layout ≡ self.old.layout }
-        ensures same { known_by self.new.nodes ≡ known_by self.old.nodes }
+        ensures same { states_of self.new.nodes ≡ states_of self.old.nodes }
     {
         each::reserve(alloc, self.nodes.as_mut_slice(), entries)
     }
@@ -88,7 +91,7 @@ impl NodeStations {
         requires well_placed { IsWellPlaced placed.now }
         requires room { All (λ node. length placed.now ≤ node.spare) self.old.nodes }
         ensures layout { self.new.layout ≡ self.old.layout }
-        ensures learnt { known_by self.new.nodes ≡ map (learnt placed.now) (known_by self.old.nodes) }
+        ensures learnt { states_of self.new.nodes ≡ map (learnt placed.now) (states_of self.old.nodes) }
     {
         stays_a_node();
         nodes_are_apart();
@@ -98,9 +101,9 @@ impl NodeStations {
     /// Makes a trigger the next one.
     pub fn announce(&mut self, at: u64, frame: Frame)
         requires identifier { frame.identifier ≡ 0 }
-        requires next { All (λ node. node.next < 2 ^ 42) (known_by self.old.nodes) }
+        requires next { All (λ node. node.next < 2 ^ 42) (states_of self.old.nodes) }
         ensures announced { self.new ≡ record { layout = self.old.layout; trigger = Some (record { at = at; frame = frame }); nodes = self.old.nodes } }
-        ensures known { AreNodes self.new.layout (known_by self.new.nodes) }
+        ensures known { AreNodes self.new.layout (states_of self.new.nodes) }
     {
         self.trigger = Some(DueTrigger { at, frame });
     }
@@ -124,8 +127,9 @@ impl Stations for NodeStations {
     }
 
     fn wake(&self, at: u64) -> Option<u64> {
-        let next = each::wake(self.nodes.as_slice(), at, self.layout.cycle());
-        Some(wake_of_trigger(&self.trigger, at, next))
+        sooner_wake();
+        let nodes = each::wake(self.nodes.as_slice(), at);
+        each::sooner(wake_of_trigger(&self.trigger, at), nodes)
     }
 
     fn frame(&self, at: u64, id: u16) -> Frame {
@@ -162,21 +166,10 @@ fn push_trigger(trigger: &Option<DueTrigger>, at: u64, ids: &mut Contenders)
     }
 }
 
-/// The time of the trigger where it lies between two times, else the second of them.
-fn wake_of_trigger(trigger: &Option<DueTrigger>, at: u64, next: u64) -> u64
-    requires behind { at < next }
-    ensures behind { at < result }
-    ensures sooner { result ≤ next }
-    ensures quiet { (later : ℕ) → at < later → later < result → offered_trigger trigger.now later ≡ [] }
+/// The time of the trigger, where it is offered behind `at`.
+fn wake_of_trigger(trigger: &Option<DueTrigger>, at: u64) -> Option<u64>
+    ensures wake { IsWake (offered_trigger trigger.now) at result }
 {
-    match trigger {
-        Some(trigger) => {
-            if at < trigger.at && trigger.at < next {
-                trigger.at
-            } else {
-                next
-            }
-        }
-        None => next,
-    }
+    let trigger = trigger.as_ref()?;
+    (at < trigger.at).then_some(trigger.at)
 }

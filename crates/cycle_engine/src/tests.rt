@@ -65,7 +65,7 @@ fn first_cycles(
 ) -> Result<Vec<TimedFrame>, Fail>
     requires well_placed { IsWellPlaced placed.now }
     requires window { l ≤ nodes.old.layout.window }
-    requires next { All (λ node. node.next ≡ 0) (states_of nodes.old) }
+    requires next { All (λ node. node.next ≡ 0) (states_of nodes.old.nodes) }
     requires few { count ≤ 10 }
 {
     let mut trace = Vec::new(alloc);

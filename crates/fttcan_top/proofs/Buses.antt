@@ -21,7 +21,7 @@ use Rattle.fttcan_top.specs.declared.history.Verdict.TheVariants.{Accepted, TooH
 use Rattle.fttcan_top.specs.Entries.{IsLive, AreDistinct}
 use Rattle.fttcan_top.specs.History.{is_accepted, placed_by}
 use Rattle.bus_line.specs.Trace.{Follows}
-use Rattle.node_model.specs.Opening.{width_of}
+use Rattle.requirement_table.specs.Opening.{width_of}
 use Rattle.requirement_table.specs.Table.{released_in}
 use Rattle.cycle_engine.specs.Nodes.{FitsOrder}
 use Rattle.cycle_engine.specs.Offered.{offered_in}

@@ -20,7 +20,7 @@ use Rattle.fttcan_top.specs.declared.history.Event.{Event}
 use Rattle.fttcan_top.specs.declared.history.Event.TheVariants.{Submit, Open}
 use Rattle.fttcan_top.specs.Entries.{IsLive, total_cost}
 use Rattle.fttcan_top.specs.History.{placed_at, placed_by, placed_of_event, placed_of, is_open, next_of, IsVerdict, IsRight, AreRight}
-use Rattle.node_model.specs.Opening.{Opening}
+use Rattle.requirement_table.specs.Opening.{Opening}
 use Rattle.async_window.specs.declared.request.Request.{Request}
 use Rattle.cycle_engine.specs.Offered.{offered_in, offered, IsCanTrace, AreOfDistinctCycles}
 use Rattle.fttcan_top.specs.Openings.{next_opening}

@@ -8,7 +8,8 @@ use Rattle.std.specs.List.{Any}
 use Rattle.can_frame.specs.declared.data_frame.TimedFrame.{TimedFrame}
 use Rattle.cycle_layout.specs.Layout.{CycleLayout}
 use Rattle.requirement_table.specs.Slots.{contains_slot}
-use Rattle.node_model.specs.Opening.{Opening, first_identifier, start_of}
+use Rattle.requirement_table.specs.Opening.{Opening}
+use Rattle.node_model.specs.Opening.{first_identifier, start_of}
 use Rattle.node_model.specs.Offered.{IsUnsent}
 use Rattle.fttcan_top.specs.Window.{is_pending}
 use Rattle.node_model.specs.Own.{was_sent}

@@ -15,7 +15,8 @@ use Rattle.requirement_table.specs.declared.entries.Placed.{Placed}
 use Rattle.requirement_table.specs.Table.{released_in}
 use Rattle.requirement_table.specs.Instance.{bytes_of}
 use Rattle.bus_line.specs.Trace.{end_of, Follows}
-use Rattle.node_model.specs.Opening.{Opening, width_of, start_of, end_of_cycle}
+use Rattle.requirement_table.specs.Opening.{Opening, width_of}
+use Rattle.node_model.specs.Opening.{start_of, end_of_cycle}
 use Rattle.cycle_engine.specs.Offered.{offered_in, offered}
 use Rattle.async_window.specs.declared.request.Request.{Request}
 use Rattle.fttcan_top.specs.Openings.{next_opening}

@@ -11,7 +11,8 @@ use Rattle.requirement_table.specs.Slots.{contains_slot}
 use Rattle.requirement_table.specs.Instance.{release_of, payload, Exists, MaySend, IsReleasedIn, released_by}
 use Rattle.requirement_table.specs.Table.{released_in}
 use Rattle.requirement_table.specs.Instance.{bytes_of}
-use Rattle.node_model.specs.Opening.{Opening, slots, first_identifier}
+use Rattle.requirement_table.specs.Opening.{Opening}
+use Rattle.node_model.specs.Opening.{slots, first_identifier}
 use Rattle.fttcan_top.specs.Window.{of_slot, IsSentIn, IsSlotFrame, IsLaterFrame, RunsCycle}
 use Rattle.fttcan_top.specs.Kept.{cycle_of, frames_of, IsInWindow, AllServed, NoStrangers, AllGuarded}
 use Rattle.async_window.specs.declared.request.Request.{Request}

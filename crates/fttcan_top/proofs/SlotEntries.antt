@@ -10,7 +10,8 @@ use Rattle.requirement_table.specs.Table.{released_in}
 use Rattle.requirement_table.specs.Instance.{bytes_of}
 use Rattle.requirement_table.proofs.Latest.{instance_of-sent, IsReleasedIn-from_released_by}
 use Rattle.fttcan_top.specs.Entries.{IsLive, AreDistinct}
-use Rattle.node_model.specs.Opening.{bytes_in, slot_cost}
+use Rattle.requirement_table.specs.Opening.{bytes_in}
+use Rattle.node_model.specs.Opening.{slot_cost}
 use Rattle.fttcan_top.specs.Openings.{next_opening}
 use Rattle.fttcan_top.specs.Table.{entry_of}
 use Rattle.fttcan_top.proofs.Flagged.{MaySend-released, instance_in-only, unique-placed, length-payload}

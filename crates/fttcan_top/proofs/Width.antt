@@ -10,7 +10,8 @@ use Rattle.requirement_table.specs.Slots.{contains_slot, sum_where}
 use Rattle.requirement_table.specs.Instance.{worst, released_by}
 use Rattle.requirement_table.specs.Table.{instance_in, releases_in, released_in}
 use Rattle.requirement_table.specs.Instance.{Instance, bytes_of}
-use Rattle.node_model.specs.Opening.{Opening, slot_cost, width_of}
+use Rattle.requirement_table.specs.Opening.{Opening, width_of}
+use Rattle.node_model.specs.Opening.{slot_cost}
 use Rattle.std.proofs.lemmas.Bool.{lt-ltb}
 use Rattle.std.specs.List.{All}
 use Rattle.std.proofs.lemmas.List.Elements.{All-contains}

@@ -14,7 +14,8 @@ use Rattle.cycle_layout.specs.Layout.{CycleLayout, async_open}
 use Rattle.trigger_codec.specs.Bytes.{trigger_frame}
 use Rattle.requirement_table.specs.Slots.{contains_slot}
 use Rattle.bus_line.specs.Trace.{end_of, Follows, IsNext}
-use Rattle.node_model.specs.Opening.{Opening, slots, first_identifier, bytes_in, slot_cost, width_of, start_of, end_of_cycle, window_start}
+use Rattle.requirement_table.specs.Opening.{Opening, bytes_in, width_of}
+use Rattle.node_model.specs.Opening.{slots, first_identifier, slot_cost, start_of, end_of_cycle, window_start}
 use Rattle.node_model.specs.Offered.{OffersTrigger, OffersRequest, OffersSlot}
 use Rattle.async_window.specs.declared.request.Request.{Request}
 use Rattle.async_window.specs.Waiting.{requests_of, frames_with, unsent_after}

@@ -5,7 +5,8 @@ use Rattle.cycle_layout.specs.Layout.{CycleLayout, async_open}
 use Rattle.requirement_table.specs.declared.entries.Placed.{Placed}
 use Rattle.requirement_table.specs.Instance.{release_of, IsLastCycle, payload, Exists, MaySend}
 use Rattle.bus_line.specs.Trace.{end_of}
-use Rattle.node_model.specs.Opening.{Opening, first_identifier, slots, window_start, end_of_cycle}
+use Rattle.requirement_table.specs.Opening.{Opening}
+use Rattle.node_model.specs.Opening.{first_identifier, slots, window_start, end_of_cycle}
 
 -- the cycle in which a frame starts
 abbrev pub cycle_of : CycleLayout → TimedFrame → ℕ

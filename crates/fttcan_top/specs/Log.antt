@@ -8,7 +8,7 @@ use Rattle.fttcan_top.specs.declared.history.Verdict.TheVariants.{Accepted, TooH
 use Rattle.fttcan_top.specs.declared.history.Event.{Event}
 use Rattle.fttcan_top.specs.declared.history.Event.TheVariants.{Submit, Open}
 use Rattle.fttcan_top.specs.History.{placed_of, next_of}
-use Rattle.node_model.specs.Opening.{Opening, width_of}
+use Rattle.requirement_table.specs.Opening.{Opening, width_of}
 
 -- the last `count` hexadecimal digits of a number, lower case, the most significant one first
 unfoldable pub hex_digits : ℕ → ℕ → List ℕ

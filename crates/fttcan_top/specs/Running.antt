@@ -6,7 +6,7 @@ use Rattle.requirement_table.specs.declared.entries.Placed.{Placed}
 use Rattle.fttcan_top.specs.Entries.{IsLive, AreDistinct, total_cost}
 use Rattle.requirement_table.specs.Table.{released_in}
 use Rattle.bus_line.specs.Trace.{end_of, Follows}
-use Rattle.node_model.specs.Opening.{Opening}
+use Rattle.requirement_table.specs.Opening.{Opening}
 use Rattle.async_window.specs.declared.request.Request.{Request}
 use Rattle.cycle_engine.specs.Offered.{offered, AreAsynchronous, AreOfDistinctCycles}
 use Rattle.fttcan_top.specs.Window.{RunsCycle}

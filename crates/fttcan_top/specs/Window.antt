@@ -9,7 +9,8 @@ use Rattle.cycle_layout.specs.Layout.{CycleLayout, async_open}
 use Rattle.trigger_codec.specs.Bytes.{trigger_frame}
 use Rattle.requirement_table.specs.Slots.{contains_slot, sum_where}
 use Rattle.bus_line.specs.Trace.{end_of}
-use Rattle.node_model.specs.Opening.{Opening, slots, first_identifier, bytes_in, slot_cost, width_of, start_of, end_of_cycle, window_start}
+use Rattle.requirement_table.specs.Opening.{Opening, bytes_in, width_of}
+use Rattle.node_model.specs.Opening.{slots, first_identifier, slot_cost, start_of, end_of_cycle, window_start}
 use Rattle.node_model.specs.Own.{was_sent}
 
 -- whether the slot is flagged and was not sent yet

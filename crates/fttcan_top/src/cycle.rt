@@ -3,7 +3,8 @@
 ghost use Rattle.std.specs.Prelude.{if◌then◌else◌, ◌≡◌, ◌<◌, ◌≤◌, true, All, IfOk, Some, None};
 ghost use Rattle.requirement_table.specs.Slots.{contains_slot};
 ghost use Rattle.requirement_table.specs.Table.{released_in};
-ghost use Rattle.node_model.specs.Opening.{slot_cost, width_of};
+ghost use Rattle.requirement_table.specs.Opening.{width_of};
+ghost use Rattle.node_model.specs.Opening.{slot_cost};
 ghost use Rattle.fttcan_top.specs.Entries.{IsLive, AreDistinct};
 ghost use Rattle.fttcan_top.specs.Openings.{next_opening};
 

@@ -1,6 +1,6 @@
 -- What a system file means. It is a TOML document; the rows below are the table of its paths, in its order. A file is taken where nothing is
 -- wrong with it: `faults_of` lists all that is wrong, in the order in which it is looked for, and the first of these is the answer.
-use Rattle.std.specs.Prelude.{◌≡◌, ◌≢◌, ℕ, ◌+◌, ◌-◌, ◌<◌, ◌≤◌, ◌&&◌, not, pos, Bool, false, if◌then◌else◌, nat_eq, nat_le, List, [], ◌∷◌, ◌++◌, map, take, All, AllPairs, Option, Some, None, is_some, is_none, Result, Ok, Err, codes}
+use Rattle.std.specs.Prelude.{◌≡◌, ℕ, ◌+◌, ◌-◌, ◌<◌, ◌≤◌, ◌&&◌, not, pos, Bool, false, if◌then◌else◌, nat_eq, nat_le, List, [], ◌∷◌, ◌++◌, map, take, All, Option, Some, None, is_some, is_none, Result, Ok, Err, codes}
 use Rattle.std.specs.Cmp.Lexicographic.{slice_cmp}
 use Rattle.std.specs.Fmt.{decimal}
 use Rattle.std.specs.List.{filter, flat_map, list_any}
@@ -13,6 +13,7 @@ use Rattle.cycle_layout.specs.Layout.{IsLayout, needed}
 use Rattle.planner_policies.specs.declared.Policy.{Policy}
 use Rattle.planner_policies.specs.declared.Policy.TheVariants.{Rm, Dm, Edf}
 use Rattle.async_window.specs.declared.request.Owner.{Owner}
+use Rattle.async_window.specs.Owners.{AreOwners}
 use Rattle.input_text.specs.declared.system.System.{System}
 use Rattle.input_text.specs.declared.system_fault.SystemFault.{SystemFault}
 use Rattle.input_text.specs.declared.system_fault.SystemFault.TheVariants.{Toml, Key, Range, Narrow}
@@ -337,7 +338,5 @@ pub record IsSystem (system : System) : Type 0 where
   pub few_nodes : system.rules.nodes ≤ 30
   pub some_horizon : 1 ≤ system.rules.horizon
   pub near_horizon : system.rules.horizon ≤ 100000
-  pub distinct : AllPairs (λ one other. one.id ≢ other.id) system.owners
-  pub least : All (λ owner. 0x200 ≤ owner.id) system.owners
-  pub greatest : All (λ owner. owner.id ≤ 0x7EF) system.owners
+  pub are_owners : AreOwners system.owners
   pub known_nodes : All (λ owner. owner.node < system.rules.nodes) system.owners

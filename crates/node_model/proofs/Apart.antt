@@ -8,8 +8,7 @@ use Rattle.std.proofs.lemmas.List.Elements.{All-contains, All-map}
 use Rattle.can_frame.specs.declared.data_frame.TimedFrame.{TimedFrame}
 use Rattle.cycle_layout.specs.Layout.{CycleLayout, sync_start}
 use Rattle.requirement_table.specs.declared.entries.Placed.{Placed}
-use Rattle.requirement_table.specs.declared.slots.TheConstants.{SLOTS}
-use Rattle.requirement_table.specs.Slots.{contains_slot}
+use Rattle.requirement_table.specs.Slots.{contains_slot, slots}
 use Rattle.requirement_table.specs.Instance.{Instance}
 use Rattle.requirement_table.specs.Table.{IsWellPlaced, instance_in}
 use Rattle.async_window.specs.declared.request.Owner.{Owner}
@@ -17,7 +16,8 @@ use Rattle.async_window.specs.declared.request.Request.{Request}
 use Rattle.async_window.specs.Mailbox.{IsLeastWith, IsMail, Mail, Offers, mail_offer, without_first}
 use Rattle.node_model.specs.Opening.{first_identifier}
 use Rattle.node_model.specs.Node.{NodeState, Opened, after_hearing, after_opening, after_request, after_slot, counted, entries_of, identifiers_of, is_due, is_own_slot, learnt, least_where, node_offer, offer_in}
-use Rattle.node_model.specs.Own.{AreApart, AreOwners, Stands}
+use Rattle.async_window.specs.Owners.{AreOwners}
+use Rattle.node_model.specs.Own.{AreApart, Stands}
 use Rattle.node_model.proofs.OwnEntries.{Contains-from_filter, Contains-from_map, passes-from_filter, instance-of_all}
 use Rattle.node_model.proofs.LeastSlot.{IsLeastBelow, least_where-least}
 use Rattle.node_model.proofs.OwnPart.{identifiers-after, value-of}
@@ -152,12 +152,12 @@ apart-hearing identifiers one other sent also =
 -- what a node that offers an identifier has
 abbrev Has : NodeState → ℕ → ℕ → Type 0
 Has node at id =
-    ((slot : ℕ) × (id ≡ first_identifier + slot) × (slot < SLOTS) × ((i : Instance) × (instance_in node.entries slot (at / node.layout.cycle) ≡ Some i)))
+    ((slot : ℕ) × (id ≡ first_identifier + slot) × (slot < slots) × ((i : Instance) × (instance_in node.entries slot (at / node.layout.cycle) ≡ Some i)))
     ⊎ ((0x200 ≤ id) × Contains (map (λ box. box.identifier) node.mail) id)
 
-slot-part : (entries : List Placed) (opened : Opened) (c id : ℕ) (found : Option ℕ) → c ≡ opened.cycle → IsLeastBelow SLOTS (is_due entries opened) found
+slot-part : (entries : List Placed) (opened : Opened) (c id : ℕ) (found : Option ℕ) → c ≡ opened.cycle → IsLeastBelow slots (is_due entries opened) found
     → option_map (λ slot. first_identifier + slot) found ≡ Some id
-    → (slot : ℕ) × (id ≡ first_identifier + slot) × (slot < SLOTS) × ((i : Instance) × (instance_in entries slot c ≡ Some i))
+    → (slot : ℕ) × (id ≡ first_identifier + slot) × (slot < slots) × ((i : Instance) × (instance_in entries slot c ≡ Some i))
 slot-part entries opened c id None same none is = absurd (none-some id is)
 slot-part entries opened c id (Some slot) same least is =
     let parts = and_parts (contains_slot opened.flags slot) (is_some (instance_in entries slot opened.cycle) && not (contains_slot opened.heard slot)) least.1 in
@@ -180,8 +180,8 @@ module _ (node : NodeState) (at : ℕ)
   open-part opened id is =
       elim (cases_Bool (eqb (at / node.layout.cycle) opened.cycle)) [
         | inl same ↦ elim (cases_Bool (leb (sync_start node.layout opened.cycle opened.width) at)) [
-          | inl late ↦ inl (slot-part node.entries opened (at / node.layout.cycle) id (least_where SLOTS (is_due node.entries opened)) (eqb-true _ _ same)
-              (least_where-least SLOTS (is_due node.entries opened))
+          | inl late ↦ inl (slot-part node.entries opened (at / node.layout.cycle) id (least_where slots (is_due node.entries opened)) (eqb-true _ _ same)
+              (least_where-least slots (is_due node.entries opened))
               (sym (cond-true (leb (sync_start node.layout opened.cycle opened.width) at) _ _ late)
               ∙ sym (cond-true (eqb (at / node.layout.cycle) opened.cycle) _ _ same) ∙ is))
           | inr early ↦ inr (mail-part opened.width id (mail_offer node.layout opened.width node.mail at) (least opened.width)

@@ -9,19 +9,20 @@ use Rattle.can_frame.specs.DataFrame.{DataFrame}
 use Rattle.can_frame.specs.declared.data_frame.TimedFrame.{TimedFrame}
 use Rattle.cycle_layout.specs.Layout.{CycleLayout}
 use Rattle.requirement_table.specs.declared.entries.Placed.{Placed}
-use Rattle.requirement_table.specs.declared.slots.TheConstants.{SLOTS}
-use Rattle.requirement_table.specs.Slots.{contains_slot, set_of}
+use Rattle.requirement_table.specs.Slots.{contains_slot, set_of, slots}
 use Rattle.requirement_table.specs.Table.{IsInRange, IsWellPlaced}
-use Rattle.requirement_table.proofs.SlotSets.{contains_slot-set_of, contains_slot-none}
+use Rattle.requirement_table.proofs.Shared.{contains_slot-set_of, contains_slot-none}
 use Rattle.trigger_codec.specs.declared.message.Trigger.{Trigger}
 use Rattle.trigger_codec.specs.Bytes.{trigger_bytes, trigger_frame, trigger_of, window_in, flags_in}
 use Rattle.async_window.specs.declared.request.Owner.{Owner}
 use Rattle.async_window.specs.declared.request.Request.{Request}
 use Rattle.async_window.specs.Mailbox.{Mail, mail_after, taken_from, without_first}
 use Rattle.async_window.specs.Waiting.{unsent_after}
-use Rattle.node_model.specs.Opening.{Opening, first_identifier, slots, width_of, start_of}
+use Rattle.requirement_table.specs.Opening.{Opening, width_of}
+use Rattle.node_model.specs.Opening.{first_identifier, start_of}
 use Rattle.node_model.specs.Node.{NodeState, Opened, after_hearing, counted, entries_of, identifiers_of, is_own_slot, next_trigger, opened_by}
-use Rattle.node_model.specs.Own.{AreOwners, Stands, StandsIn, was_sent}
+use Rattle.async_window.specs.Owners.{AreOwners}
+use Rattle.node_model.specs.Own.{Stands, StandsIn, was_sent}
 use Rattle.node_model.proofs.OwnEntries.{entries_of-well_placed}
 use Rattle.node_model.proofs.Standing.{standing, opened_for, standing-is, standing_in-is}
 
@@ -52,7 +53,7 @@ said low window flags l mask same also small =
     ∙ ap (λ w. Some (saying low w flags)) same
     ∙ ap (λ m. Some (saying low l m)) also
 
-pub trigger_of-frame : (cycle l mask : ℕ) → l ≤ 16383 → mask < 2 ^ SLOTS
+pub trigger_of-frame : (cycle l mask : ℕ) → l ≤ 16383 → mask < 2 ^ slots
     → trigger_of (trigger_frame cycle l mask) ≡ Some (record { low = cycle % 256; l = l; mask = mask })
 trigger_of-frame cycle l mask small few =
     said (cycle % 256) (window_in (trigger_bytes cycle l mask)) (flags_in (trigger_bytes cycle l mask)) l mask (omega arith) (omega arith) small
@@ -130,7 +131,7 @@ module _ (layout : CycleLayout) (owners : List Owner) (requests : List Request) 
     above = mail_after-least number owners requests past are
 
     -- the trigger
-    module _ (opened : Option Opened) (small : width_of opening ≤ layout.window) (largest : layout.window ≤ 16383) (few : opening.mask < 2 ^ SLOTS)
+    module _ (opened : Option Opened) (small : width_of opening ≤ layout.window) (largest : layout.window ≤ 16383) (few : opening.mask < 2 ^ slots)
         (before : All (λ earlier. earlier.start < start_of layout opening) past)
         (same : sent.frame ≡ trigger_frame opening.cycle (width_of opening) opening.mask) where
       abbrev waiting : NodeState
@@ -177,14 +178,14 @@ module _ (layout : CycleLayout) (owners : List Owner) (requests : List Request) 
 
       -- a frame of a slot in which the node has an entry
       module _ (own : is_own_slot entries id ≡ true) where
-        slot_of : (slot : ℕ) × (slot < SLOTS) × (first_identifier + slot ≡ id)
+        slot_of : (slot : ℕ) × (slot < slots) × (first_identifier + slot ≡ id)
         slot_of =
             let any = Any-from_list_any (λ p. first_identifier + p.entry.slot == id) entries own in
             let range : IsInRange any.1 = All-contains IsInRange entries any.1 (entries_of-well_placed number opening.placed well).in_range (any.0, any.2, any.3) in
-            (any.1.entry.slot, range.slot, eqb-true _ _ any.4)
+            (any.1.entry.slot, range.entry.slot, eqb-true _ _ any.4)
 
         abbrev more : ℕ
-        more = set_of SLOTS (λ s. (s == (id - first_identifier)) || contains_slot heard s)
+        more = set_of slots (λ s. (s == (id - first_identifier)) || contains_slot heard s)
 
         hears_slot : after_hearing open_node sent ≡ in_cycle number (past ++ sent ∷ []) more (counted frames)
         hears_slot =
@@ -205,8 +206,8 @@ module _ (layout : CycleLayout) (owners : List Owner) (requests : List Request) 
 
         marks_slot : stands_marked number (past ++ sent ∷ []) more
         marks_slot slot within its =
-            contains_slot-set_of SLOTS (λ s. (s == (id - first_identifier)) || contains_slot heard s) slot
-            ∙ ap (λ b. b && (eqb slot (id - first_identifier) || contains_slot heard slot)) (lt-ltb slot SLOTS within)
+            contains_slot-set_of slots (λ s. (s == (id - first_identifier)) || contains_slot heard s) slot
+            ∙ ap (λ b. b && (eqb slot (id - first_identifier) || contains_slot heard slot)) (lt-ltb slot slots within)
             ∙ ap (λ b. b || contains_slot heard slot) (same_test slot)
             ∙ ap (λ b. eqb id (first_identifier + slot) || b) (marked slot within its)
             ∙ turn (eqb id (first_identifier + slot)) (leb (start_of layout opening) sent.start) (was_sent layout opening past slot) (le-leb _ _ begun)
@@ -245,7 +246,7 @@ module _ (layout : CycleLayout) (owners : List Owner) (requests : List Request) 
 pub stands-trigger : (layout : CycleLayout) (owners : List Owner) (requests : List Request) (opening : Opening) (past : List TimedFrame)
     (sent : TimedFrame) (node : NodeState)
     → ((ids : List ℕ) → mail_after ids requests (past ++ sent ∷ []) ≡ without_first sent.frame.identifier (mail_after ids requests past))
-    → AreOwners owners → width_of opening ≤ layout.window → layout.window ≤ 16383 → opening.mask < 2 ^ SLOTS
+    → AreOwners owners → width_of opening ≤ layout.window → layout.window ≤ 16383 → opening.mask < 2 ^ slots
     → All (λ earlier. earlier.start < start_of layout opening) past
     → sent.frame ≡ trigger_frame opening.cycle (width_of opening) opening.mask
     → Stands layout owners requests opening.placed past opening.cycle node

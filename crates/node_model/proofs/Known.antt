@@ -7,9 +7,8 @@ use Rattle.std.proofs.lemmas.List.{get_or-map, length-map}
 use Rattle.std.proofs.lemmas.List.Elements.{All-filter, All-map}
 use Rattle.std.proofs.lemmas.List.Kept.{AllPairs-filter}
 use Rattle.requirement_table.specs.declared.entries.Placed.{Placed}
-use Rattle.requirement_table.specs.declared.slots.TheConstants.{SLOTS}
-use Rattle.requirement_table.specs.Slots.{contains_slot}
-use Rattle.requirement_table.proofs.SlotSets.{contains_slot-above}
+use Rattle.requirement_table.specs.Slots.{contains_slot, slots}
+use Rattle.requirement_table.proofs.Shared.{contains_slot-above}
 use Rattle.requirement_table.specs.Table.{IsInRange, GoesBefore, IsWellPlaced}
 use Rattle.async_window.specs.declared.request.Owner.{Owner}
 use Rattle.node_model.specs.Opening.{first_identifier}
@@ -57,30 +56,30 @@ own-none (p ∷ rest) id below =
     ap (λ b. b || is_own_slot rest id) one ∙ own-none rest id below
 
 is_own_slot-in : (entries : List Placed) (own slot id : ℕ) → AreSlotsOf entries own → first_identifier + slot ≡ id → contains_slot own slot ≡ true → is_own_slot entries id ≡ true
-is_own_slot-in entries own slot id slots is has = own-slot entries slot id is ∙ sym (slots slot) ∙ has
+is_own_slot-in entries own slot id are is has = own-slot entries slot id is ∙ sym (are slot) ∙ has
 
 is_own_slot-out : (entries : List Placed) (own id : ℕ) → AreSlotsOf entries own → ((slot : ℕ) → first_identifier + slot ≡ id → contains_slot own slot ≡ false) → is_own_slot entries id ≡ false
-is_own_slot-out entries own id slots none =
+is_own_slot-out entries own id are none =
     ⊎_elim
     (λ (below : id < first_identifier). own-none entries id below)
     (λ (from : first_identifier ≤ id).
     let slot : ℕ = id - first_identifier in
     let is : first_identifier + slot ≡ id = omega arith in
-    own-slot entries slot id is ∙ sym (slots slot) ∙ none slot is)
+    own-slot entries slot id is ∙ sym (are slot) ∙ none slot is)
     (cases_lt id first_identifier)
 
 -- an identifier outside those of slots is not that of a slot in a set
-pub IsAmong-outside : (slots id : ℕ) → slots < 2 ^ SLOTS → (id < first_identifier) ⊎ (first_identifier + SLOTS ≤ id) → (slot : ℕ) → first_identifier + slot ≡ id → contains_slot slots slot ≡ false
-IsAmong-outside slots id below outside slot is =
+pub IsAmong-outside : (own id : ℕ) → own < 2 ^ slots → (id < first_identifier) ⊎ (first_identifier + slots ≤ id) → (slot : ℕ) → first_identifier + slot ≡ id → contains_slot own slot ≡ false
+IsAmong-outside own id below outside slot is =
     ⊎_elim
     (λ (low : id < first_identifier). absurd (omega arith))
-    (λ (high : first_identifier + SLOTS ≤ id). contains_slot-above slots SLOTS slot below (omega arith))
+    (λ (high : first_identifier + slots ≤ id). contains_slot-above own slots slot below (omega arith))
     outside
 
 -- the slot that is found for an identifier, and whether it is own
 pub own_slot-is : (entries : List Placed) (own id : ℕ) (found : Option ℕ) → AreSlotsOf entries own
     → MatchOption found ((slot : ℕ) → first_identifier + slot ≡ id → contains_slot own slot ≡ false)
-    (λ slot. (first_identifier + slot ≡ id) × (slot < SLOTS) × (contains_slot own slot ≡ true))
-    → MatchOption found (is_own_slot entries id ≡ false) (λ slot. (is_own_slot entries id ≡ true) × (first_identifier + slot ≡ id) × (slot < SLOTS))
-own_slot-is entries own id None slots none = is_own_slot-out entries own id slots none
-own_slot-is entries own id (Some slot) slots some = (is_own_slot-in entries own slot id slots some.0 some.2, some.0, some.1)
+    (λ slot. (first_identifier + slot ≡ id) × (slot < slots) × (contains_slot own slot ≡ true))
+    → MatchOption found (is_own_slot entries id ≡ false) (λ slot. (is_own_slot entries id ≡ true) × (first_identifier + slot ≡ id) × (slot < slots))
+own_slot-is entries own id None are none = is_own_slot-out entries own id are none
+own_slot-is entries own id (Some slot) are some = (is_own_slot-in entries own slot id are some.0 some.2, some.0, some.1)

@@ -1,12 +1,13 @@
-pub mod OwnEntries
-pub mod LeastSlot
-pub mod Standing
-pub mod OwnPart
-pub mod Hearing
-pub mod Apart
-pub mod StaysNode
-pub mod Least
-pub mod Sendable
-pub mod Known
-pub mod Mail
-pub mod Offers
+mod OwnEntries
+mod LeastSlot
+mod Standing
+mod OwnPart
+mod Hearing
+mod Apart
+mod StaysNode
+mod Least
+mod Sendable
+pub mod Shared
+mod Known
+mod Mail
+mod Offers

@@ -8,9 +8,9 @@ use Rattle.can_frame.specs.DataFrame.{DataFrame}
 use Rattle.cycle_layout.specs.Layout.{CycleLayout, sync_start}
 use Rattle.async_window.specs.declared.request.Request.{Request}
 use Rattle.async_window.specs.Mailbox.{Mail, IsMail, Offers, IsLeastWith, mail_offer, unsent_of, without_first}
-use Rattle.async_window.proofs.Unsent.{unsent_of-here, unsent_of-later}
-use Rattle.async_window.proofs.Offered.{Offers-least, Offers-among}
-use Rattle.async_window.proofs.Steps.{without_first-nothing}
+use Rattle.async_window.proofs.Shared.{unsent_of-here, unsent_of-later}
+use Rattle.async_window.proofs.Shared.{Offers-least, Offers-among}
+use Rattle.async_window.proofs.Shared.{without_first-nothing}
 
 -- where the first of some requests is none, there are none
 none-first : (unsent : List Request) → slice_get unsent 0 ≡ None → unsent ≡ []

@@ -6,9 +6,9 @@ use Rattle.std.proofs.lemmas.Option.{slice_get-get_or}
 use Rattle.std.proofs.lemmas.List.Elements.{All-contains, All-contains_itself, All-filter, filter_passes}
 use Rattle.std.proofs.lemmas.List.Kept.{AllPairs-filter}
 use Rattle.requirement_table.specs.declared.entries.Placed.{Placed}
-use Rattle.requirement_table.specs.Instance.{Instance}
+use Rattle.requirement_table.specs.Instance.{Instance, MaySend}
 use Rattle.requirement_table.specs.Table.{IsInRange, GoesBefore, IsWellPlaced, instance_in}
-use Rattle.requirement_table.proofs.SlotInstances.{IsSentFrom, instance_in-found, instance_in-sound}
+use Rattle.requirement_table.proofs.Shared.{instance_in-found, instance_in-sound}
 use Rattle.node_model.specs.Node.{entries_of}
 
 module _ {X : Type 0} (test : X → Bool) where
@@ -57,6 +57,10 @@ entries_of-well_placed number placed well = record {
 
 pub IfSome-at : {X : Type 0} (o : Option X) (x : X) (P : X → Type 0) → o ≡ Some x → IfSome o P → P x
 IfSome-at o x P is holds = rw is at holds
+
+-- the instance is one of the slot, of an entry of the list, that may be sent in the cycle
+abbrev pub IsSentFrom : List Placed → ℕ → ℕ → Instance → Type 0
+IsSentFrom placed slot c i = Contains placed i.placed × (i.placed.entry.slot ≡ slot) × MaySend i.placed i.number c
 
 -- an instance that a list finds is one of its entries', of the slot, and may be sent
 pub sent_from : (placed : List Placed) (slot c : ℕ) (i : Instance) → instance_in placed slot c ≡ Some i → IsSentFrom placed slot c i

@@ -6,7 +6,7 @@ use Rattle.requirement_table.specs.declared.entries.Placed.{Placed}
 use Rattle.async_window.specs.declared.request.Owner.{Owner}
 use Rattle.async_window.specs.declared.request.Request.{Request}
 use Rattle.async_window.specs.Mailbox.{Mail, mail_after}
-use Rattle.node_model.specs.Opening.{Opening, width_of}
+use Rattle.requirement_table.specs.Opening.{Opening, width_of}
 use Rattle.node_model.specs.Node.{NodeState, Opened, entries_of, identifiers_of}
 use Rattle.node_model.specs.Own.{Stands, StandsIn}
 

@@ -1,12 +1,9 @@
 -- What a node keeps besides what it knows, so that it answers without a look at its entries.
-use Rattle.std.specs.Prelude.{◌≡◌, ℕ, ◌/◌, ◌<◌, ◌≤◌, ◌^◌, ◌==◌, List, Option, Some, None, IfSome, option_map}
+use Rattle.std.specs.Prelude.{◌≡◌, ℕ, ◌/◌, ◌<◌, ◌==◌, List, Option, Some, None, IfSome}
 use Rattle.std.specs.List.{list_any}
 use Rattle.requirement_table.specs.declared.entries.Placed.{Placed}
-use Rattle.requirement_table.specs.declared.slots.TheConstants.{SLOTS}
-use Rattle.requirement_table.specs.Slots.{contains_slot}
-use Rattle.requirement_table.specs.Table.{IsWellPlaced}
-use Rattle.async_window.specs.Mailbox.{IsMail, Mail}
-use Rattle.node_model.specs.Node.{NodeState, Opened, is_due, node_offer}
+use Rattle.requirement_table.specs.Slots.{contains_slot, slots}
+use Rattle.node_model.specs.Node.{IsNode, NodeState, Opened, is_due, node_offer}
 use Rattle.node_model.specs.declared.cycle.Open.{Open}
 
 -- what contracts see of a cycle that is open
@@ -21,17 +18,13 @@ AreSlotsOf entries own = (slot : ℕ) → contains_slot own slot ≡ list_any (�
 -- the open cycle's `due` are the slots that the node is to send in it
 abbrev pub KnowsDue : List Placed → Open → Type 0
 KnowsDue entries open_cycle =
-    (slot : ℕ) → slot < SLOTS → contains_slot open_cycle.due slot ≡ is_due entries (opened_of open_cycle) slot
+    (slot : ℕ) → slot < slots → contains_slot open_cycle.due slot ≡ is_due entries (opened_of open_cycle) slot
 
--- what is true of the fields of every node
-pub record IsKept (window next_cycle count : ℕ) (known : List Placed) (own : ℕ) (boxes : List Mail) (current : Option Open) : Type 0 where
-  pub entries : IsWellPlaced known
-  pub own_slots : AreSlotsOf known own
-  pub mail : IsMail boxes
-  pub opened : IfSome (option_map opened_of current) (λ o. (o.width ≤ window) × (o.cycle < next_cycle))
-  pub due : IfSome current (KnowsDue known)
-  pub next : next_cycle ≤ 2 ^ 42
-  pub frames : count < 2 ^ 64
+-- what is true of the fields of every node: those that contracts see make a node, and the others follow from them
+pub record IsKept (state : NodeState) (own : ℕ) (current : Option Open) : Type 0 where
+  pub node : IsNode state
+  pub own_slots : AreSlotsOf state.entries own
+  pub due : IfSome current (KnowsDue state.entries)
 
 -- this cycle is open for the node, and the time lies in it
 pub record IsOpenAt (node : NodeState) (at : ℕ) (open_cycle : Open) : Type 0 where

@@ -1,20 +1,19 @@
 -- One node: what it knows, what it does with a frame that it hears, and what it offers. Times are bit times.
-use Rattle.std.specs.Prelude.{ℕ, zero, suc, ◌+◌, ◌-◌, ◌/◌, ◌%◌, ◌^◌, ◌<◌, ◌≤◌, ◌==◌, ◌&&◌, ◌||◌, not, Bool, nat_le, nat_eq, if◌then◌else◌, List, [], map, filter, min, Option, Some, None, IfSome, is_some, option_map, slice_get}
+use Rattle.std.specs.Prelude.{ℕ, zero, suc, ◌+◌, ◌-◌, ◌/◌, ◌%◌, ◌^◌, ◌<◌, ◌≤◌, ◌==◌, ◌&&◌, ◌||◌, not, Bool, nat_le, nat_eq, if◌then◌else◌, List, [], map, filter, min, Option, Some, None, IfSome, IsSome, is_some, option_map, slice_get}
 use Rattle.std.specs.Option.{option_map_or}
 use Rattle.std.specs.List.{list_any}
 use Rattle.can_frame.specs.DataFrame.{DataFrame}
 use Rattle.can_frame.specs.declared.data_frame.TimedFrame.{TimedFrame}
 use Rattle.cycle_layout.specs.Layout.{CycleLayout, IsLayout, sync_start}
 use Rattle.requirement_table.specs.declared.entries.Placed.{Placed}
-use Rattle.requirement_table.specs.declared.slots.TheConstants.{SLOTS}
-use Rattle.requirement_table.specs.Slots.{contains_slot, set_of}
+use Rattle.requirement_table.specs.Slots.{contains_slot, set_of, slots}
 use Rattle.requirement_table.specs.Instance.{bytes_of}
 use Rattle.requirement_table.specs.Table.{instance_in, IsWellPlaced}
 use Rattle.trigger_codec.specs.declared.message.Trigger.{Trigger}
 use Rattle.trigger_codec.specs.Bytes.{trigger_of}
 use Rattle.async_window.specs.declared.request.Owner.{Owner}
 use Rattle.async_window.specs.declared.request.Request.{Request}
-use Rattle.async_window.specs.Mailbox.{IsMail, Mail, mail_after, mail_offer, unsent_of, without_first}
+use Rattle.async_window.specs.Mailbox.{IsLeastWith, IsMail, Mail, mail_after, mail_offer, unsent_of, without_first}
 use Rattle.node_model.specs.Opening.{first_identifier}
 
 -- a cycle that is open for a node: its number, the length of its synchronous window, the slots that are flagged, and the node's slots
@@ -100,7 +99,7 @@ is_own_slot entries id = list_any (λ p. first_identifier + p.entry.slot == id) 
 
 -- an open cycle in which one more slot was heard
 abbrev pub with_heard : ℕ → Opened → Opened
-with_heard slot opened = record opened { heard = set_of SLOTS (λ s. (s == slot) || contains_slot opened.heard s) }
+with_heard slot opened = record opened { heard = set_of slots (λ s. (s == slot) || contains_slot opened.heard s) }
 
 -- a node that marks a slot in the open cycle, where one is open
 abbrev pub after_slot : NodeState → ℕ → NodeState
@@ -144,7 +143,7 @@ abbrev pub offer_in : NodeState → ℕ → Opened → Option ℕ
 offer_in node at opened =
     if nat_eq (at / node.layout.cycle) opened.cycle
     then (if nat_le (sync_start node.layout opened.cycle opened.width) at
-    then option_map (λ slot. first_identifier + slot) (least_where SLOTS (is_due node.entries opened))
+    then option_map (λ slot. first_identifier + slot) (least_where slots (is_due node.entries opened))
     else mail_offer node.layout opened.width node.mail at)
     else None
 
@@ -155,6 +154,10 @@ node_offer node at = offered_by node.opened
     offered_by : Option Opened → Option ℕ
     offered_by None = None
     offered_by (Some opened) = offer_in node at opened
+
+-- the least time behind `at` at which the node offers something; none where it never does
+abbrev pub IsNextOffer : NodeState → ℕ → Option ℕ → Type 0
+IsNextOffer node at time = IsLeastWith (λ later. (at < later) × IsSome (node_offer node later)) time
 
 -- the bytes of a frame that a node offers at a time: those of its first unsent request of the identifier, or of the instance of the slot
 abbrev pub node_bytes : NodeState → ℕ → ℕ → List ℕ

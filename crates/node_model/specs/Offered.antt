@@ -4,11 +4,12 @@ use Rattle.std.specs.Prelude.{◌≡◌, ℕ, ◌+◌, ◌<◌, ◌≤◌, true,
 use Rattle.can_frame.specs.DataFrame.{DataFrame}
 use Rattle.can_frame.specs.declared.data_frame.TimedFrame.{TimedFrame}
 use Rattle.cycle_layout.specs.Layout.{CycleLayout}
-use Rattle.requirement_table.specs.Slots.{contains_slot}
+use Rattle.requirement_table.specs.Slots.{contains_slot, slots}
 use Rattle.trigger_codec.specs.Bytes.{trigger_frame}
 use Rattle.async_window.specs.declared.request.Request.{Request}
 use Rattle.async_window.specs.Waiting.{unsent_after, MayStart}
-use Rattle.node_model.specs.Opening.{Opening, slots, first_identifier, bytes_in, width_of, start_of, end_of_cycle, window_start}
+use Rattle.requirement_table.specs.Opening.{Opening, bytes_in, width_of}
+use Rattle.node_model.specs.Opening.{first_identifier, start_of, end_of_cycle, window_start}
 
 -- the trigger is offered at the cycle's start
 pub record OffersTrigger (layout : CycleLayout) (opening : Opening) (at : ℕ) (frame : DataFrame) : Type 0 where

@@ -1,36 +1,11 @@
--- An opened cycle, and the frames of its flagged slots. Times and lengths are bit times.
-use Rattle.std.specs.Prelude.{ℕ, ◌+◌, ◌-◌, ◌*◌, List, [], length, Option, option_map, unwrap_or}
+-- The times of an opened cycle, in bit times, and the identifiers of its slots.
+use Rattle.std.specs.Prelude.{ℕ, ◌+◌, ◌-◌, ◌*◌}
 use Rattle.cycle_layout.specs.Layout.{CycleLayout}
-use Rattle.requirement_table.specs.declared.entries.Placed.{Placed}
-use Rattle.requirement_table.specs.declared.slots.TheConstants.{SLOTS}
-use Rattle.requirement_table.specs.Slots.{contains_slot, sum_where}
-use Rattle.requirement_table.specs.Instance.{worst, bytes_of}
-use Rattle.requirement_table.specs.Table.{instance_in}
+use Rattle.requirement_table.specs.Opening.{Opening, width_of}
 
--- an opened cycle: its number, the slots that its trigger flags, and the entries that were placed when it was opened
-pub record Opening : Type 0 where
-  pub cycle : ℕ
-  pub mask : ℕ
-  pub placed : List Placed
-
--- the number of slots, and the identifier of slot 0
-abbrev pub slots : ℕ
-slots = SLOTS
-
+-- the identifier of slot 0; that of slot s is s more
 abbrev pub first_identifier : ℕ
 first_identifier = 0x100
-
--- the bytes that the slot sends in the cycle: those of the instance that may be sent in it
-abbrev pub bytes_in : Opening → ℕ → Option (List ℕ)
-bytes_in opening slot = option_map bytes_of (instance_in opening.placed slot opening.cycle)
-
--- the worst length of the slot's frame in the cycle
-abbrev pub slot_cost : Opening → ℕ → ℕ
-slot_cost opening slot = worst (length (unwrap_or (bytes_in opening slot) []))
-
--- the length of the cycle's synchronous window: the worst lengths of its flagged slots together
-abbrev pub width_of : Opening → ℕ
-width_of opening = sum_where slots (contains_slot opening.mask) (slot_cost opening)
 
 -- the times at which the cycle, the next cycle and the cycle's synchronous window start
 abbrev pub start_of : CycleLayout → Opening → ℕ

@@ -1,17 +1,18 @@
 -- How a node stands to the whole bus: which part of what is offered is its own, and what it knows after the frames of a bus.
-use Rattle.std.specs.Prelude.{◌≡◌, ◌≢◌, ℕ, ◌+◌, ◌<◌, ◌≤◌, ◌⊎◌, ◌==◌, ◌&&◌, nat_le, Bool, true, List, All, AllPairs, Contains, map, Some, MatchOption}
+use Rattle.std.specs.Prelude.{◌≡◌, ℕ, ◌+◌, ◌<◌, ◌≤◌, ◌⊎◌, ◌==◌, ◌&&◌, nat_le, Bool, true, List, Contains, map, Some, MatchOption}
 use Rattle.std.specs.List.{list_any}
 use Rattle.can_frame.specs.DataFrame.{DataFrame}
 use Rattle.can_frame.specs.declared.data_frame.TimedFrame.{TimedFrame}
 use Rattle.cycle_layout.specs.Layout.{CycleLayout}
 use Rattle.requirement_table.specs.declared.entries.Placed.{Placed}
-use Rattle.requirement_table.specs.Slots.{contains_slot}
+use Rattle.requirement_table.specs.Slots.{contains_slot, slots}
 use Rattle.requirement_table.specs.Instance.{Instance}
 use Rattle.requirement_table.specs.Table.{instance_in}
 use Rattle.async_window.specs.declared.request.Owner.{Owner}
 use Rattle.async_window.specs.declared.request.Request.{Request}
 use Rattle.async_window.specs.Mailbox.{mail_after}
-use Rattle.node_model.specs.Opening.{Opening, slots, first_identifier, width_of, start_of}
+use Rattle.requirement_table.specs.Opening.{Opening, width_of}
+use Rattle.node_model.specs.Opening.{first_identifier, start_of}
 use Rattle.node_model.specs.Offered.{OffersRequest, OffersSlot}
 use Rattle.node_model.specs.Node.{NodeState, Opened, entries_of, identifiers_of, node_offer, node_frame}
 
@@ -22,12 +23,6 @@ OffersOwn number layout owners requests opening past at frame =
     (OffersRequest layout requests opening past at frame × Contains (identifiers_of number owners) frame.identifier)
     ⊎ ((slot : ℕ) × OffersSlot layout opening past at frame slot × ((instance : Instance)
     × (instance_in opening.placed slot opening.cycle ≡ Some instance) × (instance.placed.entry.node ≡ number)))
-
--- owners: each of an asynchronous identifier of its own
-pub record AreOwners (owners : List Owner) : Type 0 where
-  pub distinct : AllPairs (λ one other. one.id ≢ other.id) owners
-  pub least : All (λ owner. 0x200 ≤ owner.id) owners
-  pub greatest : All (λ owner. owner.id ≤ 0x7EF) owners
 
 -- what a node offers at a time is the least of its own part, and nothing where nothing of it is offered
 abbrev pub OffersLeastOwn : CycleLayout → List Owner → List Request → Opening → List TimedFrame → ℕ → NodeState → Type 0

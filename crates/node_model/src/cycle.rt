@@ -2,8 +2,7 @@
 
 ghost use Rattle.std.specs.Prelude.{◌≡◌, ℕ, ◌+◌, ◌^◌, ◌<◌, ◌&&◌, not, nat_lt, max, if◌then◌else◌, is_some, false, true, List, Some, None, IfSome, MatchOption, option_map};
 ghost use Rattle.requirement_table.specs.declared.entries.Placed.{Placed};
-ghost use Rattle.requirement_table.specs.declared.slots.TheConstants.{SLOTS};
-ghost use Rattle.requirement_table.specs.Slots.{contains_slot};
+ghost use Rattle.requirement_table.specs.Slots.{contains_slot, slots};
 ghost use Rattle.requirement_table.specs.Table.{IsWellPlaced};
 ghost use Rattle.node_model.specs.Opening.{first_identifier};
 ghost use Rattle.node_model.specs.Node.{least_where, opened_by, with_heard};
@@ -67,7 +66,7 @@ pub fn after_learning(before: &Option<Open>, entries: &[Placed]) -> Option<Open>
 
 /// The open cycle, where there is one, of a node that heard a frame of its slot.
 pub fn after_slot(before: &Option<Open>, slot: u8) -> Option<Open>
-    requires slot { slot < SLOTS }
+    requires slot { slot < slots }
     ensures opened { option_map opened_of result ≡ option_map (with_heard slot) (option_map opened_of before.now) }
     ensures due { (entries : List Placed) → IfSome before.now (KnowsDue entries) → IfSome result (KnowsDue entries) }
 {
@@ -83,7 +82,7 @@ pub fn after_slot(before: &Option<Open>, slot: u8) -> Option<Open>
 
 /// The identifier of the least slot that is to be sent in a cycle.
 pub fn least_due(open_cycle: &Open) -> Option<u16>
-    ensures least { result ≡ option_map (λ slot. first_identifier + slot) (least_where SLOTS (contains_slot open_cycle.now.due)) }
+    ensures least { result ≡ option_map (λ slot. first_identifier + slot) (least_where slots (contains_slot open_cycle.now.due)) }
 {
     Some(FIRST_IDENTIFIER + u16::from(least_slot(open_cycle.due)?))
 }
@@ -92,7 +91,7 @@ pub fn least_due(open_cycle: &Open) -> Option<u16>
 /// `window`.
 pub fn next_due(open_cycle: &Open, at: u64, window: u64, end: u64) -> Option<u64>
     requires time { at < 2 ^ 60 }
-    ensures next { result ≡ (if is_some (least_where SLOTS (contains_slot open_cycle.now.due)) && nat_lt (max (at + 1) window) end
+    ensures next { result ≡ (if is_some (least_where slots (contains_slot open_cycle.now.due)) && nat_lt (max (at + 1) window) end
         then Some (max (at + 1) window) else None) }
 {
     least_slot(open_cycle.due)?;
@@ -102,30 +101,30 @@ pub fn next_due(open_cycle: &Open, at: u64, window: u64, end: u64) -> Option<u64
 
 /// The flagged slots that can be sent and were not heard.
 fn unheard(flags: Mask, sendable: Mask, heard: Mask) -> Mask
-    ensures slots { (slot : ℕ) → slot < SLOTS → contains_slot result slot
+    ensures slots { (slot : ℕ) → slot < slots → contains_slot result slot
         ≡ (contains_slot flags slot && (contains_slot sendable slot && not (contains_slot heard slot))) }
 {
     Mask::from_bits(flags.bits() & sendable.bits() & !heard.bits())
 }
 
 /// The slot of an identifier, where it is one of a set.
-pub fn slot_among(slots: Mask, id: u16) -> Option<u8>
+pub fn slot_among(among: Mask, id: u16) -> Option<u8>
     ensures slot { MatchOption result
-        ((slot : ℕ) → first_identifier + slot ≡ id → contains_slot slots slot ≡ false)
-        (λ slot. (first_identifier + slot ≡ id) × (slot < SLOTS) × (contains_slot slots slot ≡ true)) }
+        ((slot : ℕ) → first_identifier + slot ≡ id → contains_slot among slot ≡ false)
+        (λ slot. (first_identifier + slot ≡ id) × (slot < slots) × (contains_slot among slot ≡ true)) }
 {
-    slots.known();
+    among.known();
     if id < FIRST_IDENTIFIER || FIRST_IDENTIFIER + u16::from(SLOTS) <= id {
         return None;
     }
     let slot = (id - FIRST_IDENTIFIER) as u8;
-    slots.has(slot).then_some(slot)
+    among.has(slot).then_some(slot)
 }
 
 /// The least slot of a set.
-fn least_slot(slots: Mask) -> Option<u8>
-    ensures least { result ≡ least_where SLOTS (contains_slot slots) }
+fn least_slot(among: Mask) -> Option<u8>
+    ensures least { result ≡ least_where slots (contains_slot among) }
 {
-    let bits = slots.bits();
+    let bits = among.bits();
     (bits != 0).then_some(bits.trailing_zeros() as u8)
 }

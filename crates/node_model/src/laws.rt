@@ -4,14 +4,16 @@ ghost use Rattle.std.specs.Prelude.{◌≡◌, ◌≢◌, ℕ, ◌+◌, ◌/◌,
 ghost use Rattle.can_frame.specs.declared.data_frame.TimedFrame.{TimedFrame};
 ghost use Rattle.cycle_layout.specs.Layout.{CycleLayout};
 ghost use Rattle.requirement_table.specs.declared.entries.Placed.{Placed};
-ghost use Rattle.requirement_table.specs.declared.slots.TheConstants.{SLOTS};
+ghost use Rattle.requirement_table.specs.Slots.{slots};
 ghost use Rattle.requirement_table.specs.Table.{IsWellPlaced};
 ghost use Rattle.trigger_codec.specs.Bytes.{trigger_frame};
 ghost use Rattle.async_window.specs.declared.request.Owner.{Owner};
 ghost use Rattle.async_window.specs.declared.request.Request.{Request};
-ghost use Rattle.node_model.specs.Opening.{Opening, start_of, width_of};
+ghost use Rattle.requirement_table.specs.Opening.{Opening, width_of};
+ghost use Rattle.node_model.specs.Opening.{start_of};
 ghost use Rattle.node_model.specs.Node.{IsNode, NodeState, after_hearing, learnt, node_offer};
-ghost use Rattle.node_model.specs.Own.{AreApart, AreOwners, OffersLeastOwn, Stands, StandsIn};
+ghost use Rattle.async_window.specs.Owners.{AreOwners};
+ghost use Rattle.node_model.specs.Own.{AreApart, OffersLeastOwn, Stands, StandsIn};
 
 use async_window::laws::{offer_laws, taking_laws, unsent_laws};
 
@@ -35,7 +37,7 @@ pub fn hears_a_cycle()
         → Stands layout owners requests placed past next (learnt placed node) }
     ensures trigger { (layout : CycleLayout) (owners : List Owner) (requests : List Request) (opening : Opening)
         (past : List TimedFrame) (sent : TimedFrame) (node : NodeState)
-        → AreOwners owners → width_of opening ≤ layout.window → layout.window ≤ 16383 → opening.mask < 2 ^ SLOTS
+        → AreOwners owners → width_of opening ≤ layout.window → layout.window ≤ 16383 → opening.mask < 2 ^ slots
         → All (λ earlier. earlier.start < start_of layout opening) past
         → sent.frame ≡ trigger_frame opening.cycle (width_of opening) opening.mask
         → Stands layout owners requests opening.placed past opening.cycle node

@@ -1,12 +1,12 @@
 //! A node, which offers what follows from what it learnt and heard.
 
 ghost use Rattle.std.specs.Prelude.{◌≡◌, ◌≢◌, ℕ, ◌+◌, ◌*◌, ◌/◌, ◌^◌, ◌<◌, ◌≤◌, [], All, AllPairs, IfOk, IsSome, MatchOption, OnErr, OnOk, Some, None, false, true, length};
-ghost use Rattle.requirement_table.specs.declared.slots.TheConstants.{SLOTS};
-ghost use Rattle.requirement_table.specs.Slots.{contains_slot};
+ghost use Rattle.requirement_table.specs.Slots.{slots};
 ghost use Rattle.requirement_table.specs.Table.{IsWellPlaced};
 ghost use Rattle.async_window.specs.Mailbox.{IsNextInCycle, left};
+ghost use Rattle.async_window.specs.Owners.{AreOwners};
 ghost use Rattle.node_model.specs.Opening.{first_identifier};
-ghost use Rattle.node_model.specs.Node.{IsNode, after_hearing, after_opening, after_request, after_slot, fresh_node, is_own_slot, learnt, next_trigger, node_frame, node_offer};
+ghost use Rattle.node_model.specs.Node.{IsNextOffer, IsNode, after_hearing, after_opening, after_request, after_slot, fresh_node, is_own_slot, learnt, next_trigger, node_frame, node_offer};
 ghost use Rattle.node_model.specs.Kept.{IsClosedAt, IsOpenAt};
 
 use crate::cycle::{self, FIRST_IDENTIFIER, Open};
@@ -14,7 +14,7 @@ use crate::entries;
 use async_window::{Mailboxes, Owner, Request};
 use can_frame::{Frame, TimedFrame};
 use cycle_layout::Layout;
-use requirement_table::{Mask, Placed, SLOTS};
+use requirement_table::{Mask, Placed};
 use std::alloc::{AllocError, Global};
 use std::marker::Model;
 use trigger_codec::{TRIGGER_IDENTIFIER, Trigger, decode};
@@ -57,7 +57,15 @@ impl Model for Node {
       spare = vec_capacity n.entries;
     } };
 
-    ghost invariant = { λ n. IsKept n.layout.window n.next n.frames n.entries.items n.own n.mailboxes n.opened };
+    ghost invariant = { λ n. IsKept (record {
+      number = n.number;
+      layout = n.layout;
+      entries = n.entries.items;
+      mail = n.mailboxes;
+      opened = option_map opened_of n.opened;
+      next = n.next;
+      frames = n.frames;
+    }) n.own n.opened };
 }
 
 impl Node {
@@ -71,9 +79,7 @@ impl Node {
         owners: &[Owner],
         requests: &[Request],
     ) -> Result<Node, AllocError>
-        requires distinct { AllPairs (λ one other. one.id ≢ other.id) owners.now }
-        requires least { All (λ owner. 0x200 ≤ owner.id) owners.now }
-        requires greatest { All (λ owner. owner.id ≤ 0x7EF) owners.now }
+        requires owners { AreOwners owners.now }
         requires arrivals { AllPairs (λ one other. one.at ≤ other.at) requests.now }
         requires early { All (λ request. request.at < 2 ^ 40) requests.now }
         ensures fresh { IfOk result (λ node. node.state ≡ fresh_node layout owners.now requests.now number) }
@@ -167,14 +173,14 @@ impl Node {
     /// The slot of an identifier, where the node has an entry in it.
     fn own_slot(&self, id: u16) -> Option<u8>
         ensures slot { MatchOption result (is_own_slot self.now.state.entries id ≡ false)
-            (λ slot. (is_own_slot self.now.state.entries id ≡ true) × (first_identifier + slot ≡ id) × (slot < SLOTS)) }
+            (λ slot. (is_own_slot self.now.state.entries id ≡ true) × (first_identifier + slot ≡ id) × (slot < slots)) }
     {
         cycle::slot_among(self.own, id)
     }
 
     /// Marks a slot in the open cycle, where one is open.
     fn mark(&mut self, slot: u8)
-        requires slot { slot < SLOTS }
+        requires slot { slot < slots }
         ensures marked { self.new.state ≡ after_slot self.old.state slot }
         ensures spare { self.new.spare ≡ self.old.spare }
     {
@@ -232,6 +238,17 @@ impl Node {
             Some(next) => Some(next),
             None => cycle::next_due(&open_cycle, at, window, end),
         }
+    }
+
+    /// The least time behind `at`, in whatever cycle, at which `offer` is something while nothing is heard; `None` exactly where there is
+    /// none.
+    pub fn next_offer(&self, at: u64) -> Option<u64>
+        requires time { at < 2 ^ 60 }
+        ensures next { IsNextOffer self.now.state at result }
+    {
+        let open_cycle = self.opened?;
+        let start = open_cycle.cycle * u64::from(self.layout.cycle());
+        self.wake(at.max(start))
     }
 
     /// The frame that the node offers at a time under an identifier.

@@ -1,3 +1,4 @@
-pub mod Stuffs
-pub mod Faults
-pub mod Places
+mod Faults
+mod Places
+pub mod Shared
+mod Stuffs

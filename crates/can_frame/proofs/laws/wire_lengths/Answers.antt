@@ -1,6 +1,6 @@
 -- The plain part has 34 + 8n bits, stuffing adds fewer than one for each four, and 13 follow.
 use Rattle.std.proofs.Common.{◌≡◌, ◌+◌, ◌*◌, length, arith}
-use Rattle.stuff_bound.proofs.Stuffs.{length-stuffed-least, length-stuffed-most}
+use Rattle.stuff_bound.proofs.Shared.{length-stuffed-least, length-stuffed-most}
 use Rattle.can_frame.specs.DataFrame.{DataFrame}
 use Rattle.can_frame.specs.Crc.{sequence_of}
 use Rattle.can_frame.specs.Wire.{covered, plain}

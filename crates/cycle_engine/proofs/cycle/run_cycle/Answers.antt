@@ -12,14 +12,14 @@ use Rattle.cycle_engine.proofs.cycle.run_cycle.Goals as goal
 pub run-requires-clause-next : goal.run-requires-clause-next
 run-requires-clause-next c =
     subst (λ nodes. All (λ node. node.next ≡ c.args.order.now.cycle) nodes) (sym c.in_ok-learn.ensures.learnt)
-    (learnt_by-next c.args.order.now.learned c.args.order.now.cycle (states_of c.args.nodes.now) c.requires.next)
+    (learnt_by-next c.args.order.now.learned c.args.order.now.cycle (states_of c.args.nodes.now.nodes) c.requires.next)
 
 pub returns-clause-runs : goal.returns-clause-runs
 returns-clause-runs c =
     let order = c.args.order.now in
     let layout = c.args.nodes.now.layout in
     let learned = c.learn.new.self in
-    let nodes = learnt_by order.learned (states_of c.args.nodes.now) in
+    let nodes = learnt_by order.learned (states_of c.args.nodes.now.nodes) in
     let laws : NodeLaws = record {
       positive = c.wire_lengths.ensures.not_empty;
       own_part = c.offers_its_part.ensures.own_part;
@@ -27,11 +27,11 @@ returns-clause-runs c =
       later = c.hears_a_cycle.ensures.later;
       stays = c.stays_a_node.ensures.hearing;
     } in
-    let are = learnt_by-are order.learned (states_of c.args.nodes.now) c.stays_a_node.ensures.learning c.requires.learned c.layout.ensures.are in
+    let are = learnt_by-are order.learned (states_of c.args.nodes.now.nodes) c.stays_a_node.ensures.learning c.requires.learned c.layout.ensures.are in
     let trigger = trigger_frame order.cycle order.l order.mask in
-    let follows = Follows-same (announced learned.layout (order.cycle * learned.layout.cycle) trigger (states_of learned)) (announced layout (order.cycle * layout.cycle) trigger nodes)
+    let follows = Follows-same (announced learned.layout (order.cycle * learned.layout.cycle) trigger (states_of learned.nodes)) (announced layout (order.cycle * layout.cycle) trigger nodes)
     (order.cycle * learned.layout.cycle) (order.cycle * layout.cycle) ((order.cycle + 1) * learned.layout.cycle) ((order.cycle + 1) * layout.cycle) c.run.new.frames.items c.of.result
-    (announced-same learned.layout layout (order.cycle * learned.layout.cycle) (order.cycle * layout.cycle) trigger trigger (states_of learned) nodes
+    (announced-same learned.layout layout (order.cycle * learned.layout.cycle) (order.cycle * layout.cycle) trigger trigger (states_of learned.nodes) nodes
     c.learn.ensures.layout (ap (λ l. order.cycle * l.cycle) c.learn.ensures.layout) refl c.in_ok-learn.ensures.learnt)
     (ap (λ l. order.cycle * l.cycle) c.learn.ensures.layout) (ap (λ l. (order.cycle + 1) * l.cycle) c.learn.ensures.layout) (sym c.of.ensures.list) c.run.ensures.runs in
     cycle_runs laws layout order nodes c.of.result c.layout.ensures.known c.requires.cycle c.requires.window c.known.ensures.below are follows
@@ -41,7 +41,7 @@ returns-clause-stand c = λ owners requests placed past before.
     let order = c.args.order.now in
     let layout = c.args.nodes.now.layout in
     let learned = c.learn.new.self in
-    let nodes = learnt_by order.learned (states_of c.args.nodes.now) in
+    let nodes = learnt_by order.learned (states_of c.args.nodes.now.nodes) in
     let laws : NodeLaws = record {
       positive = c.wire_lengths.ensures.not_empty;
       own_part = c.offers_its_part.ensures.own_part;
@@ -49,15 +49,15 @@ returns-clause-stand c = λ owners requests placed past before.
       later = c.hears_a_cycle.ensures.later;
       stays = c.stays_a_node.ensures.hearing;
     } in
-    let are = learnt_by-are order.learned (states_of c.args.nodes.now) c.stays_a_node.ensures.learning c.requires.learned c.layout.ensures.are in
+    let are = learnt_by-are order.learned (states_of c.args.nodes.now.nodes) c.stays_a_node.ensures.learning c.requires.learned c.layout.ensures.are in
     let trigger = trigger_frame order.cycle order.l order.mask in
-    let follows = Follows-same (announced learned.layout (order.cycle * learned.layout.cycle) trigger (states_of learned)) (announced layout (order.cycle * layout.cycle) trigger nodes)
+    let follows = Follows-same (announced learned.layout (order.cycle * learned.layout.cycle) trigger (states_of learned.nodes)) (announced layout (order.cycle * layout.cycle) trigger nodes)
     (order.cycle * learned.layout.cycle) (order.cycle * layout.cycle) ((order.cycle + 1) * learned.layout.cycle) ((order.cycle + 1) * layout.cycle) c.run.new.frames.items c.of.result
-    (announced-same learned.layout layout (order.cycle * learned.layout.cycle) (order.cycle * layout.cycle) trigger trigger (states_of learned) nodes
+    (announced-same learned.layout layout (order.cycle * learned.layout.cycle) (order.cycle * layout.cycle) trigger trigger (states_of learned.nodes) nodes
     c.learn.ensures.layout (ap (λ l. order.cycle * l.cycle) c.learn.ensures.layout) refl c.in_ok-learn.ensures.learnt)
     (ap (λ l. order.cycle * l.cycle) c.learn.ensures.layout) (ap (λ l. (order.cycle + 1) * l.cycle) c.learn.ensures.layout) (sym c.of.ensures.list) c.run.ensures.runs in
-    let heard : states_of c.run.new.self ≡ heard_by c.of.result nodes =
-    c.run.ensures.heard ∙ ap (λ frames. heard_by frames (states_of learned)) (sym c.of.ensures.list) ∙ ap (λ ns. heard_by c.of.result ns) c.in_ok-learn.ensures.learnt in
+    let heard : states_of c.run.new.self.nodes ≡ heard_by c.of.result nodes =
+    c.run.ensures.heard ∙ ap (λ frames. heard_by frames (states_of learned.nodes)) (sym c.of.ensures.list) ∙ ap (λ ns. heard_by c.of.result ns) c.in_ok-learn.ensures.learnt in
     subst (λ ns. IsBus layout owners requests placed (past ++ c.of.result) (order.cycle + 1) ns) (sym heard)
     (cycle_stands laws layout order nodes c.of.result c.layout.ensures.known c.requires.cycle c.requires.window c.known.ensures.below are follows owners requests placed past before)
 
@@ -67,14 +67,14 @@ returns-clause-next c =
     let learned = c.learn.new.self in
     let length = learned.layout.cycle in
     let trigger = trigger_frame order.cycle order.l order.mask in
-    let before = learnt_by order.learned (states_of c.args.nodes.now) in
+    let before = learnt_by order.learned (states_of c.args.nodes.now.nodes) in
     let are = subst (All IsNode) (sym c.in_ok-learn.ensures.learnt)
-    (learnt_by-are order.learned (states_of c.args.nodes.now) c.stays_a_node.ensures.learning c.requires.learned c.layout.ensures.are) in
+    (learnt_by-are order.learned (states_of c.args.nodes.now.nodes) c.stays_a_node.ensures.learning c.requires.learned c.layout.ensures.are) in
     let at = subst (λ nodes. All (λ node. node.next ≡ order.cycle) nodes) (sym c.in_ok-learn.ensures.learnt)
-    (learnt_by-next order.learned order.cycle (states_of c.args.nodes.now) c.requires.next) in
+    (learnt_by-next order.learned order.cycle (states_of c.args.nodes.now.nodes) c.requires.next) in
     let longer : order.cycle * length < (order.cycle + 1) * length =
     omega (arith, add-mul order.cycle 1 length, ap (λ l. l.cycle) c.learn.ensures.layout, c.layout.ensures.known.cycle_range.above) in
-    let behind = AtCycle-behind c.offers_in_range.ensures.in_range c.stays_a_node.ensures.hearing learned.layout ((order.cycle + 1) * length) (states_of learned) c.run.new.frames.items
+    let behind = AtCycle-behind c.offers_in_range.ensures.in_range c.stays_a_node.ensures.hearing learned.layout ((order.cycle + 1) * length) (states_of learned.nodes) c.run.new.frames.items
     (order.cycle * length) order.cycle trigger longer refl are c.requires.cycle at c.run.ensures.runs in
     subst (λ nodes. All (λ node. node.next ≡ order.cycle + 1) nodes)
-    (told-heard c.run.new.frames.items (announced learned.layout (order.cycle * length) trigger (states_of learned)) ∙ sym c.run.ensures.heard) behind
+    (told-heard c.run.new.frames.items (announced learned.layout (order.cycle * length) trigger (states_of learned.nodes)) ∙ sym c.run.ensures.heard) behind

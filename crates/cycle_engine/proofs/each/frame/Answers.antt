@@ -2,7 +2,7 @@ use Rattle.std.proofs.Common.{[], refl, sym, ap, ◌∙◌}
 use Rattle.std.specs.Option.{option_map_or}
 use Rattle.std.proofs.lemmas.Option.{none-some}
 use Rattle.node_model.specs.Node.{node_frame, node_offer}
-use Rattle.cycle_engine.specs.Stations.{known_by}
+use Rattle.cycle_engine.specs.Nodes.{states_of}
 use Rattle.cycle_engine.proofs.Lists.{find-offered}
 use Rattle.cycle_engine.proofs.NodesOffer.{first_from-this, first_from-other, first_from-none}
 use Rattle.cycle_engine.proofs.each.frame.Goals as goal
@@ -25,6 +25,6 @@ loop-node-preserved c =
 
 pub unreachable-requires : goal.unreachable-requires
 unreachable-requires c =
-    let found = find-offered (λ node. node_offer node c.args.at) (known_by c.args.nodes.now) c.args.id c.requires.offered in
+    let found = find-offered (λ node. node_offer node c.args.at) (states_of c.args.nodes.now) c.args.id c.requires.offered in
     let nothing = c.loop-node.invariant ∙ first_from-none (λ node. node_offer node c.args.at) c.args.nodes.now c.args.id c.loop-node.node-index c.loop-node-test.false in
     absurd (none-some found.0 (sym nothing ∙ found.3))

@@ -1,11 +1,9 @@
-use Rattle.std.proofs.Common.{◌≡◌, ℕ, ◌+◌, ◌*◌, ◌/◌, ◌<◌, ◌≤◌, None, get_or}
-use Rattle.node_model.specs.Node.{NodeView, node_offer}
+use Rattle.std.proofs.Common.{take}
+use Rattle.bus_line.specs.Stations.{IsWake}
+use Rattle.cycle_engine.specs.Nodes.{states_of}
+use Rattle.cycle_engine.specs.Stations.{offered_by_nodes}
 use Rattle.cycle_engine.proofs.each.wake.Given as goal
 
--- up to `next`, in the cycle, the nodes before this one offer nothing
+-- the least time at which one of the nodes before this one offers something
 abbrev pub invariant-loop-node : goal.invariant-loop-node
-invariant-loop-node l = record {
-  behind : l.at < l.next;
-  within : l.next ≤ (l.at / l.cycle + 1) * l.cycle;
-  quiet : (k : ℕ) (d : NodeView) → k < l.node-index → (later : ℕ) → l.at < later → later < l.next → node_offer (get_or l.nodes k d).state later ≡ None;
-}
+invariant-loop-node l = IsWake (offered_by_nodes (states_of (take l.node-index l.nodes))) l.at l.next

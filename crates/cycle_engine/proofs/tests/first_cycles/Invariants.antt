@@ -6,5 +6,5 @@ use Rattle.cycle_engine.proofs.tests.first_cycles.Given as goal
 abbrev pub invariant-loop-cycle : goal.invariant-loop-cycle
 invariant-loop-cycle l = record {
   layout : l.nodes.layout ≡ l.initial.nodes.layout;
-  next : All (λ node. node.next ≡ l.cycle) (states_of l.nodes);
+  next : All (λ node. node.next ≡ l.cycle) (states_of l.nodes.nodes);
 }

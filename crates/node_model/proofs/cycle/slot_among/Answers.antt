@@ -6,6 +6,6 @@ use Rattle.node_model.proofs.cycle.slot_among.Goals.{then-id-lt-FIRST_IDENTIFIER
 pub returns-then-id-lt-FIRST_IDENTIFIER : goal.returns-then-id-lt-FIRST_IDENTIFIER
 returns-then-id-lt-FIRST_IDENTIFIER c =
     elim c.then-id-lt-FIRST_IDENTIFIER.branch [
-      | then-id-lt-FIRST_IDENTIFIER-via-then-id-lt-FIRST_IDENTIFIER w ↦ record { slot = IsAmong-outside c.args.slots c.args.id c.known.ensures.below (inl (omega arith)) }
-      | then-id-lt-FIRST_IDENTIFIER-via-else-id-lt-FIRST_IDENTIFIER+then-from-id w ↦ record { slot = IsAmong-outside c.args.slots c.args.id c.known.ensures.below (inr (omega arith)) }
+      | then-id-lt-FIRST_IDENTIFIER-via-then-id-lt-FIRST_IDENTIFIER w ↦ record { slot = IsAmong-outside c.args.among c.args.id c.known.ensures.below (inl (omega arith)) }
+      | then-id-lt-FIRST_IDENTIFIER-via-else-id-lt-FIRST_IDENTIFIER+then-from-id w ↦ record { slot = IsAmong-outside c.args.among c.args.id c.known.ensures.below (inr (omega arith)) }
     ]

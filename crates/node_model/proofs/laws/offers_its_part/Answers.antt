@@ -1,4 +1,4 @@
-use Rattle.node_model.specs.Opening.{width_of}
+use Rattle.requirement_table.specs.Opening.{width_of}
 use Rattle.node_model.proofs.OwnPart.{offers_own_part}
 use Rattle.node_model.proofs.laws.offers_its_part.Goals as goal
 

@@ -2,8 +2,7 @@ use Rattle.std.proofs.Common.{[], refl, inl, sym, ap, ◌∙◌, subst, arith}
 use Rattle.std.specs.List.{slice_get}
 use Rattle.std.proofs.lemmas.List.{length-map}
 use Rattle.node_model.specs.Node.{fresh_node}
-use Rattle.cycle_engine.specs.Nodes.{IsBus, IsNumber, left_in}
-use Rattle.cycle_engine.specs.Stations.{known_by}
+use Rattle.cycle_engine.specs.Nodes.{IsBus, IsNumber, left_in, states_of}
 use Rattle.cycle_engine.proofs.FreshNodes.{AreNodes-fresh, IsBus-fresh, IsNumber-below, fresh-at, known-each}
 use Rattle.cycle_engine.proofs.Left.{left-fresh}
 use Rattle.cycle_engine.proofs.nodes.Nodes.new.Goals as goal
@@ -16,7 +15,7 @@ new-requires c =
     let made = c.in_ok-made.made.items in
     let each = known-each (fresh_node layout owners requests) made c.args.nodes c.in_ok-made.ensures.count c.in_ok-made.ensures.each in
     record {
-      nodes = AreNodes-fresh layout owners requests (known_by made) c.args.nodes (length-map made (λ x. x.state) ∙ c.in_ok-made.ensures.count) each
+      nodes = AreNodes-fresh layout owners requests (states_of made) c.args.nodes (length-map made (λ x. x.state) ∙ c.in_ok-made.ensures.count) each
           c.requires.few c.requires.owners c.in_ok-made.ensures.are (λ one other apart are well first second.
           c.nodes_are_apart.ensures.by_number layout owners requests requests [] [] [] [] 0 0 one other apart are well (inl refl) first second);
     }
@@ -28,8 +27,8 @@ returns-clause-each c = λ number within.
     let requests = c.args.requests.now in
     let made = c.in_ok-made.made.items in
     let each = known-each (fresh_node layout owners requests) made c.args.nodes c.in_ok-made.ensures.count c.in_ok-made.ensures.each in
-    ap (λ v. slice_get (known_by v.nodes) number) c.new.ensures.stations
-    ∙ fresh-at layout owners requests (known_by made) c.args.nodes (length-map made (λ x. x.state) ∙ c.in_ok-made.ensures.count) each number within
+    ap (λ v. slice_get (states_of v.nodes) number) c.new.ensures.stations
+    ∙ fresh-at layout owners requests (states_of made) c.args.nodes (length-map made (λ x. x.state) ∙ c.in_ok-made.ensures.count) each number within
 
 pub returns-clause-numbers : goal.returns-clause-numbers
 returns-clause-numbers c = λ number within.
@@ -38,8 +37,8 @@ returns-clause-numbers c = λ number within.
     let requests = c.args.requests.now in
     let made = c.in_ok-made.made.items in
     let each = known-each (fresh_node layout owners requests) made c.args.nodes c.in_ok-made.ensures.count c.in_ok-made.ensures.each in
-    subst (λ v. IsNumber (known_by v.nodes) number) (sym c.new.ensures.stations)
-    (IsNumber-below layout owners requests (known_by made) c.args.nodes (length-map made (λ x. x.state) ∙ c.in_ok-made.ensures.count) each number within)
+    subst (λ v. IsNumber (states_of v.nodes) number) (sym c.new.ensures.stations)
+    (IsNumber-below layout owners requests (states_of made) c.args.nodes (length-map made (λ x. x.state) ∙ c.in_ok-made.ensures.count) each number within)
 
 pub returns-clause-bus : goal.returns-clause-bus
 returns-clause-bus c =
@@ -48,8 +47,8 @@ returns-clause-bus c =
     let requests = c.args.requests.now in
     let made = c.in_ok-made.made.items in
     let each = known-each (fresh_node layout owners requests) made c.args.nodes c.in_ok-made.ensures.count c.in_ok-made.ensures.each in
-    subst (λ v. IsBus layout owners requests [] [] 0 (known_by v.nodes)) (sym c.new.ensures.stations)
-    (IsBus-fresh layout owners requests (known_by made) c.args.nodes (length-map made (λ x. x.state) ∙ c.in_ok-made.ensures.count) each
+    subst (λ v. IsBus layout owners requests [] [] 0 (states_of v.nodes)) (sym c.new.ensures.stations)
+    (IsBus-fresh layout owners requests (states_of made) c.args.nodes (length-map made (λ x. x.state) ∙ c.in_ok-made.ensures.count) each
     c.requires.owners c.requires.numbers c.requires.owned)
 
 pub invariant_of-result : goal.invariant_of-result
@@ -60,9 +59,9 @@ invariant_of-result c =
     let made = c.in_ok-made.made.items in
     let each = known-each (fresh_node layout owners requests) made c.args.nodes c.in_ok-made.ensures.count c.in_ok-made.ensures.each in
     let long = length-map made (λ x. x.state) ∙ c.in_ok-made.ensures.count in
-    let are = AreNodes-fresh layout owners requests (known_by made) c.args.nodes long each
+    let are = AreNodes-fresh layout owners requests (states_of made) c.args.nodes long each
     c.requires.few c.requires.owners c.in_ok-made.ensures.are (λ one other apart are well first second.
     c.nodes_are_apart.ensures.by_number layout owners requests requests [] [] [] [] 0 0 one other apart are well (inl refl) first second) in
-    let few = left-fresh layout owners requests (known_by made) c.args.nodes long each are in
-    let nodes = ap (λ v. left_in (known_by v.nodes)) c.new.ensures.stations in
+    let few = left-fresh layout owners requests (states_of made) c.args.nodes long each are in
+    let nodes = ap (λ v. left_in (states_of v.nodes)) c.new.ensures.stations in
     omega (arith, few, nodes, c.number_of.ensures.number, c.number_of.type_inv)

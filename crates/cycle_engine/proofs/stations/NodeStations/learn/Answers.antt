@@ -1,16 +1,17 @@
 use Rattle.std.proofs.Common.{map, sym, ap, ◌∙◌, subst}
 use Rattle.std.proofs.lemmas.List.{take_at}
 use Rattle.node_model.specs.Node.{learnt}
-use Rattle.cycle_engine.specs.Stations.{AreStations, known_by}
+use Rattle.cycle_engine.specs.Nodes.{states_of}
+use Rattle.cycle_engine.specs.Stations.{AreStations}
 use Rattle.cycle_engine.proofs.NodesApart.{AreStations-learning}
 use Rattle.cycle_engine.proofs.stations.NodeStations.learn.Goals as goal
 
 pub invariant_of-self : goal.invariant_of-self
 invariant_of-self c =
     let placed = c.args.placed.now in
-    let known = ap known_by (take_at _ _ _ (c.learn.auto.nodes ∙ c.as_mut_slice.ensures.len)) ∙ c.learn.ensures.learnt
-    ∙ ap (λ nodes. map (learnt placed) (known_by nodes)) c.as_mut_slice.ensures.value in
+    let known = ap states_of (take_at _ _ _ (c.learn.auto.nodes ∙ c.as_mut_slice.ensures.len)) ∙ c.learn.ensures.learnt
+    ∙ ap (λ nodes. map (learnt placed) (states_of nodes)) c.as_mut_slice.ensures.value in
     subst (λ nodes. AreStations (record { layout = c.self.inside.layout; trigger = c.self.inside.trigger; nodes = nodes })) (sym known)
-    (AreStations-learning (record { layout = c.self.inside.layout; trigger = c.self.inside.trigger; nodes = known_by c.self.inside.nodes.items }) placed
+    (AreStations-learning (record { layout = c.self.inside.layout; trigger = c.self.inside.trigger; nodes = states_of c.self.inside.nodes.items }) placed
     (λ node. c.stays_a_node.ensures.learning placed node c.requires.well_placed)
     (λ one other differ. c.nodes_are_apart.ensures.learning placed one other differ c.requires.well_placed) c.self.invariant)

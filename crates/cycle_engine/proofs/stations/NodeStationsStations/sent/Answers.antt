@@ -1,7 +1,8 @@
 use Rattle.std.proofs.Common.{◌^◌, ◌<◌, All, None, sym, ap, ◌∙◌, subst}
 use Rattle.std.proofs.lemmas.List.{take_at}
 use Rattle.bus_line.specs.Stations.{IsSending}
-use Rattle.cycle_engine.specs.Stations.{AreStations, all_hear, cycle_line, known_by, stationed}
+use Rattle.cycle_engine.specs.Nodes.{states_of}
+use Rattle.cycle_engine.specs.Stations.{AreStations, all_hear, cycle_line, stationed}
 use Rattle.cycle_engine.proofs.NodesApart.{AreNodes-hearing, AreStations-alone, is_trigger}
 use Rattle.cycle_engine.proofs.stations.NodeStationsStations.sent.Goals as goal
 
@@ -9,19 +10,19 @@ pub hear-requires : goal.hear-requires
 hear-requires c = record {
   next = λ zero.
       let sending = subst (λ view. IsSending cycle_line (stationed view) c.args.sent.now) (sym c.self.view_is) c.requires.sending in
-      let some = is_trigger c.offers_in_range.ensures.in_range c.self.inside.trigger (known_by c.self.inside.nodes.items) c.args.sent.now.start c.args.sent.now.frame.identifier
+      let some = is_trigger c.offers_in_range.ensures.in_range c.self.inside.trigger (states_of c.self.inside.nodes.items) c.args.sent.now.start c.args.sent.now.frame.identifier
       c.self.invariant.nodes.are sending.offered.contends zero in
-      subst (λ nodes. All (λ node. node.next < 2 ^ 42) (known_by nodes)) (sym c.as_mut_slice.ensures.value) (c.self.invariant.next some);
+      subst (λ nodes. All (λ node. node.next < 2 ^ 42) (states_of nodes)) (sym c.as_mut_slice.ensures.value) (c.self.invariant.next some);
 }
 
 pub invariant_of-self : goal.invariant_of-self
 invariant_of-self c =
     let sent = c.args.sent.now in
     let layout = c.self.inside.layout in
-    let before = known_by c.self.inside.nodes.items in
+    let before = states_of c.self.inside.nodes.items in
     let sending = subst (λ view. IsSending cycle_line (stationed view) sent) (sym c.self.view_is) c.requires.sending in
-    let known = ap known_by (take_at _ _ _ (c.hear.auto.nodes ∙ c.as_mut_slice.ensures.len)) ∙ c.hear.ensures.heard
-    ∙ ap (λ nodes. all_hear (known_by nodes) sent) c.as_mut_slice.ensures.value in
+    let known = ap states_of (take_at _ _ _ (c.hear.auto.nodes ∙ c.as_mut_slice.ensures.len)) ∙ c.hear.ensures.heard
+    ∙ ap (λ nodes. all_hear (states_of nodes) sent) c.as_mut_slice.ensures.value in
     subst (λ nodes. AreStations (record { layout = layout; trigger = None; nodes = nodes })) (sym known)
     (AreStations-alone layout (all_hear before sent)
     (AreNodes-hearing layout before sent (λ node. c.stays_a_node.ensures.hearing node sent)

@@ -7,7 +7,7 @@ use Rattle.node_model.proofs.node.Node.request_frame.Goals as goal
 
 pub unreachable-requires : goal.unreachable-requires
 unreachable-requires c =
-    let mail = subst (λ (v : NodeView). IsMail v.state.mail) c.self.view_is c.self.invariant.mail in
+    let mail = subst (λ (v : NodeView). IsMail v.state.mail) c.self.view_is c.self.invariant.node.mail in
     let some = offered-mail c.args.self.now.state c.args.at c.args.id mail c.requires.offered c.requires.asynchronous in
     let boxes : c.self.inside.mailboxes ≡ c.args.self.now.state.mail = ap (λ (v : NodeView). v.state.mail) c.self.view_is in
     let frame = rw boxes at (sym c.head.ensures.head ∙ c.in-None.is) in
@@ -15,7 +15,7 @@ unreachable-requires c =
 
 pub returns : goal.returns
 returns c =
-    let mail = subst (λ (v : NodeView). IsMail v.state.mail) c.self.view_is c.self.invariant.mail in
+    let mail = subst (λ (v : NodeView). IsMail v.state.mail) c.self.view_is c.self.invariant.node.mail in
     let boxes : c.self.inside.mailboxes ≡ c.args.self.now.state.mail = ap (λ (v : NodeView). v.state.mail) c.self.view_is in
     let head = rw boxes at (sym c.in-Some.is ∙ c.head.ensures.head) in
     record {

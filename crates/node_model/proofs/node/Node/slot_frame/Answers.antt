@@ -6,12 +6,12 @@ use Rattle.node_model.proofs.node.Node.slot_frame.Goals as goal
 
 pub overflow_sub-slot : goal.overflow_sub-slot
 overflow_sub-slot c =
-    let mail = subst (λ (v : NodeView). IsMail v.state.mail) c.self.view_is c.self.invariant.mail in
+    let mail = subst (λ (v : NodeView). IsMail v.state.mail) c.self.view_is c.self.invariant.node.mail in
     (offered-slot c.args.self.now.state c.args.at c.args.id mail c.requires.offered c.requires.synchronous).from
 
 pub unreachable-requires-in-None : goal.unreachable-requires-in-None
 unreachable-requires-in-None c =
-    let mail = subst (λ (v : NodeView). IsMail v.state.mail) c.self.view_is c.self.invariant.mail in
+    let mail = subst (λ (v : NodeView). IsMail v.state.mail) c.self.view_is c.self.invariant.node.mail in
     let slot = offered-slot c.args.self.now.state c.args.at c.args.id mail c.requires.offered c.requires.synchronous in
     let entries : c.as_slice.result.now ≡ c.args.self.now.state.entries = c.as_slice.ensures.value ∙ ap (λ (v : NodeView). v.state.entries) c.self.view_is in
     let cycle : c.from.result ≡ c.args.self.now.state.layout.cycle = c.from.ensures ∙ c.cycle.ensures.value ∙ ap (λ (v : NodeView). v.state.layout.cycle) c.self.view_is in

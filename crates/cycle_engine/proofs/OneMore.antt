@@ -1,0 +1,182 @@
+-- One opened cycle more, behind the CAN trace of those before it.
+use Rattle.std.proofs.Common.{◌≡◌, ℕ, Bool, true, false, ◌+◌, ◌*◌, ◌<◌, ◌≤◌, ◌↔◌, eqb, max, Option, Some, None, IsSome, List, [], ◌∷◌, ◌++◌, All, Contains, filter, fold, get_or, refl, sym, ap, ◌∙◌, subst, arith, inl, inr}
+use Rattle.std.proofs.lemmas.Bool.{cond-true, cond-false, eq-eqb, false≢true, ne_eqb}
+use Rattle.std.proofs.lemmas.List.{append-nil}
+use Rattle.std.proofs.lemmas.List.Elements.{All-append, All-cons, All-contains, All-head, All-nil, All-push, All-tail, Contains-append_left, Contains-push, Contains-push_cases, filter-append}
+use Rattle.std.proofs.Math.Nat.{div-eq_of_lt-le, div-lt_iff_lt-mul, mul-le-mul_right}
+use Rattle.can_frame.specs.DataFrame.{DataFrame}
+use Rattle.can_frame.specs.Wire.{wire_length}
+use Rattle.can_frame.specs.declared.data_frame.TimedFrame.{TimedFrame}
+use Rattle.cycle_layout.specs.Layout.{CycleLayout, IsLayout}
+use Rattle.requirement_table.specs.Instance.{Instance}
+use Rattle.requirement_table.specs.Table.{instance_in}
+use Rattle.async_window.specs.declared.request.Request.{Request}
+use Rattle.bus_line.specs.Trace.{AgreeAlong, Follows, IsTrace, end_of, free_after}
+use Rattle.requirement_table.specs.Opening.{Opening, width_of}
+use Rattle.node_model.specs.Opening.{start_of, end_of_cycle, window_start}
+use Rattle.cycle_engine.specs.Cycle.{FitsWindow, FollowsTrace, IsRequestFrame, IsSlotFrame, RunsCycle, RunsCycles, cycle_of, frames_in}
+use Rattle.cycle_engine.specs.Offered.{AreAsynchronous, IsCanTrace, offered, offered_in}
+use Rattle.cycle_engine.proofs.Lists.{Contains-here, Contains-later}
+use Rattle.cycle_engine.proofs.OneTrace.{in_cycle}
+use Rattle.cycle_engine.proofs.Window.{AreShort, IsFit, IsLaterFrame, runs_cycle}
+
+-- a filter that nothing passes, and one that everything passes
+filter-none : (p : TimedFrame → Bool) (xs : List TimedFrame) → ((x : TimedFrame) → Contains xs x → p x ≡ false) → filter p xs ≡ []
+filter-none p [] none = refl
+filter-none p (x ∷ xs) none =
+    cond-false (p x) _ _ (none x (Contains-here x xs)) ∙ filter-none p xs (λ y among. none y (Contains-later x xs y among))
+
+filter-all : (p : TimedFrame → Bool) (xs : List TimedFrame) → ((x : TimedFrame) → Contains xs x → p x ≡ true) → filter p xs ≡ xs
+filter-all p [] all = refl
+filter-all p (x ∷ xs) all =
+    cond-true (p x) _ _ (all x (Contains-here x xs)) ∙ ap (λ l. x ∷ l) (filter-all p xs (λ y among. all y (Contains-later x xs y among)))
+
+-- a bus on which all frames end by a time is free then
+free_after-ended : (from until : ℕ) (frames : List TimedFrame) → from ≤ until → All (λ sent. end_of sent ≤ until) frames → free_after from frames ≤ until
+free_after-ended from until [] early ended = early
+free_after-ended from until (sent ∷ later) early ended =
+    free_after-ended (end_of sent) until later (All-head (λ s. end_of s ≤ until) sent later ended) (All-tail (λ s. end_of s ≤ until) sent later ended)
+
+-- what holds of all holds of those in front
+All-front : (P : TimedFrame → Type 0) (front back : List TimedFrame) → All P (front ++ back) → All P front
+All-front P [] back all = All-nil P
+All-front P (x ∷ front) back all = All-cons P x front (All-head P x (front ++ back) all) (All-front P front back (All-tail P x (front ++ back) all))
+
+-- a bus on which no frame starts before a time is not free before it
+free_after-begun : (low from : ℕ) (frames : List TimedFrame) → low ≤ from → All (λ sent. low ≤ sent.start) frames → low ≤ free_after from frames
+free_after-begun low from [] late begun = late
+free_after-begun low from (sent ∷ later) late begun =
+    let first : low ≤ sent.start = All-head (λ s. low ≤ s.start) sent later begun in
+    free_after-begun low (end_of sent) later (omega (arith, first)) (All-tail (λ s. low ≤ s.start) sent later begun)
+
+some-instance : (o : Option Instance) → IsSome o → (i : Instance) × (o ≡ Some i)
+some-instance (Some i) some = (i, refl)
+some-instance None some = absurd (false≢true some)
+
+-- the laws of traces on which this stands
+pub record TraceLaws : Type 0 where
+  pub one_by_one : (layout : CycleLayout) (requests : List Request) (openings : List Opening) (until : ℕ) (trace : List TimedFrame)
+      → IsTrace (offered layout requests openings) until trace ↔ Follows (offered layout requests openings) [] 0 until trace
+  pub joined : (layout : CycleLayout) (requests : List Request) (openings : List Opening) (past : List TimedFrame) (free middle until : ℕ) (front back : List TimedFrame)
+      → middle ≤ until → Follows (offered layout requests openings) past free middle front
+      → Follows (offered layout requests openings) (past ++ front) (max middle (free_after free front)) until back
+      → Follows (offered layout requests openings) past free until (front ++ back)
+  pub more : (layout : CycleLayout) (requests : List Request) (openings others : List Opening) (past other_past : List TimedFrame) (free until : ℕ) (frames : List TimedFrame)
+      → AgreeAlong (offered layout requests openings) (offered layout requests others) past other_past free until frames
+      → Follows (offered layout requests openings) past free until frames → Follows (offered layout requests others) other_past free until frames
+  pub one : (layout : CycleLayout) (requests : List Request) (opening : Opening) (others : List Opening) (past other_past : List TimedFrame) (free until : ℕ) (frames : List TimedFrame)
+      → AgreeAlong (offered_in layout requests opening) (offered layout requests others) past other_past free until frames
+      → Follows (offered_in layout requests opening) past free until frames → Follows (offered layout requests others) other_past free until frames
+  pub within : (layout : CycleLayout) (requests : List Request) (opening : Opening) (past : List TimedFrame) (free until : ℕ) (frames : List TimedFrame)
+      → Follows (offered_in layout requests opening) past free until frames → All (λ sent. (free ≤ sent.start) × (sent.start < until)) frames
+
+module _ (layout : CycleLayout) (known : IsLayout layout) (requests : List Request) (openings : List Opening) (opening : Opening) (trace frames : List TimedFrame)
+    (behind : FollowsTrace layout requests openings opening trace frames) where
+  abbrev with_it : List Opening
+  with_it = openings ++ opening ∷ []
+
+  abbrev start : ℕ
+  start = start_of layout opening
+
+  abbrev ends : ℕ
+  ends = end_of_cycle layout opening
+
+  some_time : 0 < layout.cycle
+  some_time = omega (arith, known.cycle_range.above)
+
+  -- below the cycle's start, the opening offers nothing
+  pub agree-before : AgreeAlong (offered layout requests openings) (offered layout requests with_it) [] [] 0 start trace
+  agree-before front back at frame split from early = (
+    λ offer. (offer.0, Contains-append_left openings (opening ∷ []) offer.0 offer.1, offer.2),
+    λ offer. elim (Contains-push_cases openings opening offer.0 offer.1) [
+      | inl before ↦ (offer.0, before, offer.2)
+      | inr is ↦
+          let time = in_cycle layout requests known opening front at frame (subst (λ o. offered_in layout requests o front at frame) (sym is) offer.2) in
+          absurd (omega (arith, time.0, early))
+    ],
+  )
+
+  -- from its start on, no other opening offers anything
+  pub agree-after : TraceLaws → AgreeAlong (offered_in layout requests opening) (offered layout requests with_it) trace trace start ends frames
+  agree-after laws front back at frame split from early = (
+    λ offer. (opening, Contains-push openings opening, offer),
+    λ offer. elim (Contains-push_cases openings opening offer.0 offer.1) [
+      | inl before ↦
+          let time = in_cycle layout requests known offer.0 (trace ++ front) at frame offer.2 in
+          let below = All-contains (λ o. o.cycle < opening.cycle) openings offer.0 behind.below before in
+          let over : (offer.0.cycle + 1) * layout.cycle ≤ opening.cycle * layout.cycle = mul-le-mul_right layout.cycle (omega (arith, below)) in
+          let begun : All (λ s. start ≤ s.start) (front ++ back) =
+          subst (All (λ s. start ≤ s.start)) split (λ k d within. (laws.within layout requests opening trace start ends frames behind.follows k d within).0) in
+          let late = free_after-begun start start front (omega arith) (All-front (λ s. start ≤ s.start) front back begun) in
+          absurd (omega (arith, time.1, over, from, late))
+      | inr is ↦ subst (λ o. offered_in layout requests o (trace ++ front) at frame) (sym is) offer.2
+    ],
+  )
+
+  longer : start ≤ ends
+  longer = omega arith
+
+  -- the trace with the frames of the cycle is the CAN trace
+  pub more-can_trace : TraceLaws → IsCanTrace layout requests with_it (opening.cycle + 1) (trace ++ frames)
+  more-can_trace laws =
+      let before = (laws.one_by_one layout requests openings start trace).0 behind.can_trace in
+      let front = laws.more layout requests openings with_it [] [] 0 start trace agree-before before in
+      let back = laws.one layout requests opening with_it trace trace start ends frames (agree-after laws) behind.follows in
+      let free : max start (free_after 0 trace) ≡ start = (let early = free_after-ended 0 start trace (omega arith) behind.ended in omega arith) in
+      (laws.one_by_one layout requests with_it ends (trace ++ frames)).1
+      (laws.joined layout requests with_it [] 0 start ends trace frames longer front
+      (subst (λ from. Follows (offered layout requests with_it) trace from ends frames) (sym free) back))
+
+  is_fit : AreShort → FitsWindow layout opening → IsFit layout opening
+  is_fit short fits = record {
+    short = short;
+    present = λ slot within flagged. some-instance (instance_in opening.placed slot opening.cycle) (fits.present slot within flagged);
+    room = (let room = known.room in let width = fits.width in omega arith);
+  }
+
+  pub more-runs : AreShort → AreAsynchronous requests → FitsWindow layout opening → RunsCycle layout opening frames
+  more-runs short asynchronous fits = runs_cycle layout requests opening trace frames (is_fit short fits) asynchronous behind.can_trace.within behind.follows
+
+  all-ended : RunsCycle layout opening frames → All (λ sent. end_of sent ≤ ends) frames
+  all-ended runs =
+      let trigger : end_of runs.trigger ≤ ends = (let e = runs.ends in omega arith) in
+      subst (All (λ sent. end_of sent ≤ ends)) (sym runs.all_frames)
+      (All-cons (λ sent. end_of sent ≤ ends) runs.trigger runs.later trigger (λ k d within. elim (runs.all k d within) [
+        | inl request ↦ let e = request.before in omega arith
+        | inr slot ↦ slot.before
+      ]))
+
+  pub more-ended : AreShort → AreAsynchronous requests → FitsWindow layout opening → All (λ sent. end_of sent ≤ ends) (trace ++ frames)
+  more-ended short asynchronous fits =
+      All-append (λ sent. end_of sent ≤ ends) trace frames (λ k d within. let e = behind.ended k d within in omega arith)
+      (all-ended (more-runs short asynchronous fits))
+
+  -- the frames start in the cycle, and those before it do not
+  in-cycle : TraceLaws → (sent : TimedFrame) → Contains frames sent → cycle_of layout sent ≡ opening.cycle
+  in-cycle laws sent among =
+      let within = All-contains (λ s. (start ≤ s.start) × (s.start < ends)) frames sent (laws.within layout requests opening trace start ends frames behind.follows) among in
+      div-eq_of_lt-le layout.cycle within.0 within.1
+
+  before-cycle : (sent : TimedFrame) → Contains trace sent → cycle_of layout sent < opening.cycle
+  before-cycle sent among =
+      let started : sent.start < start = All-contains (λ s. s.start < start) trace sent behind.can_trace.within among in
+      (div-lt_iff_lt-mul {k = layout.cycle} {x = sent.start} {y = opening.cycle} some_time).1 started
+
+  abbrev is_in : ℕ → TimedFrame → Bool
+  is_in cycle sent = eqb (cycle_of layout sent) cycle
+
+  pub more-cycles : TraceLaws → AreShort → AreAsynchronous requests → FitsWindow layout opening → RunsCycles layout openings trace → RunsCycles layout with_it (trace ++ frames)
+  more-cycles laws short asynchronous fits cycles =
+      All-push (λ o. RunsCycle layout o (frames_in layout o.cycle (trace ++ frames))) openings opening
+      (λ k d within.
+      let o : Opening = get_or openings k d in
+      let below = behind.below k d within in
+      let none : frames_in layout o.cycle frames ≡ [] = filter-none (is_in o.cycle) frames (λ s among. ne_eqb _ _ (λ same. let is = in-cycle laws s among in omega arith)) in
+      let same : frames_in layout o.cycle (trace ++ frames) ≡ frames_in layout o.cycle trace =
+      filter-append (is_in o.cycle) trace frames ∙ ap (λ l. frames_in layout o.cycle trace ++ l) none ∙ append-nil _ in
+      subst (RunsCycle layout o) (sym same) (cycles k d within))
+      (let none : frames_in layout opening.cycle trace ≡ [] = filter-none (is_in opening.cycle) trace (λ s among. ne_eqb _ _ (λ same. let is = before-cycle s among in omega arith)) in
+      let all : frames_in layout opening.cycle frames ≡ frames = filter-all (is_in opening.cycle) frames (λ s among. eq-eqb _ _ (in-cycle laws s among)) in
+      let same : frames_in layout opening.cycle (trace ++ frames) ≡ frames =
+      filter-append (is_in opening.cycle) trace frames ∙ ap (λ l. l ++ frames_in layout opening.cycle frames) none ∙ all in
+      subst (RunsCycle layout opening) (sym same) (more-runs short asynchronous fits))

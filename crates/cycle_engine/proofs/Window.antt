@@ -1,0 +1,361 @@
+-- What a cycle sends: frames of requests that end before its synchronous window, and in that window each pending slot, one after the other
+-- without a gap.
+use Rattle.std.proofs.Common.{◌≡◌, ℕ, zero, suc, ◌+◌, ◌<◌, ◌≤◌, ◌⊎◌, ◌&&◌, not, eqb, true, false, Option, Some, None, IsSome, List, [], ◌∷◌, ◌++◌, length, get_or, refl, ap, sym, ◌∙◌, arith, subst, inl, inr}
+use Rattle.std.specs.Prelude.{slice_get, option_map}
+use Rattle.std.specs.Option.{option_map_or}
+use Rattle.std.specs.List.{All, AllByRecursion}
+use Rattle.std.proofs.Math.Bool.{and-true}
+use Rattle.std.proofs.lemmas.Bool.{cases_eq, cases_lt, both_ways, and_from, and_parts, not-true, not_from_false, eq-eqb, ne_eqb, cond-true, cond-false}
+use Rattle.std.proofs.lemmas.List.Elements.{All-drop, All-filter, All-from_recursion, All-get_or}
+use Rattle.std.proofs.lemmas.Option.{none-some, same_Some, slice_get_within, get_or_from_slice_get}
+use Rattle.can_frame.specs.DataFrame.{DataFrame}
+use Rattle.can_frame.specs.declared.data_frame.TimedFrame.{TimedFrame}
+use Rattle.can_frame.specs.Wire.{wire_length}
+use Rattle.cycle_layout.specs.Layout.{CycleLayout, async_open}
+use Rattle.requirement_table.specs.Slots.{contains_slot, slots}
+use Rattle.requirement_table.specs.Instance.{Instance, bytes_of, payload, worst, worst_of}
+use Rattle.requirement_table.specs.Table.{instance_in, worst_in}
+use Rattle.requirement_table.proofs.Shared.{sum_where-same}
+use Rattle.trigger_codec.specs.Bytes.{trigger_frame}
+use Rattle.async_window.specs.declared.request.Request.{Request}
+use Rattle.async_window.specs.Waiting.{requests_of, frames_with, unsent_after}
+use Rattle.bus_line.specs.Trace.{end_of, Follows, IsNext}
+use Rattle.requirement_table.specs.Opening.{Opening, bytes_in, width_of}
+use Rattle.node_model.specs.Opening.{first_identifier, start_of, end_of_cycle, window_start}
+use Rattle.node_model.specs.Offered.{OffersTrigger, OffersRequest, OffersSlot}
+use Rattle.node_model.specs.Own.{was_sent}
+use Rattle.cycle_engine.specs.Cycle.{IsRequestFrame, IsSentOnce, IsSlotFrame, RunsCycle, of_slot}
+use Rattle.cycle_engine.specs.Offered.{AreAsynchronous, offered_in}
+use Rattle.cycle_engine.proofs.Pending.{IsUnsent-from_test, is_pending, is_pending-other, is_pending-sent, pending_width, was_sent-from_unsent}
+use Rattle.cycle_engine.proofs.SlotSums.{sum_where-member, sum_where-without}
+
+-- a frame that may come behind the trigger of its cycle
+abbrev pub IsLaterFrame : CycleLayout → Opening → TimedFrame → Type 0
+IsLaterFrame layout opening sent = IsRequestFrame layout opening sent ⊎ IsSlotFrame layout opening sent
+
+-- these frames, after the frames `past`, send each pending slot once and no other slot
+record SendsPending (layout : CycleLayout) (opening : Opening) (past frames : List TimedFrame) : Type 0 where
+  each : (slot : ℕ) → slot < slots → is_pending layout opening past slot ≡ true → IsSentOnce layout opening frames slot
+  none : (slot : ℕ) → slot < slots → is_pending layout opening past slot ≡ false → of_slot slot frames ≡ []
+  all : AllByRecursion (IsLaterFrame layout opening) frames
+
+-- what a frame's wire takes
+pub record AreShort : Type 0 where
+  pub some_time : (frame : DataFrame) → 0 < wire_length frame
+  pub in_time : (frame : DataFrame) → wire_length frame ≤ worst (length frame.bytes)
+
+-- what makes a cycle one in which each flagged slot has its frame and its time
+pub record IsFit (layout : CycleLayout) (opening : Opening) : Type 0 where
+  pub short : AreShort
+  pub present : (slot : ℕ) → slot < slots → contains_slot opening.mask slot ≡ true → (i : Instance) × (instance_in opening.placed slot opening.cycle ≡ Some i)
+  pub room : start_of layout opening + 135 + width_of opening ≤ end_of_cycle layout opening
+
+-- a pending slot is offered at any time in the window
+offers_pending : (layout : CycleLayout) (opening : Opening) (past : List TimedFrame) (slot at : ℕ) → IsFit layout opening
+    → slot < slots → is_pending layout opening past slot ≡ true → window_start layout opening ≤ at → at < end_of_cycle layout opening
+    → (frame : DataFrame) × OffersSlot layout opening past at frame slot
+offers_pending layout opening past slot at fit known pending late early =
+    let parts = and_parts (contains_slot opening.mask slot) _ pending in
+    let p = fit.present slot known parts.0 in (
+      record { identifier = first_identifier + slot; bytes = bytes_of p.0 },
+      record {
+        begun = (let room = fit.room in omega arith);
+        late_enough = late;
+        within = early;
+        known = known;
+        flagged = parts.0;
+        unsent = IsUnsent-from_test layout opening past slot (not-true _ parts.1);
+        identifier = refl;
+        bytes = ap (option_map bytes_of) p.1;
+      },
+    )
+
+-- an offered slot is pending
+pending-offered : (layout : CycleLayout) (opening : Opening) (past : List TimedFrame) (at slot : ℕ) (frame : DataFrame)
+    → OffersSlot layout opening past at frame slot → is_pending layout opening past slot ≡ true
+pending-offered layout opening past at slot frame o =
+    and_from _ _ o.flagged (not_from_false _ (was_sent-from_unsent layout opening past slot o.unsent))
+
+-- a pending slot takes at least 55 bit times of the width
+pending_width-positive : (layout : CycleLayout) (opening : Opening) (past : List TimedFrame) (slot : ℕ) → IsFit layout opening
+    → slot < slots → is_pending layout opening past slot ≡ true → 55 ≤ pending_width layout opening past
+pending_width-positive layout opening past slot fit known pending =
+    let flagged = (and_parts (contains_slot opening.mask slot) _ pending).0 in
+    let p = fit.present slot known flagged in
+    let cost : worst_in opening.placed opening.cycle slot ≡ worst_of p.0 = ap (λ o. option_map_or worst_of o 0) p.1 in
+    let member = sum_where-member slots slot (is_pending layout opening past) (worst_in opening.placed opening.cycle) known pending in
+    omega arith
+
+-- one slot less
+pending_width-sent : (layout : CycleLayout) (opening : Opening) (past : List TimedFrame) (sent : TimedFrame) (slot : ℕ)
+    → slot < slots → is_pending layout opening past slot ≡ true
+    → sent.frame.identifier ≡ first_identifier + slot → start_of layout opening ≤ sent.start
+    → pending_width layout opening (past ++ sent ∷ []) + worst_in opening.placed opening.cycle slot ≡ pending_width layout opening past
+pending_width-sent layout opening past sent slot known pending same late =
+    sum_where-without slots slot (is_pending layout opening past) (is_pending layout opening (past ++ sent ∷ [])) (worst_in opening.placed opening.cycle) known pending
+    (is_pending-sent layout opening past sent slot same late)
+    (λ x _ ne. is_pending-other layout opening past sent x (λ same_x. ne (omega arith)))
+
+-- the frames of a slot, with one more in front
+of_slot-same : (slot : ℕ) (sent : TimedFrame) (later : List TimedFrame) → sent.frame.identifier ≡ first_identifier + slot
+    → of_slot slot (sent ∷ later) ≡ sent ∷ of_slot slot later
+of_slot-same slot sent later same = cond-true (eqb sent.frame.identifier (first_identifier + slot)) _ _ (eq-eqb _ _ same)
+
+of_slot-other : (slot : ℕ) (sent : TimedFrame) (later : List TimedFrame) → (sent.frame.identifier ≡ first_identifier + slot → ⊥)
+    → of_slot slot (sent ∷ later) ≡ of_slot slot later
+of_slot-other slot sent later other = cond-false (eqb sent.frame.identifier (first_identifier + slot)) _ _ (ne_eqb _ _ other)
+
+-- a payload has as many bytes as the entry's frames
+length-payload : (n k : ℕ) → length (payload n k) ≡ n
+length-payload zero k = refl
+length-payload (suc n) k = ap suc (length-payload n k)
+
+-- what a slot costs, by the bytes that it sends
+cost-of : (o : Option Instance) (bytes : List ℕ) → option_map bytes_of o ≡ Some bytes → option_map_or worst_of o 0 ≡ worst (length bytes)
+cost-of None bytes is = absurd (none-some bytes is)
+cost-of (Some i) bytes is =
+    ap worst (sym (length-payload i.placed.entry.length i.number)) ∙ ap (λ b. worst (length b)) (same_Some (bytes_of i) bytes is)
+
+-- the frame of a slot takes no more than the slot costs
+slot-in_time : (opening : Opening) (slot : ℕ) (frame : DataFrame) → AreShort → bytes_in opening slot ≡ Some frame.bytes → wire_length frame ≤ worst_in opening.placed opening.cycle slot
+slot-in_time opening slot frame short bytes =
+    let cost = cost-of (instance_in opening.placed slot opening.cycle) frame.bytes bytes in
+    let in_time = short.in_time frame in
+    omega arith
+
+-- the next frame of the window starts as soon as the bus is free and the window has begun
+starts_now : (layout : CycleLayout) (requests : List Request) (opening : Opening) (past : List TimedFrame) (free now : ℕ) (sent : TimedFrame) (slot : ℕ)
+    → IsFit layout opening → free ≤ now → window_start layout opening ≤ now → (now ≡ free) ⊎ (now ≡ window_start layout opening)
+    → IsNext (offered_in layout requests opening) past free (end_of_cycle layout opening) sent
+    → OffersSlot layout opening past sent.start sent.frame slot → sent.start ≡ now
+starts_now layout requests opening past free now sent slot fit is_free in_window which next offer =
+    let no_later : sent.start ≤ now = elim (cases_lt now sent.start) [
+      | inl gap ↦
+          let pending = pending-offered layout opening past sent.start slot sent.frame offer in
+          let within = next.within in
+          let earlier = offers_pending layout opening past slot now fit offer.known pending in_window (omega arith) in
+          absurd (next.first now earlier.0 is_free gap (inr (inr (slot, earlier.1))))
+      | inr no_gap ↦ no_gap
+    ] in
+    let when_free = next.when_free in
+    let late_enough = offer.late_enough in
+    elim which [ inl e ↦ omega arith | inr e ↦ omega arith ]
+
+-- the frame of a request, and its time
+record RequestTimes (layout : CycleLayout) (opening : Opening) (at : ℕ) (frame : DataFrame) : Type 0 where
+  identifier : 0x200 ≤ frame.identifier
+  after : async_open layout opening.cycle ≤ at
+  before : at + wire_length frame ≤ window_start layout opening
+
+-- a request among those of a list
+asynchronous-first : (requests : List Request) (past : List TimedFrame) (id : ℕ) (request : Request) → AreAsynchronous requests
+    → slice_get (unsent_after requests past id) 0 ≡ Some request → 0x200 ≤ request.frame.identifier
+asynchronous-first requests past id request asynchronous first =
+    let P : Request → Type 0 = λ r. (0x200 ≤ r.frame.identifier) × (r.frame.identifier ≤ 0x7EF) in
+    let unsent : List Request = unsent_after requests past id in
+    let all : All P unsent = All-drop P (frames_with past id) (requests_of requests id) (All-filter (λ r. eqb r.frame.identifier id) P requests asynchronous) in
+    let holds : P (get_or unsent 0 request) = All-get_or P unsent 0 request (slice_get_within unsent 0 request first) all in
+    (subst P (get_or_from_slice_get unsent 0 request request first) holds).0
+
+request_frame : (layout : CycleLayout) (requests : List Request) (opening : Opening) (past : List TimedFrame) (at : ℕ) (frame : DataFrame) → AreShort
+    → AreAsynchronous requests → OffersRequest layout requests opening past at frame → RequestTimes layout opening at frame
+request_frame layout requests opening past at frame short asynchronous offer =
+    let request : Request = offer.request in
+    let least = asynchronous-first requests past frame.identifier request asynchronous offer.may_start.waiting.first in
+    let in_time = short.in_time request.frame in
+    let whole = offer.may_start.allowed.whole in
+    subst (λ f. RequestTimes layout opening at f) (sym offer.its_frame)
+    (record { identifier = least; after = offer.may_start.allowed.opened; before = omega arith })
+
+-- the frame that starts now, and those after it
+joined : (layout : CycleLayout) (opening : Opening) (past : List TimedFrame) (sent : TimedFrame) (slot : ℕ) (later : List TimedFrame)
+    → OffersSlot layout opening past sent.start sent.frame slot → is_pending layout opening past slot ≡ true
+    → start_of layout opening ≤ sent.start → end_of sent ≤ end_of_cycle layout opening
+    → SendsPending layout opening (past ++ sent ∷ []) later → SendsPending layout opening past (sent ∷ later)
+joined layout opening past sent slot later offer pending late ends rest =
+    let sent_now = is_pending-sent layout opening past sent slot offer.identifier late in
+    record {
+      each = λ x known is_pending_x.
+          elim (cases_eq x slot) [
+            | inl e ↦ record {
+              sent = sent;
+              once = of_slot-same x sent later (offer.identifier ∙ ap (λ k. first_identifier + k) (sym e))
+                  ∙ ap (λ l. sent ∷ l) (subst (λ k. of_slot k later ≡ []) (sym e) (rest.none slot offer.known sent_now));
+              after = offer.late_enough;
+              within = offer.within;
+              before = ends;
+              carries = subst (λ k. bytes_in opening k ≡ Some sent.frame.bytes) (sym e) offer.bytes;
+            }
+            | inr ne ↦
+                let other : sent.frame.identifier ≡ first_identifier + x → ⊥ = λ same. ne (let is = offer.identifier in omega arith) in
+                let still : is_pending layout opening (past ++ sent ∷ []) x ≡ true = is_pending-other layout opening past sent x other ∙ is_pending_x in
+                let found = rest.each x known still in
+                record {
+                  sent = found.sent;
+                  once = of_slot-other x sent later other ∙ found.once;
+                  after = found.after;
+                  within = found.within;
+                  before = found.before;
+                  carries = found.carries;
+                }
+          ];
+      none = λ x known not_pending.
+          let other : sent.frame.identifier ≡ first_identifier + x → ⊥ =
+          λ same. let is : x ≡ slot = (let id = offer.identifier in omega arith) in both_ways _ not_pending (subst (λ k. is_pending layout opening past k ≡ true) (sym is) pending) in
+          of_slot-other x sent later other ∙ rest.none x known (is_pending-other layout opening past sent x other ∙ not_pending);
+      all = (
+        inr (record {
+          slot = slot;
+          known = offer.known;
+          flagged = offer.flagged;
+          identifier = offer.identifier;
+          after = offer.late_enough;
+          before = ends;
+        }),
+        rest.all,
+      );
+    }
+
+-- an asynchronous frame, and those after it
+joined-asynchronous : (layout : CycleLayout) (opening : Opening) (past : List TimedFrame) (sent : TimedFrame) (later : List TimedFrame)
+    → IsRequestFrame layout opening sent → SendsPending layout opening (past ++ sent ∷ []) later → SendsPending layout opening past (sent ∷ later)
+joined-asynchronous layout opening past sent later frame rest =
+    let other : (x : ℕ) → x < slots → sent.frame.identifier ≡ first_identifier + x → ⊥ =
+    λ x known same. let least = frame.identifier in let all : slots ≡ 40 = refl in omega arith in
+    let same : (x : ℕ) → x < slots → is_pending layout opening (past ++ sent ∷ []) x ≡ is_pending layout opening past x =
+    λ x known. is_pending-other layout opening past sent x (other x known) in
+    record {
+      each = λ x known is_pending_x.
+          let found = rest.each x known (same x known ∙ is_pending_x) in
+          record {
+            sent = found.sent;
+            once = of_slot-other x sent later (other x known) ∙ found.once;
+            after = found.after;
+            within = found.within;
+            before = found.before;
+            carries = found.carries;
+          };
+      none = λ x known not_pending. of_slot-other x sent later (other x known) ∙ rest.none x known (same x known ∙ not_pending);
+      all = (inl frame, rest.all);
+    }
+
+-- an asynchronous frame leaves the pending slots as they are
+pending_width-other : (layout : CycleLayout) (opening : Opening) (past : List TimedFrame) (sent : TimedFrame) → 0x200 ≤ sent.frame.identifier
+    → pending_width layout opening (past ++ sent ∷ []) ≡ pending_width layout opening past
+pending_width-other layout opening past sent least =
+    sum_where-same slots (is_pending layout opening (past ++ sent ∷ [])) (is_pending layout opening past) (worst_in opening.placed opening.cycle)
+    (λ x known. is_pending-other layout opening past sent x (λ same. let all : slots ≡ 40 = refl in omega arith))
+
+-- the frames behind the trigger: from the time `now` on, at which the bus is free and the synchronous window has begun, the pending slots
+-- have room until the cycle's end, and so each is sent by then
+sends_pending : (layout : CycleLayout) (requests : List Request) (opening : Opening) (past : List TimedFrame) (free now : ℕ) (frames : List TimedFrame)
+    → IsFit layout opening → AreAsynchronous requests → start_of layout opening < free → free ≤ now → window_start layout opening ≤ now
+    → (now ≡ free) ⊎ (now ≡ window_start layout opening)
+    → now + pending_width layout opening past ≤ end_of_cycle layout opening
+    → Follows (offered_in layout requests opening) past free (end_of_cycle layout opening) frames
+    → SendsPending layout opening past frames
+sends_pending layout requests opening past free now [] fit asynchronous begun is_free in_window which room nothing = record {
+  each = λ slot known pending.
+      let wide = pending_width-positive layout opening past slot fit known pending in
+      let offer = offers_pending layout opening past slot now fit known pending in_window (omega arith) in
+      absurd (nothing now offer.0 is_free (omega arith) (inr (inr (slot, offer.1))));
+  none = λ slot known not_pending. refl;
+  all = tt;
+}
+sends_pending layout requests opening past free now (sent ∷ later) fit asynchronous begun is_free in_window which room follows =
+    let whole = follows.0.whole in
+    let some_time = fit.short.some_time sent.frame in
+    let later_start = follows.0.when_free in
+    elim follows.0.least.offered as (λ _. SendsPending layout opening past (sent ∷ later)) [
+      | inl trigger ↦ absurd (let at = trigger.time in omega arith)
+      | inr choice ↦ elim choice as (λ _. SendsPending layout opening past (sent ∷ later)) [
+        | inl request ↦
+            let frame = request_frame layout requests opening past sent.start sent.frame fit.short asynchronous request in
+            let before = frame.before in
+            let at_window : now ≡ window_start layout opening = elim which [ inl e ↦ absurd (omega arith) | inr e ↦ e ] in
+            let same = pending_width-other layout opening past sent frame.identifier in
+            let rest = sends_pending layout requests opening (past ++ sent ∷ []) (end_of sent) now later fit asynchronous
+            (omega arith) (omega arith) in_window (inr at_window) (omega arith) follows.1 in
+            joined-asynchronous layout opening past sent later
+            (record { identifier = frame.identifier; after = frame.after; before = (let b = frame.before in omega arith) }) rest
+        | inr of_slot ↦
+            let slot : ℕ = of_slot.0 in
+            let offer : OffersSlot layout opening past sent.start sent.frame slot = of_slot.1 in
+            let pending = pending-offered layout opening past sent.start slot sent.frame offer in
+            let wide = pending_width-positive layout opening past slot fit offer.known pending in
+            let at_now : sent.start ≡ now = starts_now layout requests opening past free now sent slot fit is_free in_window which follows.0 offer in
+            let late : start_of layout opening ≤ sent.start = omega arith in
+            let less = pending_width-sent layout opening past sent slot offer.known pending offer.identifier late in
+            let in_time = slot-in_time opening slot sent.frame fit.short offer.bytes in
+            let rest = sends_pending layout requests opening (past ++ sent ∷ []) (end_of sent) (end_of sent) later fit asynchronous
+            (omega arith) (omega arith) (omega arith) (inl refl) (omega arith) follows.1 in
+            joined layout opening past sent slot later offer pending late (omega arith) rest
+      ]
+    ]
+
+-- a slot of which nothing was sent in the cycle is pending where it is flagged
+is_pending-at_start : (layout : CycleLayout) (opening : Opening) (past : List TimedFrame) (sent : TimedFrame) (slot : ℕ)
+    → All (λ x. x.start < start_of layout opening) past → sent.frame.identifier ≡ 0
+    → is_pending layout opening (past ++ sent ∷ []) slot ≡ contains_slot opening.mask slot
+is_pending-at_start layout opening past sent slot before trigger =
+    let unsent : was_sent layout opening past slot ≡ false = was_sent-from_unsent layout opening past slot (λ k d within _. before k d within) in
+    is_pending-other layout opening past sent slot (λ same. omega arith)
+    ∙ ap (λ b. contains_slot opening.mask slot && not b) unsent ∙ and-true _
+
+-- the first frame of a cycle is its trigger, at the cycle's start
+first_is_trigger : (layout : CycleLayout) (requests : List Request) (opening : Opening) (past : List TimedFrame) (sent : TimedFrame) → IsFit layout opening
+    → IsNext (offered_in layout requests opening) past (start_of layout opening) (end_of_cycle layout opening) sent
+    → (sent.start ≡ start_of layout opening) × (sent.frame ≡ trigger_frame opening.cycle (width_of opening) opening.mask)
+first_is_trigger layout requests opening past sent fit next =
+    let offer : OffersTrigger layout opening (start_of layout opening) (trigger_frame opening.cycle (width_of opening) opening.mask) =
+    record { time = refl; trigger = refl } in
+    let room = fit.room in
+    let when_free = next.when_free in
+    let at_once : sent.start ≤ start_of layout opening = elim (cases_lt (start_of layout opening) sent.start) [
+      | inl gap ↦ absurd (next.first (start_of layout opening) _ (omega arith) gap (inl offer))
+      | inr no_gap ↦ no_gap
+    ] in
+    elim next.least.offered [
+      | inl trigger ↦ (trigger.time, trigger.trigger)
+      | inr choice ↦ elim choice [
+        | inl request ↦ let late = request.may_start.allowed.opened in absurd (omega arith)
+        | inr of_slot ↦ let late = of_slot.1.late_enough in absurd (omega arith)
+      ]
+    ]
+
+-- what a cycle sends
+pub runs_cycle : (layout : CycleLayout) (requests : List Request) (opening : Opening) (past frames : List TimedFrame) → IsFit layout opening
+    → AreAsynchronous requests
+    → All (λ x. x.start < start_of layout opening) past
+    → Follows (offered_in layout requests opening) past (start_of layout opening) (end_of_cycle layout opening) frames
+    → RunsCycle layout opening frames
+runs_cycle layout requests opening past [] fit asynchronous before nothing =
+    let room = fit.room in
+    absurd (nothing (start_of layout opening) _ (omega arith) (omega arith) (inl (record { time = refl; trigger = refl })))
+runs_cycle layout requests opening past (sent ∷ later) fit asynchronous before follows =
+    let first = first_is_trigger layout requests opening past sent fit follows.0 in
+    let some_time = fit.short.some_time sent.frame in
+    let few : length sent.frame.bytes ≡ 8 = ap (λ f. length f.bytes) first.1 in
+    let short = fit.short.in_time sent.frame in
+    let in_time : wire_length sent.frame ≤ 135 = omega arith in
+    let no_slot : sent.frame.identifier ≡ 0 = ap (λ f. f.identifier) first.1 in
+    let whole = follows.0.whole in
+    let room = fit.room in
+    let starts = first.0 in
+    let pending : (slot : ℕ) → is_pending layout opening (past ++ sent ∷ []) slot ≡ contains_slot opening.mask slot =
+    λ slot. is_pending-at_start layout opening past sent slot before no_slot in
+    let width : pending_width layout opening (past ++ sent ∷ []) ≡ width_of opening =
+    sum_where-same slots (is_pending layout opening (past ++ sent ∷ [])) (contains_slot opening.mask) (worst_in opening.placed opening.cycle) (λ slot _. pending slot) in
+    let window = sends_pending layout requests opening (past ++ sent ∷ []) (end_of sent) (window_start layout opening) later fit asynchronous
+    (omega arith) (omega arith) (omega arith) (inr refl) (omega arith) follows.1 in
+    record {
+      trigger = sent;
+      later = later;
+      all_frames = refl;
+      starts = first.0;
+      is_trigger = first.1;
+      ends = omega arith;
+      each = λ slot known flagged. window.each slot known (pending slot ∙ flagged);
+      none = λ slot known not_flagged. window.none slot known (pending slot ∙ not_flagged);
+      all = All-from_recursion (IsLaterFrame layout opening) later window.all;
+    }

@@ -1,0 +1,78 @@
+-- What an opened cycle sends on the bus, behind the cycles before it. Times are bit times.
+use Rattle.std.specs.Prelude.{◌≡◌, ℕ, ◌+◌, ◌/◌, ◌<◌, ◌≤◌, ◌⊎◌, ◌==◌, true, false, List, [], ◌∷◌, All, filter, Some, IsSome}
+use Rattle.can_frame.specs.declared.data_frame.TimedFrame.{TimedFrame}
+use Rattle.cycle_layout.specs.Layout.{CycleLayout, async_open}
+use Rattle.requirement_table.specs.Slots.{contains_slot, slots}
+use Rattle.requirement_table.specs.Table.{instance_in}
+use Rattle.trigger_codec.specs.Bytes.{trigger_frame}
+use Rattle.async_window.specs.declared.request.Request.{Request}
+use Rattle.bus_line.specs.Trace.{Follows, end_of}
+use Rattle.requirement_table.specs.Opening.{Opening, bytes_in, width_of}
+use Rattle.node_model.specs.Opening.{first_identifier, start_of, end_of_cycle, window_start}
+use Rattle.cycle_engine.specs.Offered.{IsCanTrace, offered_in}
+
+-- the cycle in which a frame starts
+abbrev pub cycle_of : CycleLayout → TimedFrame → ℕ
+cycle_of layout sent = sent.start / layout.cycle
+
+-- the frames of a trace that start in a cycle
+abbrev pub frames_in : CycleLayout → ℕ → List TimedFrame → List TimedFrame
+frames_in layout cycle trace = filter (λ sent. cycle_of layout sent == cycle) trace
+
+-- the frames of a slot
+abbrev pub of_slot : ℕ → List TimedFrame → List TimedFrame
+of_slot slot frames = filter (λ sent. sent.frame.identifier == first_identifier + slot) frames
+
+-- exactly one frame of the slot is among these; it lies in the cycle's synchronous window, and carries the bytes of the instance that may
+-- be sent in the cycle
+pub record IsSentOnce (layout : CycleLayout) (opening : Opening) (frames : List TimedFrame) (slot : ℕ) : Type 0 where
+  pub sent : TimedFrame
+  pub once : of_slot slot frames ≡ sent ∷ []
+  pub after : window_start layout opening ≤ sent.start
+  pub within : sent.start < end_of_cycle layout opening
+  pub before : end_of sent ≤ end_of_cycle layout opening
+  pub carries : bytes_in opening slot ≡ Some sent.frame.bytes
+
+-- a frame of a flagged slot, in the cycle's synchronous window
+pub record IsSlotFrame (layout : CycleLayout) (opening : Opening) (sent : TimedFrame) : Type 0 where
+  pub slot : ℕ
+  pub known : slot < slots
+  pub flagged : contains_slot opening.mask slot ≡ true
+  pub identifier : sent.frame.identifier ≡ first_identifier + slot
+  pub after : window_start layout opening ≤ sent.start
+  pub before : end_of sent ≤ end_of_cycle layout opening
+
+-- a frame of a request, within the cycle's asynchronous window: it touches neither the trigger's time nor the synchronous window
+pub record IsRequestFrame (layout : CycleLayout) (opening : Opening) (sent : TimedFrame) : Type 0 where
+  pub identifier : 0x200 ≤ sent.frame.identifier
+  pub after : async_open layout opening.cycle ≤ sent.start
+  pub before : end_of sent ≤ window_start layout opening
+
+-- the frames of a cycle: its trigger at its start, ended before the synchronous window; behind it only frames of requests in the
+-- asynchronous window and frames of flagged slots in the synchronous window, and of each flagged slot exactly one
+pub record RunsCycle (layout : CycleLayout) (opening : Opening) (frames : List TimedFrame) : Type 0 where
+  pub trigger : TimedFrame
+  pub later : List TimedFrame
+  pub all_frames : frames ≡ trigger ∷ later
+  pub starts : trigger.start ≡ start_of layout opening
+  pub is_trigger : trigger.frame ≡ trigger_frame opening.cycle (width_of opening) opening.mask
+  pub ends : end_of trigger ≤ window_start layout opening
+  pub each : (slot : ℕ) → slot < slots → contains_slot opening.mask slot ≡ true → IsSentOnce layout opening later slot
+  pub none : (slot : ℕ) → slot < slots → contains_slot opening.mask slot ≡ false → of_slot slot later ≡ []
+  pub all : All (λ sent. IsRequestFrame layout opening sent ⊎ IsSlotFrame layout opening sent) later
+
+-- in each of the opened cycles the frames of the trace are those of the cycle
+abbrev pub RunsCycles : CycleLayout → List Opening → List TimedFrame → Type 0
+RunsCycles layout openings trace = All (λ opening. RunsCycle layout opening (frames_in layout opening.cycle trace)) openings
+
+-- each flagged slot has an instance that may be sent in the cycle, and together they fit into the largest synchronous window
+pub record FitsWindow (layout : CycleLayout) (opening : Opening) : Type 0 where
+  pub present : (slot : ℕ) → slot < slots → contains_slot opening.mask slot ≡ true → IsSome (instance_in opening.placed slot opening.cycle)
+  pub width : width_of opening ≤ layout.window
+
+-- in an opened cycle these frames follow the CAN trace of the cycles below it, which has ended by the cycle's start
+pub record FollowsTrace (layout : CycleLayout) (requests : List Request) (openings : List Opening) (opening : Opening) (trace frames : List TimedFrame) : Type 0 where
+  pub below : All (λ earlier. earlier.cycle < opening.cycle) openings
+  pub can_trace : IsCanTrace layout requests openings opening.cycle trace
+  pub ended : All (λ sent. end_of sent ≤ start_of layout opening) trace
+  pub follows : Follows (offered_in layout requests opening) trace (start_of layout opening) (end_of_cycle layout opening) frames

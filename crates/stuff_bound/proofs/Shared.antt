@@ -1,0 +1,2 @@
+-- What proofs of the crates above may take from here: lemmas about the definitions of this crate.
+pub use Rattle.stuff_bound.proofs.Stuffs.{run-more, without_stuff-full, without_stuff-below, Stuffs-stuffed, stuffed_only, length-stuffed-least, length-stuffed-most}
