@@ -229,3 +229,31 @@ fn refuses_the_first_wrong_place(rt: HostRuntime) -> Result<(), Fail> {
     );
     Ok(())
 }
+
+/// A wrong CRC sequence that ends with five recessive bits is told behind the stuff bit that closes it: with an equal bit there it is
+/// a sixth one, and without a bit there the frame is short.
+#[test]
+fn tells_a_wrong_sequence_behind_its_last_stuff_bit(rt: HostRuntime) -> Result<(), Fail> {
+    let wrong = WireFault::Crc {
+        sent: 0x1F,
+        computed: 0,
+    };
+    for (closing, len, fault) in [
+        (false, 53, wrong),
+        (false, 40, wrong),
+        (true, 40, WireFault::Stuff { place: 39 }),
+        (false, 39, WireFault::Short { have: 39 }),
+    ] {
+        let mut bits = empty_wire(&rt)?;
+        assert_eq!(rt; bits.len(), 53);
+        bits[34..39].fill(true);
+        bits[39] = closing;
+        bits.truncate(len);
+        assert_eq!(rt;
+            read_wire(rt.alloc(), bits.as_slice()).err(),
+            Some(fault),
+            "{closing} {len}"
+        );
+    }
+    Ok(())
+}

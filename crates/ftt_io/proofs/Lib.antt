@@ -1,2 +1,2 @@
-pub mod Chaining
 mod Lookup
+pub mod Shared

@@ -5,3 +5,4 @@ pub mod Files
 pub mod MemShelf
 pub mod MemSink
 pub mod Puts
+pub mod StdSink

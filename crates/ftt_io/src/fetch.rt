@@ -31,7 +31,7 @@ pub trait Shelf {
     /// The number of fetches.
     ghost fetches: { Self → ℕ };
 
-    /// The number of bytes that the last fetch took.
+    /// The number of bytes that the last fetch took: none where it failed or found no memory.
     ghost last_fetch_len: { Self → ℕ };
 
     /// Fetches the bytes of the file with this name, at most `limit` of them.
@@ -52,6 +52,8 @@ pub trait Shelf {
         ensures taken { IfOk result (λ bytes. last_fetch_len self.new ≡ length bytes.items) }
 
         // At each fault.
+        ensures none_taken { IsErrOf result FetchFault.Failed ⊎ IsErrOf result FetchFault.Memory
+            → last_fetch_len self.new ≡ 0 }
         ensures failed { IsErrOf result FetchFault.Failed
             → Rose (faults self.old) (faults self.new) ⊎ IsAbsent (told_files self.old) name.now }
         ensures too_long { IsErrOf result FetchFault.TooLong → limit < last_fetch_len self.new }

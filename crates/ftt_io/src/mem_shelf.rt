@@ -110,6 +110,8 @@ impl Shelf for MemShelf {
             → IsErrOf result FetchFault.Failed }
         ensures absent { files_in self.old.files name.now ≡ None
             → IsErrOf result FetchFault.Failed }
+        ensures none_taken { IsErrOf result FetchFault.Failed ⊎ IsErrOf result FetchFault.Memory
+            → self.new.last_fetch_len ≡ 0 }
         ensures failed { IsErrOf result FetchFault.Failed
             → IsTrue (is_failing self.old.failing self.old.fetches)
             ⊎ (files_in self.old.files name.now ≡ None) }
@@ -125,10 +127,14 @@ impl Shelf for MemShelf {
         let Some(bytes) = find_bytes(&self.files, name) else {
             return Err(FetchFault::Failed);
         };
-        self.last_fetch_len = bytes.len() as u64;
         if bytes.len() > limit {
+            self.last_fetch_len = bytes.len() as u64;
             return Err(FetchFault::TooLong);
         }
-        Vec::from_slice(alloc, bytes).map_err(|_| FetchFault::Memory)
+        let Ok(copy) = Vec::from_slice(alloc, bytes) else {
+            return Err(FetchFault::Memory);
+        };
+        self.last_fetch_len = copy.len() as u64;
+        Ok(copy)
     }
 }

@@ -1,7 +1,7 @@
 //! Putting bytes to a sink.
 ghost use Rattle.std.specs.Prelude.{◌≡◌, ℕ, ◌<◌, ◌≤◌, List, length, take, IfOk, OnOk, OnErr, Option};
 ghost use Rattle.ftt_io.specs.Counts.{Rose};
-ghost use Rattle.ftt_io.specs.Puts.{Puts, PutsPrefix};
+ghost use Rattle.ftt_io.specs.Puts.{Stays, Puts, PutsPrefix};
 
 use thiserror::Error;
 
@@ -32,7 +32,7 @@ pub trait Sink {
 
         // At `Failed`.
         ensures failed { OnErr result (Rose (faults self.old) (faults self.new)) }
-        ensures nothing { OnErr result (told_bytes self.new ≡ told_bytes self.old) };
+        ensures nothing { OnErr result (Stays (told_bytes self.old) (told_bytes self.new)) };
 }
 
 /// Puts all of the bytes, in as many pieces as the sink makes of them. At `Failed` it put those

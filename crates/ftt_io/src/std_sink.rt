@@ -1,12 +1,14 @@
-//! The sink over a real stream. It tells no content, and no clause says what the stream took.
-ghost use Rattle.std.specs.Prelude.{◌≡◌, ◌≤◌, OnErr};
+//! The sink over a writer of std. It tells the bytes that its writer tells, and the streams of the system tell none.
+ghost use Rattle.std.specs.Prelude.{◌≡◌, ◌≤◌, [], OnOk, OnErr};
+ghost use Rattle.std.specs.Io.Buffered.{writer_buffer, writer_contents};
 ghost use Rattle.ftt_io.specs.Counts.{next_count, Rose};
+ghost use Rattle.ftt_io.specs.Puts.{Stays};
 
 use crate::put::{Failed, Sink};
-use std::io::Write;
+use std::io::{BufWriter, Write};
 use std::marker::Model;
 
-/// A sink over a writer. It is seen as its count of faults.
+/// A sink over a writer. It is seen as the writer and its count of faults.
 #[derive(Drop)]
 pub struct StdSink<W> {
     writer: W,
@@ -14,26 +16,37 @@ pub struct StdSink<W> {
 }
 
 impl<W> Model for StdSink<W> {
-    ghost use Rattle.std.specs.Prelude.{ℕ};
+    ghost use Rattle.ftt_io.specs.StdSink.{StdSinkState};
 
-    ghost Value = { ℕ };
+    ghost Value = { StdSinkState W };
 
-    ghost view = { λ sink. sink.faults };
+    ghost view = { λ sink. record {
+      writer = sink.writer;
+      faults = sink.faults;
+    } };
 }
 
 impl<W: Write + Drop> StdSink<W> {
     /// A sink that puts to the writer. Each error of the writer counts as a fault, and so does a
     /// write that takes nothing.
     pub fn over(writer: W) -> StdSink<W>
-        ensures faults { result ≡ 0 }
+        ensures writer { result.writer ≡ writer }
+        ensures faults { result.faults ≡ 0 }
     {
         StdSink { writer, faults: 0 }
     }
+}
 
-    /// Writes what a buffered writer holds back. `Failed` where the writer has an error.
+impl<W: Write + Drop> StdSink<BufWriter<W>> {
+    /// Writes what the gathering writer holds back. At `Ok` it holds back nothing; `Failed` where
+    /// the stream has an error.
     pub fn flush(&mut self) -> Result<(), Failed>
-        ensures faults_never_fall { self.old ≤ self.new }
-        ensures failed { OnErr result (Rose self.old self.new) }
+        ensures all { OnOk result (writer_buffer self.new.writer ≡ []) }
+        ensures stays { Stays (writer_contents W.contents self.old.writer)
+            (writer_contents W.contents self.new.writer) }
+        ensures done { OnOk result (self.new.faults ≡ self.old.faults) }
+        ensures failed { OnErr result (Rose self.old.faults self.new.faults) }
+        ensures faults_never_fall { self.old.faults ≤ self.new.faults }
     {
         if self.writer.flush().is_err() {
             return Err(count_fault(&mut self.faults));
@@ -43,11 +56,9 @@ impl<W: Write + Drop> StdSink<W> {
 }
 
 impl<W: Write + Drop> Sink for StdSink<W> {
-    ghost use Rattle.std.specs.Prelude.{None};
+    ghost told_bytes = { λ sink. W.contents sink.writer };
 
-    ghost told_bytes = { λ _. None };
-
-    ghost faults = { λ sink. sink };
+    ghost faults = { λ sink. sink.faults };
 
     fn put(&mut self, piece: &[u8]) -> Result<usize, Failed> {
         let taken = self.writer.write(piece).unwrap_or(0);

@@ -1,6 +1,8 @@
 //! Answers at given files, the real file and the real stream, and printed texts.
 use crate::{Failed, FetchFault, FileShelf, MemShelf, MemSink, Shelf, StdSink, write_all};
-use std::io::Read;
+use std::alloc::Global;
+use std::fs::File;
+use std::io::{BufWriter, Read, Write};
 use std::test::Fail;
 use std::{fs, io};
 
@@ -85,7 +87,6 @@ fn std_sink_puts_to_real_streams(rt: HostRuntime) -> Result<(), Fail> {
     let (mut reader, writer) = io::pipe(&rt)?;
     let mut sink = StdSink::over(writer);
     assert_eq!(rt; write_all(&mut sink, b"end,1\n"), Ok(()));
-    assert_eq!(rt; sink.flush(), Ok(()));
     let mut read = [0; 6];
     reader.read_exact(&mut read)?;
     assert_eq!(rt; read, *b"end,1\n");
@@ -97,6 +98,38 @@ fn std_sink_puts_to_real_streams(rt: HostRuntime) -> Result<(), Fail> {
     assert_eq!(rt; write_all(&mut full, b"open"), Err(Failed), "takes 0 bytes");
     drop(full);
     assert_eq!(rt; room, *b"ope");
+    Ok(())
+}
+
+/// A gathering writer takes the bytes, and only its flush tells that the stream took them.
+fn gathered_and_flushed<W: Write + Drop>(
+    alloc: Global,
+    stream: W,
+) -> io::Result<(Result<(), Failed>, Result<(), Failed>)> {
+    let mut sink = StdSink::over(BufWriter::new(alloc, stream)?);
+    Ok((write_all(&mut sink, b"end,1\n"), sink.flush()))
+}
+
+#[test]
+fn flush_tells_whether_the_stream_took_all(rt: HostRuntime) -> Result<(), Fail> {
+    let (mut reader, writer) = io::pipe(&rt)?;
+    let alloc = rt.alloc();
+    assert_eq!(rt; gathered_and_flushed(alloc, &writer)?, (Ok(()), Ok(())));
+    let mut read = [0; 6];
+    reader.read_exact(&mut read)?;
+    assert_eq!(rt; read, *b"end,1\n");
+    drop(reader);
+    assert_eq!(rt;
+        gathered_and_flushed(alloc, &writer)?,
+        (Ok(()), Err(Failed)),
+        "closed"
+    );
+    let full = File::options().write(true).open(&rt, "/dev/full")?;
+    assert_eq!(rt;
+        gathered_and_flushed(alloc, full)?,
+        (Ok(()), Err(Failed)),
+        "full"
+    );
     Ok(())
 }
 

@@ -1,8 +1,8 @@
-//! The program: words, files and streams of the operating system, given to [`fttcan_top::plain`].
+//! The program: words, files and streams of the operating system, given to [`fttcan_top::plain`] and [`fttcan_top::flushed`].
 #![tactic(auto)]
 
 use ftt_io::{FileShelf, StdSink, write_all};
-use fttcan_top::{Status, plain};
+use fttcan_top::{Status, flushed, plain};
 use std::env;
 use std::io::{self, BufWriter, ErrorKind};
 use std::process::ExitCode;
@@ -23,10 +23,7 @@ fn call(rt: &HostRuntime) -> Status {
     let mut out = StdSink::over(writer);
     let mut err = StdSink::over(rt.stderr());
     let status = plain(rt.alloc(), words.as_slice(), &mut shelf, &mut out, &mut err);
-    match out.flush() {
-        Err(_) if status != Status::Write => stopped(rt, "write fault\n", Status::Write),
-        _ => status,
-    }
+    flushed(status, &mut out, &mut err)
 }
 
 /// The words of this call after the program's name. Words that are not UTF-8 count as none, which is no command.

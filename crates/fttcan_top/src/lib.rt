@@ -2,6 +2,7 @@
 #![tactic(auto)]
 
 mod cycle;
+mod gathered;
 mod history;
 pub mod input;
 mod load;
@@ -14,6 +15,7 @@ mod table;
 mod verdict;
 mod words;
 
+pub use gathered::flushed;
 pub use history::{Event, Verdict};
 pub use program::plain;
 pub use status::Status;

@@ -1,4 +1,4 @@
-//! Writing a text row by row.
+//! Writing a text.
 
 ghost use Rattle.std.specs.Prelude.{◌≡◌, ◌<◌, ◌≤◌, length, OnOk, OnErr};
 ghost use Rattle.ftt_io.specs.Counts.{Rose};
@@ -18,7 +18,7 @@ fn row_len(text: &[u8]) -> usize
     }
 }
 
-/// Puts the text, each row of it by a call of its own.
+/// Puts the text, or its first bytes where the sink fails. The body puts each row by a call of its own; no clause says so.
 pub fn put_rows<O: Sink>(out: &mut O, text: &[u8]) -> Result<(), Failed>
     ensures faults_never_fall { O.faults out.old ≤ O.faults out.new }
     ensures all { OnOk result (Puts (O.told_bytes out.old) (O.told_bytes out.new) text.now) }

@@ -7,9 +7,11 @@ mod guard_edges;
 mod trigger_wraps;
 mod twelve_entries;
 
-use crate::{Status, plain};
-use ftt_io::{MemShelf, MemSink};
+use crate::{Status, flushed, plain};
+use ftt_io::{MemShelf, MemSink, StdSink};
 use std::alloc::{AllocError, Global};
+use std::fs::File;
+use std::io::{self, BufWriter, Write};
 use std::test::Fail;
 
 const ONE_NODE: &str = "[bus]\ncycle = 1000\nwindow = 135\nnodes = 1\n";
@@ -388,5 +390,46 @@ fn a_failing_output_keeps_the_front_of_the_log(rt: HostRuntime) -> Result<(), Fa
         assert_eq!(rt; str::from_utf8(answer.out.bytes()), Ok(front));
         assert_eq!(rt; str::from_utf8(answer.err.bytes()), Ok("write fault\n"));
     }
+    Ok(())
+}
+
+/// Replays one cycle over this stream as the program does: gathered, and flushed in the end. It gives the statuses before and after
+/// that, and the error sink.
+fn replay_gathered<W: Write + Drop>(
+    alloc: Global,
+    stream: W,
+) -> io::Result<(Status, Status, MemSink)> {
+    let mut words = Vec::new(alloc);
+    for word in REPLAY {
+        words.push(String::from_str(alloc, word)?)?;
+    }
+    let mut shelf = shelf(alloc, TWO_NODES, "cycle,1\n", Vec::new(alloc))?;
+    let mut out = StdSink::over(BufWriter::new(alloc, stream)?);
+    let mut err = sink(alloc)?;
+    let status = plain(alloc, words.as_slice(), &mut shelf, &mut out, &mut err);
+    let last = flushed(status, &mut out, &mut err);
+    Ok((status, last, err))
+}
+
+/// A log that is gathered whole is lost where the stream is closed or full, and the call ends so.
+#[test]
+fn a_gathered_log_that_is_lost_is_a_write_fault(rt: HostRuntime) -> Result<(), Fail> {
+    let alloc = rt.alloc();
+    let mut log = Vec::new(alloc);
+    let (status, last, err) = replay_gathered(alloc, &mut log)?;
+    assert_eq!(rt; (status, last), (Status::Done, Status::Done));
+    assert!(rt; err.bytes().is_empty());
+    assert_eq!(rt; str::from_utf8(log.as_slice()), Ok(ONE_TRIGGER));
+
+    let (reader, closed) = io::pipe(&rt)?;
+    drop(reader);
+    let (status, last, err) = replay_gathered(alloc, closed)?;
+    assert_eq!(rt; (status, last), (Status::Done, Status::Write), "closed");
+    assert_eq!(rt; str::from_utf8(err.bytes()), Ok("write fault\n"));
+
+    let full = File::options().write(true).open(&rt, "/dev/full")?;
+    let (status, last, err) = replay_gathered(alloc, full)?;
+    assert_eq!(rt; (status, last), (Status::Done, Status::Write), "full");
+    assert_eq!(rt; str::from_utf8(err.bytes()), Ok("write fault\n"));
     Ok(())
 }

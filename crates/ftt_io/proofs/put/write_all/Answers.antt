@@ -1,6 +1,6 @@
 use Rattle.std.proofs.Common.{arith, take}
 use Rattle.std.proofs.lemmas.Grind.{common_steps}
-use Rattle.ftt_io.proofs.Chaining.{PutsUpTo-next}
+use Rattle.ftt_io.proofs.Shared.{PutsUpTo-next}
 use Rattle.ftt_io.proofs.put.write_all.Goals as goal
 
 pub loop-rest-preserved : goal.loop-rest-preserved

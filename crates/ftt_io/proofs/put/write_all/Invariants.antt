@@ -1,5 +1,5 @@
 use Rattle.std.proofs.Common.{◌≤◌, length}
-use Rattle.ftt_io.proofs.Chaining.{PutsUpTo}
+use Rattle.ftt_io.proofs.Shared.{PutsUpTo}
 use Rattle.ftt_io.proofs.put.write_all.Given as goal
 
 abbrev pub invariant-loop-rest : goal.invariant-loop-rest

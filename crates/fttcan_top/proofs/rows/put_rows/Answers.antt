@@ -1,7 +1,7 @@
 use Rattle.std.proofs.Common.{refl, arith, rules, take, drop, sym}
 use Rattle.std.proofs.lemmas.Grind.{common_steps}
 use Rattle.std.proofs.lemmas.List.{take-append-drop}
-use Rattle.ftt_io.proofs.Chaining.{PutsUpTo-start, PutsUpTo-next, PutsUpTo-stops}
+use Rattle.ftt_io.proofs.Shared.{PutsUpTo-start, PutsUpTo-next, PutsUpTo-stops}
 use Rattle.fttcan_top.proofs.rows.put_rows.Goals as goal
 
 pub loop-rest-init : goal.loop-rest-init

@@ -1,5 +1,5 @@
 use Rattle.std.proofs.Common.{◌≤◌, length}
-use Rattle.ftt_io.proofs.Chaining.{PutsUpTo}
+use Rattle.ftt_io.proofs.Shared.{PutsUpTo}
 use Rattle.fttcan_top.proofs.rows.put_rows.Given as goal
 
 abbrev pub invariant-loop-rest : goal.invariant-loop-rest
