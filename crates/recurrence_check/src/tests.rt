@@ -158,3 +158,16 @@ fn first_repeats(rt: HostRuntime) -> Result<(), Fail> {
     }
     Ok(())
 }
+
+#[test]
+fn ends_in_words(rt: HostRuntime) -> Result<(), Fail> {
+    let rows = [
+        (WalkEnd::Broken { at: 3 }, "the walk breaks after 3 steps"),
+        (WalkEnd::NoRepeat { walked: 2 }, "no repeat in 2 steps"),
+        (WalkEnd::Memory, "out of memory"),
+    ];
+    for (end, text) in rows {
+        assert_eq!(rt; format!(in rt.alloc(); "{end}")?.as_str(), text);
+    }
+    Ok(())
+}
