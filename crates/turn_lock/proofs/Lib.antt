@@ -1,0 +1,6 @@
+mod Lists
+mod Live
+mod Moves
+mod Told
+mod Word
+mod Parting

@@ -1,0 +1,1 @@
+-- A pass that is split from the first one, or joined into it.

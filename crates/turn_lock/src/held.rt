@@ -1,0 +1,130 @@
+//! The turn, held.
+
+ghost use Rattle.std.specs.Prelude.{◌≡◌, ◌<◌, ◌∷◌, ◌++◌, List, [], Some, IfOk, IfErr, MatchResult, ◌+◌, ◌*◌, ◌≤◌, length, ℕ};
+ghost use Rattle.std.specs.Borrow.{sem, RestsIfErr, Lends};
+ghost use mathlib.Core.List.{IsPrefix};
+ghost use Rattle.turn_lock.specs.History.{own};
+ghost use Rattle.turn_lock.specs.Passes.{IsOf, IsReady, IsFound, IsOneMore, Facts, knowing, granted, refused, committed, given_back};
+ghost use Rattle.turn_lock.specs.contracts.pass.Pass.{the_row};
+
+use crate::pass::Pass;
+use crate::rule::{Commits, GivesBack, Tries};
+use crate::stands::Stands;
+use crate::turn::Turn;
+
+/// The turn was held by another pass. The word that was found says so: it is odd.
+#[derive(Clone, Copy, Debug, PartialEq, Eq)]
+pub struct Busy {
+    pub word: u64,
+}
+
+/// The turn, with the value. It ends by `commit` or by `give_back`.
+pub struct Held<'a, T: Stands + Drop> {
+    pub pass: &'a mut Pass<T>,
+    pub turn: &'a Turn<T>,
+    pub value: T,
+}
+
+// Takes the turn and the value, where the turn is free.
+fn take_turn<T: Stands + Drop>(turn: &Turn<T>, pass: &mut Pass<T>) -> Result<T, Busy>
+    requires ready { IsReady turn.now pass.old }
+    ensures busy { IfErr result (λ busy. pass.new ≡ knowing pass.old (refused busy.word pass.old.view)) }
+    ensures odd { IfErr result (λ busy. (k : ℕ) × (busy.word ≡ 2 * k + 1) × (length pass.old.view.seen ≤ k)) }
+    ensures taken { IfOk result (λ value. pass.new ≡ knowing pass.old (granted (T.entries value) pass.old.view)) }
+    ensures fixed { IfOk result (λ value. T.fixed value ≡ turn.now.fixed) }
+    ensures begins { IfOk result (λ value. IsPrefix pass.old.view.seen (T.entries value)) }
+    ensures own_are { IfOk result (λ value. own T.number pass.old.view.number (T.entries value) ≡ pass.old.view.mine) }
+    ensures facts { Facts T.number pass.new.view }
+{
+    let shared = &turn.table.shared;
+    let word = shared.fetch_or::<Tries<T>>(&mut pass.seat, 0, 1);
+    if word % 2 == 1 {
+        return Err(Busy { word });
+    }
+    Ok(shared.exchange(&mut pass.seat, 0, None).unwrap())
+}
+
+// Puts the value back, and lets the turn go with an entry more.
+fn let_go_with_more<T: Stands + Drop>(turn: &Turn<T>, pass: &mut Pass<T>, value: T)
+    requires of { IsOf turn.now pass.old }
+    requires next { (e : T.Entry) × IsOneMore T.entries T.number pass.old.view value e }
+    requires fixed { T.fixed value ≡ turn.now.fixed }
+    ensures committed { pass.new ≡ knowing pass.old (committed (T.entries value) pass.old.view) }
+    ensures facts { Facts T.number pass.new.view }
+{
+    let shared = &turn.table.shared;
+    let None = shared.exchange(&mut pass.seat, 0, Some(value)) else {
+        unreachable!()
+    };
+    shared.fetch_add::<Commits<T>>(&mut pass.seat, 0, 1);
+}
+
+// Puts the value back, and lets the turn go with nothing added.
+fn let_go<T: Stands + Drop>(turn: &Turn<T>, pass: &mut Pass<T>, value: T)
+    requires of { IsOf turn.now pass.old }
+    requires same { IsFound T.entries T.number pass.old.view value }
+    requires fixed { T.fixed value ≡ turn.now.fixed }
+    ensures given_back { pass.new ≡ knowing pass.old (given_back (T.entries value) pass.old.view) }
+    ensures facts { Facts T.number pass.new.view }
+{
+    let shared = &turn.table.shared;
+    let None = shared.exchange(&mut pass.seat, 0, Some(value)) else {
+        unreachable!()
+    };
+    shared.fetch_sub::<GivesBack<T>>(&mut pass.seat, 0, 1);
+}
+
+impl<T: Stands + Drop> Pass<T> {
+    /// One `fetch_or` of 1 on the word.
+    pub fn try_turn<'a>(&'a mut self, turn: &'a Turn<T>) -> Result<Held<'a, T>, Busy>
+        requires ready { IsReady turn.now self.old }
+        ensures* rests { sem 𝓛 (RestsIfErr (the_row T.row T.Entry.row T.Fixed.row T.Stands) self.entry (λ held. held.pass.ghost_name) result (λ last. IfErr result (λ busy. last ≡ knowing self.old (refused busy.word self.old.view)))) }
+        ensures same_reference { IfOk result (λ held. held.pass.ghost_name ≡ self.entry.ghost_name) }
+        ensures holding { IfOk result (λ held. (held.pass.now ≡ knowing self.old (granted (T.entries held.value) self.old.view)) × (held.turn.now ≡ turn.now)) }
+        ensures fixed { IfOk result (λ held. T.fixed held.value ≡ turn.now.fixed) }
+        ensures begins { IfOk result (λ held. IsPrefix self.old.view.seen (T.entries held.value)) }
+        ensures own_are { IfOk result (λ held. own T.number self.old.view.number (T.entries held.value) ≡ self.old.view.mine) }
+        ensures busy { IfErr result (λ busy. (k : ℕ) × (busy.word ≡ 2 * k + 1) × (length self.old.view.seen ≤ k)) }
+    {
+        match take_turn(turn, self) {
+            Ok(value) => Ok(Held {
+                pass: self,
+                turn,
+                value,
+            }),
+            Err(busy) => Err(busy),
+        }
+    }
+}
+
+impl<T: Stands + Drop> Held<'_, T> {
+    /// Lets the turn go with one entry more.
+    pub fn commit(self)
+        requires of { IsOf self.turn.now self.pass.now }
+        requires next { (e : T.Entry) × IsOneMore T.entries T.number self.pass.now.view self.value e }
+        requires fixed { T.fixed self.value ≡ self.turn.now.fixed }
+        ensures committed { self.exit.0.now ≡ knowing self.entry.pass.now (committed (T.entries self.entry.value) self.entry.pass.now.view) }
+        ensures facts { Facts T.number self.exit.0.now.view }
+    {
+        let Held { pass, turn, value } = self;
+        let_go_with_more(turn, pass, value);
+    }
+
+    /// Lets the turn go with nothing added.
+    pub fn give_back(self)
+        requires of { IsOf self.turn.now self.pass.now }
+        requires same { IsFound T.entries T.number self.pass.now.view self.value }
+        requires fixed { T.fixed self.value ≡ self.turn.now.fixed }
+        ensures given_back { self.exit.0.now ≡ knowing self.entry.pass.now (given_back (T.entries self.entry.value) self.entry.pass.now.view) }
+        ensures facts { Facts T.number self.exit.0.now.view }
+    {
+        let Held { pass, turn, value } = self;
+        let_go(turn, pass, value);
+    }
+
+    pub fn value(&self) -> &T
+        ensures { result.now ≡ self.now.value }
+    {
+        &self.value
+    }
+}
