@@ -1,6 +1,8 @@
 mod Lists
 mod Live
-mod Moves
 mod Told
+mod Moves
 mod Word
 mod Parting
+mod Joining
+mod Ending

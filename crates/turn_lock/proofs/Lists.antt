@@ -1,10 +1,13 @@
 -- Beginnings of lists, and the entries with one number.
-use Rattle.std.proofs.Common.{◌≡◌, ◌≢◌, ℕ, suc, zero, ◌+◌, ◌<◌, ◌≤◌, ◌⊎◌, List, [], ◌∷◌, ◌++◌, length, cond, filter, refl, sym, ap, ◌∙◌, inl, inr, arith, eq-eqb, ne_eqb, append_assoc, append-nil, length-append}
+use Rattle.std.proofs.Common.{◌≡◌, ◌≢◌, ℕ, suc, zero, ◌+◌, ◌<◌, ◌≤◌, ◌⊎◌, List, [], ◌∷◌, ◌++◌, length, cond, filter, Bool, true, false, refl, sym, ap, ◌∙◌, subst, inl, inr, ⊎_elim, arith, eq-eqb, ne_eqb, append_assoc, append-nil, length-append}
 use mathlib.Core.List.{IsPrefix}
 use mathlib.Core.Option.{some, some-injective, some-ne-none}
 use lib.ListN.{get_elem?}
 use Rattle.std.proofs.lemmas.List.Elements.{filter-append}
+use lib.Dec.{leb}
+use borrow.Author.Tests.{leb-true, leb-false}
 use Rattle.turn_lock.specs.History.{own}
+use Rattle.turn_lock.specs.Passes.{longer}
 
 module _ {A : Type 0} where
   pub prefix_refl : (xs : List A) → IsPrefix xs xs
@@ -76,3 +79,26 @@ module _ {E : Type 0} (number : E → ℕ) (n : ℕ) where
 
   pub own_no_more : (log : List E) (e : E) → number e ≢ n → own number n (log ++ e ∷ []) ≡ own number n log
   own_no_more log e is = own-append log (e ∷ []) ∙ (ap (λ b. own number n log ++ cond b (e ∷ []) []) (ne_eqb (number e) n is) ∙ append-nil (own number n log))
+
+module _ {A : Type 0} where
+  by_test : (xs ys : List A) (b : Bool) → leb (length ys) (length xs) ≡ b → ((cond b xs ys ≡ xs) × (length ys ≤ length xs)) ⊎ ((cond b xs ys ≡ ys) × (length xs ≤ length ys))
+  by_test xs ys true e = inl (refl, leb-true (length ys) (length xs) e)
+  by_test xs ys false e = let more = leb-false (length ys) (length xs) e in inr (refl, omega arith)
+
+  longer_cases : (xs ys : List A) → ((longer xs ys ≡ xs) × (length ys ≤ length xs)) ⊎ ((longer xs ys ≡ ys) × (length xs ≤ length ys))
+  longer_cases xs ys = by_test xs ys (leb (length ys) (length xs)) refl
+
+  -- of two beginnings of one list: both begin the longer one, which begins the list
+  module _ (xs ys log : List A) (p : IsPrefix xs log) (q : IsPrefix ys log) where
+    pub longer_left : IsPrefix xs (longer xs ys)
+    longer_left = ⊎_elim (λ c. subst (IsPrefix xs) (sym c.0) (prefix_refl xs)) (λ c. subst (IsPrefix xs) (sym c.0) (prefix_between xs ys log p q c.1)) (longer_cases xs ys)
+
+    pub longer_right : IsPrefix ys (longer xs ys)
+    longer_right = ⊎_elim (λ c. subst (IsPrefix ys) (sym c.0) (prefix_between ys xs log q p c.1)) (λ c. subst (IsPrefix ys) (sym c.0) (prefix_refl ys)) (longer_cases xs ys)
+
+    pub longer_begins : IsPrefix (longer xs ys) log
+    longer_begins = ⊎_elim (λ c. subst (λ (l : List A). IsPrefix l log) (sym c.0) p) (λ c. subst (λ (l : List A). IsPrefix l log) (sym c.0) q) (longer_cases xs ys)
+
+    pub longer_whole : (xs ≡ log) ⊎ (ys ≡ log) → longer xs ys ≡ log
+    longer_whole w = prefix_whole (longer xs ys) log longer_begins
+        (⊎_elim (λ e. let long = ap length e in let less = prefix_length xs (longer xs ys) longer_left in omega arith) (λ e. let long = ap length e in let less = prefix_length ys (longer xs ys) longer_right in omega arith) w)

@@ -1,5 +1,5 @@
 -- Passes that were made and not joined.
-use Rattle.std.proofs.Common.{◌≡◌, ◌≢◌, ℕ, suc, zero, ◌+◌, ◌<◌, ◌≤◌, List, [], ◌∷◌, ◌++◌, length, set, Bool, true, false, cond, refl, sym, ap, ◌∙◌, subst, ⊎_elim, arith}
+use Rattle.std.proofs.Common.{◌≡◌, ◌≢◌, ℕ, suc, zero, ◌+◌, ◌<◌, ◌≤◌, List, [], ◌∷◌, ◌++◌, length, set, Bool, true, false, cond, Option, Some, None, refl, sym, ap, ◌∙◌, subst, ⊎_elim, arith}
 use mathlib.Core.Logic.{dite}
 use mathlib.Core.Option.{some, some-injective, some-ne-none}
 use native.Mathlib.Decide.{ℕ_discrete}
@@ -55,3 +55,9 @@ module _ {E F : Type 0} where
 
   pub same_view : (vs : List (View E F)) (i j : ℕ) (v w : View E F) → get_elem? vs i ≡ some v → get_elem? vs j ≡ some w → j ≡ i → w ≡ v
   same_view vs i j v w at at' e = some-injective w v (sym at' ∙ (ap (get_elem? vs) e ∙ at))
+
+  -- a pass that holds no turn is not the one that holds it
+  pub other_holds : (vs : List (View E F)) (i : ℕ) (v : View E F) → get_elem? vs i ≡ some v → v.found ≡ None → (found : List E) (j : ℕ) (w : View E F) → get_elem? vs j ≡ some w → w.found ≡ Some found → j ≢ i
+  other_holds vs i v at idle found j w at' has e =
+      let clash : None ≡ Some found = sym idle ∙ (ap (λ (u : View E F). u.found) (sym (same_view vs i j v w at at' e)) ∙ has) in
+      cc

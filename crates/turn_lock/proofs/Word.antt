@@ -16,7 +16,7 @@ use Rattle.turn_lock.specs.Rule.{IsLive, IsSeenWhole, IsBlamed, Fits, IsFree, Is
 use Rattle.turn_lock.specs.Steps.{Looked, IsGranted, IsRefused, Tried, Committed, GivenBack}
 use Rattle.turn_lock.specs.declared.view.View.{View}
 use Rattle.turn_lock.proofs.Lists.{at_below, prefix_refl, prefix_length, own_one_more, own_no_more}
-use Rattle.turn_lock.proofs.Live.{same_view}
+use Rattle.turn_lock.proofs.Live.{same_view, other_holds}
 use Rattle.turn_lock.proofs.Moves.{Goes, blamed_after, kept_after}
 
 even_or : (k : ℕ) → bit_or (2 * k) 1 ≡ 2 * k + 1
@@ -74,16 +74,13 @@ module _ {T E F : Type 0} (entries : T → List E) (fixed : T → F) (number : E
     keeps = f.keeps;
   }
 
-  other_holds : (log : List E) (s : St) (i : ℕ) (v : View E F) → get_elem? s.views i ≡ some v → v.found ≡ None → (t : Taken log s) → t.holder ≢ i
-  other_holds log s i v at idle t e = none_some t.view.found log (ap (λ (u : View E F). u.found) (same_view s.views i t.holder v t.view at t.there e) ∙ idle) t.found
-
   taken_still : (log : List E) (s : St) (n i : ℕ) (v w : View E F) → length s.words ≡ 1 → n ≡ get_or s.words 0 0 → get_elem? s.views i ≡ some v → v.found ≡ None → w.found ≡ None → Taken log s
       → Taken log record { words = set s.words 0 n; homes = s.homes; views = set s.views i w }
   taken_still log s n i v w wide same at was idle t = record {
     odd = word_is s n wide ∙ (same ∙ t.odd);
     holder = t.holder;
     view = t.view;
-    there = set_else s.views i t.holder w (other_holds log s i v at was t) ∙ t.there;
+    there = set_else s.views i t.holder w (other_holds s.views i v at was log t.holder t.view t.there t.found) ∙ t.there;
     alive = t.alive;
     found = t.found;
     granted = t.granted;
@@ -187,7 +184,7 @@ module _ {T E F : Type 0} (entries : T → List E) (fixed : T → F) (number : E
       let w : View E F = refused word v in
       let goes = refused_goes v word in
       let same : bit_or word 1 ≡ word = ap (λ (k : ℕ). bit_or k 1) t.odd ∙ (odd_or (length log) ∙ sym t.odd) in
-      let other = other_holds log s id v at idle t in
+      let other = other_holds s.views id v at idle log t.holder t.view t.there t.found in
       let blame : IsBlamed (set s.views id w) id word = record {
         at = length log;
         by = t.holder;

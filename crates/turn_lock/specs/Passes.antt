@@ -1,10 +1,10 @@
 -- What a pass knows, and how each call changes it.
-use Rattle.std.specs.Prelude.{◌≡◌, ◌≢◌, ℕ, ◌+◌, ◌-◌, ◌*◌, ◌≤◌, ◌⊎◌, List, [], ◌∷◌, ◌++◌, length, Bool, true, false, cond, Option, Some, None, Contains}
+use Rattle.std.specs.Prelude.{◌≡◌, ◌≢◌, ℕ, ◌+◌, ◌-◌, ◌*◌, ◌≤◌, ◌⊎◌, List, [], ◌∷◌, ◌++◌, length, Bool, true, false, cond, nat_le, Option, Some, None, Contains}
 use mathlib.Core.List.{IsPrefix}
 use Rattle.atomic_table.specs.Seated.{TableId}
 use Rattle.turn_lock.specs.History.{own, added, HasEnded}
 use Rattle.turn_lock.specs.declared.view.View.{View}
-use lib.Dec.{leb}
+
 
 -- a lock: its table, and the fixed part of the values that stand in it
 pub record Lock (F : Type 0) : Type 0 where
@@ -18,7 +18,7 @@ pub record Known (E F : Type 0) : Type 0 where
 
 -- the longer of two lists
 abbrev pub longer : {E : Type 0} → List E → List E → List E
-longer xs ys = cond (leb (length ys) (length xs)) xs ys
+longer xs ys = cond (nat_le (length ys) (length xs)) xs ys
 
 module _ {E F : Type 0} where
   -- a pass of that lock
