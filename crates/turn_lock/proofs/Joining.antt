@@ -18,9 +18,6 @@ use Rattle.turn_lock.proofs.Live.{count-set_same, count-set_spent, count_some, l
 not_spent : false ≡ true → ⊥
 not_spent e = cc
 
-one_of_two : {A : Type 0} (a b c : A) → c ∷ [] ≡ c ∷ [] → a ≡ b → a ≡ b
-one_of_two a b c _ e = e
-
 -- an element of a list of two
 two_cases : {A : Type 0} (a b x : A) → Contains (a ∷ b ∷ []) x → (a ≡ x) ⊎ (b ≡ x)
 two_cases a b x c = ⊎_elim (λ h. ⊎_elim (λ n. let low = n.1 in absurd (omega arith)) (λ e. inl e) (Contains-push_cases [] a x h)) (λ e. inr e) (Contains-push_cases (a ∷ []) b x c)

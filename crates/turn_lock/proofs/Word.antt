@@ -8,10 +8,10 @@ use mathlib.Core.Option.{some, none}
 use mathlib.Core.List.{IsPrefix}
 use native.Mathlib.Decide.{ℕ_discrete}
 use lib.ListN.{get_elem?}
-use Rattle.atomic_table.specs.Table.{State, Me, Step, Allows, Act, keeps, takes, gives, put_back, Valid, stepped, carried_after}
+use Rattle.atomic_table.specs.Table.{State, Me, Step, step, Allows, Act, keeps, takes, gives, put_back, Valid, rest, stepped, carried_after}
 use Rattle.atomic_table.proofs.Lists.{at_set, set_here, set_else}
 use Rattle.turn_lock.specs.History.{own, added}
-use Rattle.turn_lock.specs.Passes.{Facts, granted, refused, committed, given_back}
+use Rattle.turn_lock.specs.Passes.{Facts, carried, granted, refused, committed, given_back}
 use Rattle.turn_lock.specs.Rule.{IsLive, IsSeenWhole, IsBlamed, Fits, IsFree, IsTaken, Kept}
 use Rattle.turn_lock.specs.Steps.{Looked, IsGranted, IsRefused, Tried, Committed, GivenBack}
 use Rattle.turn_lock.specs.declared.view.View.{View}
@@ -53,6 +53,10 @@ module _ {T E F : Type 0} (entries : T → List E) (fixed : T → F) (number : E
 
   abbrev Taken : List E → St → Type 0
   Taken = IsTaken entries fixed number
+
+  -- no play reads its step
+  abbrev any_step : Step (Option T)
+  any_step = step 0 0 0 0 none
 
   -- no pass but the one at i holds the turn, and that one lets it go
   none_after : (views : List (View E F)) (i : ℕ) (w : View E F) → w.found ≡ None → ((j : ℕ) (u : View E F) → get_elem? views j ≡ some u → u.spent ≡ false → j ≢ i → u.found ≡ None)
@@ -109,8 +113,8 @@ module _ {T E F : Type 0} (entries : T → List E) (fixed : T → F) (number : E
       let short = prefix_length v.seen log p in
       ⊎_elim (λ f. let even = f.even in omega arith) (λ t. let odd = t.odd in omega arith) turn
 
-  pub looks : (slots id : ℕ) (me : Sat) (st : Step (Option T)) → me.0.spent ≡ false → me.0.found ≡ None → Allows Rule slots id me 0 (λ n. n) (Looked entries fixed number st me)
-  looks slots id me st alive idle s kept long at fits =
+  pub looks : (slots id : ℕ) (me : Sat) → me.0.spent ≡ false → me.0.found ≡ None → Allows Rule slots id me 0 (λ n. n) (Looked entries fixed number any_step me)
+  looks slots id me alive idle s kept long at fits =
       let v = me.0 in
       let fit = kept.each id v at alive in
       let goes = same_goes v v refl in
@@ -202,8 +206,8 @@ module _ {T E F : Type 0} (entries : T → List E) (fixed : T → F) (number : E
           (set s.words 0 (bit_or word 1)) s.homes (length-set s.words 0 (bit_or word 1) ∙ kept.wide) kept.first kept.known (inr (taken_still log s (bit_or word 1) id v w kept.wide same at idle idle t)) in
       (w, keeps, tt, rule.0, record { now = refl; least = omega arith; facts = rule.1 })
 
-  pub tries : (slots id : ℕ) (me : Sat) (st : Step (Option T)) → me.0.spent ≡ false → me.0.found ≡ None → Allows Rule slots id me 0 (λ n. bit_or n 1) (Tried entries fixed number st me)
-  tries slots id me st alive idle s kept long at fits =
+  pub tries : (slots id : ℕ) (me : Sat) → me.0.spent ≡ false → me.0.found ≡ None → Allows Rule slots id me 0 (λ n. bit_or n 1) (Tried entries fixed number any_step me)
+  tries slots id me alive idle s kept long at fits =
       let word = get_or s.words 0 0 in
       ⊎_elim (λ f.
           let g = grants slots id me s kept at alive f in
@@ -236,9 +240,9 @@ module _ {T E F : Type 0} (entries : T → List E) (fixed : T → F) (number : E
     keeps = keeps';
   }
 
-  pub commits : (slots id : ℕ) (v : View E F) (x : T) (st : Step (Option T)) (found : List E) (e : E) → v.spent ≡ false → v.found ≡ Some found → entries x ≡ found ++ e ∷ [] → number e ≡ v.number → fixed x ≡ key → length (entries x) < 2 ^ 62
-      → Allows Rule slots id (v, (0, Some x) ∷ []) 0 (λ n. (n + 1) % 2 ^ 64) (Committed entries fixed number st (v, (0, Some x) ∷ []))
-  commits slots id v x st found e alive has more by keeps' few s kept long at fits =
+  pub commits : (slots id : ℕ) (v : View E F) (x : T) (found : List E) (e : E) → v.spent ≡ false → v.found ≡ Some found → entries x ≡ found ++ e ∷ [] → number e ≡ v.number → fixed x ≡ key → length (entries x) < 2 ^ 62
+      → Allows Rule slots id (v, (0, Some x) ∷ []) 0 (λ n. (n + 1) % 2 ^ 64) (Committed entries fixed number any_step (v, (0, Some x) ∷ []))
+  commits slots id v x found e alive has more by keeps' few s kept long at fits =
       let list = entries x in
       let h = holds_it s kept id v found at alive has in
       let log = kept.log in
@@ -260,9 +264,9 @@ module _ {T E F : Type 0} (entries : T → List E) (fixed : T → F) (number : E
           (set s.words 0 ((n + 1) % 2 ^ 64)) (set s.homes 0 (some (Some x))) (length-set s.words 0 ((n + 1) % 2 ^ 64) ∙ kept.wide) kept.first kept.known (inl (freed s kept id w h.0 h.2 x list ((n + 1) % 2 ^ 64) word refl keeps' refl)) in
       (w, gives, tt, rule.0, (refl, rule.1))
 
-  pub gives_back : (slots id : ℕ) (v : View E F) (x : T) (st : Step (Option T)) → v.spent ≡ false → v.found ≡ Some (entries x) → fixed x ≡ key
-      → Allows Rule slots id (v, (0, Some x) ∷ []) 0 (λ n. (n + (2 ^ 64 - 1)) % 2 ^ 64) (GivenBack entries fixed number st (v, (0, Some x) ∷ []))
-  gives_back slots id v x st alive has keeps' s kept long at fits =
+  pub gives_back : (slots id : ℕ) (v : View E F) (x : T) → v.spent ≡ false → v.found ≡ Some (entries x) → fixed x ≡ key
+      → Allows Rule slots id (v, (0, Some x) ∷ []) 0 (λ n. (n + (2 ^ 64 - 1)) % 2 ^ 64) (GivenBack entries fixed number any_step (v, (0, Some x) ∷ []))
+  gives_back slots id v x alive has keeps' s kept long at fits =
       let list = entries x in
       let h = holds_it s kept id v list at alive has in
       let log = kept.log in
@@ -277,3 +281,24 @@ module _ {T E F : Type 0} (entries : T → List E) (fixed : T → F) (number : E
           (set s.words 0 ((n + (2 ^ 64 - 1)) % 2 ^ 64)) (set s.homes 0 (some (Some x))) (length-set s.words 0 ((n + (2 ^ 64 - 1)) % 2 ^ 64) ∙ kept.wide) kept.first kept.known
           (inl (freed s kept id w h.0 h.2 x log ((n + (2 ^ 64 - 1)) % 2 ^ 64) word h.1 keeps' refl)) in
       (w, gives, tt, rule.0, (refl, rule.1))
+
+  -- the pass that holds the turn, once the value is back in its slot
+  put_in : (m m' : Sat) (x : T) (found : List E) → m' ≡ (m.0, (0, Some x) ∷ rest m.1) → m.1 ≡ carried m.0.found → m.0.found ≡ Some found → m' ≡ (m.0, (0, Some x) ∷ [])
+  put_in m m' x found is carries has = is ∙ ap (λ (cs : List (ℕ × Option T)). (m.0, (0, Some x) ∷ cs)) (ap rest (carries ∙ ap carried has))
+
+  pub commits_at : (slots id : ℕ) (m m' : Sat) (x : T) (found : List E) (e : E) → m' ≡ (m.0, (0, Some x) ∷ rest m.1) → m.1 ≡ carried m.0.found → m.0.spent ≡ false → m.0.found ≡ Some found → entries x ≡ found ++ e ∷ [] → number e ≡ m.0.number → fixed x ≡ key
+      → length (entries x) < 2 ^ 62 → Allows Rule slots id m' 0 (λ n. (n + 1) % 2 ^ 64) (Committed entries fixed number any_step m')
+  commits_at slots id m m' x found e is carries alive has more by keeps' few =
+      subst (λ (z : Sat). Allows Rule slots id z 0 (λ n. (n + 1) % 2 ^ 64) (Committed entries fixed number any_step z)) (sym (put_in m m' x found is carries has)) (commits slots id m.0 x found e alive has more by keeps' few)
+
+  pub gives_back_at : (slots id : ℕ) (m m' : Sat) (x : T) → m' ≡ (m.0, (0, Some x) ∷ rest m.1) → m.1 ≡ carried m.0.found → m.0.spent ≡ false → m.0.found ≡ Some (entries x) → fixed x ≡ key
+      → Allows Rule slots id m' 0 (λ n. (n + (2 ^ 64 - 1)) % 2 ^ 64) (GivenBack entries fixed number any_step m')
+  gives_back_at slots id m m' x is carries alive has keeps' =
+      subst (λ (z : Sat). Allows Rule slots id z 0 (λ n. (n + (2 ^ 64 - 1)) % 2 ^ 64) (GivenBack entries fixed number any_step z)) (sym (put_in m m' x (entries x) is carries has)) (gives_back slots id m.0 x alive has keeps')
+
+-- what is told where the word is not odd, and where it is
+pub told_even : (A B : Type 0) (n : ℕ) → n ≢ 1 → MatchBool (eqb n 1) A B → B
+told_even A B n ne told = subst (λ (b : Bool). MatchBool b A B) (ne_eqb n 1 ne) told
+
+pub told_odd : (A B : Type 0) (n : ℕ) → n ≡ 1 → MatchBool (eqb n 1) A B → A
+told_odd A B n e told = subst (λ (b : Bool). MatchBool b A B) (eq-eqb n 1 e) told
