@@ -6,3 +6,4 @@ mod Word
 mod Parting
 mod Joining
 mod Ending
+mod Passed
