@@ -6,6 +6,8 @@ ghost use mathlib.Core.List.{IsPrefix};
 ghost use Rattle.turn_lock.specs.History.{own};
 ghost use Rattle.turn_lock.specs.Passes.{IsOf, IsReady, IsFound, IsOneMore, Facts, knowing, granted, refused, committed, given_back};
 ghost use Rattle.turn_lock.specs.contracts.pass.Pass.{the_row};
+ghost use Rattle.turn_lock.specs.contracts.held.Held.{the_row as held_row};
+ghost use mir.Syntax.{named};
 
 use crate::pass::Pass;
 use crate::rule::{Commits, GivesBack, Tries};
@@ -103,6 +105,7 @@ impl<T: Stands + Drop> Held<'_, T> {
         requires of { IsOf self.turn.now self.pass.now }
         requires next { (e : T.Entry) × IsOneMore T.entries T.number self.pass.now.view self.value e }
         requires fixed { T.fixed self.value ≡ self.turn.now.fixed }
+        ensures mine { (e : T.Entry) → IsOneMore T.entries T.number self.entry.pass.now.view self.entry.value e → self.exit.0.now.view.mine ≡ self.entry.pass.now.view.mine ++ e ∷ [] }
         ensures committed { self.exit.0.now ≡ knowing self.entry.pass.now (committed (T.entries self.entry.value) self.entry.pass.now.view) }
         ensures facts { Facts T.number self.exit.0.now.view }
     {
@@ -126,5 +129,27 @@ impl<T: Stands + Drop> Held<'_, T> {
         ensures { result.now ≡ self.now.value }
     {
         &self.value
+    }
+
+    pub fn value_mut(&mut self) -> &mut T
+        ensures* writes_back { sem 𝓛 (Lends (held_row (record { mir = named 1; lft = [] }) T.row T.Entry.row T.Fixed.row T.Stands) T.row self.entry result (λ w. record self.old { value = w })) }
+        ensures value { result.now ≡ self.old.value }
+    {
+        &mut self.value
+    }
+}
+
+impl<T: Stands + Drop> Turn<T> {
+    /// One `fetch_or` of 1 on the word, as `Pass::try_turn`.
+    pub fn try_turn<'a>(&'a self, pass: &'a mut Pass<T>) -> Result<Held<'a, T>, Busy>
+        requires ready { IsReady self.now pass.old }
+        ensures same_reference { IfOk result (λ held. held.pass.ghost_name ≡ pass.entry.ghost_name) }
+        ensures holding { IfOk result (λ held. (held.pass.now ≡ knowing pass.old (granted (T.entries held.value) pass.old.view)) × (held.turn.now ≡ self.now)) }
+        ensures fixed { IfOk result (λ held. T.fixed held.value ≡ self.now.fixed) }
+        ensures begins { IfOk result (λ held. IsPrefix pass.old.view.seen (T.entries held.value)) }
+        ensures own_are { IfOk result (λ held. own T.number pass.old.view.number (T.entries held.value) ≡ pass.old.view.mine) }
+        ensures busy { IfErr result (λ busy. (k : ℕ) × (busy.word ≡ 2 * k + 1) × (length pass.old.view.seen ≤ k)) }
+    {
+        pass.try_turn(self)
     }
 }

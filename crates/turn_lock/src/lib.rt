@@ -13,3 +13,6 @@ pub use pass::Pass;
 pub use stands::Stands;
 pub use turn::Turn;
 pub use view::View;
+
+#[cfg(test)]
+mod tests;

@@ -9,6 +9,7 @@ use atomic_table::Seat;
 use std::marker::Model;
 
 /// A thread's place at a lock.
+#[derive(Drop)]
 pub struct Pass<T: Stands> {
     pub(crate) seat: Seat<Option<T>, View<T::Entry, T::Fixed>>,
     pub(crate) number: u64,
