@@ -147,3 +147,72 @@ fn retire(turn: &Turn<Desk>, first: &mut Pass<Desk>, mut passes: Vec<Pass<Desk>>
         turn.join_pass(first, pass);
     }
 }
+
+/// Whether the calls of each pass are counted from 0, each once, in their order.
+fn is_in_order(calls: &[(u64, u64)]) -> bool {
+    let mut next = [0u64; 9];
+    for (by, count) in calls {
+        if *by >= 9 || next[*by as usize] != *count {
+            return false;
+        }
+        next[*by as usize] = count.saturating_add(1);
+    }
+    true
+}
+
+/// What a try finds: the word if it is refused, and else how many calls stand there, which are given
+/// back.
+fn look(turn: &Turn<Desk>, pass: &mut Pass<Desk>) -> Result<usize, Busy>
+    requires ready { IsReady turn.now pass.old }
+    ensures ready { IsReady turn.now pass.new }
+    ensures same { (pass.new.view.number ≡ pass.old.view.number) × (pass.new.view.out ≡ pass.old.view.out) }
+{
+    match pass.try_turn(turn) {
+        Ok(held) => {
+            let count = held.value().calls.len();
+            held.give_back();
+            Ok(count)
+        }
+        Err(busy) => Err(busy),
+    }
+}
+
+#[test]
+fn refused_while_another_holds_the_turn(rt: HostRuntime) -> Result<(), Fail> {
+    let alloc: Global = rt.alloc();
+    let (turn, mut first) = Turn::new(alloc, Desk::empty(alloc, 7))?;
+    let mut second = turn.split_pass(&mut first);
+    assert_eq!(rt; (first.number(), first.made(), first.out()), (0, 1, 1));
+    assert_eq!(rt; (second.number(), second.made(), second.out()), (1, 0, 0));
+    match first.try_turn(&turn) {
+        Ok(mut held) => {
+            assert!(rt; look(&turn, &mut second) == Err(Busy { word: 1 }));
+            if held.value_mut().note((0, 5)) {
+                held.commit();
+            } else {
+                held.give_back();
+            }
+        }
+        Err(_busy) => panic!(rt; "the turn is free"),
+    }
+    assert_eq!(rt; turn.length(&mut second), 1);
+    assert!(rt; look(&turn, &mut second) == Ok(1));
+    turn.join_pass(&mut first, second);
+    let desk = turn.close(first);
+    assert_eq!(rt; desk.name, 7);
+    assert!(rt; desk.calls.as_slice() == [(0, 5)].as_slice());
+    Ok(())
+}
+
+#[test]
+fn each_pass_has_its_calls(rt: HostRuntime) -> Result<(), Fail> {
+    let alloc: Global = rt.alloc();
+    let (turn, mut first) = Turn::new(alloc, Desk::empty(alloc, 7))?;
+    let mut passes = hire(alloc, &turn, &mut first, 8)?;
+    play_all(&rt, &turn, passes.as_mut_slice(), 10_000);
+    retire(&turn, &mut first, passes);
+    let desk = turn.close(first);
+    assert_eq!(rt; desk.calls.len(), 80_000);
+    assert!(rt; is_in_order(desk.calls.as_slice()));
+    Ok(())
+}
