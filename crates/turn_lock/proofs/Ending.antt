@@ -62,7 +62,7 @@ module _ {T E F : Type 0} (entries : T → List E) (fixed : T → F) (number : E
       let is : k.view ≡ v = same_view s.views id k.seat v k.view at k.there (only_one s.views id k.seat v k.view one at alive k.there k.alive) in
       let whole : v.seen ≡ kept.log = ap (λ (u : View E F). u.seen) (sym is) ∙ k.whole in
       ⊎_elim (λ f. (f.value, ap (λ (hs : List (mathlib.Core.Option.Option (Option T))). get_elem? hs 0) f.home, f.stands ∙ sym whole, f.keeps))
-          (λ t.
-          let same = same_view s.views id t.holder v t.view at t.there (only_one s.views id t.holder v t.view one at alive t.there t.alive) in
-          let clash : None ≡ Some kept.log = sym idle ∙ (ap (λ (u : View E F). u.found) (sym same) ∙ t.found) in
-          absurd (let no : ⊥ = cc in no)) kept.turn
+      (λ t.
+      let same = same_view s.views id t.holder v t.view at t.there (only_one s.views id t.holder v t.view one at alive t.there t.alive) in
+      let clash : None ≡ Some kept.log = sym idle ∙ (ap (λ (u : View E F). u.found) (sym same) ∙ t.found) in
+      absurd (let no : ⊥ = cc in no)) kept.turn

@@ -38,9 +38,16 @@ module _ {E F : Type 0} where
   pub only_one : (vs : List (View E F)) (i j : ℕ) (v w : View E F) → count_live vs ≡ 1 → get_elem? vs i ≡ some v → v.spent ≡ false → get_elem? vs j ≡ some w → w.spent ≡ false → j ≡ i
   only_one vs i j v w one at alive at' alive' =
       dite (ℕ_discrete j i) (λ e. e) (λ ne.
-          let less = count-set_spent vs i v spent_view at alive refl in
-          let more = count_some (set vs i spent_view) j w (set_else vs i j spent_view ne ∙ at') alive' in
-          absurd (omega arith))
+      let less = count-set_spent vs i v spent_view at alive refl in
+      let more = count_some (set vs i spent_view) j w (set_else vs i j spent_view ne ∙ at') alive' in
+      absurd (omega arith))
+
+  -- where two are left, they are counted
+  pub two_live : (vs : List (View E F)) (i j : ℕ) (v w : View E F) → get_elem? vs i ≡ some v → v.spent ≡ false → get_elem? vs j ≡ some w → w.spent ≡ false → j ≢ i → 2 ≤ count_live vs
+  two_live vs i j v w at alive at' alive' ne =
+      let less = count-set_spent vs i v spent_view at alive refl in
+      let more = count_some (set vs i spent_view) j w (set_else vs i j spent_view ne ∙ at') alive' in
+      omega arith
 
   pub live_here : (vs : List (View E F)) (i : ℕ) (v w : View E F) → get_elem? vs i ≡ some v → w.spent ≡ false → IsLive (set vs i w) i
   live_here vs i v w at alive = (w, set_here vs i w (at_below vs i v at), alive)

@@ -98,14 +98,13 @@ module _ {T E F : Type 0} (entries : T → List E) (fixed : T → F) (number : E
         seen_own = ⊎_elim (λ p. ap (own number i) p.0 ∙ (f.seen_own ∙ (sym f.all_own ∙ (ap (own number i) (sym p.1) ∙ mine)))) (λ p. ap (own number i) p ∙ mine) sees;
         all_own = mine;
         ended_are = λ n es c.
-        let j = f.ended_are n es (subst (λ (l : List (ℕ × List E)). Contains l (n, es)) goes.ended c) in
-        joined_after v.seen w.seen es n j (⊎_elim (λ p. ap (own number n) p.0 ∙ j.seen_own) (λ p. ap (own number n) p ∙ (others n (apart v.seen es n j) ∙ j.all_own)) sees);
+            let j = f.ended_are n es (subst (λ (l : List (ℕ × List E)). Contains l (n, es)) goes.ended c) in
+            joined_after v.seen w.seen es n j (⊎_elim (λ p. ap (own number n) p.0 ∙ j.seen_own) (λ p. ap (own number n) p ∙ (others n (apart v.seen es n j) ∙ j.all_own)) sees);
         met_begin = λ xs c.
-        let m = f.met_begin xs (subst (λ (l : List (List E)). Contains l xs) goes.met c) in
-        ⊎_elim (λ p. subst (IsPrefix xs) (sym p.0) m) (λ p. subst (IsPrefix xs) (sym p) (prefix_trans xs log log' (prefix_trans xs v.seen log m f.begins) grows)) sees;
+            let m = f.met_begin xs (subst (λ (l : List (List E)). Contains l xs) goes.met c) in
+            ⊎_elim (λ p. subst (IsPrefix xs) (sym p.0) m) (λ p. subst (IsPrefix xs) (sym p) (prefix_trans xs log log' (prefix_trans xs v.seen log m f.begins) grows)) sees;
         counted = goes.made ∙ (f.counted ∙ (λ k. sym goes.out k + length (sym goes.ended k)));
-        counts = λ z.
-        (
+        counts = λ z. (
           length-set views i w ∙ ((f.counts z).0 ∙ ap (λ (k : ℕ). k + 1) (sym goes.made)),
           count-set_same views i v w at goes.spent ∙ ((f.counts z).1 ∙ ap (λ (k : ℕ). k + 1) (sym goes.out)),
         );
@@ -137,11 +136,14 @@ module _ {T E F : Type 0} (entries : T → List E) (fixed : T → F) (number : E
       pub kept_after : (words : List ℕ) (homes : List (mathlib.Core.Option.Option (Option T))) → length words ≡ 1 → IsLive views 0 → IsSeenWhole log views
           → (IsFree entries fixed number key log' record { words = words; homes = homes; views = set views i w } ⊎ IsTaken entries fixed number log' record { words = words; homes = homes; views = set views i w })
           → Kept entries fixed number key record { words = words; homes = homes; views = set views i w } × Facts number w
-      kept_after words homes wide first known turn = (record {
-        log = log';
-        wide = wide;
-        first = live_after views i v w at alive' 0 first;
-        each = each_after;
-        known = known_after known;
-        turn = turn;
-      }, told entries fixed number key (set views i w) log' i w here' alive' (each_after i w here' alive'))
+      kept_after words homes wide first known turn = (
+        record {
+          log = log';
+          wide = wide;
+          first = live_after views i v w at alive' 0 first;
+          each = each_after;
+          known = known_after known;
+          turn = turn;
+        },
+        told entries fixed number key (set views i w) log' i w here' alive' (each_after i w here' alive'),
+      )

@@ -127,8 +127,7 @@ module _ {T E F : Type 0} (entries : T → List E) (fixed : T → F) (number : E
       ended_are = λ n es c. still_joined v.seen es n (fit.ended_are n es c);
       met_begin = fit.met_begin;
       counted = omega arith;
-      counts = λ z.
-      (
+      counts = λ z. (
         longer_by_one ∙ ap (λ (k : ℕ). k + 1) count_is,
         count-snoc left r refl ∙ ap (λ (k : ℕ). k + 1) (count-set_same views id v l at refl ∙ (fit.counts z).1),
       );
@@ -171,7 +170,7 @@ module _ {T E F : Type 0} (entries : T → List E) (fixed : T → F) (number : E
       let first : id ≡ 0 = sym fit.numbered ∙ zero_is in
       let none_of : ((j : ℕ) (u : View E F) → get_elem? s.views j ≡ some u → u.spent ≡ false → j ≢ id → u.found ≡ None) → (j : ℕ) (u : View E F) → get_elem? (parted s.views id v) j ≡ some u → u.spent ≡ false → u.found ≡ None =
       λ others j u e live. ⊎_elim (λ old. ⊎_elim (λ t. ap (λ (z : View E F). z.found) (sym t.1) ∙ idle) (λ t. others j u t.1 live t.0) (at_set s.views id j (split_from v) u old))
-          (λ t. ap (λ (z : View E F). z.found) (sym t.1)) (at_snoc_at (set s.views id (split_from v)) (split_off v) u j e) in
+      (λ t. ap (λ (z : View E F). z.found) (sym t.1)) (at_snoc_at (set s.views id (split_from v)) (split_off v) u j e) in
       let freely : (f : Free kept.log s) → Free kept.log record { words = s.words; homes = s.homes; views = parted s.views id v } = λ f. record {
         even = f.even;
         none_holds = none_of (λ j u e live _. f.none_holds j u e live);

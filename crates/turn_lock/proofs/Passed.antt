@@ -37,7 +37,7 @@ module _ {E F : Type 0} (number : E → ℕ) (v : View E F) (f : Facts number v)
   covered_whole z empty e c = dite (ℕ_discrete (number e) 0)
       (λ is. inl (subst (λ (es : List E). Contains es e) (ap (λ (n : ℕ). own number n v.seen) (is ∙ sym z) ∙ f.own_are) (contains_own number v.seen e c)))
       (λ ne. ⊎_elim (λ h. inr (number e, h.0, h.1, subst (λ (es : List E). Contains es e) (f.ended_are (number e) h.0 h.1).0 (contains_own number v.seen e c)))
-          (λ none_seen. absurd (no_element e (subst (λ (es : List E). Contains es e) none_seen (contains_own number v.seen e c)))) (f.covered z empty (number e) ne))
+      (λ none_seen. absurd (no_element e (subst (λ (es : List E). Contains es e) none_seen (contains_own number v.seen e c)))) (f.covered z empty (number e) ne))
 
   pub facts_split : Facts number (split_from v)
   facts_split = let counted = f.counted in record {

@@ -21,12 +21,12 @@ module _ {T E F : Type 0} (entries : T → List E) (fixed : T → F) (number : E
     counted = f.counted;
     met_begin = f.met_begin;
     covered = λ z0 empty n other.
-    let a = alone z0 empty in
-    ⊎_elim (λ l. absurd (other (only_one views i n v l.0 a.1 at alive l.1 l.2 ∙ a.0))) (λ d. ⊎_elim (λ h. inl h) (λ e. inr (own_none number n v.seen log f.begins e)) d) (f.covers a.0 n);
+        let a = alone z0 empty in
+        ⊎_elim (λ l. absurd (other (only_one views i n v l.0 a.1 at alive l.1 l.2 ∙ a.0))) (λ d. ⊎_elim (λ h. inl h) (λ e. inr (own_none number n v.seen log f.begins e)) d) (f.covers a.0 n);
     odd = λ r. let b = f.waits r in (b.at, b.odd);
     waited = λ z0 empty r.
-    let a = alone z0 empty in
-    let b = f.waits r in
-    let same = same_view views i b.seat v b.view at b.there (only_one views i b.seat v b.view a.1 at alive b.there b.alive) in
-    (b.by, b.at, (λ e. b.other (e ∙ sym a.0)), b.odd, subst (λ (u : View E F). Contains u.taken (b.by, b.at)) same b.kept);
+        let a = alone z0 empty in
+        let b = f.waits r in
+        let same = same_view views i b.seat v b.view at b.there (only_one views i b.seat v b.view a.1 at alive b.there b.alive) in
+        (b.by, b.at, (λ e. b.other (e ∙ sym a.0)), b.odd, subst (λ (u : View E F). Contains u.taken (b.by, b.at)) same b.kept);
   }

@@ -16,7 +16,7 @@ use Rattle.turn_lock.specs.Rule.{IsLive, IsSeenWhole, IsBlamed, Fits, IsFree, Is
 use Rattle.turn_lock.specs.Steps.{Looked, IsGranted, IsRefused, Tried, Committed, GivenBack}
 use Rattle.turn_lock.specs.declared.view.View.{View}
 use Rattle.turn_lock.proofs.Lists.{at_below, prefix_refl, prefix_length, own_one_more, own_no_more}
-use Rattle.turn_lock.proofs.Live.{same_view, other_holds}
+use Rattle.turn_lock.proofs.Live.{two_live, same_view, other_holds}
 use Rattle.turn_lock.proofs.Moves.{Goes, blamed_after, kept_after}
 
 even_or : (k : ℕ) → bit_or (2 * k) 1 ≡ 2 * k + 1
@@ -121,7 +121,7 @@ module _ {T E F : Type 0} (entries : T → List E) (fixed : T → F) (number : E
       let moved = blamed_after entries fixed number key s.views kept.log kept.log id v v at alive goes (prefix_refl kept.log) (λ n _. refl) kept.each in
       let same = get_or s.words 0 0 in
       let rule = kept_after entries fixed number key s.views kept.log kept.log id v v at alive goes (prefix_refl kept.log) (λ n _. refl) kept.each fit.all_own (inl (refl, refl)) (λ r. moved id v.last (fit.waits r))
-          (set s.words 0 same) s.homes (length-set s.words 0 same ∙ kept.wide) kept.first kept.known (turn_still s kept.log id v v kept.wide at idle idle same refl kept.turn) in
+      (set s.words 0 same) s.homes (length-set s.words 0 same ∙ kept.wide) kept.first kept.known (turn_still s kept.log id v v kept.wide at idle idle same refl kept.turn) in
       (v, keeps, tt, rule.0, (refl, least_word s kept.log v fit.begins kept.turn, rule.1))
 
   refused_goes : (v : View E F) (word : ℕ) → Goes v (refused word v)
@@ -162,7 +162,7 @@ module _ {T E F : Type 0} (entries : T → List E) (fixed : T → F) (number : E
         away = ap (λ (hs : List (mathlib.Core.Option.Option (Option T))). set hs 0 none) f.home;
       } in
       let rule = kept_after entries fixed number key s.views log log id v w at alive goes (prefix_refl log) (λ n _. refl) kept.each fit.all_own (inl (refl, refl)) (λ r. moved id v.last (fit.waits r))
-          new_words new_homes (length-set s.words 0 (bit_or (get_or s.words 0 0) 1) ∙ kept.wide) kept.first kept.known (inr turn) in (
+      new_words new_homes (length-set s.words 0 (bit_or (get_or s.words 0 0) 1) ∙ kept.wide) kept.first kept.known (inr turn) in (
         w,
         takes 0 (Some f.value),
         ap (λ (hs : List (mathlib.Core.Option.Option (Option T))). get_elem? hs 0) f.home,
@@ -203,30 +203,44 @@ module _ {T E F : Type 0} (entries : T → List E) (fixed : T → F) (number : E
       let short = prefix_length v.seen log fit.begins in
       let odd = t.odd in
       let rule = kept_after entries fixed number key s.views log log id v w at alive goes (prefix_refl log) (λ n _. refl) kept.each fit.all_own (inl (refl, refl)) (λ _. blame)
-          (set s.words 0 (bit_or word 1)) s.homes (length-set s.words 0 (bit_or word 1) ∙ kept.wide) kept.first kept.known (inr (taken_still log s (bit_or word 1) id v w kept.wide same at idle idle t)) in
-      (w, keeps, tt, rule.0, record { now = refl; least = omega arith; facts = rule.1 })
+      (set s.words 0 (bit_or word 1)) s.homes (length-set s.words 0 (bit_or word 1) ∙ kept.wide) kept.first kept.known (inr (taken_still log s (bit_or word 1) id v w kept.wide same at idle idle t)) in (
+        w,
+        keeps,
+        tt,
+        rule.0,
+        record {
+          now = refl;
+          least = omega arith;
+          others = λ z out.
+              let first : id ≡ 0 = sym fit.numbered ∙ z in
+              let count = (fit.counts first).1 in
+              let two = two_live s.views id t.holder v t.view at alive t.there t.alive other in
+              absurd (omega arith);
+          facts = rule.1;
+        },
+      )
 
   pub tries : (slots id : ℕ) (me : Sat) → me.0.spent ≡ false → me.0.found ≡ None → Allows Rule slots id me 0 (λ n. bit_or n 1) (Tried entries fixed number any_step me)
   tries slots id me alive idle s kept long at fits =
       let word = get_or s.words 0 0 in
       ⊎_elim (λ f.
-          let g = grants slots id me s kept at alive f in
-          let even = f.even in
-          let test : eqb (word % 2) 1 ≡ false = ne_eqb (word % 2) 1 (λ e. omega arith) in
-          (g.0, g.1, g.2, g.3, subst (λ (b : Bool). MatchBool b (IsRefused entries fixed number me word (g.0, carried_after me.1 g.1)) (IsGranted entries fixed number me (g.0, carried_after me.1 g.1))) (sym test) g.4))
-          (λ t.
-          let r = refuses slots id me s kept at alive idle t in
-          let odd = t.odd in
-          let test : eqb (word % 2) 1 ≡ true = eq-eqb (word % 2) 1 (omega arith) in
-          (r.0, r.1, r.2, r.3, subst (λ (b : Bool). MatchBool b (IsRefused entries fixed number me word (r.0, carried_after me.1 r.1)) (IsGranted entries fixed number me (r.0, carried_after me.1 r.1))) (sym test) r.4)) kept.turn
+      let g = grants slots id me s kept at alive f in
+      let even = f.even in
+      let test : eqb (word % 2) 1 ≡ false = ne_eqb (word % 2) 1 (λ e. omega arith) in
+      (g.0, g.1, g.2, g.3, subst (λ (b : Bool). MatchBool b (IsRefused entries fixed number me word (g.0, carried_after me.1 g.1)) (IsGranted entries fixed number me (g.0, carried_after me.1 g.1))) (sym test) g.4))
+      (λ t.
+      let r = refuses slots id me s kept at alive idle t in
+      let odd = t.odd in
+      let test : eqb (word % 2) 1 ≡ true = eq-eqb (word % 2) 1 (omega arith) in
+      (r.0, r.1, r.2, r.3, subst (λ (b : Bool). MatchBool b (IsRefused entries fixed number me word (r.0, carried_after me.1 r.1)) (IsGranted entries fixed number me (r.0, carried_after me.1 r.1))) (sym test) r.4)) kept.turn
 
   -- the pass that holds the turn has found the history
   holds_it : (s : St) (kept : Rule s) (id : ℕ) (v : View E F) (found : List E) → get_elem? s.views id ≡ some v → v.spent ≡ false → v.found ≡ Some found → (t : Taken kept.log s) × (found ≡ kept.log) × (t.holder ≡ id)
   holds_it s kept id v found at alive has =
       ⊎_elim (λ f. absurd (none_some v.found found (f.none_holds id v at alive) has))
-          (λ t. dite (ℕ_discrete id t.holder)
-          (λ e. (t, some_inner found kept.log (sym has ∙ (ap (λ (u : View E F). u.found) (sym (same_view s.views id t.holder v t.view at t.there (sym e))) ∙ t.found)), sym e))
-          (λ ne. absurd (none_some v.found found (t.only id v at alive ne) has))) kept.turn
+      (λ t. dite (ℕ_discrete id t.holder)
+      (λ e. (t, some_inner found kept.log (sym has ∙ (ap (λ (u : View E F). u.found) (sym (same_view s.views id t.holder v t.view at t.there (sym e))) ∙ t.found)), sym e))
+      (λ ne. absurd (none_some v.found found (t.only id v at alive ne) has))) kept.turn
 
   -- the holder puts back a value that stands for the history as it then is
   freed : (s : St) (kept : Rule s) (id : ℕ) (w : View E F) (t : Taken kept.log s) → t.holder ≡ id → (x : T) (log' : List E) (n : ℕ) → n ≡ 2 * length log' → entries x ≡ log' → fixed x ≡ key → w.found ≡ None
@@ -261,7 +275,7 @@ module _ {T E F : Type 0} (entries : T → List E) (fixed : T → F) (number : E
       let n = get_or s.words 0 0 in
       let word : (n + 1) % 2 ^ 64 ≡ 2 * length list = omega (arith, length-append log (e ∷ [])) in
       let rule = kept_after entries fixed number key s.views log list id v w at alive goes grows others kept.each mine (inr refl) (λ r. moved id v.last (fit.waits r))
-          (set s.words 0 ((n + 1) % 2 ^ 64)) (set s.homes 0 (some (Some x))) (length-set s.words 0 ((n + 1) % 2 ^ 64) ∙ kept.wide) kept.first kept.known (inl (freed s kept id w h.0 h.2 x list ((n + 1) % 2 ^ 64) word refl keeps' refl)) in
+      (set s.words 0 ((n + 1) % 2 ^ 64)) (set s.homes 0 (some (Some x))) (length-set s.words 0 ((n + 1) % 2 ^ 64) ∙ kept.wide) kept.first kept.known (inl (freed s kept id w h.0 h.2 x list ((n + 1) % 2 ^ 64) word refl keeps' refl)) in
       (w, gives, tt, rule.0, (refl, rule.1))
 
   pub gives_back : (slots id : ℕ) (v : View E F) (x : T) → v.spent ≡ false → v.found ≡ Some (entries x) → fixed x ≡ key
@@ -278,8 +292,8 @@ module _ {T E F : Type 0} (entries : T → List E) (fixed : T → F) (number : E
       let n = get_or s.words 0 0 in
       let word : (n + (2 ^ 64 - 1)) % 2 ^ 64 ≡ 2 * length log = omega arith in
       let rule = kept_after entries fixed number key s.views log log id v w at alive goes (prefix_refl log) (λ n _. refl) kept.each fit.all_own (inr h.1) (λ r. moved id v.last (fit.waits r))
-          (set s.words 0 ((n + (2 ^ 64 - 1)) % 2 ^ 64)) (set s.homes 0 (some (Some x))) (length-set s.words 0 ((n + (2 ^ 64 - 1)) % 2 ^ 64) ∙ kept.wide) kept.first kept.known
-          (inl (freed s kept id w h.0 h.2 x log ((n + (2 ^ 64 - 1)) % 2 ^ 64) word h.1 keeps' refl)) in
+      (set s.words 0 ((n + (2 ^ 64 - 1)) % 2 ^ 64)) (set s.homes 0 (some (Some x))) (length-set s.words 0 ((n + (2 ^ 64 - 1)) % 2 ^ 64) ∙ kept.wide) kept.first kept.known
+      (inl (freed s kept id w h.0 h.2 x log ((n + (2 ^ 64 - 1)) % 2 ^ 64) word h.1 keeps' refl)) in
       (w, gives, tt, rule.0, (refl, rule.1))
 
   -- the pass that holds the turn, once the value is back in its slot

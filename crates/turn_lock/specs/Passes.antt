@@ -5,7 +5,6 @@ use Rattle.atomic_table.specs.Seated.{TableId}
 use Rattle.turn_lock.specs.History.{own, added, HasEnded}
 use Rattle.turn_lock.specs.declared.view.View.{View}
 
-
 -- a lock: its table, and the fixed part of the values that stand in it
 pub record Lock (F : Type 0) : Type 0 where
   pub table : TableId
@@ -79,14 +78,14 @@ module _ {E F : Type 0} where
   abbrev pub IsCovered : View E F → Type 0
   IsCovered v = (e : E) → Contains v.seen e → Contains v.mine e ⊎ ((n : ℕ) × (entries : List E) × Contains v.ended (n, entries) × Contains entries e)
 
-module _ {T E F : Type 0} (entries : T → List E) (number : E → ℕ) where
+module _ {T E F : Type 0} (entries : T → List E) where
   -- the value stands for the list that was found
   abbrev pub IsFound : View E F → T → Type 0
   IsFound v value = v.found ≡ Some (entries value)
 
   -- the value stands for the list that was found with one entry behind it, which a pass of this number may make
-  abbrev pub IsOneMore : View E F → T → E → Type 0
-  IsOneMore v value e = (found : List E) × (v.found ≡ Some found) × (entries value ≡ found ++ e ∷ []) × (number e ≡ v.number)
+  abbrev pub IsOneMore : (E → ℕ) → View E F → T → E → Type 0
+  IsOneMore number v value e = (found : List E) × (v.found ≡ Some found) × (entries value ≡ found ++ e ∷ []) × (number e ≡ v.number)
 
 -- what is true of every pass
 pub record Facts {E F : Type 0} (number : E → ℕ) (v : View E F) : Type 0 where

@@ -1,5 +1,5 @@
 -- What each step on the word tells the pass that makes it.
-use Rattle.std.specs.Prelude.{◌≡◌, ℕ, ◌+◌, ◌*◌, ◌%◌, ◌≤◌, ◌==◌, List, [], ◌∷◌, length, MatchBool, Option, Some, None}
+use Rattle.std.specs.Prelude.{◌≡◌, ◌≢◌, ℕ, ◌+◌, ◌*◌, ◌%◌, ◌≤◌, ◌==◌, List, [], ◌∷◌, length, MatchBool, Option, Some, None}
 use mathlib.Core.List.{IsPrefix}
 use Rattle.atomic_table.specs.Table.{Me, Step, rest}
 use Rattle.turn_lock.specs.History.{own}
@@ -36,6 +36,7 @@ module _ {T E F : Type 0} (entries : T → List E) (fixed : T → F) (number : E
   pub record IsRefused (m : Sat) (word : ℕ) (m' : Sat) : Type 0 where
     pub now : m' ≡ (refused word m.0, m.1)
     pub least : 2 * length m.0.seen + 1 ≤ word
+    pub others : m.0.number ≡ 0 → m.0.out ≢ 0
     pub facts : Facts number (refused word m.0)
 
   abbrev pub Tried : Step (Option T) → Sat → ℕ → Sat → Type 0

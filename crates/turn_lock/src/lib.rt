@@ -2,6 +2,7 @@
 #![tactic(auto)]
 
 mod held;
+pub mod laws;
 mod pass;
 mod rule;
 mod stands;

@@ -1,6 +1,6 @@
 //! A pass of a lock.
 
-ghost use Rattle.std.specs.Prelude.{◌≡◌, Some};
+ghost use Rattle.std.specs.Prelude.{◌≡◌};
 ghost use Rattle.turn_lock.specs.Passes.{Facts};
 
 use crate::stands::Stands;
@@ -8,7 +8,10 @@ use crate::view::View;
 use atomic_table::Seat;
 use std::marker::Model;
 
-/// A thread's place at a lock.
+/// A place at a lock, with which a thread tries for the turn. Contracts see it as the lock's table and
+/// what the pass knows (`View`). It holds the turn where `found` is there.
+///
+/// A pass that is dropped is never joined, and then its lock cannot be closed.
 #[derive(Drop)]
 pub struct Pass<T: Stands> {
     pub(crate) seat: Seat<Option<T>, View<T::Entry, T::Fixed>>,
@@ -25,11 +28,14 @@ impl<T: Stands> Model for Pass<T> {
 
     ghost view = { λ p. record { table = p.seat.table_id; view = p.seat.me.0 } };
 
-    ghost invariant = { λ p. (p.number ≡ p.seat.me.0.number) × (p.made ≡ p.seat.me.0.made) × (p.out ≡ p.seat.me.0.out) × (p.seat.me.0.spent ≡ false) × (p.seat.me.1 ≡ carried p.seat.me.0.found) × Facts T.number p.seat.me.0 };
+    ghost invariant = { λ p. (p.number ≡ p.seat.me.0.number) × (p.made ≡ p.seat.me.0.made)
+        × (p.out ≡ p.seat.me.0.out) × (p.seat.me.0.spent ≡ false)
+        × (p.seat.me.1 ≡ carried p.seat.me.0.found) × Facts T.number p.seat.me.0 };
 }
 
 impl<T: Stands> Pass<T> {
-    /// The pass's number, which is 0 for the first pass of a lock.
+    /// The pass's number: 0 for the first pass of a lock, and for the others from 1 on, in the order in
+    /// which they were split from it.
     pub fn number(&self) -> u64
         ensures number { result ≡ self.now.view.number }
         ensures facts { Facts T.number self.now.view }
@@ -40,6 +46,7 @@ impl<T: Stands> Pass<T> {
     /// How many passes were split from it.
     pub fn made(&self) -> u64
         ensures made { result ≡ self.now.view.made }
+        ensures facts { Facts T.number self.now.view }
     {
         self.made
     }
@@ -47,6 +54,7 @@ impl<T: Stands> Pass<T> {
     /// How many of the passes that were split from it were not joined back.
     pub fn out(&self) -> u64
         ensures out { result ≡ self.now.view.out }
+        ensures facts { Facts T.number self.now.view }
     {
         self.out
     }

@@ -1,4 +1,4 @@
-//! The lock.
+//! The lock: made, asked for its length, parted among passes and closed.
 
 ghost use Rattle.std.specs.Prelude.{◌≡◌, ◌+◌, ◌≤◌, ◌<◌, ◌^◌, ◌≢◌, List, [], Some, IfOk, length, Contains};
 ghost use mathlib.Core.List.{IsPrefix};
@@ -13,7 +13,8 @@ use std::alloc::{AllocError, Global};
 use std::marker::Model;
 use std::snapshot::Snapshot;
 
-/// A lock.
+/// A lock with one word and one slot, under which values of `T` stand for one history that only grows.
+/// Contracts see it as its table and the fixed part of its values.
 #[derive(Drop)]
 pub struct Turn<T: Stands + Drop> {
     pub(crate) table: Table<Option<T>, View<T::Entry, T::Fixed>, Snapshot<T>, TurnRule<T>, Global>,
@@ -31,9 +32,12 @@ impl<T: Stands + Drop> Model for Turn<T> {
 }
 
 impl<T: Stands + Drop> Turn<T> {
+    /// A lock with a value that stands for no entries, and its first pass, which has number 0. The value
+    /// is dropped where there is no memory.
     pub fn new(alloc: Global, value: T) -> Result<(Turn<T>, Pass<T>), AllocError>
         requires empty { T.entries value ≡ [] }
-        ensures pass { IfOk result (λ made. made.1 ≡ record { table = made.0.table; view = first_view made.0.fixed }) }
+        ensures pass { IfOk result (λ made.
+            made.1 ≡ record { table = made.0.table; view = first_view made.0.fixed }) }
         ensures fixed { IfOk result (λ made. made.0.fixed ≡ T.fixed value) }
         ensures facts { IfOk result (λ made. Facts T.number made.1.view) }
     {
@@ -52,6 +56,8 @@ impl<T: Stands + Drop> Turn<T> {
         Ok((Turn { table }, pass))
     }
 
+    /// The length of the history at one load of the word. It changes nothing, and waits for nobody.
+    /// The contract says only that it is no less than what the pass has seen.
     pub fn length(&self, pass: &mut Pass<T>) -> u64
         requires ready { IsReady self.now pass.old }
         ensures same { pass.new ≡ pass.old }
@@ -61,6 +67,8 @@ impl<T: Stands + Drop> Turn<T> {
         self.table.shared.load::<Looks<T>>(&mut pass.seat, 0) / 2
     }
 
+    /// Splits another pass from the first one. It has seen the same, has made no entries, and its number
+    /// is the number of passes that were split so far, itself included.
     pub fn split_pass(&self, pass: &mut Pass<T>) -> Pass<T>
         requires ready { IsReady self.now pass.old }
         requires first { pass.old.view.number ≡ 0 }
@@ -82,6 +90,8 @@ impl<T: Stands + Drop> Turn<T> {
         }
     }
 
+    /// Joins another pass into the first one, which then has seen the longer of the two lists. Both lists
+    /// begin it. The other's entries stand in `ended` under its number, and its turns in `taken`.
     pub fn join_pass(&self, pass: &mut Pass<T>, other: Pass<T>)
         requires ready { IsReady self.now pass.old }
         requires other { IsReady self.now other }
@@ -105,6 +115,8 @@ impl<T: Stands + Drop> Turn<T> {
         pass.out -= 1;
     }
 
+    /// Ends the lock, once all passes were joined into the first one. The value stands for all that
+    /// this pass has seen, where each entry is its own or one of a pass that was joined into it.
     pub fn close(self, pass: Pass<T>) -> T
         requires ready { IsReady self pass }
         requires first { pass.view.number ≡ 0 }

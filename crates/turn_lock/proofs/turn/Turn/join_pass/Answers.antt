@@ -28,7 +28,7 @@ returns-clause-this g c =
     let is = ap (λ (m : Me (Option g.row.T.Denot) (View g.row.T-Entry.Denot g.row.T-Fixed.Denot)). m.0) (same ∙ c.join_seat.ensures.2) in
     let facts = subst (λ (m : Me (Option g.row.T.Denot) (View g.row.T-Entry.Denot g.row.T-Fixed.Denot)). Facts g.T.Stands.number m.0) (sym same) c.load.ensures.2.2 in
     subst (λ (xs : List g.row.T-Entry.Denot). IsPrefix xs c.load.new.seat.me.0.seen) (ap (λ (k : Known g.row.T-Entry.Denot g.row.T-Fixed.Denot). k.view.seen) c.pass.view_is)
-        (met_left g.T.Stands.number c.load.new.seat.me.0 facts c.pass.inside.seat.me.0 c.other.inside.seat.me.0 is)
+    (met_left g.T.Stands.number c.load.new.seat.me.0 facts c.pass.inside.seat.me.0 c.other.inside.seat.me.0 is)
 
 pub returns-clause-that : goal.returns-clause-that
 returns-clause-that g c =
@@ -36,4 +36,4 @@ returns-clause-that g c =
     let is = ap (λ (m : Me (Option g.row.T.Denot) (View g.row.T-Entry.Denot g.row.T-Fixed.Denot)). m.0) (same ∙ c.join_seat.ensures.2) in
     let facts = subst (λ (m : Me (Option g.row.T.Denot) (View g.row.T-Entry.Denot g.row.T-Fixed.Denot)). Facts g.T.Stands.number m.0) (sym same) c.load.ensures.2.2 in
     subst (λ (xs : List g.row.T-Entry.Denot). IsPrefix xs c.load.new.seat.me.0.seen) (ap (λ (k : Known g.row.T-Entry.Denot g.row.T-Fixed.Denot). k.view.seen) c.other.view_is)
-        (met_right g.T.Stands.number c.load.new.seat.me.0 facts c.pass.inside.seat.me.0 c.other.inside.seat.me.0 is)
+    (met_right g.T.Stands.number c.load.new.seat.me.0 facts c.pass.inside.seat.me.0 c.other.inside.seat.me.0 is)

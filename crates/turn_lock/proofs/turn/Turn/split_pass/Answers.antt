@@ -28,8 +28,7 @@ invariant_of-pass g c =
 
 pub returns-clause-facts : goal.returns-clause-facts
 returns-clause-facts g c =
-    let is = c.split_seat-seat.ensures.2 in
-    (
+    let is = c.split_seat-seat.ensures.2 in (
       subst (λ (m : Me (Option g.row.T.Denot) (View g.row.T-Entry.Denot g.row.T-Fixed.Denot)). Facts g.T.Stands.number m.0) (sym is) (facts_split g.T.Stands.number c.pass.inside.seat.me.0 c.pass.invariant.5),
       subst (λ (m : Me (Option g.row.T.Denot) (View g.row.T-Entry.Denot g.row.T-Fixed.Denot)). Facts g.T.Stands.number m.0) (sym c.load.ensures.2.0) c.load.ensures.2.2,
     )
