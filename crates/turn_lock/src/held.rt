@@ -167,3 +167,27 @@ impl<T: Stands + Drop> Held<'_, T> {
         let_go(turn, pass, value);
     }
 }
+
+impl<T: Stands + Drop> Turn<T> {
+    /// `Pass::try_turn`, called at the lock.
+    pub fn try_turn<'a>(&'a self, pass: &'a mut Pass<T>) -> Result<Held<'a, T>, Busy>
+        requires ready { IsReady self.now pass.old }
+        ensures* rests { sem 𝓛 (RestsIfErr (the_row T.row T.Entry.row T.Fixed.row T.Stands) pass.entry
+            (λ held. held.pass.ghost_name) result
+            (λ last. IfErr result (λ busy. last ≡ knowing pass.old (refused busy.word pass.old.view)))) }
+        ensures same_reference { IfOk result (λ held. held.pass.ghost_name ≡ pass.entry.ghost_name) }
+        ensures holding { IfOk result (λ held. (held.turn.now ≡ self.now)
+            × (held.pass.now ≡ knowing pass.old (granted (T.entries held.value) pass.old.view))) }
+        ensures fixed { IfOk result (λ held. T.fixed held.value ≡ self.now.fixed) }
+        ensures begins { IfOk result (λ held. IsPrefix pass.old.view.seen (T.entries held.value)) }
+        ensures own { IfOk result (λ held.
+            own T.number pass.old.view.number (T.entries held.value) ≡ pass.old.view.mine) }
+        ensures odd { IfErr result (λ busy. busy.word % 2 ≡ 1) }
+        ensures least { IfErr result (λ busy. 2 * length pass.old.view.seen + 1 ≤ busy.word) }
+        ensures others { IfErr result (λ _. pass.old.view.number ≡ 0 → pass.old.view.out ≢ 0) }
+        ensures facts { MatchResult result (λ held. Facts T.number held.pass.now.view)
+            (λ busy. Facts T.number (refused busy.word pass.old.view)) }
+    {
+        pass.try_turn(self)
+    }
+}
