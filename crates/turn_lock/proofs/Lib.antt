@@ -1,0 +1,9 @@
+mod Lists
+mod Live
+mod Told
+mod Moves
+mod Word
+mod Parting
+mod Joining
+mod Ending
+mod Passed
