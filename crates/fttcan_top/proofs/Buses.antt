@@ -4,17 +4,19 @@ use Rattle.std.specs.Prelude.{Contains, IfSome, is_some}
 use Rattle.std.specs.List.{All}
 use Rattle.std.proofs.Math.Bool.{or-false, or-true}
 use Rattle.std.proofs.lemmas.List.{append-nil}
-use Rattle.std.proofs.lemmas.List.Elements.{All-map, All-push, All-weaker}
+use Rattle.std.proofs.lemmas.List.Elements.{All-contains, All-map, All-push, All-weaker}
 use Rattle.can_frame.specs.DataFrame.{DataFrame}
 use Rattle.can_frame.specs.declared.data_frame.TimedFrame.{TimedFrame}
 use Rattle.admission.specs.declared.Rules.{Rules}
 use Rattle.cycle_layout.specs.Layout.{CycleLayout}
 use Rattle.requirement_table.specs.declared.entries.Placed.{Placed}
-use Rattle.requirement_table.specs.Table.{IsInRange, IsWellPlaced}
+use Rattle.requirement_table.specs.Slots.{contains_slot}
+use Rattle.requirement_table.specs.Table.{IsInRange, IsWellPlaced, instance_in}
 use Rattle.async_window.specs.declared.request.Owner.{Owner}
 use Rattle.async_window.specs.declared.request.Request.{Request}
-use Rattle.node_model.specs.Node.{NodeState, is_own_slot, learnt, counted, after_frame, after_hearing}
+use Rattle.node_model.specs.Node.{NodeState, entries_of, is_own_slot, learnt, counted, after_frame, after_hearing}
 use Rattle.node_model.specs.Own.{Stands}
+use Rattle.node_model.proofs.Shared.{instance-of_own}
 use Rattle.cycle_engine.specs.Nodes.{NodesView, states_of, learnt_by, heard_by, IsOwned, IsBus}
 use Rattle.fttcan_top.specs.declared.history.Verdict.{Verdict}
 use Rattle.fttcan_top.specs.declared.history.Verdict.TheVariants.{Accepted, TooHeavy, Horizon}
@@ -23,15 +25,15 @@ use Rattle.fttcan_top.specs.History.{is_accepted, placed_by}
 use Rattle.bus_line.specs.Trace.{Follows}
 use Rattle.requirement_table.specs.Opening.{width_of}
 use Rattle.requirement_table.specs.Table.{released_in}
-use Rattle.cycle_engine.specs.Nodes.{FitsOrder}
+use Rattle.cycle_engine.specs.Nodes.{FitsOrder, IsKnown, IsNumber}
 use Rattle.cycle_engine.specs.Offered.{offered_in}
 use Rattle.fttcan_top.specs.declared.history.Event.{Event}
 use Rattle.fttcan_top.specs.declared.history.Event.TheVariants.{Open}
 use Rattle.fttcan_top.specs.Openings.{next_opening}
-use Rattle.fttcan_top.specs.Window.{AreShort, IsFit}
 use Rattle.fttcan_top.specs.Progress.{Setting, IsUnderWay, AreReady}
-use Rattle.fttcan_top.proofs.Width.{width-le}
-use Rattle.fttcan_top.proofs.Runs.{is_fit}
+use Rattle.fttcan_top.proofs.Flagged.{Contains-from_map}
+use Rattle.fttcan_top.proofs.Width.{instance-flagged, width-le}
+use Rattle.fttcan_top.proofs.Runs.{NextCycle}
 use Rattle.fttcan_top.proofs.Histories.{IsUnderWay-open}
 
 -- Nodes keep their numbers
@@ -69,10 +71,7 @@ numbers-heard frames (node ∷ nodes) =
 
 in_range : (p : Placed) → IsLive p → IsInRange p
 in_range p live = let early = live.origin in record {
-  slot = live.known;
-  length = live.few;
-  deadline = live.some_time;
-  period = live.deadline;
+  entry = live.entry;
   origin = omega arith;
   end = subst (λ e. IfSome e (λ end. (p.origin ≤ end) × (end < 2 ^ 42))) (sym live.no_end) tt;
 }
@@ -104,9 +103,9 @@ owned-same owners before after request same owned = record {
 -- nodes that learn the table, where it changed, are a bus for it
 pub bus-learnt : (setting : Setting) (placed : List Placed) (changed : Bool) (next : ℕ) (trace : List TimedFrame) (nodes : NodesView)
     → All IsLive placed → AreDistinct placed → AreReady setting placed changed next trace nodes
-    → IsBus setting.layout setting.owners setting.requests placed trace next (learnt_by (cond changed (Some placed) None) (states_of nodes))
+    → IsBus setting.layout setting.owners setting.requests placed trace next (learnt_by (cond changed (Some placed) None) (states_of nodes.nodes))
 bus-learnt setting placed true next trace nodes live distinct ready =
-    let states : List NodeState = states_of nodes in
+    let states : List NodeState = states_of nodes.nodes in
     let same = numbers-learnt placed states in
     record {
       well_placed = well-placed placed live distinct;
@@ -114,31 +113,30 @@ bus-learnt setting placed true next trace nodes live distinct ready =
       stand = All-map (Stands setting.layout setting.owners setting.requests placed trace next) (learnt placed) states
           (All-weaker (Stands setting.layout setting.owners setting.requests ready.known trace next) _
           (λ node stands. stands-learnt setting.layout setting.owners setting.requests ready.known placed trace next node stands) states ready.bus.stand);
-      entries = λ k d within. subst (λ l. Contains l (get_or placed k d).entry.node) (sym same) (ready.numbers _ (ready.of_nodes k d within));
       owned = All-weaker (IsOwned setting.owners states) (IsOwned setting.owners (map (learnt placed) states))
           (λ request owned. owned-same setting.owners states (map (learnt placed) states) request same owned) setting.requests ready.bus.owned;
     }
 bus-learnt setting placed false next trace nodes live distinct ready =
-    subst (λ l. IsBus setting.layout setting.owners setting.requests l trace next (states_of nodes)) (ready.up_to_date refl) ready.bus
+    subst (λ l. IsBus setting.layout setting.owners setting.requests l trace next (states_of nodes.nodes)) (ready.up_to_date refl) ready.bus
 
 -- Nodes between the steps of a run
 
 -- each node stands before the next cycle
 pub next-ready : (setting : Setting) (placed : List Placed) (changed : Bool) (next : ℕ) (trace : List TimedFrame) (nodes : NodesView)
-    → AreReady setting placed changed next trace nodes → All (λ node. node.next ≡ next) (states_of nodes)
+    → AreReady setting placed changed next trace nodes → All (λ node. node.next ≡ next) (states_of nodes.nodes)
 next-ready setting placed changed next trace nodes ready =
     All-weaker (Stands setting.layout setting.owners setting.requests ready.known trace next) (λ node. node.next ≡ next)
-    (λ node stands. stands.next_cycle) (states_of nodes) ready.bus.stand
+    (λ node stands. stands.next_cycle) (states_of nodes.nodes) ready.bus.stand
 
 -- a cycle was run
 pub AreReady-open : (setting : Setting) (placed : List Placed) (changed : Bool) (next : ℕ) (trace segment : List TimedFrame) (old new : NodesView) (learned : Option (List Placed))
     → AreReady setting placed changed next trace old → new.layout ≡ old.layout
-    → states_of new ≡ heard_by segment (learnt_by learned (states_of old))
-    → IsBus setting.layout setting.owners setting.requests placed (trace ++ segment) (next + 1) (states_of new)
+    → states_of new.nodes ≡ heard_by segment (learnt_by learned (states_of old.nodes))
+    → IsBus setting.layout setting.owners setting.requests placed (trace ++ segment) (next + 1) (states_of new.nodes)
     → AreReady setting placed false (next + 1) (trace ++ segment) new
 AreReady-open setting placed changed next trace segment old new learned ready same heard bus =
-    let numbers : numbers_of (states_of new) ≡ numbers_of (states_of old) =
-    ap numbers_of heard ∙ numbers-heard segment (learnt_by learned (states_of old)) ∙ numbers-learnt_by learned (states_of old) in
+    let numbers : numbers_of (states_of new.nodes) ≡ numbers_of (states_of old.nodes) =
+    ap numbers_of heard ∙ numbers-heard segment (learnt_by learned (states_of old.nodes)) ∙ numbers-learnt_by learned (states_of old.nodes) in
     record {
       same_layout = same ∙ ready.same_layout;
       known = placed;
@@ -172,23 +170,42 @@ AreReady-submit setting placed changed next trace nodes p (Horizon from walked) 
 
 -- A cycle that is opened and run
 
+-- the nodes know the instances of the flagged slots, since each entry of the table is that of a node
+known-instance : (setting : Setting) (placed : List Placed) (next slot : ℕ) (trace : List TimedFrame) (nodes : List NodeState)
+    → All IsLive placed → IsBus setting.layout setting.owners setting.requests placed trace next nodes
+    → ((number : ℕ) → number < setting.rules.nodes → IsNumber nodes number) → All (λ p. p.entry.node < setting.rules.nodes) placed
+    → contains_slot (released_in placed next) slot ≡ true → IsKnown nodes next slot
+known-instance setting placed next slot trace nodes live bus numbers of_nodes flagged =
+    let sends = instance-flagged (next_opening placed next) slot refl live flagged in
+    let few = All-contains (λ p. p.entry.node < setting.rules.nodes) placed sends.i.placed of_nodes sends.stands in
+    let found = Contains-from_map (λ (node : NodeState). node.number) nodes sends.i.placed.entry.node (numbers sends.i.placed.entry.node few) in
+    let node : NodeState = found.0 in
+    let stands = All-contains (Stands setting.layout setting.owners setting.requests placed trace next) nodes node bus.stand found.1 in
+    let own : instance_in (entries_of node.number placed) slot next ≡ Some sends.i =
+    instance-of_own node.number placed slot next sends.i bus.well_placed sends.found (sym found.2) in
+    let known : instance_in node.entries slot next ≡ Some sends.i = ap (λ entries. instance_in entries slot next) stands.own_entries ∙ own in
+    (found.1.0, node, found.1.1, found.1.2, ap is_some known)
+
 -- an order to open the next cycle by the entries of the table fits it
-fits-order : (layout : CycleLayout) (placed : List Placed) (next : ℕ) → IsFit layout (next_opening placed next) → FitsOrder (width_of (next_opening placed next)) (next_opening placed next)
-fits-order layout placed next fit = record {
+fits-order : (setting : Setting) (placed : List Placed) (next : ℕ) (trace : List TimedFrame) (nodes : List NodeState)
+    → All IsLive placed → IsBus setting.layout setting.owners setting.requests placed trace next nodes
+    → ((number : ℕ) → number < setting.rules.nodes → IsNumber nodes number) → All (λ p. p.entry.node < setting.rules.nodes) placed
+    → FitsOrder (width_of (next_opening placed next)) (next_opening placed next) nodes
+fits-order setting placed next trace nodes live bus numbers of_nodes = record {
   width = refl;
-  present = λ slot known flagged. ap is_some (fit.present slot known flagged).1;
+  present = λ slot within flagged. known-instance setting placed next slot trace nodes live bus numbers of_nodes flagged;
 }
 
 -- what the run of a cycle by an order gives, for nodes of this layout that know these states once they have learnt
 pub record RunsOrder (layout : CycleLayout) (cycle mask l : ℕ) (learnt : List NodeState) (new : NodesView) (segment : List TimedFrame) : Type 0 where
   pub runs : (owners : List Owner) (requests : List Request) (placed : List Placed) (past : List TimedFrame)
-      → IsBus layout owners requests placed past cycle learnt → FitsOrder l (record { cycle = cycle; mask = mask; placed = placed })
+      → IsBus layout owners requests placed past cycle learnt → FitsOrder l (record { cycle = cycle; mask = mask; placed = placed }) learnt
       → All (λ sent. sent.start < cycle * layout.cycle) past
       → Follows (offered_in layout requests (record { cycle = cycle; mask = mask; placed = placed })) past (cycle * layout.cycle) ((cycle + 1) * layout.cycle) segment
   pub stand : (owners : List Owner) (requests : List Request) (placed : List Placed) (past : List TimedFrame)
-      → IsBus layout owners requests placed past cycle learnt → FitsOrder l (record { cycle = cycle; mask = mask; placed = placed })
+      → IsBus layout owners requests placed past cycle learnt → FitsOrder l (record { cycle = cycle; mask = mask; placed = placed }) learnt
       → All (λ sent. sent.start < cycle * layout.cycle) past
-      → IsBus layout owners requests placed (past ++ segment) (cycle + 1) (states_of new)
+      → IsBus layout owners requests placed (past ++ segment) (cycle + 1) (states_of new.nodes)
 
 -- the order is that of the next cycle by the entries of the table, which the nodes learn where they changed
 pub record IsNextOrder (placed : List Placed) (changed : Bool) (next cycle mask l : ℕ) (learned : Option (List Placed)) : Type 0 where
@@ -199,14 +216,14 @@ pub record IsNextOrder (placed : List Placed) (changed : Bool) (next cycle mask 
 
 same-order : (setting : Setting) (placed : List Placed) (changed : Bool) (next cycle mask l : ℕ) (learned : Option (List Placed)) (segment : List TimedFrame) (old new : NodesView)
     → old.layout ≡ setting.layout → IsNextOrder placed changed next cycle mask l learned
-    → RunsOrder old.layout cycle mask l (learnt_by learned (states_of old)) new segment
-    → RunsOrder setting.layout next (released_in placed next) (width_of (next_opening placed next)) (learnt_by (cond changed (Some placed) None) (states_of old)) new segment
+    → RunsOrder old.layout cycle mask l (learnt_by learned (states_of old.nodes)) new segment
+    → RunsOrder setting.layout next (released_in placed next) (width_of (next_opening placed next)) (learnt_by (cond changed (Some placed) None) (states_of old.nodes)) new segment
 same-order setting placed changed next cycle mask l learned segment old new layout order runs =
-    subst (λ x. RunsOrder setting.layout next (released_in placed next) (width_of (next_opening placed next)) (learnt_by x (states_of old)) new segment) order.learned_is
-    (subst (λ x. RunsOrder setting.layout next (released_in placed next) x (learnt_by learned (states_of old)) new segment) order.window_is
-    (subst (λ x. RunsOrder setting.layout next x l (learnt_by learned (states_of old)) new segment) order.mask_is
-    (subst (λ x. RunsOrder setting.layout x mask l (learnt_by learned (states_of old)) new segment) order.cycle_is
-    (subst (λ x. RunsOrder x cycle mask l (learnt_by learned (states_of old)) new segment) layout runs))))
+    subst (λ x. RunsOrder setting.layout next (released_in placed next) (width_of (next_opening placed next)) (learnt_by x (states_of old.nodes)) new segment) order.learned_is
+    (subst (λ x. RunsOrder setting.layout next (released_in placed next) x (learnt_by learned (states_of old.nodes)) new segment) order.window_is
+    (subst (λ x. RunsOrder setting.layout next x l (learnt_by learned (states_of old.nodes)) new segment) order.mask_is
+    (subst (λ x. RunsOrder setting.layout x mask l (learnt_by learned (states_of old.nodes)) new segment) order.cycle_is
+    (subst (λ x. RunsOrder x cycle mask l (learnt_by learned (states_of old.nodes)) new segment) layout runs))))
 
 -- the window that is ordered is no longer than the largest one
 pub window-ordered : (rules : Rules) (layout : CycleLayout) (requests : List Request) (placed : List Placed) (next l : ℕ) (history : List Event) (trace : List TimedFrame)
@@ -218,20 +235,21 @@ window-ordered rules layout requests placed next l history trace way is =
 
 -- a cycle was opened and run
 pub opened : (setting : Setting) (placed : List Placed) (changed : Bool) (next cycle mask l : ℕ) (learned : Option (List Placed)) (history : List Event) (trace segment : List TimedFrame) (old new : NodesView)
-    → AreShort → IsUnderWay setting.rules setting.layout setting.requests placed next history trace → AreReady setting placed changed next trace old
+    → NextCycle → IsUnderWay setting.rules setting.layout setting.requests placed next history trace → AreReady setting placed changed next trace old
     → IsNextOrder placed changed next cycle mask l learned → new.layout ≡ old.layout
-    → states_of new ≡ heard_by segment (learnt_by learned (states_of old))
-    → RunsOrder old.layout cycle mask l (learnt_by learned (states_of old)) new segment
+    → states_of new.nodes ≡ heard_by segment (learnt_by learned (states_of old.nodes))
+    → RunsOrder old.layout cycle mask l (learnt_by learned (states_of old.nodes)) new segment
     → IsUnderWay setting.rules setting.layout setting.requests placed (next + 1) (history ++ Open next mask ∷ []) (trace ++ segment)
     × AreReady setting placed false (next + 1) (trace ++ segment) new
-opened setting placed changed next cycle mask l learned history trace segment old new short way ready order same heard runs_order =
-    let room = way.known.room in
-    let fit = is_fit setting.layout placed next short (omega arith) way.running.live way.running.light in
-    let fits = fits-order setting.layout placed next fit in
+opened setting placed changed next cycle mask l learned history trace segment old new law way ready order same heard runs_order =
     let runs = same-order setting placed changed next cycle mask l learned segment old new ready.same_layout order runs_order in
-    let bus = bus-learnt setting placed changed next trace old way.running.live way.running.distinct ready in (
-      IsUnderWay-open setting.rules setting.layout setting.requests placed next mask history trace segment short way order.mask_is
-          (runs.runs setting.owners setting.requests placed trace bus fits way.running.started),
+    let bus = bus-learnt setting placed changed next trace old way.running.live way.running.distinct ready in
+    let after : List NodeState = learnt_by (cond changed (Some placed) None) (states_of old.nodes) in
+    let numbers : (number : ℕ) → number < setting.rules.nodes → IsNumber after number =
+    λ number few. subst (λ l. Contains l number) (sym (numbers-learnt_by (cond changed (Some placed) None) (states_of old.nodes))) (ready.numbers number few) in
+    let fits = fits-order setting placed next trace after way.running.live bus numbers ready.of_nodes in (
+      IsUnderWay-open setting.rules setting.layout setting.requests placed next mask history trace segment law way order.mask_is
+          (runs.runs setting.owners setting.requests placed trace bus fits way.running.can_trace.within),
       AreReady-open setting placed changed next trace segment old new learned ready same heard
-          (runs.stand setting.owners setting.requests placed trace bus fits way.running.started),
+          (runs.stand setting.owners setting.requests placed trace bus fits way.running.can_trace.within),
     )

@@ -1,21 +1,8 @@
 -- What a filter keeps.
 use Rattle.std.proofs.Common.{◌≡◌, ◌&&◌, Bool, true, false, cond, List, [], ◌∷◌, filter, refl, ap, sym, ◌∙◌, arith, subst, inl, inr}
 use Rattle.std.specs.Prelude.{Contains}
-use Rattle.std.specs.List.{AllByRecursion}
 use Rattle.std.proofs.lemmas.Bool.{cases_Bool, cond-true, cond-false, and_left}
 use Rattle.fttcan_top.proofs.Flagged.{Contains-cons_cases, Contains-head, Contains-tail}
-
--- nothing passes
-pub filter-none : {X : Type 0} (p : X → Bool) (xs : List X) → ((x : X) → Contains xs x → p x ≡ false) → filter p xs ≡ []
-filter-none p [] none = refl
-filter-none p (x ∷ xs) none =
-    cond-false (p x) _ _ (none x (Contains-head x xs)) ∙ filter-none p xs (λ y among. none y (Contains-tail x xs y among))
-
--- everything passes
-pub filter-all : {X : Type 0} (p : X → Bool) (xs : List X) → ((x : X) → Contains xs x → p x ≡ true) → filter p xs ≡ xs
-filter-all p [] all = refl
-filter-all p (x ∷ xs) all =
-    cond-true (p x) _ _ (all x (Contains-head x xs)) ∙ ap (λ l. x ∷ l) (filter-all p xs (λ y among. all y (Contains-tail x xs y among)))
 
 -- two tests that agree on the elements keep the same ones
 pub filter-same : {X : Type 0} (p q : X → Bool) (xs : List X) → ((x : X) → Contains xs x → p x ≡ q x) → filter p xs ≡ filter q xs
@@ -52,13 +39,4 @@ Contains-filter p (y ∷ ys) x among passes =
             | inl on ↦ subst (λ l. Contains l x) (sym (cond-true (p y) (y ∷ filter p ys) (filter p ys) on)) (Contains-tail y (filter p ys) x kept)
             | inr off ↦ subst (λ l. Contains l x) (sym (cond-false (p y) (y ∷ filter p ys) (filter p ys) off)) kept
           ]
-    ]
-
--- what holds of all holds of an element
-pub AllByRecursion-contains : {X : Type 0} (P : X → Type 0) (xs : List X) (x : X) → AllByRecursion P xs → Contains xs x → P x
-AllByRecursion-contains P [] x all among = absurd (let within = among.1 in omega arith)
-AllByRecursion-contains P (y ∷ ys) x all among =
-    elim (Contains-cons_cases y ys x among) [
-      | inl here ↦ subst P here all.0
-      | inr later ↦ AllByRecursion-contains P ys x all.1 later
     ]

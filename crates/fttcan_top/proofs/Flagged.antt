@@ -1,6 +1,6 @@
 -- What flagged slots send, and how wide their window is: facts on lists of placed entries.
 use Rattle.std.proofs.Common.{◌≡◌, ℕ, zero, suc, ◌≤◌, ◌⊎◌, eqb, List, [], ◌∷◌, length, get_or, Option, Some, None, refl, ap, sym, ◌∙◌, arith, subst, inl, inr}
-use Rattle.std.specs.Prelude.{option_map, slice_get, Contains}
+use Rattle.std.specs.Prelude.{option_map, map, slice_get, Contains}
 use Rattle.std.specs.List.{filter_map}
 use Rattle.std.proofs.lemmas.Bool.{cases_Bool, eqb-true, eq-eqb, cond-true}
 use Rattle.requirement_table.specs.declared.entries.Placed.{Placed}
@@ -29,6 +29,14 @@ Contains-head y ys = (0, omega arith, refl)
 
 pub Contains-tail : {X : Type 0} (y : X) (ys : List X) (x : X) → Contains ys x → Contains (y ∷ ys) x
 Contains-tail y ys x among = Contains-append_right (y ∷ []) ys x among
+
+-- an element behind a function comes from an element
+pub Contains-from_map : {X Y : Type 0} (f : X → Y) (xs : List X) (y : Y) → Contains (map f xs) y → (x : X) × Contains xs x × (f x ≡ y)
+Contains-from_map f [] y among = absurd (let within = among.1 in omega arith)
+Contains-from_map f (x ∷ xs) y among = elim (Contains-cons_cases (f x) (map f xs) y among) [
+  | inl first ↦ (x, Contains-head x xs, first)
+  | inr later ↦ let found = Contains-from_map f xs y later in (found.0, Contains-tail x xs found.0 found.1, found.2)
+]
 
 -- two entries of one slot are one
 pub unique-placed : (placed : List Placed) (p q : Placed) → AreDistinct placed → Contains placed p → Contains placed q → p.entry.slot ≡ q.entry.slot → p ≡ q

@@ -13,7 +13,6 @@ use Rattle.requirement_table.specs.declared.entries.Placed.{Placed}
 use Rattle.requirement_table.specs.Instance.{worst}
 use Rattle.requirement_table.specs.Table.{released_in}
 use Rattle.bus_line.specs.Trace.{Follows}
-use Rattle.bus_line.proofs.Traces.{trace_from_Follows}
 use Rattle.fttcan_top.specs.declared.history.Verdict.{Verdict}
 use Rattle.fttcan_top.specs.declared.history.Verdict.TheVariants.{Accepted, TooHeavy, Horizon}
 use Rattle.fttcan_top.specs.declared.history.Event.{Event}
@@ -22,7 +21,7 @@ use Rattle.fttcan_top.specs.Entries.{IsLive, total_cost}
 use Rattle.fttcan_top.specs.History.{placed_at, placed_by, placed_of_event, placed_of, is_open, next_of, IsVerdict, IsRight, AreRight}
 use Rattle.requirement_table.specs.Opening.{Opening}
 use Rattle.async_window.specs.declared.request.Request.{Request}
-use Rattle.cycle_engine.specs.Offered.{offered_in, offered, IsCanTrace, AreOfDistinctCycles}
+use Rattle.cycle_engine.specs.Offered.{offered_in, IsCanTrace, AreOfDistinctCycles}
 use Rattle.fttcan_top.specs.Openings.{next_opening}
 use Rattle.fttcan_top.specs.Kept.{AllServed, NoStrangers}
 use Rattle.fttcan_top.specs.Promise.{Kept}
@@ -31,8 +30,7 @@ use Rattle.fttcan_top.specs.Table.{entry_of}
 use Rattle.fttcan_top.specs.Running.{IsRunning}
 use Rattle.fttcan_top.specs.Progress.{IsUnderWay}
 use Rattle.fttcan_top.proofs.Tables.{entry_of-none}
-use Rattle.fttcan_top.proofs.Runs.{IsRunning-place, IsRunning-open}
-use Rattle.fttcan_top.specs.Window.{AreShort}
+use Rattle.fttcan_top.proofs.Runs.{IsRunning-place, IsRunning-open, NextCycle}
 use Rattle.fttcan_top.proofs.Served.{all_served, no_strangers, all_guarded}
 
 AreRight-push : (rules : Rules) (before events : List Event) (event : Event) → AreRight rules before events → IsRight rules (before ++ events) event
@@ -61,13 +59,12 @@ next_of-submit history caller start from entry verdict = sum_by_push (λ e. cond
 
 -- a cycle is opened
 pub IsUnderWay-open : (rules : Rules) (layout : CycleLayout) (requests : List Request) (placed : List Placed) (next mask : ℕ) (history : List Event) (trace frames : List TimedFrame)
-    → AreShort → IsUnderWay rules layout requests placed next history trace → mask ≡ released_in placed next
+    → NextCycle → IsUnderWay rules layout requests placed next history trace → mask ≡ released_in placed next
     → Follows (offered_in layout requests (next_opening placed next)) trace (next * layout.cycle) ((next + 1) * layout.cycle) frames
     → IsUnderWay rules layout requests placed (next + 1) (history ++ Open next mask ∷ []) (trace ++ frames)
-IsUnderWay-open rules layout requests placed next mask history trace frames short way is_mask follows =
-    let room = way.known.room in
+IsUnderWay-open rules layout requests placed next mask history trace frames law way is_mask follows =
     let o = next_opening placed next in
-    let run = IsRunning-open layout requests placed (openings_of history) next trace frames short (omega arith) way.running follows in
+    let run = IsRunning-open layout requests placed (openings_of history) next trace frames law way.known way.running follows in
     let opening : opening_of history (Open next mask) ≡ o ∷ [] =
     ap (λ m. record { cycle = next; mask = m; placed = placed_of history } ∷ []) is_mask
     ∙ ap (λ p. record { cycle = next; mask = released_in placed next; placed = p } ∷ []) (sym way.placed_is) in
@@ -118,26 +115,21 @@ pub length-light : (placed : List Placed) → 55 * length placed ≤ total_cost 
 length-light [] = omega arith
 length-light (p ∷ ps) = let rest = length-light ps in let all = sum_by-cons (λ q. worst q.entry.length) p ps in omega arith
 
--- every frame takes some time and no more than its worst length
-pub are-short : ((frame : DataFrame) → 0 < wire_length frame) → ((frame : DataFrame) → wire_length frame ≤ worst (length frame.bytes)) → AreShort
-are-short some_time in_time = record { some_time = some_time; in_time = in_time }
-
 -- there is only one trace that arbitration decides
 pub record IsTheOnly (layout : CycleLayout) (requests : List Request) : Type 0 where
   pub is : (openings : List Opening) (count : ℕ) (one other : List TimedFrame) → AreOfDistinctCycles openings
       → IsCanTrace layout requests openings count one → IsCanTrace layout requests openings count other → one ≡ other
 
 -- a run that is under way keeps what is promised
-pub Kept-under_way : ((frame : DataFrame) → 0 < wire_length frame) → (rules : Rules) (layout : CycleLayout) (requests : List Request) (placed : List Placed) (next : ℕ) (history : List Event) (trace : List TimedFrame)
+pub Kept-under_way : (rules : Rules) (layout : CycleLayout) (requests : List Request) (placed : List Placed) (next : ℕ) (history : List Event) (trace : List TimedFrame)
     → IsTheOnly layout requests → IsUnderWay rules layout requests placed next history trace → Kept rules layout requests history trace
-Kept-under_way positive rules layout requests placed next history trace only way =
+Kept-under_way rules layout requests placed next history trace only way =
     let room = way.known.room in
     let some_time : 0 < layout.cycle = omega arith in
     let openings = openings_of history in
     let served = all_served layout requests placed openings next trace some_time way.running in
     let strangers = no_strangers layout requests placed openings next trace some_time way.running in
-    let can_trace : IsCanTrace layout requests openings next trace
-    = trace_from_Follows positive (offered layout requests openings) (next * layout.cycle) trace way.running.follows in
+    let can_trace : IsCanTrace layout requests openings next trace = way.running.can_trace in
     record {
       legal = way.legal;
       can_trace = subst (λ n. IsCanTrace layout requests openings n trace) way.next_is can_trace;

@@ -1,7 +1,3 @@
-mod SlotSums
-mod Pending
-mod WindowLemmas
-mod Joining
 mod Flagged
 mod Width
 mod Filters

@@ -7,21 +7,29 @@ use Rattle.std.proofs.Math.Nat.{div-lt_iff_lt-mul, mul-le-mul_right, div-eq_of_l
 use Rattle.can_frame.specs.declared.data_frame.TimedFrame.{TimedFrame}
 use Rattle.cycle_layout.specs.Layout.{CycleLayout}
 use Rattle.requirement_table.specs.declared.entries.Placed.{Placed}
-use Rattle.requirement_table.specs.Slots.{contains_slot}
+use Rattle.requirement_table.specs.Slots.{contains_slot, slots}
 use Rattle.requirement_table.specs.Instance.{release_of, payload, Exists, MaySend, IsReleasedIn, released_by}
 use Rattle.requirement_table.specs.Table.{released_in}
 use Rattle.requirement_table.specs.Instance.{bytes_of}
 use Rattle.requirement_table.specs.Opening.{Opening}
-use Rattle.node_model.specs.Opening.{slots, first_identifier}
-use Rattle.fttcan_top.specs.Window.{of_slot, IsSentIn, IsSlotFrame, IsLaterFrame, RunsCycle}
-use Rattle.fttcan_top.specs.Kept.{cycle_of, frames_of, IsInWindow, AllServed, NoStrangers, AllGuarded}
+use Rattle.node_model.specs.Opening.{first_identifier}
+use Rattle.cycle_engine.specs.Cycle.{cycle_of, frames_in, of_slot, IsRequestFrame, IsSentOnce, IsSlotFrame, RunsCycle}
+use Rattle.fttcan_top.specs.Kept.{frames_of, IsInWindow, AllServed, NoStrangers, AllGuarded}
 use Rattle.async_window.specs.declared.request.Request.{Request}
 use Rattle.fttcan_top.specs.Entries.{IsLive}
-use Rattle.fttcan_top.specs.Running.{frames_in, IsRunning}
-use Rattle.requirement_table.proofs.Latest.{instance_of-sent, released_by-released, IsReleasedIn-from_released_by}
+use Rattle.fttcan_top.specs.Running.{IsRunning}
+use Rattle.requirement_table.proofs.Shared.{instance_of-sent, released_by-released, IsReleasedIn-from_released_by}
 use Rattle.fttcan_top.proofs.Flagged.{MaySend-released, instance_in-only, Contains-cons_cases, unique-placed}
 use Rattle.fttcan_top.proofs.Width.{releasing-flagged, flagged-releasing}
-use Rattle.fttcan_top.proofs.Filters.{filter-same, filter-filter, Contains-filter, AllByRecursion-contains}
+use Rattle.fttcan_top.proofs.Filters.{filter-same, filter-filter, Contains-filter}
+
+-- a frame that may come behind the trigger of its cycle
+abbrev IsLaterFrame : CycleLayout → Opening → TimedFrame → Type 0
+IsLaterFrame layout opening sent = IsRequestFrame layout opening sent ⊎ IsSlotFrame layout opening sent
+
+-- the trigger has identifier 0
+trigger_identifier : (layout : CycleLayout) (opening : Opening) (frames : List TimedFrame) (runs : RunsCycle layout opening frames) → runs.trigger.frame.identifier ≡ 0
+trigger_identifier layout opening frames runs = ap (λ f. f.identifier) runs.is_trigger
 
 -- two releases of one entry are no less than a period apart
 releases-apart : (first period k later c : ℕ) → first + k * period < c → c < first + k * period + period → first + later * period ≡ c → ⊥
@@ -49,7 +57,7 @@ unflagged-after layout requests placed openings next trace opening p k run opene
       let among : Contains placed r.p = All-contains (λ o. (q : Placed) → Contains o.placed q → Contains placed q) openings opening run.subset opened r.p r.stands in
       let same : r.p ≡ p = unique-placed placed r.p p run.distinct among stands r.of_slot in
       let live = All-contains IsLive placed p run.live stands in
-      let deadline = live.deadline in
+      let deadline = live.entry.deadline in
       let released = IsReleasedIn-from_released_by p r.k opening.cycle (subst (λ q. released_by q opening.cycle ≡ Some r.k) same r.releases) in
       releases-apart (p.origin + p.entry.phase) p.entry.period k r.k opening.cycle after (omega arith) released.release);
 }
@@ -59,7 +67,7 @@ among-later : (layout : CycleLayout) (opening : Opening) (frames : List TimedFra
     → (runs : RunsCycle layout opening frames) → Contains frames sent → sent.frame.identifier ≡ first_identifier + slot → Contains runs.later sent
 among-later layout opening frames slot sent runs among same =
     elim (Contains-cons_cases runs.trigger runs.later sent (subst (λ l. Contains l sent) runs.all_frames among)) [
-      | inl trigger ↦ absurd (let zero = runs.trigger_identifier in let is : runs.trigger.frame.identifier ≡ sent.frame.identifier = ap (λ s. s.frame.identifier) trigger in omega arith)
+      | inl trigger ↦ absurd (let zero = trigger_identifier layout opening frames runs in let is : runs.trigger.frame.identifier ≡ sent.frame.identifier = ap (λ s. s.frame.identifier) trigger in omega arith)
       | inr later ↦ later
     ]
 
@@ -78,15 +86,16 @@ nothing-sent layout opening trace slot sent known runs unflagged among cycle sam
 of_slot-cycle : (layout : CycleLayout) (opening : Opening) (frames : List TimedFrame) (slot : ℕ) → (runs : RunsCycle layout opening frames) → of_slot slot frames ≡ of_slot slot runs.later
 of_slot-cycle layout opening frames slot runs =
     ap (of_slot slot) runs.all_frames
-    ∙ cond-false (eqb runs.trigger.frame.identifier (first_identifier + slot)) _ _ (ne_eqb _ _ (λ same. let zero = runs.trigger_identifier in omega arith))
+    ∙ cond-false (eqb runs.trigger.frame.identifier (first_identifier + slot)) _ _ (ne_eqb _ _ (λ same. let zero = trigger_identifier layout opening frames runs in omega arith))
 
 -- the frame that a slot sends in a cycle lies in its window
 window-of : (layout : CycleLayout) (openings : List Opening) (opening : Opening) (slot : ℕ) (frames : List TimedFrame) → 0 < layout.cycle → Contains openings opening
-    → (runs : RunsCycle layout opening frames) → (sent : IsSentIn layout opening runs.later slot) → IsInWindow layout openings sent.sent
+    → (runs : RunsCycle layout opening frames) → (sent : IsSentOnce layout opening runs.later slot) → IsInWindow layout openings sent.sent
 window-of layout openings opening slot frames some_time opened runs sent =
-    let early = sent.starts_before in
+    let early = sent.within in
     let after = sent.after in
-    let room = runs.room in
+    let starts = runs.starts in
+    let ends = runs.ends in
     record {
       opening = opening;
       opened = opened;
@@ -100,9 +109,9 @@ pub all_served : (layout : CycleLayout) (requests : List Request) (placed : List
     → IsRunning layout requests placed openings next trace → AllServed layout placed openings next trace
 all_served layout requests placed openings next trace some_time run p k last stands exists is_last before =
     let live = All-contains IsLive placed p run.live stands in
-    let known = live.known in
-    let deadline = live.deadline in
-    let some = live.some_time in
+    let known = live.entry.slot in
+    let deadline = live.entry.deadline in
+    let some = live.entry.some_time in
     let slot : ℕ = p.entry.slot in
     let release : ℕ = release_of p k in
     let in_range : release ≤ last = omega arith in
@@ -171,7 +180,7 @@ record IsFrameOf (layout : CycleLayout) (openings : List Opening) (sent : TimedF
 frame-of : (layout : CycleLayout) (requests : List Request) (placed : List Placed) (openings : List Opening) (next : ℕ) (trace : List TimedFrame) → 0 < layout.cycle
     → IsRunning layout requests placed openings next trace → (sent : TimedFrame) → Contains trace sent → IsFrameOf layout openings sent
 frame-of layout requests placed openings next trace some_time run sent among =
-    let started : sent.start < next * layout.cycle = All-contains (λ s. s.start < next * layout.cycle) trace sent run.started among in
+    let started : sent.start < next * layout.cycle = All-contains (λ s. s.start < next * layout.cycle) trace sent run.can_trace.within among in
     let opened = run.opened (cycle_of layout sent) ((div-lt_iff_lt-mul {k = layout.cycle} {x = sent.start} {y = next} some_time).1 started) in
     let o : Opening = opened.0 in
     let runs = All-contains (λ x. RunsCycle layout x (frames_in layout x.cycle trace)) openings o run.cycles opened.1 in
@@ -181,8 +190,8 @@ frame-of layout requests placed openings next trace some_time run sent among =
       opened = opened.1;
       cycle = opened.2;
       is = elim (Contains-cons_cases runs.trigger runs.later sent (subst (λ l. Contains l sent) runs.all_frames in_cycle)) [
-        | inl trigger ↦ inl (ap (λ s. s.frame.identifier) (sym trigger) ∙ runs.trigger_identifier)
-        | inr later ↦ inr (AllByRecursion-contains (IsLaterFrame layout o) runs.later sent runs.all later)
+        | inl trigger ↦ inl (ap (λ s. s.frame.identifier) (sym trigger) ∙ trigger_identifier layout o _ runs)
+        | inr later ↦ inr (All-contains (IsLaterFrame layout o) runs.later sent runs.all later)
       ];
     }
 
@@ -220,7 +229,7 @@ no_strangers layout requests placed openings next trace some_time run slot known
     let r = releasing-flagged o.placed o.cycle slot flagged in
     let stands = All-contains (λ x. (q : Placed) → Contains x.placed q → Contains placed q) openings o run.subset of_run.opened r.p r.stands in
     let live = All-contains IsLive placed r.p run.live stands in
-    let sends = MaySend-released r.p r.k o.cycle live.some_time (IsReleasedIn-from_released_by r.p r.k o.cycle r.releases) in
+    let sends = MaySend-released r.p r.k o.cycle live.entry.some_time (IsReleasedIn-from_released_by r.p r.k o.cycle r.releases) in
     record {
       p = r.p;
       k = r.k;

@@ -23,7 +23,7 @@ is_setting system requests is legal = record {
   few_nodes = is.few_nodes;
   same_window = is.same_window;
   near_horizon = is.near_horizon;
-  are_owners = record { distinct = is.distinct; least = is.least; greatest = is.greatest };
+  are_owners = is.are_owners;
   numbers = is.known_nodes;
   owned = λ k d within. owner-of system.owners _ (legal.each k d within).owned;
   arrivals = legal.in_order;

@@ -1,20 +1,16 @@
 -- What a run's table says of a flagged slot.
 use Rattle.std.proofs.Common.{◌≡◌, ℕ, ◌+◌, Bool, true, cond, List, [], length, Some, None, refl, ap, sym, ◌∙◌, subst, add-one}
-use Rattle.std.specs.Prelude.{option_map, unwrap_or}
+use Rattle.std.specs.Option.{option_map_or}
 use Rattle.std.specs.List.{All}
 use Rattle.std.proofs.lemmas.List.Elements.{All-contains}
 use Rattle.requirement_table.specs.declared.entries.Placed.{Placed}
 use Rattle.requirement_table.specs.Slots.{contains_slot, sum_where}
-use Rattle.requirement_table.specs.Instance.{worst, payload, instance_of, released_by}
-use Rattle.requirement_table.specs.Table.{released_in}
-use Rattle.requirement_table.specs.Instance.{bytes_of}
-use Rattle.requirement_table.proofs.Latest.{instance_of-sent, IsReleasedIn-from_released_by}
+use Rattle.requirement_table.specs.Instance.{worst, worst_of, instance_of, released_by}
+use Rattle.requirement_table.specs.Table.{instance_in, released_in, worst_in}
+use Rattle.requirement_table.proofs.Shared.{instance_of-sent, IsReleasedIn-from_released_by}
 use Rattle.fttcan_top.specs.Entries.{IsLive, AreDistinct}
-use Rattle.requirement_table.specs.Opening.{bytes_in}
-use Rattle.node_model.specs.Opening.{slot_cost}
-use Rattle.fttcan_top.specs.Openings.{next_opening}
 use Rattle.fttcan_top.specs.Table.{entry_of}
-use Rattle.fttcan_top.proofs.Flagged.{MaySend-released, instance_in-only, unique-placed, length-payload}
+use Rattle.fttcan_top.proofs.Flagged.{MaySend-released, instance_in-only, unique-placed}
 use Rattle.fttcan_top.proofs.Width.{releasing-flagged}
 use Rattle.fttcan_top.proofs.Tables.{entry_of-found, entry_of-none}
 
@@ -23,7 +19,7 @@ pub record IsFlaggedEntry (placed : List Placed) (slot cycle : ℕ) (p : Placed)
   pub live : IsLive p
   pub k : ℕ
   pub sends : instance_of p cycle ≡ Some k
-  pub bytes : bytes_in (next_opening placed cycle) slot ≡ Some (payload p.entry.length k)
+  pub found : instance_in placed slot cycle ≡ Some (record { placed = p; number = k })
 
 -- a flagged slot has an entry
 pub flagged-some : (placed : List Placed) (slot cycle : ℕ) → contains_slot (released_in placed cycle) slot ≡ true → entry_of placed slot ≡ None → ⊥
@@ -38,15 +34,14 @@ flagged-entry placed slot cycle p live distinct flagged is =
     let same : r.p ≡ p = unique-placed placed r.p p distinct r.stands found.stands (r.of_slot ∙ sym found.of_slot) in
     let is_live = All-contains IsLive placed p live found.stands in
     let released = IsReleasedIn-from_released_by p r.k cycle (subst (λ q. released_by q cycle ≡ Some r.k) same r.releases) in
-    let sends = instance_of-sent p r.k cycle is_live.deadline (MaySend-released p r.k cycle is_live.some_time released) in
+    let sends = instance_of-sent p r.k cycle is_live.entry.deadline (MaySend-released p r.k cycle is_live.entry.some_time released) in
     let instance = instance_in-only placed slot cycle r.k p found.stands found.of_slot
     (λ q among of_slot. unique-placed placed q p distinct among found.stands (of_slot ∙ sym found.of_slot)) sends in
-    record { live = is_live; k = r.k; sends = sends; bytes = ap (option_map bytes_of) instance }
+    record { live = is_live; k = r.k; sends = sends; found = instance }
 
--- what the slot costs and sends
-pub slot_cost-entry : (placed : List Placed) (slot cycle : ℕ) (p : Placed) → IsFlaggedEntry placed slot cycle p → slot_cost (next_opening placed cycle) slot ≡ worst p.entry.length
-slot_cost-entry placed slot cycle p e =
-    ap (λ b. worst (length (unwrap_or b []))) e.bytes ∙ ap worst (length-payload p.entry.length e.k)
+-- what the slot costs
+pub cost-entry : (placed : List Placed) (slot cycle : ℕ) (p : Placed) → IsFlaggedEntry placed slot cycle p → worst_in placed cycle slot ≡ worst p.entry.length
+cost-entry placed slot cycle p e = ap (λ o. option_map_or worst_of o 0) e.found
 
 -- one slot more
 pub sum_where-more : (n : ℕ) (p : ℕ → Bool) (f : ℕ → ℕ) → sum_where (n + 1) p f ≡ sum_where n p f + cond (p n) (f n) 0

@@ -48,10 +48,7 @@ can-add nodes steps i caller start entry placed next are add is_next split slots
     let distinct = subst (λ l. AllPairs ◌≢◌ l) slots_split are.together.distinct_slots in (
       omega arith,
       record {
-        known = range.known_slot;
-        few = range.few_bytes;
-        some_time = range.some_time;
-        deadline = range.in_period;
+        entry = range;
         no_end = refl;
         origin = add.early_start;
       },

@@ -9,8 +9,7 @@ use Rattle.std.specs.List.{AllByRecursion, IsDistinct, list_any}
 use Rattle.std.proofs.lemmas.List.{drop_more, take-append-drop, take_more}
 use Rattle.std.proofs.lemmas.List.Sums.{sum_by_more, sum_by-cons}
 use Rattle.std.proofs.lemmas.Map.Made.{AllPairs-from_IsDistinct, IsDistinct-from_AllPairs}
-use Rattle.requirement_table.specs.Slots.{contains_slot}
-use Rattle.requirement_table.specs.declared.slots.TheConstants.{SLOTS}
+use Rattle.requirement_table.specs.Slots.{contains_slot, slots}
 use Rattle.requirement_table.specs.declared.entries.Entry.{Entry}
 use Rattle.fttcan_top.specs.StepsFile.{FitTogether, are_distinct, count_of, fit_together, cycles_of, slot_of, slots_of, start_in_time, starts_after}
 use Rattle.fttcan_top.specs.declared.input.steps.Step.{Step}
@@ -77,8 +76,8 @@ slots_split steps i d caller start entry h is =
     ∙ filter_map-append slot_of (take i steps) (Add caller start entry ∷ drop (i + 1) steps)
 
 -- the slot of a step, where each slot of a list is a known one
-pub known_slot : (steps : List Step) (i : ℕ) (d : Step) (caller start : ℕ) (entry : Entry) → All (λ step. IfSome (slot_of step) (λ slot. slot < SLOTS)) steps
-    → i < length steps → get_or steps i d ≡ Add caller start entry → entry.slot < SLOTS
+pub known_slot : (steps : List Step) (i : ℕ) (d : Step) (caller start : ℕ) (entry : Entry) → All (λ step. IfSome (slot_of step) (λ slot. slot < slots)) steps
+    → i < length steps → get_or steps i d ≡ Add caller start entry → entry.slot < slots
 known_slot steps i d caller start entry each h is = rw is at (each i d h)
 
 in_time_at : (run : ℕ) (above below : List Step) (caller start : ℕ) (entry : Entry) → start_in_time run (above ++ Add caller start entry ∷ below) ≡ true → run + cycles_of above ≤ start

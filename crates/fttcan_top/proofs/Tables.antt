@@ -6,7 +6,7 @@ use Rattle.std.proofs.lemmas.Bool.{cases_eq, cond-true, cond-false, eq-eqb, ne_e
 use Rattle.std.proofs.lemmas.List.{get_or-replicate, get_or-set_same, get_or-set_other, length-set}
 use Rattle.std.proofs.lemmas.List.Folds.{find-append}
 use Rattle.requirement_table.specs.declared.entries.Placed.{Placed}
-use Rattle.requirement_table.specs.declared.slots.TheConstants.{SLOTS}
+use Rattle.requirement_table.specs.Slots.{slots}
 use Rattle.fttcan_top.specs.Table.{entry_of, IsBySlot}
 use Rattle.fttcan_top.proofs.Flagged.{Contains-cons_cases, Contains-head, Contains-tail}
 
@@ -22,7 +22,7 @@ option_or-none None = refl
 option_or-none (Some x) = refl
 
 -- the table with one entry more
-pub IsBySlot-place : (placed : List Placed) (by_slot : List (Option Placed)) (p : Placed) → IsBySlot placed by_slot → p.entry.slot < SLOTS
+pub IsBySlot-place : (placed : List Placed) (by_slot : List (Option Placed)) (p : Placed) → IsBySlot placed by_slot → p.entry.slot < slots
     → entry_of placed p.entry.slot ≡ None → IsBySlot (placed ++ p ∷ []) (set by_slot p.entry.slot (Some p))
 IsBySlot-place placed by_slot p is known free = record {
   places = length-set by_slot p.entry.slot (Some p) ∙ is.places;

@@ -1,15 +1,12 @@
 -- The entries of the table, all without an end: what is in range, and what they cost together.
-use Rattle.std.specs.Prelude.{◌≡◌, ℕ, ◌^◌, ◌<◌, ◌≤◌, List, AllPairs, None, sum_by}
+use Rattle.std.specs.Prelude.{◌≡◌, ℕ, ◌^◌, ◌<◌, List, AllPairs, None, sum_by}
 use Rattle.requirement_table.specs.declared.entries.Placed.{Placed}
-use Rattle.requirement_table.specs.declared.slots.TheConstants.{SLOTS}
 use Rattle.requirement_table.specs.Instance.{worst}
+use Rattle.requirement_table.specs.Table.{IsEntry}
 
 -- an entry without an end, within its ranges
 pub record IsLive (p : Placed) : Type 0 where
-  pub known : p.entry.slot < SLOTS
-  pub few : p.entry.length ≤ 8
-  pub some_time : 1 ≤ p.entry.deadline
-  pub deadline : p.entry.deadline ≤ p.entry.period
+  pub entry : IsEntry p.entry
   pub no_end : p.end ≡ None
   pub origin : p.origin < 2 ^ 40
 

@@ -1,16 +1,14 @@
 -- What a run keeps: every instance whose deadline has passed was sent whole, exactly once, in its time, and nothing else is sent in its slot.
-use Rattle.std.specs.Prelude.{◌≡◌, ℕ, ◌+◌, ◌/◌, ◌<◌, ◌≤◌, ◌&&◌, ◌==◌, nat_le, List, [], ◌∷◌, filter, All, Contains}
+use Rattle.std.specs.Prelude.{◌≡◌, ℕ, ◌+◌, ◌<◌, ◌≤◌, ◌&&◌, ◌==◌, nat_le, List, [], ◌∷◌, filter, All, Contains}
 use Rattle.can_frame.specs.declared.data_frame.TimedFrame.{TimedFrame}
 use Rattle.cycle_layout.specs.Layout.{CycleLayout, async_open}
 use Rattle.requirement_table.specs.declared.entries.Placed.{Placed}
+use Rattle.requirement_table.specs.Slots.{slots}
 use Rattle.requirement_table.specs.Instance.{release_of, IsLastCycle, payload, Exists, MaySend}
 use Rattle.bus_line.specs.Trace.{end_of}
 use Rattle.requirement_table.specs.Opening.{Opening}
-use Rattle.node_model.specs.Opening.{first_identifier, slots, window_start, end_of_cycle}
-
--- the cycle in which a frame starts
-abbrev pub cycle_of : CycleLayout → TimedFrame → ℕ
-cycle_of layout sent = sent.start / layout.cycle
+use Rattle.cycle_engine.specs.Cycle.{cycle_of}
+use Rattle.node_model.specs.Opening.{first_identifier, window_start, end_of_cycle}
 
 -- the frames with this identifier that start in the cycles from `first` to `last`
 abbrev pub frames_of : CycleLayout → ℕ → ℕ → ℕ → List TimedFrame → List TimedFrame

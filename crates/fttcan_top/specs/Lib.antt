@@ -7,7 +7,6 @@ pub mod History
 pub mod Output
 pub mod Loads
 pub mod Ends
-pub mod Window
 pub mod Kept
 pub mod Log
 pub mod Openings

@@ -7,7 +7,7 @@ use Rattle.cycle_layout.specs.Layout.{CycleLayout, IsLayout}
 use Rattle.requirement_table.specs.declared.entries.Placed.{Placed}
 use Rattle.async_window.specs.declared.request.Owner.{Owner}
 use Rattle.async_window.specs.declared.request.Request.{Request}
-use Rattle.node_model.specs.Own.{AreOwners}
+use Rattle.async_window.specs.Owners.{AreOwners}
 use Rattle.cycle_engine.specs.Nodes.{NodesView, states_of, IsNumber, IsBus}
 use Rattle.fttcan_top.specs.declared.history.Event.{Event}
 use Rattle.fttcan_top.specs.declared.input.steps.Step.{Step}
@@ -58,9 +58,9 @@ pub record IsUnderWay (rules : Rules) (layout : CycleLayout) (requests : List Re
 pub record AreReady (setting : Setting) (placed : List Placed) (changed : Bool) (next : ℕ) (trace : List TimedFrame) (nodes : NodesView) : Type 0 where
   pub same_layout : nodes.layout ≡ setting.layout
   pub known : List Placed
-  pub bus : IsBus setting.layout setting.owners setting.requests known trace next (states_of nodes)
+  pub bus : IsBus setting.layout setting.owners setting.requests known trace next (states_of nodes.nodes)
   pub up_to_date : changed ≡ false → known ≡ placed
-  pub numbers : (number : ℕ) → number < setting.rules.nodes → IsNumber (states_of nodes) number
+  pub numbers : (number : ℕ) → number < setting.rules.nodes → IsNumber (states_of nodes.nodes) number
   pub of_nodes : All (λ p. p.entry.node < setting.rules.nodes) placed
 
 -- a run is under way in this setting, and its nodes are ready for the next cycle

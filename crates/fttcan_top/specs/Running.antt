@@ -1,20 +1,15 @@
 -- What holds while a run goes on: between its steps.
-use Rattle.std.specs.Prelude.{◌≡◌, ℕ, ◌*◌, ◌<◌, ◌≤◌, ◌==◌, List, [], filter, All, Contains}
+use Rattle.std.specs.Prelude.{◌≡◌, ℕ, ◌*◌, ◌<◌, ◌≤◌, List, All, Contains}
 use Rattle.can_frame.specs.declared.data_frame.TimedFrame.{TimedFrame}
 use Rattle.cycle_layout.specs.Layout.{CycleLayout}
 use Rattle.requirement_table.specs.declared.entries.Placed.{Placed}
 use Rattle.fttcan_top.specs.Entries.{IsLive, AreDistinct, total_cost}
 use Rattle.requirement_table.specs.Table.{released_in}
-use Rattle.bus_line.specs.Trace.{end_of, Follows}
+use Rattle.bus_line.specs.Trace.{end_of}
 use Rattle.requirement_table.specs.Opening.{Opening}
 use Rattle.async_window.specs.declared.request.Request.{Request}
-use Rattle.cycle_engine.specs.Offered.{offered, AreAsynchronous, AreOfDistinctCycles}
-use Rattle.fttcan_top.specs.Window.{RunsCycle}
-use Rattle.fttcan_top.specs.Kept.{cycle_of}
-
--- the frames of a trace that start in a cycle
-abbrev pub frames_in : CycleLayout → ℕ → List TimedFrame → List TimedFrame
-frames_in layout cycle trace = filter (λ sent. cycle_of layout sent == cycle) trace
+use Rattle.cycle_engine.specs.Offered.{AreAsynchronous, AreOfDistinctCycles, IsCanTrace}
+use Rattle.cycle_engine.specs.Cycle.{RunsCycles}
 
 -- the requests, the entries, the openings and the trace of a run that has opened the cycles below `next`
 pub record IsRunning (layout : CycleLayout) (requests : List Request) (placed : List Placed) (openings : List Opening) (next : ℕ) (trace : List TimedFrame) : Type 0 where
@@ -32,7 +27,6 @@ pub record IsRunning (layout : CycleLayout) (requests : List Request) (placed : 
   pub subset : All (λ o. (p : Placed) → Contains o.placed p → Contains placed p) openings
   pub complete : All (λ o. (p : Placed) → Contains placed p → p.origin ≤ o.cycle → Contains o.placed p) openings
   -- the trace: what arbitration decides, and in each cycle what it is to send
-  pub started : All (λ sent. sent.start < next * layout.cycle) trace
+  pub can_trace : IsCanTrace layout requests openings next trace
   pub ended : All (λ sent. end_of sent ≤ next * layout.cycle) trace
-  pub follows : Follows (offered layout requests openings) [] 0 (next * layout.cycle) trace
-  pub cycles : All (λ o. RunsCycle layout o (frames_in layout o.cycle trace)) openings
+  pub cycles : RunsCycles layout openings trace

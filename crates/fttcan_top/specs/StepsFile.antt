@@ -5,7 +5,7 @@ use Rattle.std.specs.Str.{bytes_eq}
 use Rattle.csv.specs.Records.{field_at}
 use Rattle.requirement_table.specs.declared.entries.Entry.{Entry}
 use Rattle.input_text.specs.CsvRows.{number_at, rows_of}
-use Rattle.requirement_table.specs.declared.slots.TheConstants.{SLOTS}
+use Rattle.requirement_table.specs.Table.{IsEntry}
 use Rattle.fttcan_top.specs.Chain.{◌>>=◌}
 use Rattle.fttcan_top.specs.declared.input.steps.Step.{Step}
 use Rattle.fttcan_top.specs.declared.input.steps.Step.TheVariants.{Cycle, Add}
@@ -105,13 +105,6 @@ steps_of nodes bytes = steps_of_rows nodes (rows_of bytes) >>= fitting
 -- no `add` step starts before the cycles that the steps above it run
 abbrev pub StartInTime : List Step → Type 0
 StartInTime steps = (above below : List Step) (caller start : ℕ) (entry : Entry) → steps ≡ above ++ Add caller start entry ∷ below → cycles_of above ≤ start
-
--- an entry with each number in its range
-pub record IsEntry (entry : Entry) : Type 0 where
-  pub known_slot : entry.slot < SLOTS
-  pub few_bytes : entry.length ≤ 8
-  pub some_time : 1 ≤ entry.deadline
-  pub in_period : entry.deadline ≤ entry.period
 
 -- an `add` step with each number in its range, for this many nodes
 pub record IsAdd (nodes caller start : ℕ) (entry : Entry) : Type 0 where

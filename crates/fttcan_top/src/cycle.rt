@@ -1,10 +1,9 @@
 //! What the master orders for a cycle. All lengths are bit times.
 
 ghost use Rattle.std.specs.Prelude.{if◌then◌else◌, ◌≡◌, ◌<◌, ◌≤◌, true, All, IfOk, Some, None};
-ghost use Rattle.requirement_table.specs.Slots.{contains_slot};
-ghost use Rattle.requirement_table.specs.Table.{released_in};
+ghost use Rattle.requirement_table.specs.Slots.{contains_slot, slots};
+ghost use Rattle.requirement_table.specs.Table.{released_in, worst_in};
 ghost use Rattle.requirement_table.specs.Opening.{width_of};
-ghost use Rattle.node_model.specs.Opening.{slot_cost};
 ghost use Rattle.fttcan_top.specs.Entries.{IsLive, AreDistinct};
 ghost use Rattle.fttcan_top.specs.Openings.{next_opening};
 
@@ -14,11 +13,11 @@ use std::alloc::{AllocError, Global};
 
 /// The worst length of the frame that a flagged slot sends in a cycle.
 fn slot_cost(table: &Table, slot: u8, cycle: u64) -> u32
-    requires slot { slot < SLOTS }
+    requires slot { slot < slots }
     requires live { All IsLive table.now }
     requires distinct { AreDistinct table.now }
     requires flagged { contains_slot (released_in table.now cycle) slot ≡ true }
-    ensures cost { result ≡ slot_cost (next_opening table.now cycle) slot }
+    ensures cost { result ≡ worst_in table.now cycle slot }
     ensures range { result ≤ 135 }
 {
     match table.entry(slot) {
@@ -29,11 +28,11 @@ fn slot_cost(table: &Table, slot: u8, cycle: u64) -> u32
 
 /// The worst length of the frame that a slot sends in a cycle, and 0 where it sends none.
 fn flagged_cost(table: &Table, mask: Mask, slot: u8, cycle: u64) -> u32
-    requires slot { slot < SLOTS }
+    requires slot { slot < slots }
     requires live { All IsLive table.now }
     requires distinct { AreDistinct table.now }
     requires mask { mask ≡ released_in table.now cycle }
-    ensures cost { result ≡ (if contains_slot mask slot then slot_cost (next_opening table.now cycle) slot else 0) }
+    ensures cost { result ≡ (if contains_slot mask slot then worst_in table.now cycle slot else 0) }
     ensures range { result ≤ 135 }
 {
     if mask.has(slot) {

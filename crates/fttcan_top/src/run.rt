@@ -19,8 +19,7 @@ use crate::verdict::verdict;
 use admission::Rules;
 use async_window::Request;
 use can_frame::TimedFrame;
-use can_frame::laws::wire_lengths;
-use cycle_engine::laws::one_can_trace;
+use cycle_engine::laws::{next_cycle, one_can_trace};
 use cycle_engine::{Nodes, run_cycle};
 use input_text::System;
 use requirement_table::{Entry, Placed};
@@ -58,7 +57,7 @@ fn open_cycle(progress: &mut Progress, alloc: Global) -> Result<(), AllocError>
     ensures table { OnOk result (progress.new.table ≡ progress.old.table) }
     ensures next { OnOk result (progress.new.next ≡ progress.old.next + 1) }
 {
-    wire_lengths();
+    next_cycle();
     let cycle = progress.next;
     let order = order(alloc, &progress.table, cycle, progress.changed)?;
     let segment = run_cycle(alloc, &order, &mut progress.nodes)?;
@@ -245,7 +244,6 @@ pub fn run(
     ensures live { IfOk result (λ run. All IsLive (placed_of run.history.items)) }
     ensures distinct { IfOk result (λ run. AreDistinct (placed_of run.history.items)) }
 {
-    wire_lengths();
     one_can_trace();
     let Progress { history, trace, .. } = run_steps(alloc, system, steps, requests)?;
     Ok(Outcome { history, trace })

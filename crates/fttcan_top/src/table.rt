@@ -2,9 +2,10 @@
 
 ghost use Rattle.std.specs.Prelude.{◌≡◌, ℕ, ◌<◌, ◌≤◌, ◌++◌, ◌∷◌, [], Option, Some, None, List, Contains, length, OnOk, OnErr, slice_index_or};
 ghost use Rattle.requirement_table.specs.declared.entries.Placed.{Placed};
+ghost use Rattle.requirement_table.specs.Slots.{slots};
 ghost use Rattle.fttcan_top.specs.Table.{entry_of};
 
-use requirement_table::{Placed, SLOTS};
+use requirement_table::Placed;
 use std::alloc::{AllocError, Global};
 use std::marker::Model;
 
@@ -47,7 +48,7 @@ impl Table {
 
     /// The entry of a slot.
     pub fn entry(&self, slot: u8) -> Option<Placed>
-        requires slot { slot < SLOTS }
+        requires slot { slot < slots }
         ensures entry { result ≡ entry_of self.now slot }
     {
         self.by_slot[usize::from(slot)]
@@ -55,7 +56,7 @@ impl Table {
 
     /// Places an entry in a slot that has none.
     pub fn place(&mut self, placed: Placed) -> Result<(), AllocError>
-        requires slot { placed.entry.slot < SLOTS }
+        requires slot { placed.entry.slot < slots }
         requires free { entry_of self.old placed.entry.slot ≡ None }
         ensures ok { OnOk result (self.new ≡ self.old ++ placed ∷ []) }
         ensures err { OnErr result (self.new ≡ self.old) }

@@ -6,13 +6,14 @@
 //! the counts above it, and no SLOT stands in two rows.
 
 ghost use Rattle.std.specs.Prelude.{◌≡◌, ℕ, ◌^◌, ◌<◌, ◌≤◌, ◌-◌, IfOk, Some, None, Err, map, IfSome, nat_le, option_and_then, option_map, reverse, All, List, true, ◌↔◌};
-ghost use Rattle.requirement_table.specs.declared.slots.TheConstants.{SLOTS};
+ghost use Rattle.requirement_table.specs.Slots.{slots};
 ghost use Rattle.std.specs.Char.{is_ascii_digit};
 ghost use Rattle.std.specs.List.{list_all};
 ghost use Rattle.std.specs.Range.{range_inclusive_start, range_inclusive_end};
 ghost use Rattle.csv.specs.Records.{field_at, fields_of};
 ghost use Rattle.input_text.specs.CsvRows.{without_leading_spaces, trimmed, number_of, within, number_at, rows_of};
-ghost use Rattle.fttcan_top.specs.StepsFile.{entry_of_row, cycle_row, add_fields, add_row, step_of_row, steps_of_rows, cycles_of, start_in_time, are_distinct, slot_of, slots_of, fit_together, FitTogether, IsEntry, IsStep, AreSteps, steps_of};
+ghost use Rattle.requirement_table.specs.Table.{IsEntry};
+ghost use Rattle.fttcan_top.specs.StepsFile.{entry_of_row, cycle_row, add_fields, add_row, step_of_row, steps_of_rows, cycles_of, start_in_time, are_distinct, slot_of, slots_of, fit_together, FitTogether, IsStep, AreSteps, steps_of};
 
 use super::InputFault;
 use csv::{ByteRecord, ReaderBuilder};
@@ -242,7 +243,7 @@ fn all_start_in_time(steps: &[Step]) -> bool
 
 // Whether no slot stands in two steps.
 fn all_slots_differ(steps: &[Step]) -> bool
-    requires { All (λ step. IfSome (slot_of step) (λ slot. slot < SLOTS)) steps.now }
+    requires { All (λ step. IfSome (slot_of step) (λ slot. slot < slots)) steps.now }
     ensures { result ≡ are_distinct (slots_of steps.now) }
 {
     let mut seen = Mask::empty();
@@ -259,7 +260,7 @@ fn all_slots_differ(steps: &[Step]) -> bool
 
 // Whether the steps fit together.
 fn all_fit(steps: &[Step]) -> bool
-    requires { All (λ step. IfSome (slot_of step) (λ slot. slot < SLOTS)) steps.now }
+    requires { All (λ step. IfSome (slot_of step) (λ slot. slot < slots)) steps.now }
     ensures { result ≡ fit_together steps.now }
 {
     run_few_cycles(steps) && all_start_in_time(steps) && all_slots_differ(steps)

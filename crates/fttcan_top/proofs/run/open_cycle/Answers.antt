@@ -1,5 +1,4 @@
 use Rattle.std.proofs.Common.{◌≤◌, sym, subst}
-use Rattle.fttcan_top.proofs.Histories.{are-short}
 use Rattle.fttcan_top.proofs.Buses.{opened, window-ordered}
 use Rattle.fttcan_top.proofs.run.open_cycle.Goals as goal
 
@@ -15,7 +14,7 @@ returns-clause-on_the_way g c =
     let p = c.args.progress.now in
     let o = c.in_ok-order.order in
     let both = opened g.setting p.table p.changed p.next o.cycle o.mask o.l o.learned p.history.items p.trace.items c.in_ok-segment.segment p.nodes c.run_cycle.new.nodes
-    (are-short c.wire_lengths.ensures.not_empty c.wire_lengths.ensures.at_most) on_the_way.under_way on_the_way.ready
+    (record { can_trace = c.next_cycle.ensures.can_trace; ended = c.next_cycle.ensures.ended; all_run = c.next_cycle.ensures.all_run }) on_the_way.under_way on_the_way.ready
     (record {
       cycle_is = c.in_ok-order.ensures.cycle;
       mask_is = c.in_ok-order.ensures.mask;
