@@ -56,7 +56,8 @@ module _ {State : Type 0} (course : Course State) where
   -- two answers are the same one
   pub only_answer : (horizon : ℕ) (one other : Result Repeat WalkEnd) → IsAnswer course horizon one
       → IsAnswer course horizon other → one ≢ Err Memory → other ≢ Err Memory → one ≡ other
-  only_answer horizon (Ok one) (Ok two) is_one is_two _ _ = ap (λ again. Ok again) (same_repeat one two is_one.1 is_two.1)
+  only_answer horizon (Ok one) (Ok two) is_one is_two _ _ =
+      ap (λ again. Ok again) (same_repeat one two is_one.1 is_two.1)
   only_answer horizon (Ok one) (Err (Broken at)) is_one is_two _ _ =
       absurd (no_break _ _ at is_one.1.repeats is_two.1)
   only_answer horizon (Ok one) (Err (NoRepeat walked)) is_one is_two _ _ =

@@ -75,7 +75,8 @@ module _ {State : Type 0} (course : Course State) where
       none one again.before before stands (subst (λ state. course.alike again.before state) same again.same)
 
   module _ (is_good : State → Type 0) (number : State → ℕ) where
-    -- what a step of the search has: the walk is at a state without a repeat, which is listed behind the others, and goes on
+    -- what a step of the search has: the walk is at a state without a repeat, which is listed behind the others, and
+    -- goes on
     pub record Searching (n : ℕ) (here next : State) (states more : List State) : Type 0 where
       pub walking : Walking course is_good number n here
       pub listed : Listed states n

@@ -42,7 +42,8 @@ Meets-at : (old new : ℕ × ℕ → Option ℕ) (key : Option (ℕ × ℕ)) (st
 Meets-at old new None steps before q key_is met = absurd (cc)
 Meets-at old new (Some key) steps before q key_is met = let same : key ≡ q = cc in met.0 ∙ ap old same
 
-Meets-found : (old new : ℕ × ℕ → Option ℕ) (key : Option (ℕ × ℕ)) (steps first : ℕ) → Meets old new key steps (Some first)
+Meets-found : (old new : ℕ × ℕ → Option ℕ) (key : Option (ℕ × ℕ)) (steps first : ℕ)
+    → Meets old new key steps (Some first)
     → (q : ℕ × ℕ) × (key ≡ Some q) × (old q ≡ Some first)
 Meets-found old new None steps first met = let none = met.0 in absurd (cc)
 Meets-found old new (Some key) steps first met = (key, refl, sym met.0)
@@ -65,7 +66,12 @@ module _ {State : Type 0} (course : Course State) (key_of : State → Option (�
       → StandsAt key (n + 1) k → StandsAt key n k ⊎ ((k ≡ n) × (key_of next ≡ Some key))
   StandsAt-cases key n k next next_is stands =
       elim (cases_lt k n) as (λ _. StandsAt key n k ⊎ ((k ≡ n) × (key_of next ≡ Some key))) [
-        | inl earlier ↦ inl (record { before = earlier; state = stands.state; state_is = stands.state_is; key_is = stands.key_is })
+        | inl earlier ↦ inl (record {
+          before = earlier;
+          state = stands.state;
+          state_is = stands.state_is;
+          key_is = stands.key_is;
+        })
         | inr after ↦
             let last : k ≡ n = omega (arith, stands.before) in
             let there : state_after course n ≡ Some stands.state =
@@ -125,7 +131,8 @@ module _ {State : Type 0} (course : Course State) (key_of : State → Option (�
 
   Noted-next : (old new : ℕ × ℕ → Option ℕ) (n : ℕ) (next : State) (key : Option (ℕ × ℕ)) → key ≡ key_of next
       → Noted old n → state_after course n ≡ Some next → Meets old new key n None → Noted new (n + 1)
-  Noted-next old new n next None key_is noted next_is met = Noted-without old new n next noted next_is (sym key_is) met.1
+  Noted-next old new n next None key_is noted next_is met =
+      Noted-without old new n next noted next_is (sym key_is) met.1
   Noted-next old new n next (Some key) key_is noted next_is met =
       let added = met.1 refl in
       Noted-with old new n next key noted next_is (sym key_is) (sym met.0) added.0 added.1
@@ -151,7 +158,8 @@ module _ {State : Type 0} (course : Course State) (key_of : State → Option (�
   module _ (is_good : State → Type 0) (number : State → ℕ) where
     -- what a step of the search has: the walk is at a state without a repeat, whose key is noted like those before, and
     -- goes on to a state whose key was looked up
-    pub record Meeting (n : ℕ) (here next : State) (old new : ℕ × ℕ → Option ℕ) (key : Option (ℕ × ℕ)) (before : Option ℕ) : Type 0 where
+    pub record Meeting (n : ℕ) (here next : State) (old new : ℕ × ℕ → Option ℕ) (key : Option (ℕ × ℕ))
+        (before : Option ℕ) : Type 0 where
       pub tells : TellsSame is_good number
       pub below : n < 100000
       pub walking : Walking course is_good number n here
@@ -162,7 +170,8 @@ module _ {State : Type 0} (course : Course State) (key_of : State → Option (�
       pub key_is : key ≡ key_of next
       pub met : Meets old new key (n + 1) before
 
-    module _ (n : ℕ) (here next : State) (old new : ℕ × ℕ → Option ℕ) (key : Option (ℕ × ℕ)) (before : Option ℕ) (at : Meeting n here next old new key before) where
+    module _ (n : ℕ) (here next : State) (old new : ℕ × ℕ → Option ℕ) (key : Option (ℕ × ℕ))
+        (before : Option ℕ) (at : Meeting n here next old new key before) where
       next_is : state_after course (n + 1) ≡ Some next
       next_is = state_after-next course n here at.walking.here_is ∙ sym at.goes_on
 
@@ -178,7 +187,8 @@ module _ {State : Type 0} (course : Course State) (key_of : State → Option (�
           let last = next_is in
           let same : again.again ≡ next = cc in
           let alike : course.alike again.before next = subst (λ s. course.alike again.before s) same again.same in
-          let keys = (at.tells again.before next good.0 at.good (omega (arith, good.1, at.below)) number_next).0 alike in (
+          let below : number again.before ≤ 100000 = omega (arith, good.1, at.below) in
+          let keys = (at.tells again.before next good.0 at.good below number_next).0 alike in (
             keys.0,
             at.key_is ∙ keys.2,
             at.noted.each keys.0 one (record {
@@ -200,7 +210,8 @@ module _ {State : Type 0} (course : Course State) (key_of : State → Option (�
       -- a key that was there ends one that begins with the state whose steps stood under it
       pub Meeting-found : (first : ℕ) → before ≡ Some first → IsRepeat course first (n + 1)
       Meeting-found first before_is =
-          let found = Meets-found old new key (n + 1) first (subst (λ b. Meets old new key (n + 1) b) before_is at.met) in
+          let met = subst (λ b. Meets old new key (n + 1) b) before_is at.met in
+          let found = Meets-found old new key (n + 1) first met in
           let stands = at.noted.some_state found.0 first found.2 in
           let steps : first < n + 1 = stands.before in
           let good = at.walking.all_good first stands.state (omega arith) stands.state_is in
@@ -230,7 +241,8 @@ module _ {State : Type 0} (course : Course State) (key_of : State → Option (�
 
       pub Meeting-next : before ≡ None → Walking course is_good number (n + 1) next
       Meeting-next absent =
-          Walking-next course is_good number n here next at.walking (sym at.goes_on) at.good at.number_is (none_again absent)
+          Walking-next course is_good number n here next at.walking (sym at.goes_on) at.good at.number_is
+          (none_again absent)
 
       pub Meeting-noted : before ≡ None → Noted new (n + 1 + 1)
       Meeting-noted absent =

@@ -31,7 +31,8 @@ module _ {State : Type 0} (course : Course State) where
   pub state_before : (n later : ℕ) (there : State) → state_after course later ≡ Some there → n ≤ later
       → (state : State) × (state_after course n ≡ Some state)
   state_before n later there there_is order = by_case (state_after course n) refl where
-    by_case : (found : Option State) → state_after course n ≡ found → (state : State) × (state_after course n ≡ Some state)
+    by_case : (found : Option State) → state_after course n ≡ found
+        → (state : State) × (state_after course n ≡ Some state)
     by_case None ended = let behind = none_behind n later ended order in absurd (cc)
     by_case (Some state) found = (state, found)
 

@@ -60,7 +60,8 @@ NoneSame {State} course states n state =
     (k : ℕ) (one : State) → k < n → slice_get states k ≡ Some one → ¬ course.alike one state
 
 -- the first of these states that is the same as the state stands at the place
-pub record IsFirstSame {State : Type 0} (course : Course State) (states : List State) (state : State) (place : ℕ) : Type 0 where
+pub record IsFirstSame {State : Type 0} (course : Course State) (states : List State) (state : State) (place : ℕ)
+    : Type 0 where
   pub one : State
   pub stands : slice_get states place ≡ Some one
   pub same : course.alike one state

@@ -1,16 +1,20 @@
-use Rattle.std.proofs.Common.{◌≡◌, ◌+◌, ◌-◌, ◌<◌, Ok, Err, arith, subst, sym, refl}
+use Rattle.std.proofs.Common.{◌+◌, ◌-◌, ◌<◌, Ok, Err, arith, refl}
 use Rattle.std.specs.BTreeMap.{get}
-use Rattle.recurrence_check.specs.Course.{StaysNew}
+use Rattle.recurrence_check.specs.Ends.{IsFirstRepeat}
 use Rattle.recurrence_check.specs.declared.walk_end.WalkEnd.TheVariants.{Broken, NoRepeat}
-use Rattle.recurrence_check.proofs.Walking.{Walking-start}
+use Rattle.recurrence_check.proofs.Walking.{Walking-start, Walking-breaks, Walking-stays}
 use Rattle.recurrence_check.proofs.Noted.{Noted-start, Meeting, Meeting-found, Meeting-first, Meeting-next, Meeting-noted, key_cmp}
 use Rattle.recurrence_check.proofs.Answering.{only_answer}
 use Rattle.recurrence_check.proofs.by_keys.lasso_keyed.Goals as goal
-use Rattle.recurrence_check.proofs.by_keys.lasso_keyed.Goals.{In_ok-first}
+use Rattle.recurrence_check.proofs.by_keys.lasso_keyed.Goals.{In_ok-first, In-Some-2}
 use Rattle.recurrence_check.proofs.by_keys.lasso_keyed.Given.{Over}
 
 -- once the key of the next state was looked up
-meeting : (g : Over) (c : In_ok-first g) → Meeting (g.W.Walk.course c.args.walk.now) (g.W.Keyed.key_of c.args.walk.now) (g.W.Walk.is_good c.args.walk.now) (g.W.Walk.number c.args.walk.now) c.loop-walked.walked c.loop-walked.here c.in-Some.next (get key_cmp c.loop-walked.steps_to) (get key_cmp c.meet-in-loop-walked.new.steps_to) c.key-in-loop-walked.result c.in_ok-first.field-0
+meeting : (g : Over) (c : In_ok-first g)
+    → Meeting (g.W.Walk.course c.args.walk.now) (g.W.Keyed.key_of c.args.walk.now)
+    (g.W.Walk.is_good c.args.walk.now) (g.W.Walk.number c.args.walk.now) c.loop-walked.walked c.loop-walked.here
+    c.in-Some.next (get key_cmp c.loop-walked.steps_to) (get key_cmp c.meet-in-loop-walked.new.steps_to)
+    c.key-in-loop-walked.result c.in_ok-first.field-0
 meeting g c = record {
   tells = g.met.W.Keyed.keyed c.args.walk.now;
   below = omega arith;
@@ -23,40 +27,57 @@ meeting g c = record {
   met = c.in_ok-first.ensures.met;
 }
 
+-- where the key stood in the table, the walk has its first repeat
+found : (g : Over) (c : In-Some-2 g)
+    → IsFirstRepeat (g.W.Walk.course c.args.walk.now) c.args.horizon (record {
+      first = c.in-Some-2.first;
+      length = c.loop-walked.walked + 1 - c.in-Some-2.first;
+    })
+found g c =
+    Meeting-first _ _ _ _ _ _ _ _ _ _ _ (meeting g (goal.at.overflow_sub-result g c).In_ok-first)
+    c.in-Some-2.first c.args.horizon (omega arith) c.in-Some-2.is
+
 pub loop-walked-init : goal.loop-walked-init
 loop-walked-init g c =
-    let course = g.W.Walk.course c.args.walk.now in
+    let walk = c.args.walk.now in
+    let course = g.W.Walk.course walk in
+    let first = c.first-here.ensures in
     record {
-      walking = Walking-start course (g.W.Walk.is_good c.args.walk.now) (g.W.Walk.number c.args.walk.now) c.first-here.result c.first-here.ensures.start c.first-here.ensures.good c.first-here.ensures.number;
-      noted = Noted-start course (g.W.Keyed.key_of c.args.walk.now) (get key_cmp c.new-steps_to.result) (get key_cmp c.meet.new.steps_to) c.first-here.result c.key.result c.in_ok-meet.field-0 c.first-here.ensures.start c.key.ensures.key (λ q. rw c.new-steps_to.ensures.empty) c.in_ok-meet.ensures.met;
+      walking = Walking-start course (g.W.Walk.is_good walk) (g.W.Walk.number walk) c.first-here.result first.start
+          first.good first.number;
+      noted = Noted-start course (g.W.Keyed.key_of walk) (get key_cmp c.new-steps_to.result)
+          (get key_cmp c.meet.new.steps_to) c.first-here.result c.key.result c.in_ok-meet.field-0 first.start
+          c.key.ensures.key (λ key. rw c.new-steps_to.ensures.empty) c.in_ok-meet.ensures.met;
     }
 
 pub overflow_sub-result : goal.overflow_sub-result
 overflow_sub-result g c =
-    let repeats = Meeting-found _ _ _ _ _ _ _ _ _ _ _ (meeting g (goal.at.overflow_sub-result g c).In_ok-first) c.in-Some-2.first c.in-Some-2.is in
+    let at = meeting g (goal.at.overflow_sub-result g c).In_ok-first in
+    let repeats = Meeting-found _ _ _ _ _ _ _ _ _ _ _ at c.in-Some-2.first c.in-Some-2.is in
     let order : c.in-Some-2.first < c.loop-walked.walked + 1 = repeats.order in
     omega arith
 
 pub returns-in-Some-2-clause-repeat : goal.returns-in-Some-2-clause-repeat
 returns-in-Some-2-clause-repeat g c =
-    let first = Meeting-first _ _ _ _ _ _ _ _ _ _ _ (meeting g (goal.at.returns-in-Some-2-clause-repeat g c).In_ok-first) c.in-Some-2.first c.args.horizon (omega arith) c.in-Some-2.is in
+    let first = found g (goal.at.returns-in-Some-2-clause-repeat g c).In-Some-2 in
     first.1
 
 pub returns-in-Some-2-clause-within : goal.returns-in-Some-2-clause-within
 returns-in-Some-2-clause-within g c =
-    let first = Meeting-first _ _ _ _ _ _ _ _ _ _ _ (meeting g (goal.at.returns-in-Some-2-clause-within g c).In_ok-first) c.in-Some-2.first c.args.horizon (omega arith) c.in-Some-2.is in
+    let first = found g (goal.at.returns-in-Some-2-clause-within g c).In-Some-2 in
     first.0
 
 pub returns-in-Some-2-clause-only : goal.returns-in-Some-2-clause-only
 returns-in-Some-2-clause-only g c = λ other.
-    let first = Meeting-first _ _ _ _ _ _ _ _ _ _ _ (meeting g (goal.at.returns-in-Some-2-clause-only g c).In_ok-first) c.in-Some-2.first c.args.horizon (omega arith) c.in-Some-2.is in
-    only_answer (g.W.Walk.course c.args.walk.now) c.args.horizon (Ok (record { first = c.in-Some-2.first; length = c.loop-walked.walked + 1 - c.in-Some-2.first })) other first
+    let first = found g (goal.at.returns-in-Some-2-clause-only g c).In-Some-2 in
+    only_answer (g.W.Walk.course c.args.walk.now) c.args.horizon (Ok _) other first
 
 pub returns-in_default-clause-only : goal.returns-in_default-clause-only
 returns-in_default-clause-only g c = λ other.
-    let walking = c.loop-walked.invariant.walking in
+    let breaks = Walking-breaks _ _ _ c.loop-walked.walked c.loop-walked.here c.loop-walked.invariant.walking
+    c.in_default.ensures.next in
     only_answer (g.W.Walk.course c.args.walk.now) c.args.horizon (Err (Broken c.loop-walked.walked)) other
-    (omega arith, record { last = c.loop-walked.here; last_is = walking.here_is; ends = sym {b = (g.W.Walk.course c.args.walk.now).next c.loop-walked.here} c.in_default.ensures.next; new = walking.new })
+    (omega arith, breaks)
 
 pub loop-walked-preserved : goal.loop-walked-preserved
 loop-walked-preserved g c =
@@ -68,7 +89,6 @@ loop-walked-preserved g c =
 
 pub returns-clause-only : goal.returns-clause-only
 returns-clause-only g c = λ other.
-    let walking = c.loop-walked.invariant.walking in
-    let all : c.loop-walked.walked ≡ c.args.horizon = omega arith in
-    let stays : StaysNew (g.W.Walk.course c.args.walk.now) c.args.horizon = subst (λ n. StaysNew (g.W.Walk.course c.args.walk.now) n) all (record { last = c.loop-walked.here; last_is = walking.here_is; new = walking.new }) in
+    let stays = Walking-stays _ _ _ c.loop-walked.walked c.args.horizon c.loop-walked.here
+    c.loop-walked.invariant.walking (omega arith) in
     only_answer (g.W.Walk.course c.args.walk.now) c.args.horizon (Err (NoRepeat c.args.horizon)) other (refl, stays)
