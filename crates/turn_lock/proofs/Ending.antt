@@ -1,12 +1,10 @@
 -- The lock at its start and at its end.
-use Rattle.std.proofs.Common.{◌≡◌, ◌≢◌, ℕ, zero, suc, ◌+◌, ◌*◌, ◌<◌, ◌⊎◌, List, [], ◌∷◌, length, Bool, true, false, Option, Some, None, refl, sym, ap, ◌∙◌, subst, inl, inr, ⊎_elim, arith, Contains}
+use Rattle.std.proofs.Common.{◌≡◌, ℕ, zero, suc, ◌+◌, List, [], ◌∷◌, false, Option, Some, None, refl, sym, ap, ◌∙◌, subst, inl, inr, ⊎_elim, arith, Contains}
 use mathlib.Core.Option.{some, some-injective, some-ne-none}
-use mathlib.Core.List.{IsPrefix}
 use lib.ListN.{get_elem?}
-use Rattle.atomic_table.specs.Table.{State, Final, Seen, opening}
-use Rattle.turn_lock.specs.History.{own, HasEnded}
-use Rattle.turn_lock.specs.Passes.{Facts, first_view, IsCovered}
-use Rattle.turn_lock.specs.Rule.{IsLive, count_live, IsSeenWhole, Fits, IsFree, IsTaken, Kept}
+use Rattle.atomic_table.specs.Table.{State, Seen, opening}
+use Rattle.turn_lock.specs.Passes.{first_view}
+use Rattle.turn_lock.specs.Rule.{count_live, Fits, Kept}
 use Rattle.turn_lock.specs.declared.view.View.{View}
 use Rattle.turn_lock.proofs.Live.{only_one, same_view}
 

@@ -1,16 +1,15 @@
 -- A step that changes one view keeps what the rule says of every view.
-use Rattle.std.proofs.Common.{◌≡◌, ◌≢◌, ℕ, ◌+◌, ◌*◌, ◌<◌, ◌⊎◌, List, [], ◌∷◌, length, get_or, set, Bool, true, false, Option, Some, None, refl, sym, ap, ◌∙◌, subst, inl, inr, ⊎_elim, arith, length-set, Contains, append-nil}
+use Rattle.std.proofs.Common.{◌≡◌, ◌≢◌, ℕ, ◌+◌, ◌⊎◌, List, [], length, set, false, Option, sym, ap, ◌∙◌, subst, inl, inr, ⊎_elim, arith, length-set, Contains, append-nil}
 use mathlib.Core.Logic.{dite}
 use mathlib.Core.Option.{some, none}
 use mathlib.Core.List.{IsPrefix}
 use native.Mathlib.Decide.{ℕ_discrete}
 use lib.ListN.{get_elem?}
-use Rattle.atomic_table.specs.Table.{State}
 use Rattle.atomic_table.proofs.Lists.{at_set, set_here, set_else}
 use Rattle.turn_lock.specs.History.{own, HasEnded}
 use Rattle.turn_lock.specs.Passes.{Facts}
 use Rattle.turn_lock.proofs.Told.{told}
-use Rattle.turn_lock.specs.Rule.{IsLive, count_live, IsSeenWhole, IsBlamed, IsJoined, Fits, IsFree, IsTaken, Kept}
+use Rattle.turn_lock.specs.Rule.{IsLive, IsSeenWhole, IsBlamed, IsJoined, Fits, IsFree, IsTaken, Kept}
 use Rattle.turn_lock.specs.declared.view.View.{View}
 use Rattle.turn_lock.proofs.Lists.{prefix_trans, at_below}
 use Rattle.turn_lock.proofs.Live.{count-set_same, live_here, live_after, live_before, same_view}

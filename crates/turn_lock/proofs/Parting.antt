@@ -1,20 +1,17 @@
 -- A pass that is split from the first one, or joined into it; the lock at its start and at its end.
-use Rattle.std.proofs.Common.{◌≡◌, ◌≢◌, ℕ, suc, zero, ◌+◌, ◌-◌, ◌*◌, ◌<◌, ◌≤◌, ◌⊎◌, List, [], ◌∷◌, ◌++◌, length, get_or, set, Bool, true, false, cond, Option, Some, None, refl, sym, ap, ◌∙◌, subst, inl, inr, ⊎_elim, arith, length-set, length-append, Contains, append-nil}
-use Rattle.std.proofs.lemmas.List.Elements.{Contains-append_left, Contains-append_right, Contains-push, Contains-push_cases}
+use Rattle.std.proofs.Common.{◌≡◌, ◌≢◌, ℕ, ◌+◌, ◌<◌, List, [], ◌∷◌, ◌++◌, length, set, false, Option, None, refl, sym, ap, ◌∙◌, subst, inl, inr, ⊎_elim, arith, length-set, length-append, Contains}
 use mathlib.Core.Logic.{dite}
-use mathlib.Core.Option.{some, none, some-injective, some-ne-none}
-use mathlib.Core.List.{IsPrefix}
-use native.Mathlib.Decide.{ℕ_discrete, dec_le}
+use mathlib.Core.Option.{some}
+use native.Mathlib.Decide.{ℕ_discrete}
 use lib.ListN.{get_elem?}
-use lib.Dec.{leb}
-use Rattle.atomic_table.specs.Table.{State, Me, Splits, Joins, Final, Seen, opening}
-use Rattle.atomic_table.proofs.Lists.{at_set, set_here, set_else, at_last, at_longer}
-use Rattle.turn_lock.specs.History.{own, HasEnded}
-use Rattle.turn_lock.specs.Passes.{Facts, first_view, spent_view, split_from, split_off, longer, joined}
-use Rattle.turn_lock.specs.Rule.{IsLive, count_live, IsSeenWhole, IsBlamed, IsJoined, Fits, IsFree, IsTaken, Kept}
+use Rattle.atomic_table.specs.Table.{State, Splits}
+use Rattle.atomic_table.proofs.Lists.{at_set, set_here, set_else, at_longer}
+use Rattle.turn_lock.specs.History.{own}
+use Rattle.turn_lock.specs.Passes.{split_from, split_off}
+use Rattle.turn_lock.specs.Rule.{IsLive, IsSeenWhole, IsBlamed, IsJoined, Fits, IsFree, IsTaken, Kept}
 use Rattle.turn_lock.specs.declared.view.View.{View}
-use Rattle.turn_lock.proofs.Lists.{prefix_refl, prefix_length, prefix_whole, prefix_between, own_between, own_none, at_below, at_snoc_at}
-use Rattle.turn_lock.proofs.Live.{count-snoc, count-set_same, count-set_spent, count_some, live_here, live_after, live_before, only_one, same_view, other_holds}
+use Rattle.turn_lock.proofs.Lists.{own_none, at_below, at_snoc_at}
+use Rattle.turn_lock.proofs.Live.{count-snoc, count-set_same, live_after, live_before, same_view, other_holds}
 
 no_element : {A : Type 0} (x : A) → Contains [] x → ⊥
 no_element x c = let h = c.1 in omega arith

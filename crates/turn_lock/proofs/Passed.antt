@@ -1,9 +1,9 @@
 -- What a pass knows, from what it knew and from what it was told.
-use Rattle.std.proofs.Common.{◌≡◌, ◌≢◌, ℕ, zero, suc, ◌+◌, ◌<◌, ◌⊎◌, List, [], ◌∷◌, length, eqb, cond, Bool, true, false, refl, sym, ap, ◌∙◌, subst, inl, inr, ⊎_elim, arith, eq-eqb, Contains}
+use Rattle.std.proofs.Common.{◌≡◌, ℕ, zero, suc, ◌<◌, ◌⊎◌, List, [], ◌∷◌, length, eqb, cond, Bool, true, false, refl, sym, ap, ◌∙◌, subst, inl, inr, ⊎_elim, arith, eq-eqb, Contains}
 use mathlib.Core.Logic.{dite}
 use mathlib.Core.List.{IsPrefix}
 use native.Mathlib.Decide.{ℕ_discrete}
-use Rattle.turn_lock.specs.History.{own, HasEnded}
+use Rattle.turn_lock.specs.History.{own}
 use Rattle.turn_lock.specs.Passes.{Facts, IsCovered, split_from, joined}
 use Rattle.turn_lock.specs.declared.view.View.{View}
 

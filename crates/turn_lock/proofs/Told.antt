@@ -1,10 +1,10 @@
 -- What the rule tells of a pass that was not joined.
-use Rattle.std.proofs.Common.{◌≡◌, ◌≢◌, ℕ, ◌+◌, ◌*◌, ◌⊎◌, List, [], ◌∷◌, length, Bool, true, false, Option, Some, None, refl, sym, ap, ◌∙◌, subst, inl, inr, ⊎_elim, arith, Contains}
-use mathlib.Core.Option.{some, none}
+use Rattle.std.proofs.Common.{◌≡◌, ℕ, ◌+◌, List, false, sym, ap, ◌∙◌, subst, inl, inr, ⊎_elim, Contains}
+use mathlib.Core.Option.{some}
 use lib.ListN.{get_elem?}
-use Rattle.turn_lock.specs.History.{own, HasEnded}
+use Rattle.turn_lock.specs.History.{own}
 use Rattle.turn_lock.specs.Passes.{Facts}
-use Rattle.turn_lock.specs.Rule.{IsLive, count_live, Fits}
+use Rattle.turn_lock.specs.Rule.{count_live, Fits}
 use Rattle.turn_lock.specs.declared.view.View.{View}
 use Rattle.turn_lock.proofs.Lists.{own_none}
 use Rattle.turn_lock.proofs.Live.{only_one, same_view}

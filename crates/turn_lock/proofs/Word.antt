@@ -1,5 +1,5 @@
 -- Each step on the word keeps the rule, and tells what it says.
-use Rattle.std.proofs.Common.{◌≡◌, ◌≢◌, ℕ, suc, zero, ◌+◌, ◌-◌, ◌*◌, ◌%◌, ◌^◌, ◌<◌, ◌≤◌, ◌⊎◌, eqb, List, [], ◌∷◌, ◌++◌, length, drop, get_or, set, Bool, true, false, Option, Some, None, MatchBool, refl, sym, ap, ◌∙◌, subst, inl, inr, ⊎_elim, arith, length-set, length-append, get_or-set_same, eq-eqb, ne_eqb, bit_or, Contains, append-nil}
+use Rattle.std.proofs.Common.{◌≡◌, ◌≢◌, ℕ, ◌+◌, ◌-◌, ◌*◌, ◌%◌, ◌^◌, ◌<◌, ◌≤◌, ◌⊎◌, eqb, List, [], ◌∷◌, ◌++◌, length, drop, get_or, set, Bool, true, false, Option, Some, None, MatchBool, refl, sym, ap, ◌∙◌, subst, inl, inr, ⊎_elim, arith, length-set, length-append, get_or-set_same, eq-eqb, ne_eqb, bit_or, Contains}
 use Rattle.std.proofs.lemmas.Nat.{or_shifted, or_block, or_comm}
 use Rattle.std.proofs.lemmas.List.Elements.{Contains-append_left, Contains-push}
 use Rattle.std.proofs.Math.Seq.{drop-append_seam}
@@ -8,11 +8,11 @@ use mathlib.Core.Option.{some, none}
 use mathlib.Core.List.{IsPrefix}
 use native.Mathlib.Decide.{ℕ_discrete}
 use lib.ListN.{get_elem?}
-use Rattle.atomic_table.specs.Table.{State, Me, Step, step, Allows, Act, keeps, takes, gives, put_back, Valid, rest, stepped, carried_after}
+use Rattle.atomic_table.specs.Table.{State, Me, Step, step, Allows, Act, keeps, takes, gives, Valid, rest, stepped, carried_after}
 use Rattle.atomic_table.proofs.Lists.{at_set, set_here, set_else}
 use Rattle.turn_lock.specs.History.{own, added}
-use Rattle.turn_lock.specs.Passes.{Facts, carried, granted, refused, committed, given_back}
-use Rattle.turn_lock.specs.Rule.{IsLive, IsSeenWhole, IsBlamed, Fits, IsFree, IsTaken, Kept}
+use Rattle.turn_lock.specs.Passes.{carried, granted, refused, committed, given_back}
+use Rattle.turn_lock.specs.Rule.{IsBlamed, IsFree, IsTaken, Kept}
 use Rattle.turn_lock.specs.Steps.{Looked, IsGranted, IsRefused, Tried, Committed, GivenBack}
 use Rattle.turn_lock.specs.declared.view.View.{View}
 use Rattle.turn_lock.proofs.Lists.{at_below, prefix_refl, prefix_length, own_one_more, own_no_more}

@@ -1,5 +1,5 @@
 -- A history is a list of entries. Each entry has the number of the one pass that may make it.
-use Rattle.std.specs.Prelude.{◌≡◌, ℕ, ◌==◌, List, ◌++◌, ◌∷◌, [], length, drop, filter, Option, Some, None, Contains}
+use Rattle.std.specs.Prelude.{ℕ, ◌==◌, List, [], length, drop, filter, Option, Some, None, Contains}
 
 -- the entries with this number, in their order
 abbrev pub own : {E : Type 0} → (E → ℕ) → ℕ → List E → List E

@@ -5,10 +5,11 @@ ghost use Rattle.turn_lock.specs.Passes.{IsReady, Facts};
 
 use crate::{Busy, Pass, Stands, Turn};
 use std::alloc::{AllocError, Global};
+use std::rt::Env;
 use std::sync::Wait;
 use std::test::Fail;
-use std::thread;
 use std::thread::Threads;
+use std::{env, hint, thread};
 
 /// The most calls on a desk.
 const MOST: usize = 1_000_000;
@@ -81,19 +82,40 @@ fn note_once(turn: &Turn<Desk>, pass: &mut Pass<Desk>, count: u64, wanted: bool)
     }
 }
 
-/// Notes so many calls, and gives the turn back at each fourth try.
-fn play<R: Wait>(rt: &R, turn: &Turn<Desk>, pass: &mut Pass<Desk>, rounds: u64)
+/// The seed of the pauses: the number in the variable `TURN_LOCK_SEED`, or 0.
+fn seed_of<R: Env + Alloc>(rt: &R) -> u64 {
+    let Ok(text) = env::var(rt, "TURN_LOCK_SEED") else {
+        return 0;
+    };
+    text.parse().unwrap_or(0)
+}
+
+/// Spins for a while that follows from a seed, and answers the next seed.
+fn pause(seed: u64) -> u64 {
+    let next = seed
+        .wrapping_mul(6_364_136_223_846_793_005)
+        .wrapping_add(1_442_695_040_888_963_407);
+    for _ in 0..next >> 57 {
+        hint::spin_loop();
+    }
+    next
+}
+
+/// Notes so many calls, gives the turn back at each fourth try, and pauses after each.
+fn play<R: Wait>(rt: &R, turn: &Turn<Desk>, pass: &mut Pass<Desk>, rounds: u64, seed: u64)
     requires ready { IsReady turn.now pass.old }
     ensures ready { IsReady turn.now pass.new }
     ensures number { pass.new.view.number ≡ pass.old.view.number }
 {
     let mut done = 0;
     let mut tries = 0u64;
+    let mut seed = seed;
     for _ in rt.forever() {
         if done >= rounds {
             break;
         }
         tries = tries.saturating_add(1);
+        seed = pause(seed);
         if note_once(turn, pass, done, tries % 4 != 0) {
             done += 1;
         } else {
@@ -108,12 +130,18 @@ fn play_all<R: Threads + Wait + Sync>(
     turn: &Turn<Desk>,
     passes: &mut [Pass<Desk>],
     rounds: u64,
+    seed: u64,
 )
     requires ready { All (λ pass. IsReady turn.now pass × (pass.view.number ≢ 0)) passes.old }
     ensures ready { All (λ pass. IsReady turn.now pass × (pass.view.number ≢ 0)) passes.new }
     ensures length { length passes.new ≡ length passes.old }
 {
-    thread::for_each_mut(rt, passes, 8, &|_, pass| play(rt, turn, pass, rounds));
+    thread::for_each_mut(
+        rt,
+        passes,
+        8,
+        &|i, pass| { play(rt, turn, pass, rounds, seed.wrapping_add(i as u64)) },
+    );
 }
 
 /// Splits so many passes from the first one.
@@ -198,6 +226,18 @@ fn refused_while_another_holds_the_turn(rt: HostRuntime) -> Result<(), Fail> {
     assert_eq!(rt; turn.length(&mut second), 1);
     assert!(rt; look(&turn, &mut second) == Ok(1));
     turn.join_pass(&mut first, second);
+    match turn.try_turn(&mut first) {
+        Ok(held) => held.give_back(),
+        Err(_busy) => panic!(rt; "no other pass is out"),
+    }
+    Ok(())
+}
+
+#[test]
+fn closed_with_what_was_committed(rt: HostRuntime) -> Result<(), Fail> {
+    let alloc: Global = rt.alloc();
+    let (turn, mut first) = Turn::new(alloc, Desk::empty(alloc, 7))?;
+    assert!(rt; note_once(&turn, &mut first, 5, true));
     let desk = turn.close(first);
     assert_eq!(rt; desk.name, 7);
     assert!(rt; desk.calls.as_slice() == [(0, 5)].as_slice());
@@ -209,7 +249,7 @@ fn each_pass_has_its_calls(rt: HostRuntime) -> Result<(), Fail> {
     let alloc: Global = rt.alloc();
     let (turn, mut first) = Turn::new(alloc, Desk::empty(alloc, 7))?;
     let mut passes = hire(alloc, &turn, &mut first, 8)?;
-    play_all(&rt, &turn, passes.as_mut_slice(), 10_000);
+    play_all(&rt, &turn, passes.as_mut_slice(), 10_000, seed_of(&rt));
     retire(&turn, &mut first, passes);
     let desk = turn.close(first);
     assert_eq!(rt; desk.calls.len(), 80_000);

@@ -1,7 +1,5 @@
-use Rattle.std.proofs.Common.{◌≡◌, ℕ, refl, ap, ◌∙◌, sym, subst, Option, Some}
-use mathlib.Core.Option.{some, some-injective}
-use lib.ListN.{get_elem?}
-use Rattle.std.specs.Slots.{slots_items}
+use Rattle.std.proofs.Common.{◌≡◌, refl, ap, ◌∙◌, sym, subst, Some}
+use mathlib.Core.Option.{some-injective}
 use Rattle.std.specs.Option.{IsSome}
 use Rattle.turn_lock.specs.Passes.{Known, Lock, IsCovered}
 use Rattle.turn_lock.specs.declared.view.View.{View}

@@ -1,11 +1,9 @@
 -- The call at the lock hands its two arguments, exchanged, to the call at the pass, and what that promises is what it promises.
-use Rattle.std.proofs.Common.{[], ◌∷◌, List, refl}
+use Rattle.std.proofs.Common.{[], ◌∷◌, refl}
 use mir.Syntax.{a_type, dcons, dnil, named}
-use mir.Val.{Val}
 use mir.MapTy.{inst_fn}
 use base.Logic.{id⊢}
-use base.Fml.{Fml, ftrue, fsep}
-use types.Kit.{‵, raw, ◌⊛◌, some, later, ◌$◌, ◌∵◌, !, qed, by, move, keep, drop, split, join, fsplit, fjoin, pick, use1, use2, await}
+use types.Kit.{‵, raw, ◌⊛◌, some, later, ◌$◌, ◌∵◌, !, qed, by, move, keep, drop, split, join, fsplit, fjoin, pick, use1, await}
 use types.Run.{stop, addr, no_more, and_then, returns, enter}
 use types.ByLocal.{alloc_all, pass_all, free_all, look_at, get, through, sets, lands_as}
 use contract.Running.{tables}
@@ -14,8 +12,8 @@ use denote.Exit.{yes, no}
 use denote.Laws.{Is, shows}
 use denote.Param.{param, bounded}
 use denote.Param.Laws.{param_laws}
-use denote.RattleType.{RattleType, owns}
-use denote.Ref.{MutRef, mut_vals, shr_vals, mut_Tells, shr_Tells}
+use denote.RattleType.{owns}
+use denote.Ref.{mut_vals, shr_vals, mut_Tells, shr_Tells}
 use denote.Signature.{plain, type_at, types_at, named_lft}
 use denote.Steps.{peeks, nothing}
 use denote.Triple.Call.{calls_at}
