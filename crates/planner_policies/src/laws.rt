@@ -1,0 +1,10 @@
+//! Laws about plans. Each function has an empty body, and its contract is the law.
+
+ghost use Rattle.std.specs.Prelude.{◌≡◌, ℕ, ◌+◌, ◌-◌, ◌<◌, ◌≤◌, ◌↔◌, ◌&&◌, Bool, true, false, nat_lt, List, Contains, All, take, AllPairs};
+ghost use Rattle.requirement_table.specs.declared.entries.Placed.{Placed};
+ghost use Rattle.requirement_table.specs.Slots.{contains_slot, set_of, slots};
+ghost use Rattle.requirement_table.specs.Table.{IsWellPlaced, instance_in, releases_in, width_in, worst_in};
+ghost use Rattle.planner_policies.specs.declared.Policy.{Policy};
+ghost use Rattle.planner_policies.specs.Loop.{RepeatsFrom};
+ghost use Rattle.planner_policies.specs.Order.{IsInKeyOrder, IsLongestFront};
+ghost use Rattle.planner_policies.specs.Plan.{HasNoMiss, IsHeldFrom, IsMissAt, IsMissIn, IsValid, NeverMisses, Planning, is_by, is_missed_at, is_missed_in, left_after, mask_at, pending_at, pending_before, pending_in, planned_at, planned_in};
