@@ -1,8 +1,9 @@
 -- What the code keeps of an instance that is pending in a cycle: words for contracts inside the crate.
-use Rattle.std.specs.Prelude.{◌≡◌, ◌≢◌, ℕ, ◌+◌, ◌<◌, ◌≤◌, Bool, true, false, ◌||◌, nat_eq, nat_le, nat_lt, if◌then◌else◌, List, ◌∷◌, ◌++◌, All, AllPairs, Any, length, sum_by, take, Option, Some, None}
+use Rattle.std.specs.Prelude.{◌≡◌, ◌≢◌, ℕ, ◌+◌, ◌<◌, ◌≤◌, Bool, true, false, ◌||◌, ◌&&◌, nat_eq, nat_le, nat_lt, if◌then◌else◌, List, ◌∷◌, ◌++◌, All, AllPairs, Any, length, sum_by, take, Option, Some, None}
 use Rattle.std.specs.List.{list_any}
+use Rattle.std.specs.Option.{option_map_or}
 use Rattle.requirement_table.specs.declared.entries.Placed.{Placed}
-use Rattle.requirement_table.specs.Instance.{Instance, MaySend, deadline_of, release_of, worst_of}
+use Rattle.requirement_table.specs.Instance.{Instance, MaySend, deadline_of, instance_of, release_of, worst_of}
 use Rattle.requirement_table.specs.Slots.{slots}
 use Rattle.requirement_table.specs.Table.{instance_in}
 use Rattle.planner_policies.specs.declared.Policy.{Policy}
@@ -64,6 +65,13 @@ pub record IsPutIn (due : Due) (old new : List Due) : Type 0 where
   pub is : new ≡ front ++ (due ∷ back)
   pub before : All (λ other. is_due_by other due ≡ true) front
   pub behind : All (λ other. is_due_by other due ≡ false) back
+
+-- whether an entry of the slot has an instance that was released before the cycle and may be sent in it
+abbrev pub is_held_in : ℕ → Placed → Bool
+is_held_in c p = option_map_or (λ k. nat_lt (release_of p k) c) (instance_of p c) false
+
+abbrev pub holds_of : ℕ → ℕ → Placed → Bool
+holds_of c slot p = nat_eq p.entry.slot slot && is_held_in c p
 
 -- what is kept of all instances that are pending in a cycle, in key order
 pub record IsWholeLine (plan : Planning) (c : ℕ) (before : ℕ → Bool) (line : List Due) : Type 0 where

@@ -8,3 +8,14 @@ ghost use Rattle.planner_policies.specs.declared.Policy.{Policy};
 ghost use Rattle.planner_policies.specs.Loop.{RepeatsFrom};
 ghost use Rattle.planner_policies.specs.Order.{IsInKeyOrder, IsLongestFront};
 ghost use Rattle.planner_policies.specs.Plan.{HasNoMiss, IsHeldFrom, IsMissAt, IsMissIn, IsValid, NeverMisses, Planning, is_by, is_missed_at, is_missed_in, left_after, mask_at, pending_at, pending_before, pending_in, planned_at, planned_in};
+
+/// Key order is a total order of the slots.
+pub fn key_order()
+    ensures itself { (policy : Policy) (placed : List Placed) (c slot : ℕ) → is_by policy placed c slot slot ≡ true }
+    ensures total { (policy : Policy) (placed : List Placed) (c one other : ℕ)
+        → is_by policy placed c one other ≡ false → is_by policy placed c other one ≡ true }
+    ensures one_way { (policy : Policy) (placed : List Placed) (c one other : ℕ)
+        → is_by policy placed c one other ≡ true → is_by policy placed c other one ≡ true → one ≡ other }
+    ensures along { (policy : Policy) (placed : List Placed) (c one other third : ℕ)
+        → is_by policy placed c one other ≡ true → is_by policy placed c other third ≡ true → is_by policy placed c one third ≡ true }
+{}

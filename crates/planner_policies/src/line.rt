@@ -15,14 +15,14 @@ pub struct Line {
 }
 
 impl Model for Line {
-    ghost use Rattle.std.specs.Prelude.{List, ◌≤◌, take};
+    ghost use Rattle.std.specs.Prelude.{◌≡◌, ◌≤◌, List, length, take};
     ghost use Rattle.planner_policies.specs.declared.due.Due.{Due};
 
     ghost Value = { List Due };
 
     ghost view = { λ l. take l.count l.places };
 
-    ghost invariant = { λ l. l.count ≤ 40 };
+    ghost invariant = { λ l. (l.count ≤ 40) × (length l.places ≡ 40) };
 }
 
 impl Line {

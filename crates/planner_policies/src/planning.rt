@@ -2,10 +2,9 @@
 
 ghost use Rattle.std.specs.Prelude.{◌≡◌, ℕ, ◌+◌, ◌^◌, ◌<◌, ◌↔◌, nat_eq, All, IsTrue, IfOk, IfErr};
 ghost use Rattle.std.specs.List.{list_any};
-ghost use Rattle.requirement_table.specs.Instance.{MaySend, release_of};
 ghost use Rattle.requirement_table.specs.Slots.{contains_slot, set_of, slots};
 ghost use Rattle.requirement_table.specs.Table.{IsInRange};
-ghost use Rattle.planner_policies.specs.Due.{IsLeastMissed, IsLongestFit, IsWholeLine, lesser_miss};
+ghost use Rattle.planner_policies.specs.Due.{IsLeastMissed, IsLongestFit, IsWholeLine, is_held_in, lesser_miss};
 ghost use Rattle.planner_policies.specs.Plan.{HasNoMissIn, IsMissIn, IsValid, left_after, planned_in, planning_of};
 
 use crate::due::{Due, due_of};
@@ -21,11 +20,13 @@ pub fn valid(ranked: &Ranked, state: &PlanState) -> bool
     ensures valid { IsTrue result ↔ IsValid ranked.now.placed state.now.cycle state.now.pending }
 {
     let mut rest = state.pending;
-    for row in ranked.rows() {
+    let rows = ranked.rows();
+    for row in rows {
         if is_held(row, state.cycle) {
             rest = rest.without(row.entry.slot);
         }
     }
+    rest.known();
     rest == Mask::empty()
 }
 
@@ -33,7 +34,7 @@ pub fn valid(ranked: &Ranked, state: &PlanState) -> bool
 fn is_held(placed: &Placed, cycle: u64) -> bool
     requires in_range { IsInRange placed.now }
     requires cycle { cycle < 2 ^ 42 }
-    ensures held { IsTrue result ↔ ((k : ℕ) × MaySend placed.now k cycle × (release_of placed.now k < cycle)) }
+    ensures held { result ≡ is_held_in cycle placed.now }
 {
     match current(placed, cycle) {
         Some(number) => due(placed, number).0 < cycle,
@@ -98,8 +99,9 @@ fn line_of(ranked: &Ranked, w: u32, state: &PlanState) -> Line
     ensures line { IsWholeLine (planning_of ranked.now w state.now.cycle state.now.pending) state.now.cycle
         (contains_slot state.now.pending) result }
 {
+    let rows = ranked.rows();
     let mut line = Line::new();
-    for row in ranked.rows() {
+    for row in rows {
         if let Some(due) = due_of(ranked.policy(), row, state) {
             line.put(due);
         }

@@ -1,7 +1,7 @@
 //! The table of a planning, in key order.
 
-ghost use Rattle.std.specs.Prelude.{◌≡◌, IfOk};
-ghost use Rattle.requirement_table.specs.Table.{IsWellPlaced};
+ghost use Rattle.std.specs.Prelude.{◌≡◌, All, IfOk, IsPermutation};
+ghost use Rattle.requirement_table.specs.Table.{IsInRange, IsWellPlaced};
 
 use crate::Policy;
 use requirement_table::Placed;
@@ -72,6 +72,7 @@ impl Ranked {
     /// The placed entries in key order.
     pub(crate) fn rows(&self) -> &[Placed]
         ensures same { IsPermutation self.now.placed result.now }
+        ensures in_range { All IsInRange result.now }
         ensures well_placed { IsWellPlaced self.now.placed }
     {
         self.rows.as_slice()
