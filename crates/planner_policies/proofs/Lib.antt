@@ -1,8 +1,10 @@
+mod Cycles
 mod Held
 mod Lines
 mod Missed
 mod KeyOrder
 mod Longest
 mod Loops
+mod Pairs
 mod Rows
 mod Steps

@@ -1,6 +1,6 @@
 //! Laws about plans. Each function has an empty body, and its contract is the law.
 
-ghost use Rattle.std.specs.Prelude.{◌≡◌, ℕ, ◌+◌, ◌-◌, ◌<◌, ◌≤◌, ◌↔◌, ◌&&◌, Bool, true, false, nat_lt, List, Contains, All, take, AllPairs};
+ghost use Rattle.std.specs.Prelude.{◌≡◌, ℕ, ◌+◌, ◌-◌, ◌<◌, ◌≤◌, ◌↔◌, ◌&&◌, Bool, true, false, nat_lt, List, Contains, take, drop};
 ghost use Rattle.requirement_table.specs.declared.entries.Placed.{Placed};
 ghost use Rattle.requirement_table.specs.Slots.{contains_slot, set_of, slots};
 ghost use Rattle.requirement_table.specs.Table.{IsWellPlaced, instance_in, releases_in, width_in, worst_in};
@@ -18,4 +18,14 @@ pub fn key_order()
         → is_by policy placed c one other ≡ true → is_by policy placed c other one ≡ true → one ≡ other }
     ensures along { (policy : Policy) (placed : List Placed) (c one other third : ℕ)
         → is_by policy placed c one other ≡ true → is_by policy placed c other third ≡ true → is_by policy placed c one third ≡ true }
+{}
+
+/// What is planned in a cycle is the longest front of the pending slots, in key order, whose worst lengths fit the window together.
+pub fn longest_front()
+    ensures planned { (plan : Planning) (c : ℕ) (before : ℕ → Bool) (order : List ℕ) (n slot : ℕ) → IsInKeyOrder plan c before order
+        → IsLongestFront (worst_in plan.placed c) plan.window order n → slot < slots
+        → (planned_in plan c before slot ≡ true) ↔ Contains (take n order) slot }
+    ensures left { (plan : Planning) (c : ℕ) (before : ℕ → Bool) (order : List ℕ) (n slot : ℕ) → IsInKeyOrder plan c before order
+        → IsLongestFront (worst_in plan.placed c) plan.window order n → slot < slots
+        → (left_after plan c before slot ≡ true) ↔ Contains (drop n order) slot }
 {}
