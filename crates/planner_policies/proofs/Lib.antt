@@ -1,4 +1,5 @@
 mod Cycles
+mod Going
 mod Held
 mod Lines
 mod Missed

@@ -29,3 +29,43 @@ pub fn longest_front()
         → IsLongestFront (worst_in plan.placed c) plan.window order n → slot < slots
         → (left_after plan c before slot ≡ true) ↔ Contains (drop n order) slot }
 {}
+
+/// The plan follows from the instances of the slots: two tables that have the same ones in the cycles of a planning have the same plan.
+pub fn same_instances()
+    ensures pending { (plan : Planning) (placed : List Placed) (n : ℕ)
+        → ((k slot : ℕ) → k < n → slot < slots → instance_in placed slot (plan.from + k) ≡ instance_in plan.placed slot (plan.from + k))
+        → ((k slot : ℕ) → k < n → slot < slots → releases_in placed (plan.from + k) slot ≡ releases_in plan.placed (plan.from + k) slot)
+        → (m slot : ℕ) → m ≤ n → slot < slots → pending_before (record plan { placed = placed }) m slot ≡ pending_before plan m slot }
+    ensures planned { (plan : Planning) (placed : List Placed) (n : ℕ)
+        → ((k slot : ℕ) → k < n → slot < slots → instance_in placed slot (plan.from + k) ≡ instance_in plan.placed slot (plan.from + k))
+        → ((k slot : ℕ) → k < n → slot < slots → releases_in placed (plan.from + k) slot ≡ releases_in plan.placed (plan.from + k) slot)
+        → (m slot : ℕ) → m < n → slot < slots → planned_at (record plan { placed = placed }) m slot ≡ planned_at plan m slot }
+    ensures missed { (plan : Planning) (placed : List Placed) (n : ℕ)
+        → ((k slot : ℕ) → k < n → slot < slots → instance_in placed slot (plan.from + k) ≡ instance_in plan.placed slot (plan.from + k))
+        → ((k slot : ℕ) → k < n → slot < slots → releases_in placed (plan.from + k) slot ≡ releases_in plan.placed (plan.from + k) slot)
+        → (m slot : ℕ) → m < n → slot < slots → is_missed_at (record plan { placed = placed }) m slot ≡ is_missed_at plan m slot }
+{}
+
+/// A planning goes on from what it left: the one that begins at a later cycle, with the slots that are pending before it, has the same
+/// plan from there on.
+pub fn going_on()
+    ensures pending { (plan : Planning) (n m slot : ℕ) → slot < slots
+        → pending_before plan (n + m) slot ≡ pending_before (record plan { from = plan.from + n; pending = pending_at plan n }) m slot }
+    ensures planned { (plan : Planning) (n m slot : ℕ) → slot < slots
+        → planned_at plan (n + m) slot ≡ planned_at (record plan { from = plan.from + n; pending = pending_at plan n }) m slot }
+    ensures missed { (plan : Planning) (n m slot : ℕ) → slot < slots
+        → is_missed_at plan (n + m) slot ≡ is_missed_at (record plan { from = plan.from + n; pending = pending_at plan n }) m slot }
+{}
+
+/// A state at the n-th cycle of a planning, which is the cycle and the set of the slots pending before it, has what is planned in that
+/// cycle, and leads to the state at the next one.
+pub fn states()
+    ensures planned { (plan : Planning) (n : ℕ)
+        → set_of slots (planned_in plan (plan.from + n) (contains_slot (pending_at plan n))) ≡ mask_at plan n }
+    ensures left { (plan : Planning) (n : ℕ)
+        → set_of slots (left_after plan (plan.from + n) (contains_slot (pending_at plan n))) ≡ pending_at plan (n + 1) }
+    ensures missed { (plan : Planning) (n slot : ℕ) → slot < slots
+        → is_missed_in plan (plan.from + n) (contains_slot (pending_at plan n)) slot ≡ is_missed_at plan n slot }
+    ensures miss { (plan : Planning) (n slot release : ℕ)
+        → IsMissIn plan (plan.from + n) (contains_slot (pending_at plan n)) slot release → IsMissAt plan n slot release }
+{}

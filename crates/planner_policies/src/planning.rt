@@ -3,7 +3,7 @@
 ghost use Rattle.std.specs.Prelude.{◌≡◌, ℕ, ◌+◌, ◌^◌, ◌<◌, ◌↔◌, nat_eq, All, IsTrue, IfOk, IfErr};
 ghost use Rattle.std.specs.List.{list_any};
 ghost use Rattle.requirement_table.specs.Slots.{contains_slot, set_of, slots};
-ghost use Rattle.requirement_table.specs.Table.{IsInRange};
+ghost use Rattle.requirement_table.specs.Table.{IsInRange, IsWellPlaced};
 ghost use Rattle.planner_policies.specs.Due.{IsLeastMissed, IsLongestFit, IsWholeLine, is_held_in, lesser_miss};
 ghost use Rattle.planner_policies.specs.Plan.{HasNoMissIn, IsMissIn, IsValid, left_after, planned_in, planning_of};
 
@@ -98,6 +98,7 @@ fn line_of(ranked: &Ranked, w: u32, state: &PlanState) -> Line
     requires valid { IsValid ranked.now.placed state.now.cycle state.now.pending }
     ensures line { IsWholeLine (planning_of ranked.now w state.now.cycle state.now.pending) state.now.cycle
         (contains_slot state.now.pending) result }
+    ensures well_placed { IsWellPlaced ranked.now.placed }
 {
     let rows = ranked.rows();
     let mut line = Line::new();
