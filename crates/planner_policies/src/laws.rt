@@ -1,6 +1,6 @@
 //! Laws about plans. Each function has an empty body, and its contract is the law.
 
-ghost use Rattle.std.specs.Prelude.{◌≡◌, ℕ, ◌+◌, ◌-◌, ◌<◌, ◌≤◌, ◌↔◌, ◌&&◌, Bool, true, false, nat_lt, List, Contains, take, drop};
+ghost use Rattle.std.specs.Prelude.{◌≡◌, ℕ, ◌+◌, ◌-◌, ◌<◌, ◌≤◌, ◌↔◌, Bool, true, false, List, All, Contains, take, drop};
 ghost use Rattle.requirement_table.specs.declared.entries.Placed.{Placed};
 ghost use Rattle.requirement_table.specs.Slots.{contains_slot, set_of, slots};
 ghost use Rattle.requirement_table.specs.Table.{IsWellPlaced, instance_in, releases_in, width_in, worst_in};
@@ -68,4 +68,19 @@ pub fn states()
         → is_missed_in plan (plan.from + n) (contains_slot (pending_at plan n)) slot ≡ is_missed_at plan n slot }
     ensures miss { (plan : Planning) (n slot release : ℕ)
         → IsMissIn plan (plan.from + n) (contains_slot (pending_at plan n)) slot release → IsMissAt plan n slot release }
+{}
+
+/// The loop of a plan: where the same slots are pending before two cycles, by which all entries have settled and between which there is a
+/// whole number of periods of each live entry, the plan goes on from the second one as it did from the first one. Where no instance is
+/// missed up to the second one, none is missed at any later cycle, by any policy.
+pub fn loops()
+    ensures pending { (plan : Planning) (n m k slot : ℕ) → IsWellPlaced plan.placed → n < m
+        → All (RepeatsFrom (plan.from + n) (m - n)) plan.placed → pending_at plan n ≡ pending_at plan m → slot < slots
+        → pending_before plan (m + k) slot ≡ pending_before plan (n + k) slot }
+    ensures planned { (plan : Planning) (n m k slot : ℕ) → IsWellPlaced plan.placed → n < m
+        → All (RepeatsFrom (plan.from + n) (m - n)) plan.placed → pending_at plan n ≡ pending_at plan m → slot < slots
+        → planned_at plan (m + k) slot ≡ planned_at plan (n + k) slot }
+    ensures never_missed { (plan : Planning) (n m : ℕ) → IsWellPlaced plan.placed → n < m
+        → All (RepeatsFrom (plan.from + n) (m - n)) plan.placed → pending_at plan n ≡ pending_at plan m
+        → HasNoMiss plan m → NeverMisses plan }
 {}
