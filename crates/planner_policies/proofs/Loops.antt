@@ -285,3 +285,49 @@ alike-later policy placed b d c well repeats after =
           ap (λ o. option_map_or (λ i. nat_eq (deadline_of i.placed i.number) (c + d + 1)) o false) (found slot)
           ∙ last-later d c (instance_in placed slot c) (moved slot);
     }
+
+-- A plan
+
+module _ (plan : Planning) (n m : ℕ) (well : IsWellPlaced plan.placed) (further : n < m)
+    (repeats : All (RepeatsFrom (plan.from + n) (m - n)) plan.placed) (same : pending_at plan n ≡ pending_at plan m) where
+  alike-on : (k : ℕ) → AreAlike plan.policy plan.placed plan.placed (plan.from + (n + k)) (plan.from + (m + k))
+  alike-on k =
+      let at : plan.from + (m + k) ≡ (plan.from + (n + k)) + (m - n) = omega arith in
+      rw at (alike-later plan.policy plan.placed (plan.from + n) (m - n) (plan.from + (n + k)) well repeats (omega arith))
+
+  pub loop-pending : (k slot : ℕ) → slot < slots → pending_before plan (m + k) slot ≡ pending_before plan (n + k) slot
+  loop-pending zero slot known =
+      let at_m : m + 0 ≡ m = omega arith in
+      let at_n : n + 0 ≡ n = omega arith in
+      ap (λ k. pending_before plan k slot) at_m ∙ sym (pending-test plan m slot known) ∙ ap (λ mask. contains_slot mask slot) (sym same)
+      ∙ pending-test plan n slot known ∙ ap (λ k. pending_before plan k slot) (sym at_n)
+  loop-pending (suc k) slot known =
+      let at_m : m + suc k ≡ suc (m + k) = omega arith in
+      let at_n : n + suc k ≡ suc (n + k) = omega arith in
+      ap (λ x. pending_before plan x slot) at_m ∙ before-next plan (m + k) slot
+      ∙ left-alike plan plan.placed plan.from plan.pending (plan.from + (n + k)) (plan.from + (m + k)) (pending_before plan (n + k)) (pending_before plan (m + k))
+      (alike-on k) (λ other below. loop-pending k other below) slot known
+      ∙ sym (before-next plan (n + k) slot) ∙ ap (λ x. pending_before plan x slot) (sym at_n)
+
+  pub loop-planned : (k slot : ℕ) → slot < slots → planned_at plan (m + k) slot ≡ planned_at plan (n + k) slot
+  loop-planned k slot known =
+      planned-alike plan plan.placed plan.from plan.pending (plan.from + (n + k)) (plan.from + (m + k)) (pending_before plan (n + k)) (pending_before plan (m + k))
+      (alike-on k) (λ other below. loop-pending k other below) slot known
+
+  loop-missed : (k slot : ℕ) → slot < slots → is_missed_at plan (m + k) slot ≡ is_missed_at plan (n + k) slot
+  loop-missed k slot known =
+      missed-alike plan plan.placed plan.from plan.pending (plan.from + (n + k)) (plan.from + (m + k)) (pending_before plan (n + k)) (pending_before plan (m + k))
+      (alike-on k) (λ other below. loop-pending k other below) slot known
+
+  none-below : HasNoMiss plan m → (bound t slot : ℕ) → t < bound → slot < slots → is_missed_at plan t slot ≡ false
+  none-below none zero t slot below known = absurd (omega arith)
+  none-below none (suc bound) t slot below known =
+      ⊎_elim
+      (λ (early : t < m). none t slot early known)
+      (λ (late : m ≤ t).
+      let at : t ≡ m + (t - m) = omega arith in
+      ap (λ x. is_missed_at plan x slot) at ∙ loop-missed (t - m) slot known ∙ none-below none bound (n + (t - m)) slot (omega arith) known)
+      (cases_lt t m)
+
+  pub never-missed : HasNoMiss plan m → NeverMisses plan
+  never-missed none t slot known = none-below none (suc t) t slot (omega arith) known
