@@ -1,4 +1,5 @@
 mod Cycles
+mod Fits
 mod Going
 mod Held
 mod Lines

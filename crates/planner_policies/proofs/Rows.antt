@@ -121,15 +121,15 @@ releases-test placed p k c range stands sends release =
     (stands.0, p, stands.1, stands.2,
     and_from (nat_eq p.entry.slot p.entry.slot) (is_some (released_by p c)) (eq-eqb p.entry.slot p.entry.slot refl) (ap is_some released))
 
-record IsReleaser (placed : List Placed) (slot c : ℕ) : Type 0 where
-  entry : Placed
-  stands : Contains placed entry
-  of_slot : entry.entry.slot ≡ slot
-  number : ℕ
-  released : IsReleasedIn entry number c
-  sends : MaySend entry number c
+pub record IsReleaser (placed : List Placed) (slot c : ℕ) : Type 0 where
+  pub entry : Placed
+  pub stands : Contains placed entry
+  pub of_slot : entry.entry.slot ≡ slot
+  pub number : ℕ
+  pub released : IsReleasedIn entry number c
+  pub sends : MaySend entry number c
 
-releaser-of : (placed : List Placed) (slot c : ℕ) → IsWellPlaced placed → releases_in placed c slot ≡ true → IsReleaser placed slot c
+pub releaser-of : (placed : List Placed) (slot c : ℕ) → IsWellPlaced placed → releases_in placed c slot ≡ true → IsReleaser placed slot c
 releaser-of placed slot c well test =
     let any = Any-from_list_any (λ q. nat_eq q.entry.slot slot && is_some (released_by q c)) placed test in
     let q = any.1 in

@@ -1,13 +1,14 @@
 //! Laws about plans. Each function has an empty body, and its contract is the law.
 
-ghost use Rattle.std.specs.Prelude.{◌≡◌, ℕ, ◌+◌, ◌-◌, ◌<◌, ◌≤◌, ◌↔◌, Bool, true, false, List, All, Contains, take, drop};
+ghost use Rattle.std.specs.Prelude.{◌≡◌, ℕ, ◌+◌, ◌-◌, ◌<◌, ◌≤◌, ◌↔◌, Bool, true, false, IsSome, List, All, Contains, take, drop};
 ghost use Rattle.requirement_table.specs.declared.entries.Placed.{Placed};
 ghost use Rattle.requirement_table.specs.Slots.{contains_slot, set_of, slots};
-ghost use Rattle.requirement_table.specs.Table.{IsWellPlaced, instance_in, releases_in, width_in, worst_in};
+ghost use Rattle.requirement_table.specs.Flags.{IsGoodCycle};
+ghost use Rattle.requirement_table.specs.Table.{IsWellPlaced, held_before, instance_in, releases_in, width_in, worst_in};
 ghost use Rattle.planner_policies.specs.declared.Policy.{Policy};
 ghost use Rattle.planner_policies.specs.Loop.{RepeatsFrom};
 ghost use Rattle.planner_policies.specs.Order.{IsInKeyOrder, IsLongestFront};
-ghost use Rattle.planner_policies.specs.Plan.{HasNoMiss, IsHeldFrom, IsMissAt, IsMissIn, IsValid, NeverMisses, Planning, is_by, is_missed_at, is_missed_in, left_after, mask_at, pending_at, pending_before, pending_in, planned_at, planned_in};
+ghost use Rattle.planner_policies.specs.Plan.{HasNoMiss, HasNoMissIn, IsMissAt, IsMissIn, IsValid, NeverMisses, Planning, flags_of, is_by, is_missed_at, is_missed_in, left_after, mask_at, pending_at, pending_before, pending_in, planned_at, planned_in};
 
 /// Key order is a total order of the slots.
 pub fn key_order()
@@ -83,4 +84,30 @@ pub fn loops()
     ensures never_missed { (plan : Planning) (n m : ℕ) → IsWellPlaced plan.placed → n < m
         → All (RepeatsFrom (plan.from + n) (m - n)) plan.placed → pending_at plan n ≡ pending_at plan m
         → HasNoMiss plan m → NeverMisses plan }
+{}
+
+/// What is planned fits the window, is pending, and where the state is valid has an instance that may be sent.
+pub fn planned_slots()
+    ensures fits { (plan : Planning) (c : ℕ) (before : ℕ → Bool) → width_in plan.placed c (planned_in plan c before) ≤ plan.window }
+    ensures pending { (plan : Planning) (c : ℕ) (before : ℕ → Bool) (slot : ℕ) → planned_in plan c before slot ≡ true
+        → pending_in plan.placed c before slot ≡ true }
+    ensures sendable { (plan : Planning) (c pending slot : ℕ) → IsWellPlaced plan.placed → IsValid plan.placed c pending
+        → planned_in plan c (contains_slot pending) slot ≡ true → IsSome (instance_in plan.placed slot c) }
+{}
+
+/// From a valid state a planning without a miss goes on in valid states.
+pub fn valid_states()
+    ensures next { (plan : Planning) (c pending : ℕ) → IsWellPlaced plan.placed → IsValid plan.placed c pending
+        → HasNoMissIn plan c (contains_slot pending)
+        → IsValid plan.placed (c + 1) (set_of slots (left_after plan c (contains_slot pending))) }
+    ensures along { (plan : Planning) (n : ℕ) → IsWellPlaced plan.placed → IsValid plan.placed plan.from plan.pending
+        → HasNoMiss plan n → IsValid plan.placed (plan.from + n) (pending_at plan n) }
+{}
+
+/// As long as no instance is missed the plan keeps the table: it flags slots that hold an instance, and flags each of them in time.
+pub fn keeping()
+    ensures held { (plan : Planning) (n slot : ℕ)
+        → held_before plan.placed (flags_of plan) plan.from (contains_slot plan.pending) n slot ≡ pending_before plan n slot }
+    ensures good { (plan : Planning) (n m : ℕ) → HasNoMiss plan n → m < n
+        → IsGoodCycle plan.placed (flags_of plan) plan.from (contains_slot plan.pending) m }
 {}
