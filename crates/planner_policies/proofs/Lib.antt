@@ -7,6 +7,7 @@ mod Missed
 mod KeyOrder
 mod Longest
 mod Loops
+mod Over
 mod Pairs
 mod Rows
 mod Steps

@@ -118,7 +118,7 @@ over-by p b d e repeats is =
     let settled = repeats.settled in
     rw free at settled
 
-instance-over : (p : Placed) (b e c : ℕ) → p.end ≡ Some e → 1 ≤ p.entry.deadline → e + p.entry.deadline - 1 ≤ b → b ≤ c → instance_of p c ≡ None
+pub instance-over : (p : Placed) (b e c : ℕ) → p.end ≡ Some e → 1 ≤ p.entry.deadline → e + p.entry.deadline - 1 ≤ b → b ≤ c → instance_of p c ≡ None
 instance-over p b e c is some over after =
     none-of (instance_of p c) (λ k found.
     let sends = MaySend-from_instance p k c found in
@@ -126,7 +126,7 @@ instance-over p b e c is some over after =
     let in_time = sends.in_time in
     omega arith)
 
-released-over : (p : Placed) (b e c : ℕ) → p.end ≡ Some e → 1 ≤ p.entry.deadline → e + p.entry.deadline - 1 ≤ b → b ≤ c → released_by p c ≡ None
+pub released-over : (p : Placed) (b e c : ℕ) → p.end ≡ Some e → 1 ≤ p.entry.deadline → e + p.entry.deadline - 1 ≤ b → b ≤ c → released_by p c ≡ None
 released-over p b e c is some over after =
     none-of (released_by p c) (λ k found.
     let released = IsReleasedIn-from_released_by p k c found in

@@ -1,10 +1,10 @@
 //! Laws about plans. Each function has an empty body, and its contract is the law.
 
-ghost use Rattle.std.specs.Prelude.{◌≡◌, ℕ, ◌+◌, ◌-◌, ◌<◌, ◌≤◌, ◌↔◌, Bool, true, false, IsSome, List, All, Contains, take, drop};
+ghost use Rattle.std.specs.Prelude.{◌≡◌, ℕ, ◌+◌, ◌-◌, ◌<◌, ◌≤◌, ◌↔◌, Bool, true, false, IsSome, List, All, Contains, take, drop, filter};
 ghost use Rattle.requirement_table.specs.declared.entries.Placed.{Placed};
 ghost use Rattle.requirement_table.specs.Slots.{contains_slot, set_of, slots};
 ghost use Rattle.requirement_table.specs.Flags.{IsGoodCycle};
-ghost use Rattle.requirement_table.specs.Table.{IsWellPlaced, held_before, instance_in, releases_in, width_in, worst_in};
+ghost use Rattle.requirement_table.specs.Table.{IsFreeAt, IsWellPlaced, held_before, instance_in, releases_in, width_in, worst_in};
 ghost use Rattle.planner_policies.specs.declared.Policy.{Policy};
 ghost use Rattle.planner_policies.specs.Loop.{RepeatsFrom};
 ghost use Rattle.planner_policies.specs.Order.{IsInKeyOrder, IsLongestFront};
@@ -110,4 +110,16 @@ pub fn keeping()
         → held_before plan.placed (flags_of plan) plan.from (contains_slot plan.pending) n slot ≡ pending_before plan n slot }
     ensures good { (plan : Planning) (n m : ℕ) → HasNoMiss plan n → m < n
         → IsGoodCycle plan.placed (flags_of plan) plan.from (contains_slot plan.pending) m }
+{}
+
+/// Entries whose slots are free again by a cycle have nothing to say from it on: a list without some of them is well placed, and has the
+/// same instances.
+pub fn entries_that_are_over()
+    ensures well_placed { (keep : Placed → Bool) (placed : List Placed) → IsWellPlaced placed → IsWellPlaced (filter keep placed) }
+    ensures instances { (keep : Placed → Bool) (placed : List Placed) (from c slot : ℕ) → IsWellPlaced placed
+        → All (λ p. keep p ≡ false → IsFreeAt p from) placed → from ≤ c
+        → instance_in (filter keep placed) slot c ≡ instance_in placed slot c }
+    ensures releases { (keep : Placed → Bool) (placed : List Placed) (from c slot : ℕ) → IsWellPlaced placed
+        → All (λ p. keep p ≡ false → IsFreeAt p from) placed → from ≤ c
+        → releases_in (filter keep placed) c slot ≡ releases_in placed c slot }
 {}
