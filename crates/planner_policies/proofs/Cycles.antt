@@ -88,16 +88,15 @@ order-is plan c before line whole = record {
   known = All-map (λ x. x < slots) slot_of line (All-weaker (IsDueIn plan c before) (λ due. due.slot < slots) (λ due is. is.known) line whole.each);
   distinct = pairs-map (λ v w. v ≢ w) slot_of line whole.distinct;
   in_order = pairs-map (λ v w. is_by plan.policy plan.placed c v w ≡ true) slot_of line
-  (λ i j d first within.
-  due_by-is plan c before (get_or line i d) (get_or line j d) (whole.each i d (omega arith)) (whole.each j d within) ∙ whole.lined i j d first within);
-  pending = λ slot known.
-      (
-        λ waits. slots-contain slot line (whole.all slot known waits),
-        λ contains.
-            let one = instance-with slot line contains in
-            let in' = All-contains (IsDueIn plan c before) line one.due whole.each one.stands in
-            ap (pending_in plan.placed c before) (sym one.value) ∙ in'.pending,
-      );
+      (λ i j d first within.
+      due_by-is plan c before (get_or line i d) (get_or line j d) (whole.each i d (omega arith)) (whole.each j d within) ∙ whole.lined i j d first within);
+  pending = λ slot known. (
+    λ waits. slots-contain slot line (whole.all slot known waits),
+    λ contains.
+        let one = instance-with slot line contains in
+        let in' = All-contains (IsDueIn plan c before) line one.due whole.each one.stands in
+        ap (pending_in plan.placed c before) (sym one.value) ∙ in'.pending,
+  );
 }
 
 sum-costs : (plan : Planning) (c : ℕ) (before : ℕ → Bool) (xs : List Due) → All (IsDueIn plan c before) xs

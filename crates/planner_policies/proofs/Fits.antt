@@ -180,11 +180,11 @@ left-valid plan c pending well valid none slot in' =
     let released = found.sends.released in
     let more : deadline_of i.placed i.number ≢ c + 1
     = λ last.
-        let is : is_last_in plan.placed c slot ≡ true
-        = ap (λ o. option_map_or (λ x. nat_eq (deadline_of x.placed x.number) (c + 1)) o false) has.found
-        ∙ eq-eqb (deadline_of i.placed i.number) (c + 1) last in
-        both_ways (is_missed_in plan c (contains_slot pending) slot) (none slot known)
-        (and_from (left_after plan c (contains_slot pending) slot) (is_last_in plan.placed c slot) both.1 is) in
+    let is : is_last_in plan.placed c slot ≡ true
+    = ap (λ o. option_map_or (λ x. nat_eq (deadline_of x.placed x.number) (c + 1)) o false) has.found
+    ∙ eq-eqb (deadline_of i.placed i.number) (c + 1) last in
+    both_ways (is_missed_in plan c (contains_slot pending) slot) (none slot known)
+    (and_from (left_after plan c (contains_slot pending) slot) (is_last_in plan.placed c slot) both.1 is) in
     let sends : MaySend i.placed i.number (c + 1) = record { exists = found.sends.exists; released = omega arith; in_time = omega arith } in
     record {
       instance = i;

@@ -69,10 +69,14 @@ held-test placed c slot well held =
     let i = held.instance in
     let found = found-in placed slot c i well held.found in
     let number = ap (λ o. option_map_or (λ k. nat_lt (release_of i.placed k) c) o false) found.number in
-    list_any-from_Any (holds_of c slot) placed
-    (found.stands.0, i.placed, found.stands.1, found.stands.2,
-    and_from (nat_eq i.placed.entry.slot slot) (is_held_in c i.placed) (eq-eqb i.placed.entry.slot slot found.of_slot)
-    (number ∙ lt-ltb (release_of i.placed i.number) c held.before))
+    list_any-from_Any (holds_of c slot) placed (
+      found.stands.0,
+      i.placed,
+      found.stands.1,
+      found.stands.2,
+      and_from (nat_eq i.placed.entry.slot slot) (is_held_in c i.placed) (eq-eqb i.placed.entry.slot slot found.of_slot)
+          (number ∙ lt-ltb (release_of i.placed i.number) c held.before),
+    )
 
 sum_where-none : (n : ℕ) (f : ℕ → ℕ) → sum_where n (λ _. false) f ≡ 0
 unfolding sum_where

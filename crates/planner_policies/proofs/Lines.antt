@@ -155,7 +155,7 @@ put_in was now old due place count moved view lined at =
       back = drop place (take count was);
       was = sym view ∙ sym (take-append-drop place (take count was)) ∙ ap (λ xs. xs ++ drop place (take count was)) (take-take place count was within);
       is = ap (λ n. take n (set now place due)) next
-      ∙ moved-up place count was now due (moved.after ∙ sym size) (omega arith) within moved.front moved.moved;
+          ∙ moved-up place count was now due (moved.after ∙ sym size) (omega arith) within moved.front moved.moved;
       before = all-before was now due place count moved shown at;
       behind = all-behind was now due place count moved;
     }

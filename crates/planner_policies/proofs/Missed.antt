@@ -18,13 +18,12 @@ least-chosen c line d miss true test any all last =
     let below = ltb-true miss.slot d.slot test in
     (any-front (λ due. (due.last ≡ c) × (miss ≡ miss_of due)) line (d ∷ []) any, All-push (λ due. due.last ≡ c → miss.slot ≤ due.slot) line d all (λ _. omega arith))
 least-chosen c line d miss false test any all last =
-    let above = ltb-false miss.slot d.slot test in
-    (
+    let above = ltb-false miss.slot d.slot test in (
       Any-push (λ due. (due.last ≡ c) × (miss_of d ≡ miss_of due)) line d (last, refl),
       All-push (λ due. due.last ≡ c → d.slot ≤ due.slot) line d
-      (All-weaker (λ due. due.last ≡ c → miss.slot ≤ due.slot) (λ due. due.last ≡ c → d.slot ≤ due.slot)
-      (λ due more here. let least = more here in omega arith) line all)
-      (λ _. omega arith),
+          (All-weaker (λ due. due.last ≡ c → miss.slot ≤ due.slot) (λ due. due.last ≡ c → d.slot ≤ due.slot)
+          (λ due more here. let least = more here in omega arith) line all)
+          (λ _. omega arith),
     )
 
 -- one more instance that is in its last cycle
@@ -33,8 +32,8 @@ pub least_missed-more : (c : ℕ) (line : List Due) (d : Due) (least : Option Mi
 least_missed-more c line d None none last = (
   Any-push (λ due. (due.last ≡ c) × (miss_of d ≡ miss_of due)) line d (last, refl),
   All-push (λ due. due.last ≡ c → d.slot ≤ due.slot) line d
-  (All-weaker (λ due. due.last ≢ c) (λ due. due.last ≡ c → d.slot ≤ due.slot) (λ due never here. absurd (never here)) line none)
-  (λ _. omega arith),
+      (All-weaker (λ due. due.last ≢ c) (λ due. due.last ≡ c → d.slot ≤ due.slot) (λ due never here. absurd (never here)) line none)
+      (λ _. omega arith),
 )
 least_missed-more c line d (Some miss) least last = least-chosen c line d miss (nat_lt miss.slot d.slot) refl least.0 least.1 last
 

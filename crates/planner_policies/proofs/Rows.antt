@@ -117,9 +117,13 @@ releases-test placed p k c range stands sends release =
     let deadline = range.entry.deadline in
     let exists : Exists p c = rw release at sends.exists in
     let released = released_by-released p k c (omega arith) (record { release = release; exists = exists }) in
-    list_any-from_Any (λ q. nat_eq q.entry.slot p.entry.slot && is_some (released_by q c)) placed
-    (stands.0, p, stands.1, stands.2,
-    and_from (nat_eq p.entry.slot p.entry.slot) (is_some (released_by p c)) (eq-eqb p.entry.slot p.entry.slot refl) (ap is_some released))
+    list_any-from_Any (λ q. nat_eq q.entry.slot p.entry.slot && is_some (released_by q c)) placed (
+      stands.0,
+      p,
+      stands.1,
+      stands.2,
+      and_from (nat_eq p.entry.slot p.entry.slot) (is_some (released_by p c)) (eq-eqb p.entry.slot p.entry.slot refl) (ap is_some released),
+    )
 
 pub record IsReleaser (placed : List Placed) (slot c : ℕ) : Type 0 where
   pub entry : Placed
@@ -158,12 +162,12 @@ due_in-of plan c before p due well stands pending =
     record {
       known = omega arith;
       pending = ap (pending_in plan.placed c before) slot
-      ∙ ⊎_elim
-      (λ (held : before p.entry.slot ≡ true). or_left (before p.entry.slot) (releases_in plan.placed c p.entry.slot) held)
-      (λ (now : nat_eq (release_of p pending.number) c ≡ true).
-      or_right (before p.entry.slot) (releases_in plan.placed c p.entry.slot)
-      (releases-test plan.placed p pending.number c range stands pending.sends (eqb-true (release_of p pending.number) c now)))
-      (or_cases (before p.entry.slot) (nat_eq (release_of p pending.number) c) pending.waiting);
+          ∙ ⊎_elim
+          (λ (held : before p.entry.slot ≡ true). or_left (before p.entry.slot) (releases_in plan.placed c p.entry.slot) held)
+          (λ (now : nat_eq (release_of p pending.number) c ≡ true).
+          or_right (before p.entry.slot) (releases_in plan.placed c p.entry.slot)
+          (releases-test plan.placed p pending.number c range stands pending.sends (eqb-true (release_of p pending.number) c now)))
+          (or_cases (before p.entry.slot) (nat_eq (release_of p pending.number) c) pending.waiting);
       instance = record { placed = p; number = pending.number };
       found = ap (λ s. instance_in plan.placed s c) slot ∙ found-of plan.placed p pending.number c well stands pending.sends;
       is = pending.is;
@@ -216,7 +220,7 @@ line_of-none plan c before rows k d line well within stands so_far none = record
   distinct = so_far.distinct;
   lined = so_far.lined;
   sources = All-weaker (λ due. list_any (sends_of c due.slot) (take k rows) ≡ true) (λ due. list_any (sends_of c due.slot) (take (k + 1) rows) ≡ true)
-  (λ due found. list_any_kept (sends_of c due.slot) rows k found) line so_far.sources;
+      (λ due found. list_any_kept (sends_of c due.slot) rows k found) line so_far.sources;
   all = λ slot known pending found.
       ⊎_elim
       (λ (earlier : list_any (sends_of c slot) (take k rows) ≡ true). so_far.all slot known pending earlier)
@@ -288,14 +292,14 @@ line_of-more plan c before rows k d line after due within so_far more put =
     record {
       each = rw put.is (all-join (IsDueIn plan c before) front due back each more.in');
       distinct = rw put.is
-      (pairs-join (λ one other. one.slot ≢ other.slot) front due back distinct
-      (All-weaker (λ other. due.slot ≢ other.slot) (λ other. other.slot ≢ due.slot) (λ other differ same. differ (sym same)) front apart.0) apart.1);
+          (pairs-join (λ one other. one.slot ≢ other.slot) front due back distinct
+          (All-weaker (λ other. due.slot ≢ other.slot) (λ other. other.slot ≢ due.slot) (λ other differ same. differ (sym same)) front apart.0) apart.1);
       lined = rw put.is
-      (pairs-join (λ one other. is_due_by one other ≡ true) front due back lined put.before
-      (All-weaker (λ other. is_due_by other due ≡ false) (λ other. is_due_by due other ≡ true) (λ other wrong. due_by-total other due wrong) back put.behind));
+          (pairs-join (λ one other. is_due_by one other ≡ true) front due back lined put.before
+          (All-weaker (λ other. is_due_by other due ≡ false) (λ other. is_due_by due other ≡ true) (λ other wrong. due_by-total other due wrong) back put.behind));
       sources = rw put.is
-      (all-join (λ other. list_any (sends_of c other.slot) (take (k + 1) rows) ≡ true) front due back (rw put.was at sources)
-      (next due.slot ∙ or_right (list_any (sends_of c due.slot) (take k rows)) (sends_of c due.slot (get_or rows k d)) more.sends));
+          (all-join (λ other. list_any (sends_of c other.slot) (take (k + 1) rows) ≡ true) front due back (rw put.was at sources)
+          (next due.slot ∙ or_right (list_any (sends_of c due.slot) (take k rows)) (sends_of c due.slot (get_or rows k d)) more.sends));
       all = λ slot known pending found.
           let p : Due → Bool = λ other. nat_eq other.slot slot in
           let parts : list_any p after ≡ (list_any p front || list_any p (due ∷ back)) = ap (list_any p) put.is ∙ list_any-append p front (due ∷ back) in
@@ -326,9 +330,13 @@ sends-pending plan c slot pending well valid waiting =
     (found.stands.0, i.placed, found.stands.1, found.stands.2, sends-test c slot i.placed i.number found.in_range found.of_slot found.sends))
     (λ (now : releases_in placed c slot ≡ true).
     let other = releaser-of placed slot c well now in
-    list_any-from_Any (sends_of c slot) placed
-    (other.stands.0, other.entry, other.stands.1, other.stands.2,
-    sends-test c slot other.entry other.number (All-contains IsInRange placed other.entry well.in_range other.stands) other.of_slot other.sends))
+    list_any-from_Any (sends_of c slot) placed (
+      other.stands.0,
+      other.entry,
+      other.stands.1,
+      other.stands.2,
+      sends-test c slot other.entry other.number (All-contains IsInRange placed other.entry well.in_range other.stands) other.of_slot other.sends,
+    ))
     (or_cases (contains_slot pending slot) (releases_in placed c slot) waiting)
 
 pub whole_line-of : (plan : Planning) (c : ℕ) (pending : ℕ) (rows : List Placed) (line : List Due) → IsWellPlaced plan.placed → IsPermutation plan.placed rows

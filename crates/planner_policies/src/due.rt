@@ -49,7 +49,8 @@ impl Due {
     fn is_by_tie(&self, other: &Due) -> bool
         ensures order { result ≡ by_number self.now.priority other.now.priority (nat_le self.now.slot other.now.slot) }
     {
-        self.priority < other.priority || (self.priority == other.priority && self.slot <= other.slot)
+        self.priority < other.priority
+            || (self.priority == other.priority && self.slot <= other.slot)
     }
 }
 

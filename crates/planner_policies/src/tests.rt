@@ -25,7 +25,12 @@ fn entry(slot: u8, period: u16, priority: u8) -> Placed {
 
 /// Plans cycle after cycle from cycle 0 with nothing pending, as long as states are valid and both calls plan the same, and gives the
 /// numbers of the masks, and the miss that ends them.
-fn masks(alloc: Global, ranked: &Ranked, w: u32, cycles: u64) -> Result<(Vec<u128>, Option<Miss>), AllocError> {
+fn masks(
+    alloc: Global,
+    ranked: &Ranked,
+    w: u32,
+    cycles: u64,
+) -> Result<(Vec<u128>, Option<Miss>), AllocError> {
     let mut masks = Vec::new(alloc);
     let mut state = PlanState {
         cycle: 0,

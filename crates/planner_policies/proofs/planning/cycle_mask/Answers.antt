@@ -16,6 +16,6 @@ returns c =
     let front : c.split_at.result.0.now ≡ take n line = c.split_at.ensures.front ∙ ap (take n) c.as_slice.ensures.list in
     record {
       planned = planned-set plan c.args.state.now.cycle (contains_slot c.args.state.now.pending) line n c.slots_of.result c.line_of-line.ensures.line fit
-      c.slots_of.ensures.below
-      (λ slot. c.slots_of.ensures.slots slot ∙ ap (list_any {X = Due} (λ due. nat_eq due.slot slot)) front);
+          c.slots_of.ensures.below
+          (λ slot. c.slots_of.ensures.slots slot ∙ ap (list_any {X = Due} (λ due. nat_eq due.slot slot)) front);
     }

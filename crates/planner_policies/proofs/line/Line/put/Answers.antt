@@ -24,7 +24,7 @@ loop-place-preserved c =
     record {
       count = c.loop-place.invariant.count;
       moved = moved_up-next c.self.inside.places now c.args.due no_due place (place - 1) c.self.inside.count (omega arith) c.loop-place.invariant.moved
-      (sym c.is_by.ensures.order ∙ c.if-not-is_by.true);
+          (sym c.is_by.ensures.order ∙ c.if-not-is_by.true);
     }
 
 pub returns : goal.returns
@@ -34,10 +34,10 @@ returns c =
     let place = c.loop-place.place in
     record {
       put = rw c.loop-place.invariant.count
-      (put_in inside.places now c.args.self.now c.args.due place inside.count c.loop-place.invariant.moved c.self.view_is c.requires.lined
-      (elim c.loop-place-test.branch [
-        | then-loop-place-test+else-not-is_by w ↦
-            inr (no_due, place - 1, omega (arith, w.loop-place-test.true), sym w.is_by.ensures.order ∙ w.if-not-is_by.false)
-        | else-loop-place-test w ↦ inl (omega (arith, w.loop-place-test.false))
-      ]));
+          (put_in inside.places now c.args.self.now c.args.due place inside.count c.loop-place.invariant.moved c.self.view_is c.requires.lined
+          (elim c.loop-place-test.branch [
+            | then-loop-place-test+else-not-is_by w ↦
+                inr (no_due, place - 1, omega (arith, w.loop-place-test.true), sym w.is_by.ensures.order ∙ w.if-not-is_by.false)
+            | else-loop-place-test w ↦ inl (omega (arith, w.loop-place-test.false))
+          ]));
     }
