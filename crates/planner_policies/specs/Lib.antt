@@ -1,1 +1,4 @@
 pub mod Plan
+pub mod Order
+pub mod Loop
+pub mod Due

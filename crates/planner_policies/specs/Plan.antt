@@ -20,6 +20,16 @@ pub record Planning : Type 0 where
   pub from : ℕ
   pub pending : ℕ
 
+-- a list of placed entries and the policy that orders their instances
+pub record Ranking : Type 0 where
+  pub placed : List Placed
+  pub policy : Policy
+
+-- the planning of such a list within a window, from a cycle on, before which the slots of the set are pending
+abbrev pub planning_of : Ranking → ℕ → ℕ → ℕ → Planning
+planning_of ranking window from pending =
+    record { placed = ranking.placed; policy = ranking.policy; window = window; from = from; pending = pending }
+
 -- Key order
 
 -- the number that a policy looks at first; the least goes first
@@ -64,6 +74,23 @@ planned_in plan c before slot = is_taken plan.policy plan.window plan.placed c (
 abbrev pub left_after : Planning → ℕ → (ℕ → Bool) → ℕ → Bool
 left_after plan c before slot = pending_in plan.placed c before slot && not (planned_in plan c before slot)
 
+-- whether the slot's instance is left in a cycle that is its last one
+abbrev pub is_missed_in : Planning → ℕ → (ℕ → Bool) → ℕ → Bool
+is_missed_in plan c before slot = left_after plan c before slot && is_last_in plan.placed c slot
+
+-- the least slot with an instance that is missed in a cycle, and the cycle of the instance's release
+pub record IsMissIn (plan : Planning) (c : ℕ) (before : ℕ → Bool) (slot release : ℕ) : Type 0 where
+  pub known : slot < slots
+  pub missed : is_missed_in plan c before slot ≡ true
+  pub least : (other : ℕ) → other < slot → is_missed_in plan c before other ≡ false
+  pub instance : Instance
+  pub found : instance_in plan.placed slot c ≡ Some instance
+  pub released : release ≡ release_of instance.placed instance.number
+
+-- no instance is missed in a cycle
+abbrev pub HasNoMissIn : Planning → ℕ → (ℕ → Bool) → Type 0
+HasNoMissIn plan c before = (slot : ℕ) → slot < slots → is_missed_in plan c before slot ≡ false
+
 -- Cycle after cycle: the n-th cycle of a planning, counted from 0, is `from + n`
 
 -- whether the slot has an instance that was released before the n-th cycle and not planned before it
@@ -84,7 +111,7 @@ pending_at plan n = set_of slots (pending_before plan n)
 
 -- whether the slot's instance is left in the n-th cycle, which is its last one
 abbrev pub is_missed_at : Planning → ℕ → ℕ → Bool
-is_missed_at plan n slot = left_after plan (plan.from + n) (pending_before plan n) slot && is_last_in plan.placed (plan.from + n) slot
+is_missed_at plan n slot = is_missed_in plan (plan.from + n) (pending_before plan n) slot
 
 -- no instance is missed in the first n cycles
 abbrev pub HasNoMiss : Planning → ℕ → Type 0
@@ -95,13 +122,8 @@ abbrev pub NeverMisses : Planning → Type 0
 NeverMisses plan = (m slot : ℕ) → slot < slots → is_missed_at plan m slot ≡ false
 
 -- the least slot with an instance that is missed in the n-th cycle, and the cycle of the instance's release
-pub record IsMissAt (plan : Planning) (n slot release : ℕ) : Type 0 where
-  pub known : slot < slots
-  pub missed : is_missed_at plan n slot ≡ true
-  pub least : (other : ℕ) → other < slot → is_missed_at plan n other ≡ false
-  pub instance : Instance
-  pub found : instance_in plan.placed slot (plan.from + n) ≡ Some instance
-  pub released : release ≡ release_of instance.placed instance.number
+abbrev pub IsMissAt : Planning → ℕ → ℕ → ℕ → Type 0
+IsMissAt plan n slot release = IsMissIn plan (plan.from + n) (pending_before plan n) slot release
 
 -- *First miss*: the one with the least last cycle, and in that with the least slot
 pub record IsFirstMiss (plan : Planning) (slot release cycle : ℕ) : Type 0 where

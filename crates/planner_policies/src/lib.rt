@@ -1,5 +1,22 @@
-//! The policies by which the plan of an elementary cycle orders pending instances.
+//! The plan of an elementary cycle: which of the pending instances of the table are sent in it, by one of three policies.
+//!
+//! A planning goes from cycle to cycle by its state, the slots that have an instance pending before the cycle. Time is counted in
+//! elementary cycles from 0, and lengths in bit times. A cycle number handed to any call is below 2^42.
 #![tactic(auto)]
+
+mod due;
+pub mod laws;
+mod line;
+mod planning;
+mod ranking;
+mod state;
+
+pub use planning::{cycle_mask, plan_cycle, valid};
+pub use ranking::{Ranked, rank};
+pub use state::{Miss, PlanState};
+
+#[cfg(test)]
+mod tests;
 
 /// The order in which pending instances are taken. The least key goes first; keys are compared from left to right.
 #[derive(Clone, Copy, PartialEq, Eq, Debug)]

@@ -1,0 +1,116 @@
+-- Which slots have an instance that was released before a cycle.
+use Rattle.std.proofs.Common.{◌≡◌, ℕ, ◌+◌, ◌^◌, ◌<◌, ◌≤◌, ◌&&◌, ◌↔◌, not, Bool, true, false, nat_eq, nat_lt, zero, suc, if◌then◌else◌, Option, Some, None, List, Contains, IsPermutation, IfSome, All, length, get_or, refl, sym, ap, ◌∙◌, subst, arith}
+use Rattle.std.specs.List.{list_any}
+use Rattle.std.specs.Option.{option_map_or}
+use Rattle.std.proofs.lemmas.Bool.{lt-ltb, ltb-true, eq-eqb, eqb-true, and_parts, and_from}
+use Rattle.std.proofs.lemmas.Option.{slice_get-get_or, same_Some}
+use Rattle.std.proofs.lemmas.List.Elements.{All-contains}
+use Rattle.std.proofs.lemmas.List.Folds.{Any-from_list_any, list_any-from_Any}
+use Rattle.std.proofs.lemmas.List.Sorted.{list_any-IsPermutation}
+use Rattle.requirement_table.specs.declared.entries.Placed.{Placed}
+use Rattle.requirement_table.specs.Instance.{Instance, MaySend, instance_of, release_of}
+use Rattle.requirement_table.specs.Slots.{contains_slot, set_of, slots, sum_where}
+use Rattle.requirement_table.specs.Table.{IsInRange, IsWellPlaced, instance_in}
+use Rattle.requirement_table.proofs.Shared.{MaySend-from_instance, contains_slot-none, instance_in-found, instance_in-sound, instance_of-sent, set_of-contains_slot, set_of-same}
+use Rattle.planner_policies.specs.Due.{holds_of, is_held_in}
+use Rattle.planner_policies.specs.Plan.{IsHeldFrom, IsValid}
+
+-- what is known of an instance that is found in a well placed list
+pub record IsFound (placed : List Placed) (slot c : ℕ) (i : Instance) : Type 0 where
+  pub stands : Contains placed i.placed
+  pub of_slot : i.placed.entry.slot ≡ slot
+  pub sends : MaySend i.placed i.number c
+  pub in_range : IsInRange i.placed
+  pub number : instance_of i.placed c ≡ Some i.number
+
+of-some : (o : Option Instance) (P : Instance → Type 0) (i : Instance) → o ≡ Some i → IfSome o P → P i
+of-some (Some x) P i is holds = subst P (same_Some x i is) holds
+of-some None P i is holds = absurd (cc)
+
+pub found-in : (placed : List Placed) (slot c : ℕ) (i : Instance) → IsWellPlaced placed → instance_in placed slot c ≡ Some i → IsFound placed slot c i
+found-in placed slot c i well found =
+    let sound = of-some (instance_in placed slot c) (λ x. Contains placed x.placed × (x.placed.entry.slot ≡ slot) × MaySend x.placed x.number c) i found
+    (instance_in-sound placed slot c) in
+    let range = All-contains IsInRange placed i.placed well.in_range sound.0 in
+    record {
+      stands = sound.0;
+      of_slot = sound.1;
+      sends = sound.2;
+      in_range = range;
+      number = instance_of-sent i.placed i.number c range.entry.deadline sound.2;
+    }
+
+-- an entry of the list with an instance that may be sent is found
+pub found-of : (placed : List Placed) (p : Placed) (k c : ℕ) → IsWellPlaced placed → Contains placed p → MaySend p k c
+    → instance_in placed p.entry.slot c ≡ Some (record { placed = p; number = k })
+found-of placed p k c well stands sends =
+    instance_in-found placed well stands.0 k c p (slice_get-get_or placed stands.0 p stands.1 ∙ ap (λ q. Some q) stands.2) sends
+
+held-parts : (o : Option ℕ) (p : Placed) (c : ℕ) → option_map_or (λ k. nat_lt (release_of p k) c) o false ≡ true
+    → (k : ℕ) × (o ≡ Some k) × (release_of p k < c)
+held-parts (Some k) p c test = (k, refl, ltb-true (release_of p k) c test)
+held-parts None p c test = absurd (cc)
+
+pub held-from : (placed : List Placed) (c slot : ℕ) → IsWellPlaced placed → list_any (holds_of c slot) placed ≡ true → IsHeldFrom placed c slot
+held-from placed c slot well test =
+    let any = Any-from_list_any (holds_of c slot) placed test in
+    let p = any.1 in
+    let parts = and_parts (nat_eq p.entry.slot slot) (is_held_in c p) any.4 in
+    let held = held-parts (instance_of p c) p c parts.1 in
+    let found = found-of placed p held.0 c well (any.0, any.2, any.3) (MaySend-from_instance p held.0 c held.1) in
+    record {
+      instance = record { placed = p; number = held.0 };
+      found = ap (λ s. instance_in placed s c) (sym (eqb-true p.entry.slot slot parts.0)) ∙ found;
+      before = held.2;
+    }
+
+pub held-test : (placed : List Placed) (c slot : ℕ) → IsWellPlaced placed → IsHeldFrom placed c slot → list_any (holds_of c slot) placed ≡ true
+held-test placed c slot well held =
+    let i = held.instance in
+    let found = found-in placed slot c i well held.found in
+    let number = ap (λ o. option_map_or (λ k. nat_lt (release_of i.placed k) c) o false) found.number in
+    list_any-from_Any (holds_of c slot) placed (
+      found.stands.0,
+      i.placed,
+      found.stands.1,
+      found.stands.2,
+      and_from (nat_eq i.placed.entry.slot slot) (is_held_in c i.placed) (eq-eqb i.placed.entry.slot slot found.of_slot)
+          (number ∙ lt-ltb (release_of i.placed i.number) c held.before),
+    )
+
+sum_where-none : (n : ℕ) (f : ℕ → ℕ) → sum_where n (λ _. false) f ≡ 0
+unfolding sum_where
+sum_where-none zero f = refl
+sum_where-none (suc n) f = let rest = sum_where-none n f in omega arith
+
+set_of-none : (n : ℕ) → set_of n (λ _. false) ≡ 0
+unfolding set_of
+set_of-none n = sum_where-none n (λ slot. 2 ^ slot)
+
+-- what is left of the pending slots, without those that have such an instance
+abbrev IsRest : List Placed → ℕ → ℕ → ℕ → Type 0
+IsRest rows c pending rest = (slot : ℕ) → contains_slot rest slot ≡ (contains_slot pending slot && not (list_any (holds_of c slot) rows))
+
+none-left : (b held : Bool) → b ≡ true → false ≡ (b && not held) → held ≡ true
+none-left b true is none = refl
+none-left b false is none = absurd (cc)
+
+left-none : (b held : Bool) → (b ≡ true → held ≡ true) → (b && not held) ≡ false
+left-none true held all = let is = all refl in rw is refl
+left-none false held all = refl
+
+pub valid-sound : (placed rows : List Placed) (c pending rest : ℕ) → IsWellPlaced placed → IsPermutation placed rows → IsRest rows c pending rest
+    → rest ≡ 0 → IsValid placed c pending
+valid-sound placed rows c pending rest well same left none slot waiting =
+    let here = sym (contains_slot-none slot) ∙ ap (λ m. contains_slot m slot) (sym none) ∙ left slot in
+    let held = none-left (contains_slot pending slot) (list_any (holds_of c slot) rows) waiting here in
+    held-from placed c slot well (list_any-IsPermutation (holds_of c slot) placed rows same ∙ held)
+
+pub valid-complete : (placed rows : List Placed) (c pending rest : ℕ) → IsWellPlaced placed → IsPermutation placed rows → IsRest rows c pending rest
+    → rest < 2 ^ slots → IsValid placed c pending → rest ≡ 0
+valid-complete placed rows c pending rest well same left below valid =
+    set_of-contains_slot slots rest below
+    ∙ set_of-same slots (contains_slot rest) (λ _. false)
+    (λ slot known. left slot ∙ left-none (contains_slot pending slot) (list_any (holds_of c slot) rows)
+    (λ waiting. sym (list_any-IsPermutation (holds_of c slot) placed rows same) ∙ held-test placed c slot well (valid slot waiting)))
+    ∙ set_of-none slots

@@ -1,0 +1,13 @@
+mod Cycles
+mod Fits
+mod Going
+mod Held
+mod Lines
+mod Missed
+mod KeyOrder
+mod Longest
+mod Loops
+mod Over
+mod Pairs
+mod Rows
+mod Steps

@@ -1,0 +1,200 @@
+-- What is planned is the longest front, in key order, of the pending slots that fits the window.
+use Rattle.std.proofs.Common.{◌≡◌, ◌≢◌, ℕ, zero, suc, ◌+◌, ◌-◌, ◌<◌, ◌≤◌, ◌&&◌, ◌||◌, ◌↔◌, not, Bool, true, false, nat_eq, nat_le, if◌then◌else◌, List, [], ◌∷◌, ◌++◌, All, AllPairs, Contains, length, get_or, take, drop, length-take, refl, sym, ap, ◌∙◌, ⊎_elim, arith}
+use Rattle.std.specs.List.{list_any, sum_by}
+use Rattle.std.proofs.lemmas.Bool.{and_from, and_parts, both_ways, cases_eq, cases_lt, cases_order, eq-eqb, eqb-true, false_from_ne_true, le-leb, leb-true, ne_eqb, not-true, not_from_false}
+use Rattle.std.proofs.lemmas.List.{get_or-drop, get_or-take, length-drop, length-take-le, take-take}
+use Rattle.std.proofs.lemmas.List.Elements.{All-contains, All-head, All-tail, All-take}
+use Rattle.std.proofs.lemmas.List.Folds.{Any-from_list_any, list_any_at}
+use Rattle.std.proofs.lemmas.List.Sums.{sum_by-cons, sum_by-take-le}
+use Rattle.requirement_table.specs.Slots.{slots, sum_where}
+use Rattle.requirement_table.specs.Table.{width_in, worst_in}
+use Rattle.requirement_table.proofs.Shared.{sum_where-same}
+use Rattle.planner_policies.specs.Order.{IsInKeyOrder, IsLongestFront}
+use Rattle.planner_policies.specs.Plan.{Planning, is_by, left_after, pending_in, planned_in}
+use Rattle.planner_policies.proofs.KeyOrder.{is_by-antisym, is_by-refl}
+use Rattle.planner_policies.proofs.Lines.{same-read}
+use Rattle.planner_policies.proofs.Pairs.{pairs-head, pairs-tail}
+
+-- the test of a list
+abbrev has : List ℕ → ℕ → Bool
+has xs slot = list_any (λ x. nat_eq x slot) xs
+
+sum_where-none : (n : ℕ) (f : ℕ → ℕ) → sum_where n (λ _. false) f ≡ 0
+unfolding sum_where
+sum_where-none zero f = refl
+sum_where-none (suc n) f = let rest = sum_where-none n f in omega arith
+
+-- one more slot adds what it costs
+sum_where-with : (n x : ℕ) (p : ℕ → Bool) (f : ℕ → ℕ) → x < n → p x ≡ false
+    → sum_where n (λ s. nat_eq x s || p s) f ≡ f x + sum_where n p f
+unfolding sum_where
+sum_where-with zero x p f within none = absurd (omega arith)
+sum_where-with (suc n) x p f within none =
+    ⊎_elim
+    (λ (same : x ≡ n).
+    let is : nat_eq x n ≡ true = eq-eqb x n same in
+    let no : p n ≡ false = ap p (sym same) ∙ none in
+    let low : sum_where n (λ s. nat_eq x s || p s) f ≡ sum_where n p f
+    = sum_where-same n (λ s. nat_eq x s || p s) p f (λ s below. ap (λ b. b || p s) (ne_eqb x s (λ (e : x ≡ s). omega arith))) in
+    let cost : f x ≡ f n = ap f same in
+    rw (is, no, low) (omega arith))
+    (λ (other : x ≢ n).
+    let is : nat_eq x n ≡ false = ne_eqb x n other in
+    let low = sum_where-with n x p f (omega arith) none in
+    rw (is, low) (omega arith))
+    (cases_eq x n)
+
+not-in : (x : ℕ) (xs : List ℕ) → All (λ w. x ≢ w) xs → has xs x ≡ false
+not-in x xs apart =
+    false_from_ne_true (has xs x) (λ test.
+    let any = Any-from_list_any (λ w. nat_eq w x) xs test in
+    let same : any.1 ≡ x = eqb-true any.1 x any.4 in
+    All-contains (λ w. x ≢ w) xs any.1 apart (any.0, any.2, any.3) (sym same))
+
+-- the sum over the slots of a list of distinct slots
+pub sum_where-list : (n : ℕ) (xs : List ℕ) (f : ℕ → ℕ) → All (λ x. x < n) xs → AllPairs (λ v w. v ≢ w) xs
+    → sum_where n (has xs) f ≡ sum_by f xs
+sum_where-list n [] f below distinct = sum_where-none n f
+sum_where-list n (x ∷ xs) f below distinct =
+    sum_where-with n x (has xs) f (All-head (λ w. w < n) x xs below) (not-in x xs (pairs-head (λ v w. v ≢ w) x xs distinct))
+    ∙ ap (λ m. f x + m) (sum_where-list n xs f (All-tail (λ w. w < n) x xs below) (pairs-tail (λ v w. v ≢ w) x xs distinct))
+    ∙ sym (sum_by-cons f x xs)
+
+pub same-test : (a b : Bool) → (a ≡ true → b ≡ true) → (b ≡ true → a ≡ true) → a ≡ b
+same-test true b there back = sym (there refl)
+same-test false true there back = back refl
+same-test false false there back = refl
+
+-- the elements of a list of distinct numbers stand at one place each
+one-place : (xs : List ℕ) (i j d : ℕ) → AllPairs (λ v w. v ≢ w) xs → i < length xs → j < length xs → get_or xs i d ≡ get_or xs j d → i ≡ j
+one-place xs i j d distinct in_i in_j same =
+    ⊎_elim
+    (λ (here : i ≡ j). here)
+    (⊎_elim
+    (λ (before : i < j). absurd (distinct i j d before in_j same))
+    (λ (behind : j < i). absurd (distinct j i d behind in_i (sym same))))
+    (cases_order i j)
+
+-- the slots up to the i-th one are those that go before it
+up-to : (plan : Planning) (c : ℕ) (before : ℕ → Bool) (order : List ℕ) (i slot other : ℕ) → IsInKeyOrder plan c before order → i < length order
+    → get_or order i slot ≡ slot → other < slots
+    → (pending_in plan.placed c before other && is_by plan.policy plan.placed c other slot) ≡ has (take (suc i) order) other
+up-to plan c before order i slot other sorted within at known =
+    same-test (pending_in plan.placed c before other && is_by plan.policy plan.placed c other slot) (has (take (suc i) order) other)
+    (λ both.
+    let parts = and_parts (pending_in plan.placed c before other) (is_by plan.policy plan.placed c other slot) both in
+    let stands = (sorted.pending other known).0 parts.0 in
+    let j = stands.0 in
+    let in_j = stands.1 in
+    let read : get_or order j slot ≡ other = same-read order j slot other in_j ∙ stands.2 in
+    ⊎_elim
+    (λ (early : j < suc i).
+    let short : j < length (take (suc i) order) = omega (arith, length-take-le (suc i) order) in
+    list_any_at (λ x. nat_eq x other) (take (suc i) order) j slot short
+    (eq-eqb (get_or (take (suc i) order) j slot) other (get_or-take (suc i) order j slot early ∙ read)))
+    (λ (late : suc i ≤ j).
+    let after : is_by plan.policy plan.placed c (get_or order i slot) (get_or order j slot) ≡ true = sorted.in_order i j slot late in_j in
+    let here : is_by plan.policy plan.placed c slot other ≡ true
+    = ap (λ x. is_by plan.policy plan.placed c x other) (sym at) ∙ ap (λ x. is_by plan.policy plan.placed c (get_or order i slot) x) (sym read) ∙ after in
+    let same = is_by-antisym plan.policy plan.placed c slot other here parts.1 in
+    let place = one-place order i j slot sorted.distinct within in_j (at ∙ same ∙ sym read) in
+    absurd (omega arith))
+    (cases_lt j (suc i)))
+    (λ found.
+    let any = Any-from_list_any (λ x. nat_eq x other) (take (suc i) order) found in
+    let j = any.0 in
+    let below : j < suc i = omega (arith, any.2, length-take-le (suc i) order) in
+    let value : any.1 ≡ other = eqb-true any.1 other any.4 in
+    let in_j : j < length order = omega arith in
+    let read : get_or order j slot ≡ other
+    = same-read order j slot any.1 in_j ∙ sym (get_or-take (suc i) order j any.1 below) ∙ any.3 ∙ value in
+    let pending = (sorted.pending other known).1 (j, in_j, same-read order j other slot in_j ∙ read) in
+    let by : is_by plan.policy plan.placed c other slot ≡ true
+    = ⊎_elim
+    (λ (here : j ≡ i).
+    let same : other ≡ slot = sym read ∙ ap (λ k. get_or order k slot) here ∙ at in
+    ap (λ x. is_by plan.policy plan.placed c x slot) same ∙ is_by-refl plan.policy plan.placed c slot)
+    (λ (apart : j ≢ i).
+    let pair : is_by plan.policy plan.placed c (get_or order j slot) (get_or order i slot) ≡ true = sorted.in_order j i slot (omega arith) within in
+    ap (λ x. is_by plan.policy plan.placed c x slot) (sym read) ∙ ap (λ x. is_by plan.policy plan.placed c (get_or order j slot) x) (sym at) ∙ pair)
+    (cases_eq j i) in
+    and_from (pending_in plan.placed c before other) (is_by plan.policy plan.placed c other slot) pending by)
+
+pairs-take : {X : Type 0} (R : X → X → Type 0) (n : ℕ) (xs : List X) → AllPairs R xs → AllPairs R (take n xs)
+pairs-take R n xs pairs i j d before within =
+    let short : j < n = omega (arith, length-take n xs) in
+    let early : i < n = omega arith in
+    let long : j < length xs = omega (arith, length-take n xs) in
+    rw (get_or-take n xs i d early, get_or-take n xs j d short) (pairs i j d before long)
+
+-- what the slots up to the i-th one cost together
+width-up-to : (plan : Planning) (c : ℕ) (before : ℕ → Bool) (order : List ℕ) (i slot : ℕ) → IsInKeyOrder plan c before order → i < length order
+    → get_or order i slot ≡ slot
+    → width_in plan.placed c (λ other. pending_in plan.placed c before other && is_by plan.policy plan.placed c other slot)
+    ≡ sum_by (worst_in plan.placed c) (take (suc i) order)
+width-up-to plan c before order i slot sorted within at =
+    sum_where-same slots (λ other. pending_in plan.placed c before other && is_by plan.policy plan.placed c other slot) (has (take (suc i) order))
+    (worst_in plan.placed c) (λ other known. up-to plan c before order i slot other sorted within at known)
+    ∙ sum_where-list slots (take (suc i) order) (worst_in plan.placed c) (All-take (λ x. x < slots) (suc i) order sorted.known)
+    (pairs-take (λ v w. v ≢ w) (suc i) order sorted.distinct)
+
+pub planned-iff : (plan : Planning) (c : ℕ) (before : ℕ → Bool) (order : List ℕ) (n slot : ℕ) → IsInKeyOrder plan c before order
+    → IsLongestFront (worst_in plan.placed c) plan.window order n → slot < slots → (planned_in plan c before slot ≡ true) ↔ Contains (take n order) slot
+planned-iff plan c before order n slot sorted front known = (
+  λ planned.
+      let w = width_in plan.placed c (λ other. pending_in plan.placed c before other && is_by plan.policy plan.placed c other slot) in
+      let parts = and_parts (pending_in plan.placed c before slot) (nat_le w plan.window) planned in
+      let stands = (sorted.pending slot known).0 parts.0 in
+      let i = stands.0 in
+      let within = stands.1 in
+      let width = width-up-to plan c before order i slot sorted within stands.2 in
+      let fits = leb-true w plan.window parts.1 in
+      let few = front.longest (suc i) (omega arith) (rw (← width) fits) in
+      let bound = front.within in
+      (i, omega (arith, length-take-le n order), get_or-take n order i slot (omega arith) ∙ stands.2),
+  λ contains.
+      let i = contains.0 in
+      let bound = front.within in
+      let below : i < n = omega (arith, contains.1, length-take-le n order) in
+      let within : i < length order = omega arith in
+      let at : get_or order i slot ≡ slot = sym (get_or-take n order i slot below) ∙ contains.2 in
+      let pending = (sorted.pending slot known).1 (i, within, at) in
+      let width = width-up-to plan c before order i slot sorted within at in
+      let less : sum_by (worst_in plan.placed c) (take (suc i) order) ≤ sum_by (worst_in plan.placed c) (take n order)
+      = rw (← take-take (suc i) n order below) (sum_by-take-le (worst_in plan.placed c) (take n order) (suc i)) in
+      let fits = front.fits in
+      and_from (pending_in plan.placed c before slot) _ pending (le-leb _ plan.window (rw width (omega arith))),
+)
+
+pub left-iff : (plan : Planning) (c : ℕ) (before : ℕ → Bool) (order : List ℕ) (n slot : ℕ) → IsInKeyOrder plan c before order
+    → IsLongestFront (worst_in plan.placed c) plan.window order n → slot < slots → (left_after plan c before slot ≡ true) ↔ Contains (drop n order) slot
+left-iff plan c before order n slot sorted front known = (
+  λ left.
+      let parts = and_parts (pending_in plan.placed c before slot) (not (planned_in plan c before slot)) left in
+      let stands = (sorted.pending slot known).0 parts.0 in
+      let i = stands.0 in
+      let within = stands.1 in
+      ⊎_elim
+      (λ (below : i < n).
+      let bound = front.within in
+      let planned = (planned-iff plan c before order n slot sorted front known).1
+      (i, omega (arith, length-take-le n order), get_or-take n order i slot below ∙ stands.2) in
+      absurd (both_ways (planned_in plan c before slot) (not-true (planned_in plan c before slot) parts.1) planned))
+      (λ (behind : n ≤ i).
+      let at : n + (i - n) ≡ i = omega arith in
+      (i - n, omega (arith, length-drop n order), get_or-drop n order (i - n) slot ∙ ap (λ k. get_or order k slot) at ∙ stands.2))
+      (cases_lt i n),
+  λ contains.
+      let i = n + contains.0 in
+      let within : i < length order = omega (arith, contains.1, length-drop n order) in
+      let at : get_or order i slot ≡ slot = sym (get_or-drop n order contains.0 slot) ∙ contains.2 in
+      let pending = (sorted.pending slot known).1 (i, within, at) in
+      and_from (pending_in plan.placed c before slot) (not (planned_in plan c before slot)) pending
+      (not_from_false (planned_in plan c before slot)
+      (false_from_ne_true (planned_in plan c before slot) (λ planned.
+      let early = (planned-iff plan c before order n slot sorted front known).0 planned in
+      let bound = front.within in
+      let below : early.0 < n = omega (arith, early.1, length-take-le n order) in
+      let same = one-place order early.0 i slot sorted.distinct (omega arith) within (sym (get_or-take n order early.0 slot below) ∙ early.2 ∙ sym at) in
+      omega arith))),
+)

@@ -1,0 +1,5 @@
+use Rattle.planner_policies.proofs.Longest.{left-iff, planned-iff}
+use Rattle.planner_policies.proofs.laws.longest_front.Goals as goal
+
+pub returns : goal.returns
+returns c = record { planned = planned-iff; left = left-iff }

@@ -1,0 +1,17 @@
+-- The list of the pending slots in key order, and how many of its first ones fit a window. Lengths are bit times.
+use Rattle.std.specs.Prelude.{◌≡◌, ◌≢◌, ℕ, ◌<◌, ◌≤◌, Bool, true, ◌↔◌, List, All, AllPairs, Contains, length, sum_by, take}
+use Rattle.requirement_table.specs.Slots.{slots}
+use Rattle.planner_policies.specs.Plan.{Planning, is_by, pending_in}
+
+-- the slots that are pending in a cycle, each once, in key order
+pub record IsInKeyOrder (plan : Planning) (c : ℕ) (before : ℕ → Bool) (order : List ℕ) : Type 0 where
+  pub known : All (λ slot. slot < slots) order
+  pub distinct : AllPairs (λ one other. one ≢ other) order
+  pub in_order : AllPairs (λ one other. is_by plan.policy plan.placed c one other ≡ true) order
+  pub pending : (slot : ℕ) → slot < slots → (pending_in plan.placed c before slot ≡ true) ↔ Contains order slot
+
+-- the first n of the slots fit the window together, and no more of them do
+pub record IsLongestFront (cost : ℕ → ℕ) (window : ℕ) (order : List ℕ) (n : ℕ) : Type 0 where
+  pub within : n ≤ length order
+  pub fits : sum_by cost (take n order) ≤ window
+  pub longest : (m : ℕ) → m ≤ length order → sum_by cost (take m order) ≤ window → m ≤ n

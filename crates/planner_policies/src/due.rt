@@ -1,0 +1,88 @@
+//! What a placed entry has to send in a cycle.
+
+ghost use Rattle.std.specs.Prelude.{◌≡◌, ◌^◌, ◌<◌, nat_le};
+ghost use Rattle.requirement_table.specs.Slots.{contains_slot};
+ghost use Rattle.requirement_table.specs.Table.{IsInRange};
+ghost use Rattle.planner_policies.specs.Due.{IsDueOf, is_due_by, key_with};
+ghost use Rattle.planner_policies.specs.Plan.{by_number};
+
+use crate::Policy;
+use crate::state::PlanState;
+use requirement_table::{Placed, cost, current, due};
+
+/// What is kept of an instance that is pending in a cycle.
+#[derive(Clone, Copy, Debug)]
+pub struct Due {
+    /// The number that the policy looks at first.
+    pub key: u64,
+    /// The priority of the entry.
+    pub priority: u8,
+    /// The slot, 0 to 39.
+    pub slot: u8,
+    /// The worst length of the frame, in bit times.
+    pub cost: u32,
+    /// The cycle of the release.
+    pub release: u64,
+    /// The last cycle in which the instance may be sent.
+    pub last: u64,
+}
+
+impl Due {
+    /// What stands in a place that is not used.
+    pub const NONE: Due = Due {
+        key: 0,
+        priority: 0,
+        slot: 0,
+        cost: 0,
+        release: 0,
+        last: 0,
+    };
+
+    /// Whether this one is the other or goes before it, by key, then priority, then slot.
+    pub fn is_by(&self, other: &Due) -> bool
+        ensures order { result ≡ is_due_by self.now other.now }
+    {
+        self.key < other.key || (self.key == other.key && self.is_by_tie(other))
+    }
+
+    /// Whether this one is the other or goes before it, of two with one key.
+    fn is_by_tie(&self, other: &Due) -> bool
+        ensures order { result ≡ by_number self.now.priority other.now.priority (nat_le self.now.slot other.now.slot) }
+    {
+        self.priority < other.priority
+            || (self.priority == other.priority && self.slot <= other.slot)
+    }
+}
+
+/// The instance of a placed entry that is pending in the cycle of the state, where there is one.
+pub fn due_of(policy: Policy, placed: &Placed, state: &PlanState) -> Option<Due>
+    requires in_range { IsInRange placed.now }
+    requires cycle { state.now.cycle < 2 ^ 42 }
+    ensures pending { IsDueOf policy (contains_slot state.now.pending) state.now.cycle placed.now result }
+{
+    let number = current(placed, state.cycle)?;
+    let (release, last) = due(placed, number);
+    let entry = &placed.entry;
+    if release < state.cycle && !state.pending.has(entry.slot) {
+        return None;
+    }
+    Some(Due {
+        key: key(policy, placed, last + 1),
+        priority: entry.priority,
+        slot: entry.slot,
+        cost: cost(entry.length),
+        release,
+        last,
+    })
+}
+
+/// The number that the policy looks at first; the least goes first. The deadline is that of an instance, the cycle behind its last one.
+fn key(policy: Policy, placed: &Placed, deadline: u64) -> u64
+    ensures key { result ≡ key_with policy placed.now deadline }
+{
+    match policy {
+        Policy::Rm => u64::from(placed.entry.period),
+        Policy::Dm => u64::from(placed.entry.deadline),
+        Policy::Edf => deadline,
+    }
+}

@@ -1,0 +1,166 @@
+//! The plan of one cycle.
+
+ghost use Rattle.std.specs.Prelude.{◌≡◌, ℕ, ◌+◌, ◌^◌, ◌<◌, ◌↔◌, nat_eq, All, IsTrue, IfOk, IfErr};
+ghost use Rattle.std.specs.List.{list_any};
+ghost use Rattle.requirement_table.specs.Slots.{contains_slot, set_of, slots};
+ghost use Rattle.requirement_table.specs.Table.{IsInRange, IsWellPlaced};
+ghost use Rattle.planner_policies.specs.Due.{IsLeastMissed, IsLongestFit, IsWholeLine, is_held_in, lesser_miss};
+ghost use Rattle.planner_policies.specs.Plan.{HasNoMissIn, IsMissIn, IsValid, left_after, planned_in, planning_of};
+
+use crate::due::{Due, due_of};
+use crate::line::Line;
+use crate::ranking::Ranked;
+use crate::state::{Miss, PlanState};
+use requirement_table::{Mask, Placed, current, due};
+
+/// Whether a state can be planned from: each pending slot has an instance that was released before the cycle and whose last cycle is
+/// not below it.
+pub fn valid(ranked: &Ranked, state: &PlanState) -> bool
+    requires cycle { state.now.cycle < 2 ^ 42 }
+    ensures valid { IsTrue result ↔ IsValid ranked.now.placed state.now.cycle state.now.pending }
+{
+    let mut rest = state.pending;
+    let rows = ranked.rows();
+    for row in rows {
+        if is_held(row, state.cycle) {
+            rest = rest.without(row.entry.slot);
+        }
+    }
+    rest.known();
+    rest == Mask::empty()
+}
+
+/// Whether the entry has an instance that was released before the cycle and may be sent in it.
+fn is_held(placed: &Placed, cycle: u64) -> bool
+    requires in_range { IsInRange placed.now }
+    requires cycle { cycle < 2 ^ 42 }
+    ensures held { result ≡ is_held_in cycle placed.now }
+{
+    match current(placed, cycle) {
+        Some(number) => due(placed, number).0 < cycle,
+        None => false,
+    }
+}
+
+/// Plans the cycle of the state, within a window of `w` bit times: the slots that are planned in it, and the state at the next cycle.
+///
+/// The state is valid.
+///
+/// # Errors
+///
+/// An instance is left whose last cycle this is. Of several such instances it is that of the least slot.
+pub fn plan_cycle(ranked: &Ranked, w: u32, state: &PlanState) -> Result<(Mask, PlanState), Miss>
+    requires cycle { state.now.cycle < 2 ^ 42 }
+    requires valid { IsValid ranked.now.placed state.now.cycle state.now.pending }
+    ensures planned { let plan = planning_of ranked.now w state.now.cycle state.now.pending in
+        IfOk result (λ r. r.0 ≡ set_of slots (planned_in plan state.now.cycle (contains_slot state.now.pending))) }
+    ensures next_cycle { IfOk result (λ r. r.1.cycle ≡ state.now.cycle + 1) }
+    ensures left { let plan = planning_of ranked.now w state.now.cycle state.now.pending in
+        IfOk result (λ r. r.1.pending ≡ set_of slots (left_after plan state.now.cycle (contains_slot state.now.pending))) }
+    ensures next_valid { IfOk result (λ r. IsValid ranked.now.placed r.1.cycle r.1.pending) }
+    ensures none_missed { let plan = planning_of ranked.now w state.now.cycle state.now.pending in
+        IfOk result (λ _. HasNoMissIn plan state.now.cycle (contains_slot state.now.pending)) }
+    ensures missed { let plan = planning_of ranked.now w state.now.cycle state.now.pending in
+        IfErr result (λ miss. IsMissIn plan state.now.cycle (contains_slot state.now.pending) miss.slot miss.release) }
+    ensures missed_cycle { IfErr result (λ miss. miss.cycle ≡ state.now.cycle) }
+{
+    let line = line_of(ranked, w, state);
+    let (taken, left) = line.as_slice().split_at(fitting(line.as_slice(), w));
+    match missed(left, state.cycle) {
+        Some(miss) => Err(miss),
+        None => Ok((
+            slots_of(taken),
+            PlanState {
+                cycle: state.cycle + 1,
+                pending: slots_of(left),
+            },
+        )),
+    }
+}
+
+/// The slots that are planned in the cycle of the state, within a window of `w` bit times, whether or not an instance is missed in it.
+///
+/// The state is valid.
+pub fn cycle_mask(ranked: &Ranked, w: u32, state: &PlanState) -> Mask
+    requires cycle { state.now.cycle < 2 ^ 42 }
+    requires valid { IsValid ranked.now.placed state.now.cycle state.now.pending }
+    ensures planned { let plan = planning_of ranked.now w state.now.cycle state.now.pending in
+        result ≡ set_of slots (planned_in plan state.now.cycle (contains_slot state.now.pending)) }
+{
+    let line = line_of(ranked, w, state);
+    let (taken, _) = line.as_slice().split_at(fitting(line.as_slice(), w));
+    slots_of(taken)
+}
+
+/// The instances that are pending in the cycle of the state, in key order.
+fn line_of(ranked: &Ranked, w: u32, state: &PlanState) -> Line
+    requires cycle { state.now.cycle < 2 ^ 42 }
+    requires valid { IsValid ranked.now.placed state.now.cycle state.now.pending }
+    ensures line { IsWholeLine (planning_of ranked.now w state.now.cycle state.now.pending) state.now.cycle
+        (contains_slot state.now.pending) result }
+    ensures well_placed { IsWellPlaced ranked.now.placed }
+{
+    let rows = ranked.rows();
+    let mut line = Line::new();
+    for row in rows {
+        if let Some(due) = due_of(ranked.policy(), row, state) {
+            line.put(due);
+        }
+    }
+    line
+}
+
+/// How many of the first ones fit a window of `w` bit times together.
+fn fitting(line: &[Due], w: u32) -> usize
+    ensures longest { IsLongestFit w line.now result }
+{
+    let mut room = w;
+    for (place, due) in line.iter().enumerate() {
+        if due.cost > room {
+            return place;
+        }
+        room -= due.cost;
+    }
+    line.len()
+}
+
+/// The slots of instances.
+fn slots_of(line: &[Due]) -> Mask
+    requires known { All (λ due. due.slot < slots) line.now }
+    ensures slots { (slot : ℕ) → contains_slot result slot ≡ list_any (λ due. nat_eq due.slot slot) line.now }
+    ensures below { result < 2 ^ slots }
+{
+    let mut slots = Mask::empty();
+    for due in line {
+        slots = slots.with(due.slot);
+    }
+    slots.known();
+    slots
+}
+
+/// Of the instances whose last cycle this is, the one of the least slot.
+fn missed(line: &[Due], cycle: u64) -> Option<Miss>
+    ensures least { IsLeastMissed cycle line.now result }
+{
+    let mut least = None;
+    for due in line {
+        if due.last == cycle {
+            least = Some(lesser(least, due));
+        }
+    }
+    least
+}
+
+/// Of a miss, where there is one, and that of an instance in its last cycle, the one of the lesser slot.
+fn lesser(least: Option<Miss>, due: &Due) -> Miss
+    ensures lesser { result ≡ lesser_miss least due.now }
+{
+    match least {
+        Some(miss) if miss.slot < due.slot => miss,
+        _ => Miss {
+            slot: due.slot,
+            release: due.release,
+            cycle: due.last,
+        },
+    }
+}

@@ -1,0 +1,80 @@
+//! The table of a planning, in key order.
+
+ghost use Rattle.std.specs.Prelude.{◌≡◌, All, IfOk, IsPermutation};
+ghost use Rattle.requirement_table.specs.Table.{IsInRange, IsWellPlaced};
+
+use crate::Policy;
+use requirement_table::Placed;
+use std::alloc::{AllocError, Global};
+use std::marker::Model;
+
+/// A list of placed entries, and the policy by which they are planned. Contracts see these two.
+#[derive(Drop, Debug)]
+pub struct Ranked {
+    placed: Vec<Placed>,
+    /// The same entries in key order, by their own numbers: for `Edf` in the order that breaks ties.
+    rows: Vec<Placed>,
+    policy: Policy,
+}
+
+impl Model for Ranked {
+    ghost use Rattle.std.specs.Prelude.{IsPermutation};
+    ghost use Rattle.requirement_table.specs.Table.{IsWellPlaced};
+    ghost use Rattle.planner_policies.specs.Plan.{Ranking};
+
+    ghost Value = { Ranking };
+
+    ghost view = { λ r. record { placed = r.placed.items; policy = r.policy } };
+
+    ghost invariant = { λ r. IsWellPlaced r.placed.items × IsPermutation r.placed.items r.rows.items };
+}
+
+/// The entries ordered by a policy. The list is well placed.
+pub fn rank(alloc: Global, placed: &[Placed], policy: Policy) -> Result<Ranked, AllocError>
+    requires well_placed { IsWellPlaced placed.now }
+    ensures ranked { IfOk result (λ ranked. ranked ≡ record { placed = placed.now; policy = policy }) }
+{
+    let list = placed.to_vec(alloc)?;
+    let mut rows = placed.to_vec(alloc)?;
+    rows.sort_unstable_by_key(|p| (own_key(policy, p), p.entry.priority, p.entry.slot));
+    Ok(Ranked {
+        placed: list,
+        rows,
+        policy,
+    })
+}
+
+/// The number that the policy looks at first, where it is one of the entry and not of an instance.
+fn own_key(policy: Policy, placed: &Placed) -> u16 {
+    match policy {
+        Policy::Rm => placed.entry.period,
+        Policy::Dm => placed.entry.deadline,
+        Policy::Edf => 0,
+    }
+}
+
+impl Ranked {
+    /// The policy.
+    pub fn policy(&self) -> Policy
+        ensures value { result ≡ self.now.policy }
+    {
+        self.policy
+    }
+
+    /// The placed entries, as they were handed in.
+    pub fn placed(&self) -> &[Placed]
+        ensures list { result.now ≡ self.now.placed }
+        ensures well_placed { IsWellPlaced self.now.placed }
+    {
+        self.placed.as_slice()
+    }
+
+    /// The placed entries in key order.
+    pub(crate) fn rows(&self) -> &[Placed]
+        ensures same { IsPermutation self.now.placed result.now }
+        ensures in_range { All IsInRange result.now }
+        ensures well_placed { IsWellPlaced self.now.placed }
+    {
+        self.rows.as_slice()
+    }
+}
