@@ -1,0 +1,11 @@
+//! Changes of the table of an FTT-CAN master: entries are added, removed and changed from a start cycle on, while what
+//! was released before is still sent.
+//!
+//! Time is counted in elementary cycles from 0.
+#![tactic(auto)]
+
+mod malformed;
+mod operations;
+
+pub use malformed::{ApplyFault, Why};
+pub use operations::{Act, Change, Op, Ops};

@@ -1,0 +1,72 @@
+//! Why a change is malformed.
+
+ghost use Rattle.std.specs.Prelude.{◌≡◌};
+ghost use Rattle.change_protocol.specs.Code.{code_of};
+
+/// The rule that a malformed change breaks. The rules are tested in this order: the first three of the whole change, and
+/// then the others for each operation in its order.
+#[derive(Clone, Copy, PartialEq, Eq, Debug)]
+pub enum Why {
+    /// There is no operation.
+    NoOps,
+    /// There are more than 16 operations.
+    TooManyOps,
+    /// The start is 2^40 or more.
+    StartRange,
+    /// The slot is above 39.
+    SlotRange,
+    /// An earlier operation of the change has the slot.
+    SlotTwice,
+    /// The entry's node is not below the number of nodes.
+    NodeUnknown,
+    /// The entry's length is above 8.
+    LengthRange,
+    /// The entry's period is 0.
+    PeriodZero,
+    /// The entry's deadline is 0 or above its period.
+    DeadlineRange,
+    /// An added entry finds the slot in use at the start, or the entry to be removed or changed begins only behind the start.
+    SlotBusy {
+        /// For an added entry the cycle from which the slot is free, `None` where an entry of the slot is live. For a removal
+        /// or a change the origin of the slot's live entry.
+        until: Option<u64>,
+    },
+    /// No entry of the slot is live that could be removed or changed.
+    SlotEmpty,
+}
+
+impl Why {
+    /// The number of the rule, 1 to 11.
+    pub fn code(&self) -> u8
+        ensures value { result ≡ code_of self.now }
+    {
+        match self {
+            Why::NoOps => 1,
+            Why::TooManyOps => 2,
+            Why::StartRange => 3,
+            Why::SlotRange => 4,
+            Why::SlotTwice => 5,
+            Why::NodeUnknown => 6,
+            Why::LengthRange => 7,
+            Why::PeriodZero => 8,
+            Why::DeadlineRange => 9,
+            Why::SlotBusy { .. } => 10,
+            Why::SlotEmpty => 11,
+        }
+    }
+}
+
+/// Why a change was not applied.
+#[derive(Clone, Copy, PartialEq, Eq, Debug)]
+pub enum ApplyFault {
+    /// The change breaks a rule; this is the first one.
+    Malformed {
+        /// The operation that breaks it, from 0: 0 where there is none or the start is out of range, and 16 where there are
+        /// more than 16.
+        op: u8,
+        /// The rule.
+        why: Why,
+    },
+    /// Memory ran out, which says nothing of the change.
+    Memory,
+}

@@ -1,0 +1,67 @@
+//! Changes and their operations.
+
+ghost use Rattle.std.specs.Prelude.{◌≡◌};
+
+use requirement_table::Entry;
+use std::marker::Model;
+
+/// One operation of a change, on one slot. `start` is the start of its change.
+#[derive(Clone, Copy, PartialEq, Eq, Debug)]
+pub enum Op {
+    /// Places the entry with the origin `start` and no end.
+    Add { entry: Entry },
+    /// Sets the end of the slot's live entry to `start`.
+    Remove { slot: u8 },
+    /// Sets the end of the live entry of the entry's slot to `start`, and places the entry with no end and with the origin
+    /// `start` + deadline - 1, where the deadline is that of the ended entry.
+    Change { entry: Entry },
+}
+
+/// A list of operations that a value holds. Contracts see the list.
+#[derive(Drop, Debug)]
+pub struct Ops {
+    operations: Vec<Op>,
+}
+
+impl Model for Ops {
+    ghost use Rattle.std.specs.Prelude.{List};
+    ghost use Rattle.change_protocol.specs.declared.operations.Op.{Op};
+
+    ghost Value = { List Op };
+
+    ghost view = { λ o. o.operations.items };
+}
+
+impl Ops {
+    /// The list of the vector's items.
+    pub fn of(operations: Vec<Op>) -> Ops
+        ensures list { result ≡ operations.items }
+    {
+        Ops { operations }
+    }
+
+    /// The list as a slice.
+    pub fn as_slice(&self) -> &[Op]
+        ensures list { result.now ≡ self.now }
+    {
+        self.operations.as_slice()
+    }
+}
+
+/// A change of the table.
+#[derive(Drop, Debug)]
+pub struct Change {
+    /// The cycle in which the change begins to be felt: below 2^40 where it is well formed.
+    pub start: u64,
+    /// Its operations, in their order: 1 to 16 on distinct slots where it is well formed.
+    pub ops: Ops,
+}
+
+/// What an operator asks of the master.
+#[derive(Drop, Debug)]
+pub enum Act {
+    /// That the table is changed.
+    Ask { change: Change },
+    /// What entries are placed.
+    Look,
+}
