@@ -1,5 +1,6 @@
 mod CsvFields
 mod CsvReading
+mod RowByRow
 mod Hexadecimal
 mod RequestRows
 mod RequestsTogether
