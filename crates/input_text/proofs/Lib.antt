@@ -1,6 +1,7 @@
 mod CsvFields
 mod CsvReading
 mod RowByRow
+mod StepLines
 mod Hexadecimal
 mod RequestRows
 mod RequestsTogether

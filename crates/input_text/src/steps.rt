@@ -137,7 +137,7 @@ impl Tally {
 
     // That of one more row, which joins an operation to a change.
     fn with_operation(self) -> Result<Tally, StepWhy>
-        ensures ok { IfOk result (λ tally. tally ≡ self) }
+        ensures ok { IfOk result (λ tally. tally ≡ record { in_change = true; changes = self.changes; looks = self.looks; cycles = self.cycles }) }
         ensures room { is_ok result ≡ self.in_change }
         ensures why { IfErr result (λ why. why ≡ Loose) }
     {
