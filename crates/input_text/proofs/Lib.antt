@@ -2,6 +2,7 @@ mod CsvFields
 mod CsvReading
 mod RowByRow
 mod StepLines
+mod StepDrafts
 mod Hexadecimal
 mod RequestRows
 mod RequestsTogether

@@ -77,6 +77,7 @@ impl Tally {
     fn with(self, line: Line) -> Result<Tally, StepWhy>
         ensures counts { (lines : List Line) → Counts lines self → IfOk result (Counts (lines ++ line ∷ [])) }
         ensures value { (lines : List Line) → Counts lines self → MatchResult result (λ tally. below lines line ≡ Ok line) (λ why. below lines line ≡ Err why) }
+        ensures in_change { IfOk result (λ tally. joins line ≡ true → self.in_change ≡ true) }
     {
         match line {
             Line::Cycle { count } => self.with_cycles(count),
@@ -149,6 +150,7 @@ impl Tally {
 }
 
 // What a row says below these rows, and the tally with it.
+#[tactic(auto, unfolding(crate::specs::StepRow::meaning))]
 fn read_row(row: &ByteRecord, above: Tally) -> Result<(Line, Tally), StepWhy>
     ensures counts { (lines : List Line) → Counts lines above → IfOk result (λ read. Counts (lines ++ read.0 ∷ []) read.1) }
     ensures value { (lines : List Line) → Counts lines above → MatchResult result (λ read. meaning lines (map trimmed (fields_of row.now)) ≡ Ok read.0) (λ why. meaning lines (map trimmed (fields_of row.now)) ≡ Err why) }
