@@ -3,6 +3,7 @@ mod CsvReading
 mod RowByRow
 mod StepLines
 mod StepDrafts
+mod StepsReading
 mod Hexadecimal
 mod RequestRows
 mod RequestsTogether

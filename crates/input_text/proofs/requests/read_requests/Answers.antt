@@ -8,7 +8,7 @@ use Rattle.input_text.specs.CsvRows.{rows_of, trimmed}
 use Rattle.input_text.specs.RequestRow.{meaning}
 use Rattle.input_text.specs.RequestOwners.{IsOwnedTable}
 use Rattle.input_text.specs.RequestsFile.{AreRequests, IsFirstFault, requests_of}
-use Rattle.input_text.proofs.CsvReading.{reads_all, reads_row}
+use Rattle.input_text.proofs.CsvReading.{length-strip_bom-le, reads_all, reads_row}
 use Rattle.input_text.proofs.RequestsTogether.{all_requests, first_fault, more_legal, more_requests, no_requests, none_legal}
 use Rattle.input_text.proofs.requests.read_requests.Goals as goal
 
@@ -29,6 +29,7 @@ loop-row-init c =
           left = strip_bom c.args.bytes.now;
           source = reader.source;
           rows = rw reader.state refl;
+          few = omega (arith, length-strip_bom-le c.args.bytes.now);
         };
         means = no_requests c.args.owners.now;
         legal = none_legal c.args.owners.now;
