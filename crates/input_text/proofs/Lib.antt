@@ -1,7 +1,11 @@
 mod CsvFields
 mod CsvReading
 mod RowByRow
+mod ListParts
 mod StepLines
+mod StepMeaning
+mod StepsLegal
+mod StepsSaid
 mod StepDrafts
 mod StepsReading
 mod Hexadecimal

@@ -2,10 +2,11 @@
 use Rattle.std.proofs.Common.{◌≡◌, ℕ, ◌+◌, ◌-◌, ◌≤◌, ◌<◌, Bool, true, false, List, [], ◌∷◌, ◌++◌, length, length-append, map, Some, None, zero, suc, refl, sym, ap, ◌∙◌, arith, append_assoc, cond}
 use Rattle.std.proofs.lemmas.List.{append-nil, map-append}
 use Rattle.std.proofs.lemmas.List.Concat.{flat_map-append}
-use Rattle.std.proofs.lemmas.List.Elements.{All-push, All-nil, All-cons, All-head, All-tail}
+use Rattle.std.proofs.lemmas.List.Elements.{All-head, All-push}
 use Rattle.std.proofs.lemmas.List.Sums.{sum_by_push}
 use Rattle.std.specs.List.{All, slice_get, flat_map, count_by, sum_by}
 use Rattle.change_protocol.specs.declared.operations.Op.{Op}
+use Rattle.input_text.proofs.ListParts.{all_back, all_front}
 use Rattle.input_text.specs.StepRow.{begins, count_in, ends_in_change, is_of_change, looks}
 use Rattle.input_text.specs.StepsFile.{HasOperation, Say, lines_of, lines_of_change}
 use Rattle.input_text.specs.StepsReading.{Counts, asking}
@@ -83,19 +84,11 @@ change_more : (caller start : ℕ) (ops : List Op) (op : Op) → 1 ≤ length op
 change_more caller start [] op some = absurd (omega arith)
 change_more caller start (first ∷ ops) op some = ap (λ rest. line.Begins caller start first ∷ rest) (map-append line.Joins ops (op ∷ []))
 
-last_of : {X : Type 0} (P : X → Type 0) (xs : List X) (x : X) → All P (xs ++ x ∷ []) → P x
-last_of P [] x all = All-head P x [] all
-last_of P (y ∷ xs) x all = last_of P xs x (All-tail P y (xs ++ x ∷ []) all)
-
-front_of : {X : Type 0} (P : X → Type 0) (xs : List X) (x : X) → All P (xs ++ x ∷ []) → All P xs
-front_of P [] x all = All-nil P
-front_of P (y ∷ xs) x all = All-cons P y xs (All-head P y (xs ++ x ∷ []) all) (front_of P xs x (All-tail P y (xs ++ x ∷ []) all))
-
 -- a line that adds an operation to the last change
 pub say_joined : (lines : List Line) (steps : List Step) (caller start : ℕ) (ops : List Op) (op : Op) → Say lines (steps ++ asking caller start ops ∷ [])
     → Say (lines ++ line.Joins op ∷ []) (steps ++ asking caller start (ops ++ op ∷ []) ∷ [])
 say_joined lines steps caller start ops op say =
-    let some : 1 ≤ length ops = last_of HasOperation steps (asking caller start ops) say.each in
+    let some : 1 ≤ length ops = All-head HasOperation (asking caller start ops) [] (all_back HasOperation steps (asking caller start ops ∷ []) say.each) in
     let front = flat_map lines_of steps in
     let old : flat_map lines_of (steps ++ asking caller start ops ∷ []) ≡ front ++ lines_of_change caller start ops
     = flat_map-append lines_of steps (asking caller start ops ∷ []) ∙ ap (λ rest. front ++ rest) (append-nil (lines_of_change caller start ops)) in
@@ -105,5 +98,5 @@ say_joined lines steps caller start ops op say =
     record {
       whole = new ∙ ap (λ rest. front ++ rest) (change_more caller start ops op some) ∙ sym (append_assoc front (lines_of_change caller start ops) (line.Joins op ∷ []))
       ∙ ap (λ all. all ++ line.Joins op ∷ []) (sym old ∙ say.whole);
-      each = All-push HasOperation steps (asking caller start (ops ++ op ∷ [])) (front_of HasOperation steps (asking caller start ops) say.each) longer;
+      each = All-push HasOperation steps (asking caller start (ops ++ op ∷ [])) (all_front HasOperation steps (asking caller start ops ∷ []) say.each) longer;
     }

@@ -8,6 +8,7 @@ mod request_fault;
 pub mod request_laws;
 mod requests;
 mod step_fault;
+pub mod step_laws;
 mod step_rows;
 mod steps;
 mod system;

@@ -1,5 +1,5 @@
 -- What the reader gives is the next record of the bytes that it has left.
-use Rattle.std.proofs.Common.{Bor, ◌≡◌, ◌∙◌, ℕ, ◌+◌, ◌<◌, ◌≤◌, ◌^◌, List, [], ◌∷◌, ◌++◌, Some, Ok, Err, ap, inr, length, length-append, map, refl, rules, sym, true, arith}
+use Rattle.std.proofs.Common.{Bor, ◌≡◌, ◌∙◌, ℕ, ◌+◌, ◌<◌, ◌≤◌, ◌^◌, List, [], ◌∷◌, ◌++◌, Some, Ok, Err, ap, IfOk, inl, inr, length, length-append, map, refl, rules, subst, sym, true, arith}
 use Rattle.csv.proofs.ReadFacts.{rows-end}
 use Rattle.csv.specs.Reading.{default_config, strip_bom, with_flexible}
 use Rattle.csv.specs.Records.{fields_of}
@@ -7,6 +7,11 @@ use Rattle.input_text.specs.CsvRows.{rows_of, trimmed}
 use Rattle.input_text.specs.StepRow.{meaning}
 use Rattle.input_text.proofs.CsvReading.{length-strip_bom-le, reads_all, reads_row}
 use Rattle.input_text.proofs.RowByRow.{more_items, no_items}
+use Rattle.input_text.proofs.StepsLegal.{steps_legal}
+use Rattle.input_text.proofs.StepsSaid.{fault_computed, steps_computed}
+use Rattle.input_text.specs.RowByRow.{IsFirstFault}
+use Rattle.input_text.specs.StepsFile.{AreSteps, Say}
+use Rattle.std.proofs.lemmas.Result.{IfErr-weaker, IfOk-weaker, MatchResult-from_both}
 use Rattle.input_text.proofs.steps.read_steps.Goals as goal
 
 pub loop-row-init : goal.loop-row-init
@@ -82,3 +87,29 @@ loop-row-preserved c =
         numbered = omega (arith, so_far.numbered, length-append so_far.before (map trimmed fields ∷ []));
       },
     )
+
+pub returns-in-Err-clause-value : goal.returns-in-Err-clause-value
+returns-in-Err-clause-value c =
+    let fault : IsFirstFault meaning (rows_of c.args.bytes.now) (c.loop-row.number + 1) c.in-Err.why = returns-in-Err-clause-fault c in
+    inr (fault_computed (rows_of c.args.bytes.now) (c.loop-row.number + 1) c.in-Err.why fault)
+
+pub returns-clause-ok : goal.returns-clause-ok
+returns-clause-ok c =
+    let (turns, so_far) = c.loop-row.invariant in
+    let a = c.loop-row.row-iterator.rdr in
+    let s = rw c.in-None.is at ((c.next.ensures.steps turns so_far.reads.trim).0 so_far.reads.ready) in
+    let ended = rows-end (λ (s : Bor (List ℕ)). Some s.now) a c.next.new.self.rdr [] default_config so_far.reads.left so_far.reads.config so_far.reads.source s in
+    let rows = reads_all c.args.bytes.now a so_far.before so_far.reads ended in
+    IfOk-weaker c.into_steps.result _ _ (λ steps e. rw rows record { lines = so_far.lines; read = so_far.are; say = subst (Say so_far.lines) (sym e) so_far.drafts.say }) c.into_steps.ensures.ok
+
+pub returns-clause-value : goal.returns-clause-value
+returns-clause-value c =
+    let are : IfOk c.into_steps.result (λ steps. AreSteps (rows_of c.args.bytes.now) steps.items) = returns-clause-ok c in
+    MatchResult-from_both c.into_steps.result _ _
+    (IfOk-weaker c.into_steps.result _ _ (λ steps h. steps_computed (rows_of c.args.bytes.now) steps.items h) are)
+    (IfErr-weaker c.into_steps.result _ _ (λ fault e. inl e) c.into_steps.ensures.fault)
+
+pub returns-clause-legal : goal.returns-clause-legal
+returns-clause-legal c =
+    let are : IfOk c.into_steps.result (λ steps. AreSteps (rows_of c.args.bytes.now) steps.items) = returns-clause-ok c in
+    IfOk-weaker c.into_steps.result _ _ (λ steps h. steps_legal (rows_of c.args.bytes.now) steps.items h) are
