@@ -97,6 +97,6 @@ say_joined lines steps caller start ops op say =
     let longer : 1 ≤ length (ops ++ op ∷ []) = omega (arith, length-append ops (op ∷ [])) in
     record {
       whole = new ∙ ap (λ rest. front ++ rest) (change_more caller start ops op some) ∙ sym (append_assoc front (lines_of_change caller start ops) (line.Joins op ∷ []))
-      ∙ ap (λ all. all ++ line.Joins op ∷ []) (sym old ∙ say.whole);
+          ∙ ap (λ all. all ++ line.Joins op ∷ []) (sym old ∙ say.whole);
       each = All-push HasOperation steps (asking caller start (ops ++ op ∷ [])) (all_front HasOperation steps (asking caller start ops ∷ []) say.each) longer;
     }

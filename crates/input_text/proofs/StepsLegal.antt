@@ -109,12 +109,15 @@ change_legal : (caller start : ℕ) (ops : List Op) → 1 ≤ length ops → All
 change_legal caller start [] some each = absurd (omega arith)
 change_legal caller start (op ∷ ops) some each =
     let first = All-head IsLine (line.Begins caller start op) (map line.Joins ops) each in
-    let (least, most) = operator_is caller first.operator in
-    (least, most, record {
-      early = first.fits.0;
-      some = some;
-      each = All-cons FitsOperation op ops first.fits.1 (joined_fit ops (All-tail IsLine (line.Begins caller start op) (map line.Joins ops) each));
-    })
+    let (least, most) = operator_is caller first.operator in (
+      least,
+      most,
+      record {
+        early = first.fits.0;
+        some = some;
+        each = All-cons FitsOperation op ops first.fits.1 (joined_fit ops (All-tail IsLine (line.Begins caller start op) (map line.Joins ops) each));
+      },
+    )
 
 step_legal : (next : Step) → HasOperation next → All IsLine (lines_of next) → IsStep next
 step_legal (step.Cycle count) has each = (All-head IsLine (line.Cycle count) [] each).fits

@@ -348,3 +348,6 @@ pub fn read_steps(alloc: Global, bytes: &[u8]) -> Result<Vec<Step>, StepFault>
     }
     draft.into_steps()
 }
+
+#[cfg(test)]
+mod tests;

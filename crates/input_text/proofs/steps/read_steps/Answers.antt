@@ -74,8 +74,7 @@ loop-row-preserved c =
     let line = c.in-Ok-read_row.line in
     let s = rw (c.in-Some.is, c.in-Ok.is) at ((c.next.ensures.steps turns so_far.reads.trim).0 so_far.reads.ready) in
     let read = reads_row c.args.bytes.now c.loop-row.row-iterator.rdr c.next.new.self.rdr so_far.before fields so_far.reads s.0 s.1 s.0.2 s.0.3 in
-    let is : meaning so_far.lines (map trimmed fields) ≡ Ok line = c.in-Ok-read_row.ensures.value so_far.lines so_far.counts in
-    (
+    let is : meaning so_far.lines (map trimmed fields) ≡ Ok line = c.in-Ok-read_row.ensures.value so_far.lines so_far.counts in (
       s.2,
       record {
         before = _;
