@@ -25,9 +25,6 @@ record AreLegalLines (lines : List Line) : Type 0 where
   looks : count_by looks lines ≤ 1000
   cycles : sum_by count_in lines ≤ 20000
 
-one_if : Bool → ℕ
-one_if b = cond b 1 0
-
 changes_more : (lines : List Line) (said : Line) → count_by begins lines ≤ 1000 → Allows lines said → count_by begins (lines ++ said ∷ []) ≤ 1000
 changes_more lines (line.Cycle count) few allowed = omega (arith, sum_by_push (λ x. cond (begins x) 1 0) lines (line.Cycle count))
 changes_more lines (line.Look caller) few allowed = omega (arith, sum_by_push (λ x. cond (begins x) 1 0) lines (line.Look caller))

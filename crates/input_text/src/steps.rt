@@ -178,8 +178,7 @@ impl Asked {
         ensures ok { IfOk result (λ asked. step_of_asked asked ≡ asking caller start (op ∷ [])) }
         ensures fault { IfErr result (λ fault. fault ≡ Memory) }
     {
-        let mut ops = Vec::new(alloc);
-        ops.push(op)?;
+        let ops = vec![in alloc; op]?;
         Ok(Asked { caller, start, ops })
     }
 
