@@ -6,7 +6,6 @@ use Rattle.input_text.proofs.RowByRow.{all_items, all_mean, fault_means, first_f
 use Rattle.input_text.specs.RequestRow.{meaning}
 use Rattle.input_text.specs.RequestsFile.{AreRequests, requests_of_rows, requests_or_fault}
 use Rattle.input_text.specs.RowByRow.{Faulty, IsFirstFault, items_below}
-use Rattle.input_text.specs.declared.request_fault.RequestFault.{RequestFault}
 use Rattle.input_text.specs.declared.request_fault.RequestFault.TheVariants.{Row, Memory}
 use Rattle.input_text.specs.declared.request_fault.RequestWhy.{RequestWhy}
 

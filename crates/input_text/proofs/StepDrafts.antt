@@ -1,11 +1,11 @@
 -- The draft of the steps of a steps file, with one line more.
-use Rattle.std.proofs.Common.{◌≡◌, ℕ, Bool, true, false, List, [], ◌∷◌, ◌++◌, Option, Some, None, Result, Ok, Err, IfOk, is_some, refl, sym, ◌∙◌, arith}
+use Rattle.std.proofs.Common.{◌≡◌, ℕ, true, false, List, [], ◌∷◌, ◌++◌, Option, Some, None, Result, Ok, Err, IfOk, is_some, refl, sym, ◌∙◌, arith}
 use Rattle.std.proofs.lemmas.List.{append-nil}
 use Rattle.change_protocol.specs.declared.operations.Op.{Op}
 use Rattle.input_text.proofs.StepLines.{ends_as, say_joined, say_more}
-use Rattle.input_text.specs.StepRow.{ends_in_change, is_of_change}
+use Rattle.input_text.specs.StepRow.{is_of_change}
 use Rattle.input_text.specs.StepsFile.{HasOperation, Say, lines_of}
-use Rattle.input_text.specs.StepsReading.{Drafts, GrewBy, GrowsBy, asking, last_steps, step_of_asked}
+use Rattle.input_text.specs.StepsReading.{Drafts, GrewBy, asking, last_steps, step_of_asked}
 use Rattle.input_text.specs.declared.step_rows.Line.{Line}
 use Rattle.input_text.specs.declared.step_rows.Line.TheVariants as line
 use Rattle.input_text.specs.declared.steps.Asked.{Asked}

@@ -1,10 +1,10 @@
 -- One line more below the lines of a steps file: the tally of them, and the steps that they say.
-use Rattle.std.proofs.Common.{◌≡◌, ℕ, ◌+◌, ◌-◌, ◌≤◌, ◌<◌, Bool, true, false, List, [], ◌∷◌, ◌++◌, length, length-append, map, Some, None, zero, suc, refl, sym, ap, ◌∙◌, arith, append_assoc, cond}
+use Rattle.std.proofs.Common.{◌≡◌, ℕ, ◌+◌, ◌-◌, ◌≤◌, Bool, true, false, List, [], ◌∷◌, ◌++◌, length, length-append, Some, refl, sym, ap, ◌∙◌, arith, append_assoc, cond}
 use Rattle.std.proofs.lemmas.List.{append-nil, map-append}
 use Rattle.std.proofs.lemmas.List.Concat.{flat_map-append}
 use Rattle.std.proofs.lemmas.List.Elements.{All-head, All-push}
 use Rattle.std.proofs.lemmas.List.Sums.{sum_by_push}
-use Rattle.std.specs.List.{All, slice_get, flat_map, count_by, sum_by}
+use Rattle.std.specs.List.{slice_get, flat_map, count_by, sum_by}
 use Rattle.change_protocol.specs.declared.operations.Op.{Op}
 use Rattle.input_text.proofs.ListParts.{all_back, all_front}
 use Rattle.input_text.specs.StepRow.{begins, count_in, ends_in_change, is_of_change, looks}
@@ -13,7 +13,6 @@ use Rattle.input_text.specs.StepsReading.{Counts, asking}
 use Rattle.input_text.specs.declared.step_rows.Line.{Line}
 use Rattle.input_text.specs.declared.step_rows.Line.TheVariants as line
 use Rattle.input_text.specs.declared.steps.Step.{Step}
-use Rattle.input_text.specs.declared.steps.Step.TheVariants as step
 use Rattle.input_text.specs.declared.steps.Tally.{Tally}
 
 -- the last item of a list

@@ -1,5 +1,5 @@
 -- What holds of the steps of each steps file.
-use Rattle.std.proofs.Common.{◌≡◌, ℕ, ◌+◌, ◌≤◌, ◌<◌, ◌&&◌, Bool, true, false, cond, List, [], ◌∷◌, ◌++◌, length, length-append, map, Ok, nat_le, refl, sym, ap, ◌∙◌, arith, lit≤}
+use Rattle.std.proofs.Common.{◌≡◌, ℕ, ◌≤◌, true, cond, List, [], ◌∷◌, ◌++◌, length, map, Ok, nat_le, refl, arith, lit≤}
 use Rattle.std.proofs.lemmas.Bool.{and_parts}
 use Rattle.std.proofs.lemmas.Bool.Decides.{nat_tests}
 use Rattle.std.proofs.lemmas.List.Elements.{All-cons, All-head, All-nil, All-push, All-tail}
@@ -9,7 +9,7 @@ use Rattle.change_protocol.specs.declared.operations.Act.TheVariants as act
 use Rattle.change_protocol.specs.declared.operations.Op.{Op}
 use Rattle.input_text.proofs.ListParts.{all_back, all_front}
 use Rattle.input_text.proofs.RowByRow.{held}
-use Rattle.input_text.proofs.StepMeaning.{Allows, IsLine, Says, says}
+use Rattle.input_text.proofs.StepMeaning.{Allows, IsLine, says}
 use Rattle.input_text.specs.RowByRow.{AreItems}
 use Rattle.input_text.specs.StepRow.{begins, count_in, is_operator, looks, meaning}
 use Rattle.input_text.specs.StepsFile.{AreLegalSteps, AreSteps, FitsOperation, HasOperation, IsStep, count_of, is_change, is_look, lines_of, lines_of_change}

@@ -1,5 +1,5 @@
 -- What one row of a steps file says, below the rows above it.
-use Rattle.std.specs.Prelude.{ℕ, ◌+◌, ◌-◌, ◌&&◌, Bool, true, false, nat_lt, nat_le, List, length, count_by, sum_by, option_map, ok_or, unwrap_or, Result, Ok, Err}
+use Rattle.std.specs.Prelude.{ℕ, ◌+◌, ◌-◌, ◌&&◌, Bool, true, false, nat_lt, nat_le, List, length, count_by, sum_by, option_map, ok_or, unwrap_or, Result}
 use Rattle.std.specs.List.{slice_get}
 use Rattle.input_text.specs.Whys.{◌>>=◌, where_holds}
 use Rattle.input_text.specs.StepForm.{form_of, has_fields}

@@ -1,5 +1,5 @@
 -- What a reader of a steps file keeps of the rows that it has read.
-use Rattle.std.specs.Prelude.{◌≡◌, ℕ, Bool, List, [], ◌∷◌, ◌++◌, Option, Some, None, count_by, sum_by, is_some}
+use Rattle.std.specs.Prelude.{◌≡◌, ℕ, List, [], ◌∷◌, ◌++◌, Option, Some, None, count_by, sum_by, is_some}
 use Rattle.change_protocol.specs.declared.operations.Act.TheVariants.{Ask}
 use Rattle.change_protocol.specs.declared.operations.Op.{Op}
 use Rattle.input_text.specs.StepRow.{begins, count_in, ends_in_change, looks}

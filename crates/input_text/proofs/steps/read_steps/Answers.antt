@@ -1,5 +1,5 @@
 -- What the reader gives is the next record of the bytes that it has left.
-use Rattle.std.proofs.Common.{Bor, ◌≡◌, ◌∙◌, ℕ, ◌+◌, ◌<◌, ◌≤◌, ◌^◌, List, [], ◌∷◌, ◌++◌, Some, Ok, Err, ap, IfOk, inl, inr, length, length-append, map, refl, rules, subst, sym, true, arith}
+use Rattle.std.proofs.Common.{Bor, ◌≡◌, ◌∙◌, ℕ, ◌+◌, ◌≤◌, List, [], ◌∷◌, ◌++◌, Some, Ok, ap, IfOk, inl, inr, length, length-append, map, refl, subst, sym, true, arith}
 use Rattle.csv.proofs.ReadFacts.{rows-end}
 use Rattle.csv.specs.Reading.{default_config, strip_bom, with_flexible}
 use Rattle.csv.specs.Records.{fields_of}
