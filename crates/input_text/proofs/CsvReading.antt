@@ -1,11 +1,11 @@
 -- The records of a text, one after the other, as a reader gives them.
-use Rattle.std.proofs.Common.{Bor, ◌≡◌, ℕ, ◌+◌, ◌<◌, ◌≤◌, Bool, true, false, ◌==◌, cond, List, [], ◌∷◌, ◌++◌, length, map, Option, Some, None, zero, suc, refl, sym, ap, ◌∙◌, arith, append_assoc, inl, inr, ◌⊎◌, ◌-◌, lit≤, add-one}
+use Rattle.std.proofs.Common.{Bor, ◌≡◌, ℕ, ◌+◌, ◌<◌, ◌≤◌, Bool, true, false, ◌==◌, cond, List, [], ◌∷◌, ◌++◌, length, length-append, map, Option, Some, None, zero, suc, refl, sym, ap, ◌∙◌, arith, append_assoc, inl, inr, ◌⊎◌, ◌-◌, lit≤, add-one}
 use Rattle.std.proofs.lemmas.Bool.{cases_Bool, false≢true}
 use Rattle.std.proofs.lemmas.Option.{none-some, same_Some}
 use Rattle.std.proofs.lemmas.List.{append-nil}
 use Rattle.csv.specs.Machine.{Read, after_end, ends_at_end, ends_with, in_field, is_end, next_record, start_field, start_record, step}
 use Rattle.csv.proofs.ReadFacts.{rows-more}
-use Rattle.csv.specs.Reading.{Reached, ReadRecord, Ready, default_config, records_from, records_next, source_of}
+use Rattle.csv.specs.Reading.{Reached, ReadRecord, Ready, default_config, is_bom, records_from, records_next, source_of, strip_bom}
 use Rattle.csv.specs.declared.reader.Reader.{Reader}
 use Rattle.csv.specs.declared.reader.Trim.TheVariants as trim
 use Rattle.csv.specs.declared.parser.Action.{Action}
@@ -118,6 +118,23 @@ records_left-none s xs e = rw (add-one (length xs), e)
 pub next_between : (s : State) (xs : List ℕ) (r : Read) → next_record default_config s [] [] xs ≡ Some r → Between r.1
 next_between s xs r e = (advances xs s [] [] r e).between
 
+-- and fewer bytes
+shorter : (s : State) (xs : List ℕ) (r : Read) → Between s → next_record default_config s [] [] xs ≡ Some r → length r.2 < length xs
+shorter s [] r between e = absurd (none-some r (sym (none_at_end s between) ∙ e))
+shorter s (c ∷ rest) r between e = omega (arith, (advances (c ∷ rest) s [] [] r e).no_more)
+
+-- without a byte order mark a text is no longer
+pub length-strip_bom-le : (bytes : List ℕ) → length (strip_bom bytes) ≤ length bytes
+unfolding strip_bom
+length-strip_bom-le [] = lit≤ tt
+length-strip_bom-le (a ∷ []) = omega arith
+length-strip_bom-le (a ∷ b ∷ []) = omega arith
+length-strip_bom-le (a ∷ b ∷ c ∷ rest) =
+    elim (cases_Bool (is_bom a b c)) [
+      | inl e ↦ rw e (omega arith)
+      | inr e ↦ rw e (omega arith)
+    ]
+
 same_read : (r : Read) (fields : List (List ℕ)) (s : State) (left : List ℕ) → fields ≡ r.0 → r.1 ≡ s → r.2 ≡ left → r ≡ (fields, s, left)
 same_read r fields s left a b c = rw (a, ← b, ← c)
 
@@ -134,7 +151,8 @@ read_one rem a b fields left config source read =
 abbrev pub rows_left : State → List ℕ → List (List (List ℕ))
 rows_left s xs = map (map trimmed) (records_left s xs)
 
--- how a reader stands between two rows: it has these bytes left, and the rows that were read, and then those left, are all rows
+-- how a reader stands between two rows: it has these bytes left, the rows that were read, and then those left, are all rows, and a byte at
+-- least was read for each
 pub record Reads (bytes : List ℕ) (reader : Reader (Bor (List ℕ))) (read : List (List (List ℕ))) : Type 0 where
   pub trim : reader.trim ≡ trim.None
   pub ready : Ready reader
@@ -143,6 +161,7 @@ pub record Reads (bytes : List ℕ) (reader : Reader (Bor (List ℕ))) (read : L
   pub left : List ℕ
   pub source : source_of (λ s. Some s.now) reader ≡ Some left
   pub rows : rows_of bytes ≡ read ++ rows_left reader.state left
+  pub few : length read + length left ≤ length bytes
 
 -- a row that was read, between those read before and those below it
 pub record ReadsRow (bytes : List ℕ) (reader : Reader (Bor (List ℕ))) (read : List (List (List ℕ))) (row : List (List ℕ)) : Type 0 where
@@ -170,6 +189,7 @@ reads_row bytes a b read fields so_far one first config trim =
         left = next.0;
         source = next.1;
         rows = split ∙ sym (append_assoc read (row ∷ []) (rows_left b.state next.0));
+        few = omega (arith, so_far.few, shorter a.state so_far.left r so_far.between next.2, length-append read (row ∷ []));
       };
     }
 

@@ -1,5 +1,13 @@
 mod CsvFields
 mod CsvReading
+mod RowByRow
+mod ListParts
+mod StepLines
+mod StepMeaning
+mod StepsLegal
+mod StepsSaid
+mod StepDrafts
+mod StepsReading
 mod Hexadecimal
 mod RequestRows
 mod RequestsTogether

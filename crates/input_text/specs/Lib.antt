@@ -1,8 +1,16 @@
 pub mod CsvRows
+pub mod RowByRow
+pub mod Whys
 pub mod RequestText
 pub mod RequestRow
 pub mod RequestOwners
 pub mod RequestsFile
+pub mod StepText
+pub mod StepForm
+pub mod StepFields
+pub mod StepRow
+pub mod StepsFile
+pub mod StepsReading
 pub mod SystemFile
 pub mod SystemParts
 pub mod SystemText

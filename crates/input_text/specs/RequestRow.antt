@@ -1,5 +1,5 @@
 -- What one row `AT,ID,DATA` of a requests file means, below the requests of the rows above it.
-use Rattle.std.specs.Prelude.{◌≡◌, ℕ, ◌+◌, ◌*◌, ◌-◌, ◌^◌, ◌%◌, ◌<◌, ◌≤◌, ◌==◌, ◌&&◌, Bool, true, false, if◌then◌else◌, nat_eq, nat_lt, nat_le, List, [], ◌∷◌, length, take, drop, codes, Option, Some, None, option_map, option_and_then, ok_or, unwrap_or, Result, Ok, Err}
+use Rattle.std.specs.Prelude.{◌≡◌, ℕ, ◌+◌, ◌*◌, ◌-◌, ◌^◌, ◌%◌, ◌<◌, ◌≤◌, ◌==◌, ◌&&◌, Bool, true, if◌then◌else◌, nat_eq, nat_lt, nat_le, List, [], ◌∷◌, length, take, drop, codes, Option, Some, None, option_map, option_and_then, ok_or, unwrap_or, Result}
 use Rattle.std.specs.Char.{digit_value, is_ascii_hexdigit}
 use Rattle.std.specs.List.{list_all, list_any, slice_get}
 use Rattle.std.specs.Str.{bytes_eq}
@@ -9,6 +9,7 @@ use Rattle.can_frame.specs.DataFrame.{DataFrame, IsFrame}
 use Rattle.async_window.specs.declared.request.Request.{Request}
 use Rattle.async_window.specs.declared.request.Owner.{Owner}
 use Rattle.input_text.specs.CsvRows.{number_of, number_at, within}
+use Rattle.input_text.specs.Whys.{◌>>=◌, where_holds}
 use Rattle.input_text.specs.declared.request_fault.RequestWhy.{RequestWhy}
 use Rattle.input_text.specs.declared.request_fault.RequestWhy.TheVariants.{Fields, Number, Identifier, Data, Order, Many}
 
@@ -56,17 +57,6 @@ arrival_above above = unwrap_or (option_map (λ request. request.at) (slice_get 
 -- the frame of an identifier and its bytes
 abbrev pub frame_with : ℕ → List ℕ → DataFrame
 frame_with identifier bytes = record { identifier = identifier; bytes = bytes }
-
-infixl 10 ◌>>=◌
--- what the second gives for the value of the first, or the why of the first
-abbrev pub ◌>>=◌ : {A B : Type 0} → Result A RequestWhy → (A → Result B RequestWhy) → Result B RequestWhy
-Ok value >>= next = next value
-Err why >>= next = Err why
-
--- the value where the test holds, and else the why
-abbrev pub where_holds : {A : Type 0} → Bool → A → RequestWhy → Result A RequestWhy
-where_holds true value why = Ok value
-where_holds false value why = Err why
 
 -- the request of a row below the requests of the rows above it, or the first why, in this order, for which it asks for none
 unfoldable pub meaning : List Owner → List Request → List (List ℕ) → Result Request RequestWhy

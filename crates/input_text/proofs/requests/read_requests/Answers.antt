@@ -7,9 +7,12 @@ use Rattle.csv.specs.Records.{fields_of}
 use Rattle.input_text.specs.CsvRows.{rows_of, trimmed}
 use Rattle.input_text.specs.RequestRow.{meaning}
 use Rattle.input_text.specs.RequestOwners.{IsOwnedTable}
-use Rattle.input_text.specs.RequestsFile.{AreRequests, IsFirstFault, requests_of}
-use Rattle.input_text.proofs.CsvReading.{reads_all, reads_row}
-use Rattle.input_text.proofs.RequestsTogether.{all_requests, first_fault, more_legal, more_requests, no_requests, none_legal}
+use Rattle.input_text.specs.RequestsFile.{AreRequests}
+use Rattle.input_text.specs.RowByRow.{IsFirstFault}
+use Rattle.input_text.proofs.CsvReading.{length-strip_bom-le, reads_all, reads_row}
+use Rattle.input_text.proofs.RequestsMean.{fault_computed, requests_computed}
+use Rattle.input_text.proofs.RequestsTogether.{more_legal, none_legal}
+use Rattle.input_text.proofs.RowByRow.{more_items, no_items}
 use Rattle.input_text.proofs.requests.read_requests.Goals as goal
 
 pub loop-row-init : goal.loop-row-init
@@ -29,8 +32,9 @@ loop-row-init c =
           left = strip_bom c.args.bytes.now;
           source = reader.source;
           rows = rw reader.state refl;
+          few = omega (arith, length-strip_bom-le c.args.bytes.now);
         };
-        means = no_requests c.args.owners.now;
+        means = no_items (meaning c.args.owners.now);
         legal = none_legal c.args.owners.now;
       },
     )
@@ -47,7 +51,7 @@ returns-in-Err-clause-fault c =
     record {
       before = so_far.before;
       row = map trimmed fields;
-      below = read.below;
+      rest = read.below;
       above = c.loop-row.requests.items;
       split = read.split;
       numbered = omega (arith, c.len.ensures, so_far.means.as_many);
@@ -56,10 +60,9 @@ returns-in-Err-clause-fault c =
     }
 
 pub returns-in-Err-clause-value : goal.returns-in-Err-clause-value
-unfolding requests_of
 returns-in-Err-clause-value c =
-    let fault : IsFirstFault c.args.owners.now (rows_of c.args.bytes.now) (c.len.result + 1) c.in-Err.why = returns-in-Err-clause-fault c in
-    inr (first_fault c.args.owners.now (rows_of c.args.bytes.now) (c.len.result + 1) c.in-Err.why fault)
+    let fault : IsFirstFault (meaning c.args.owners.now) (rows_of c.args.bytes.now) (c.len.result + 1) c.in-Err.why = returns-in-Err-clause-fault c in
+    inr (fault_computed c.args.owners.now (rows_of c.args.bytes.now) (c.len.result + 1) c.in-Err.why fault)
 
 pub loop-row-preserved : goal.loop-row-preserved
 loop-row-preserved c =
@@ -78,7 +81,7 @@ loop-row-preserved c =
       record {
         before = _;
         reads = read.after;
-        means = rw items (more_requests owners so_far.before above (map trimmed fields) request so_far.means is);
+        means = rw items (more_items (meaning owners) so_far.before above (map trimmed fields) request so_far.means is);
         legal = rw items (more_legal owners above request so_far.legal (c.in-Ok-read_row.ensures.legal owners table) (rw c.deref-in-loop-row.ensures.value at c.in-Ok-read_row.ensures.in_order) (rw c.deref-in-loop-row.ensures.value at c.in-Ok-read_row.ensures.few));
       },
     )
@@ -92,7 +95,6 @@ returns-clause-ok c =
     rw (reads_all c.args.bytes.now a so_far.before so_far.reads ended) so_far.means
 
 pub returns-clause-value : goal.returns-clause-value
-unfolding requests_of
 returns-clause-value c =
     let are : AreRequests c.args.owners.now (rows_of c.args.bytes.now) c.loop-row.requests.items = returns-clause-ok c in
-    all_requests c.args.owners.now (rows_of c.args.bytes.now) c.loop-row.requests.items are
+    requests_computed c.args.owners.now (rows_of c.args.bytes.now) c.loop-row.requests.items are
