@@ -41,7 +41,7 @@ abbrev pub HaveSenders : List NodeState → Opening → Type 0
 HaveSenders nodes opening = (slot : ℕ) → slot < slots → contains_slot opening.mask slot ≡ true
     → (instance : Instance) × (instance_in opening.placed slot opening.cycle ≡ Some instance) × IsNumber nodes instance.placed.entry.node
 
-some_instance : (o : Option Instance) → IsSome o → (instance : Instance) × (o ≡ Some instance)
+pub some_instance : (o : Option Instance) → IsSome o → (instance : Instance) × (o ≡ Some instance)
 some_instance (Some instance) some = (instance, refl)
 some_instance None some = absurd (false≢true some)
 

@@ -1,24 +1,22 @@
 -- One opened cycle more, behind the CAN trace of those before it.
-use Rattle.std.proofs.Common.{◌≡◌, ℕ, Bool, true, false, ◌+◌, ◌*◌, ◌<◌, ◌≤◌, ◌↔◌, eqb, max, Option, Some, None, IsSome, List, [], ◌∷◌, ◌++◌, All, Contains, filter, fold, get_or, refl, sym, ap, ◌∙◌, subst, arith, inl, inr}
-use Rattle.std.proofs.lemmas.Bool.{cond-true, cond-false, eq-eqb, false≢true, ne_eqb}
+use Rattle.std.proofs.Common.{◌≡◌, ℕ, Bool, true, false, ◌+◌, ◌*◌, ◌<◌, ◌≤◌, ◌↔◌, eqb, max, List, [], ◌∷◌, ◌++◌, All, Contains, filter, get_or, refl, sym, ap, ◌∙◌, subst, arith, inl, inr}
+use Rattle.std.proofs.lemmas.Bool.{cond-true, cond-false, eq-eqb, ne_eqb}
 use Rattle.std.proofs.lemmas.List.{append-nil}
 use Rattle.std.proofs.lemmas.List.Elements.{All-append, All-cons, All-contains, All-head, All-nil, All-push, All-tail, Contains-append_left, Contains-push, Contains-push_cases, filter-append}
 use Rattle.std.proofs.Math.Nat.{div-eq_of_lt-le, div-lt_iff_lt-mul, mul-le-mul_right}
-use Rattle.can_frame.specs.DataFrame.{DataFrame}
-use Rattle.can_frame.specs.Wire.{wire_length}
 use Rattle.can_frame.specs.declared.data_frame.TimedFrame.{TimedFrame}
 use Rattle.cycle_layout.specs.Layout.{CycleLayout, IsLayout}
-use Rattle.requirement_table.specs.Instance.{Instance}
 use Rattle.requirement_table.specs.Table.{instance_in}
 use Rattle.async_window.specs.declared.request.Request.{Request}
 use Rattle.bus_line.specs.Trace.{AgreeAlong, Follows, IsTrace, end_of, free_after}
-use Rattle.requirement_table.specs.Opening.{Opening, width_of}
-use Rattle.node_model.specs.Opening.{start_of, end_of_cycle, window_start}
-use Rattle.cycle_engine.specs.Cycle.{FitsWindow, FollowsTrace, IsRequestFrame, IsSlotFrame, RunsCycle, RunsCycles, cycle_of, frames_in}
+use Rattle.requirement_table.specs.Opening.{Opening}
+use Rattle.node_model.specs.Opening.{start_of, end_of_cycle}
+use Rattle.cycle_engine.specs.Cycle.{FitsWindow, FollowsTrace, RunsCycle, RunsCycles, cycle_of, frames_in}
 use Rattle.cycle_engine.specs.Offered.{AreAsynchronous, IsCanTrace, offered, offered_in}
+use Rattle.cycle_engine.proofs.Belongs.{some_instance}
 use Rattle.cycle_engine.proofs.Lists.{Contains-here, Contains-later}
 use Rattle.cycle_engine.proofs.OneTrace.{in_cycle}
-use Rattle.cycle_engine.proofs.Window.{AreShort, IsFit, IsLaterFrame, runs_cycle}
+use Rattle.cycle_engine.proofs.Window.{AreShort, IsFit, runs_cycle}
 
 -- a filter that nothing passes, and one that everything passes
 filter-none : (p : TimedFrame → Bool) (xs : List TimedFrame) → ((x : TimedFrame) → Contains xs x → p x ≡ false) → filter p xs ≡ []
@@ -48,10 +46,6 @@ free_after-begun low from [] late begun = late
 free_after-begun low from (sent ∷ later) late begun =
     let first : low ≤ sent.start = All-head (λ s. low ≤ s.start) sent later begun in
     free_after-begun low (end_of sent) later (omega (arith, first)) (All-tail (λ s. low ≤ s.start) sent later begun)
-
-some-instance : (o : Option Instance) → IsSome o → (i : Instance) × (o ≡ Some i)
-some-instance (Some i) some = (i, refl)
-some-instance None some = absurd (false≢true some)
 
 -- the laws of traces on which this stands
 pub record TraceLaws : Type 0 where
@@ -130,7 +124,7 @@ module _ (layout : CycleLayout) (known : IsLayout layout) (requests : List Reque
   is_fit : AreShort → FitsWindow layout opening → IsFit layout opening
   is_fit short fits = record {
     short = short;
-    present = λ slot within flagged. some-instance (instance_in opening.placed slot opening.cycle) (fits.present slot within flagged);
+    present = λ slot within flagged. some_instance (instance_in opening.placed slot opening.cycle) (fits.present slot within flagged);
     room = (let room = known.room in let width = fits.width in omega arith);
   }
 

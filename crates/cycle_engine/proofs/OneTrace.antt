@@ -30,7 +30,7 @@ same_cycle c d length at c_begun c_within d_begun d_within =
     sym (div-eq_of_lt-le length c_begun c_within) ∙ div-eq_of_lt-le length d_begun d_within
 
 -- the first unsent request of an identifier is one of the requests
-is_asynchronous : (requests : List Request) (past : List TimedFrame) (id : ℕ) (request : Request) → AreAsynchronous requests
+pub is_asynchronous : (requests : List Request) (past : List TimedFrame) (id : ℕ) (request : Request) → AreAsynchronous requests
     → slice_get (unsent_after requests past id) 0 ≡ Some request → 0x200 ≤ request.frame.identifier
 is_asynchronous requests past id request all first =
     let Wanted : Request → Type 0 = λ x. (0x200 ≤ x.frame.identifier) × (x.frame.identifier ≤ 0x7EF) in

@@ -1,5 +1,5 @@
 -- When the nodes of a bus offer something next.
-use Rattle.std.proofs.Common.{◌≡◌, ◌≢◌, ℕ, ◌+◌, ◌<◌, List, [], ◌∷◌, ◌++◌, length, map, take, get_or, Option, None, Some, IsSome, refl, sym, ap, ◌∙◌, subst, arith}
+use Rattle.std.proofs.Common.{◌≡◌, ◌≢◌, ℕ, ◌+◌, ◌<◌, List, [], ◌∷◌, ◌++◌, length, take, get_or, Option, None, Some, IsSome, refl, sym, ap, ◌∙◌, subst, arith}
 use Rattle.std.specs.Prelude.{filter_map}
 use Rattle.std.specs.List.{cons_option}
 use Rattle.std.proofs.lemmas.Bool.{false≢true}
@@ -47,8 +47,8 @@ IsWake-more nodes place node at next own both inside is together sum here before
     let more : take (place + 1) nodes ≡ front ++ node ∷ [] = take_more nodes place node inside ∙ ap (λ x. front ++ x ∷ []) (sym is) in
     let same : (later : ℕ) → offered_by_nodes (states_of front) later ++ offered_by node.state later ≡ offered_by_nodes (states_of (take (place + 1) nodes)) later =
     λ later.
-        sym (filter_map-append (λ n. node_offer n later) (states_of front) (node.state ∷ []))
-        ∙ ap (filter_map (λ n. node_offer n later)) (sym (map-append (λ n. n.state) front (node ∷ [])) ∙ ap states_of (sym more)) in
+    sym (filter_map-append (λ n. node_offer n later) (states_of front) (node.state ∷ []))
+    ∙ ap (filter_map (λ n. node_offer n later)) (sym (map-append (λ n. n.state) front (node ∷ [])) ∙ ap states_of (sym more)) in
     subst (IsWake (offered_by_nodes (states_of (take (place + 1) nodes))) at) (sym sum)
     (IsWake-same (λ later. offered_by_nodes (states_of front) later ++ offered_by node.state later) (offered_by_nodes (states_of (take (place + 1) nodes))) at (sooner next own) same
     (together (offered_by_nodes (states_of front)) (offered_by node.state) at next own before (IsWake-one node.state at own here)))

@@ -1,13 +1,13 @@
 -- What a cycle sends: frames of requests that end before its synchronous window, and in that window each pending slot, one after the other
 -- without a gap.
-use Rattle.std.proofs.Common.{◌≡◌, ℕ, zero, suc, ◌+◌, ◌<◌, ◌≤◌, ◌⊎◌, ◌&&◌, not, eqb, true, false, Option, Some, None, IsSome, List, [], ◌∷◌, ◌++◌, length, get_or, refl, ap, sym, ◌∙◌, arith, subst, inl, inr}
-use Rattle.std.specs.Prelude.{slice_get, option_map}
+use Rattle.std.proofs.Common.{◌≡◌, ℕ, zero, suc, ◌+◌, ◌<◌, ◌≤◌, ◌⊎◌, ◌&&◌, not, eqb, true, false, Option, Some, None, List, [], ◌∷◌, ◌++◌, length, refl, ap, sym, ◌∙◌, arith, subst, inl, inr}
+use Rattle.std.specs.Prelude.{option_map}
 use Rattle.std.specs.Option.{option_map_or}
 use Rattle.std.specs.List.{All, AllByRecursion}
 use Rattle.std.proofs.Math.Bool.{and-true}
 use Rattle.std.proofs.lemmas.Bool.{cases_eq, cases_lt, both_ways, and_from, and_parts, not-true, not_from_false, eq-eqb, ne_eqb, cond-true, cond-false}
-use Rattle.std.proofs.lemmas.List.Elements.{All-drop, All-filter, All-from_recursion, All-get_or}
-use Rattle.std.proofs.lemmas.Option.{none-some, same_Some, slice_get_within, get_or_from_slice_get}
+use Rattle.std.proofs.lemmas.List.Elements.{All-from_recursion}
+use Rattle.std.proofs.lemmas.Option.{none-some, same_Some}
 use Rattle.can_frame.specs.DataFrame.{DataFrame}
 use Rattle.can_frame.specs.declared.data_frame.TimedFrame.{TimedFrame}
 use Rattle.can_frame.specs.Wire.{wire_length}
@@ -18,7 +18,6 @@ use Rattle.requirement_table.specs.Table.{instance_in, worst_in}
 use Rattle.requirement_table.proofs.Shared.{sum_where-same}
 use Rattle.trigger_codec.specs.Bytes.{trigger_frame}
 use Rattle.async_window.specs.declared.request.Request.{Request}
-use Rattle.async_window.specs.Waiting.{requests_of, frames_with, unsent_after}
 use Rattle.bus_line.specs.Trace.{end_of, Follows, IsNext}
 use Rattle.requirement_table.specs.Opening.{Opening, bytes_in, width_of}
 use Rattle.node_model.specs.Opening.{first_identifier, start_of, end_of_cycle, window_start}
@@ -26,6 +25,7 @@ use Rattle.node_model.specs.Offered.{OffersTrigger, OffersRequest, OffersSlot}
 use Rattle.node_model.specs.Own.{was_sent}
 use Rattle.cycle_engine.specs.Cycle.{IsRequestFrame, IsSentOnce, IsSlotFrame, RunsCycle, of_slot}
 use Rattle.cycle_engine.specs.Offered.{AreAsynchronous, offered_in}
+use Rattle.cycle_engine.proofs.OneTrace.{is_asynchronous}
 use Rattle.cycle_engine.proofs.Pending.{IsUnsent-from_test, is_pending, is_pending-other, is_pending-sent, pending_width, was_sent-from_unsent}
 use Rattle.cycle_engine.proofs.SlotSums.{sum_where-member, sum_where-without}
 
@@ -147,21 +147,11 @@ record RequestTimes (layout : CycleLayout) (opening : Opening) (at : ℕ) (frame
   after : async_open layout opening.cycle ≤ at
   before : at + wire_length frame ≤ window_start layout opening
 
--- a request among those of a list
-asynchronous-first : (requests : List Request) (past : List TimedFrame) (id : ℕ) (request : Request) → AreAsynchronous requests
-    → slice_get (unsent_after requests past id) 0 ≡ Some request → 0x200 ≤ request.frame.identifier
-asynchronous-first requests past id request asynchronous first =
-    let P : Request → Type 0 = λ r. (0x200 ≤ r.frame.identifier) × (r.frame.identifier ≤ 0x7EF) in
-    let unsent : List Request = unsent_after requests past id in
-    let all : All P unsent = All-drop P (frames_with past id) (requests_of requests id) (All-filter (λ r. eqb r.frame.identifier id) P requests asynchronous) in
-    let holds : P (get_or unsent 0 request) = All-get_or P unsent 0 request (slice_get_within unsent 0 request first) all in
-    (subst P (get_or_from_slice_get unsent 0 request request first) holds).0
-
 request_frame : (layout : CycleLayout) (requests : List Request) (opening : Opening) (past : List TimedFrame) (at : ℕ) (frame : DataFrame) → AreShort
     → AreAsynchronous requests → OffersRequest layout requests opening past at frame → RequestTimes layout opening at frame
 request_frame layout requests opening past at frame short asynchronous offer =
     let request : Request = offer.request in
-    let least = asynchronous-first requests past frame.identifier request asynchronous offer.may_start.waiting.first in
+    let least = is_asynchronous requests past frame.identifier request asynchronous offer.may_start.waiting.first in
     let in_time = short.in_time request.frame in
     let whole = offer.may_start.allowed.whole in
     subst (λ f. RequestTimes layout opening at f) (sym offer.its_frame)

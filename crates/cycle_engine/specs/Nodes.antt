@@ -55,11 +55,11 @@ pub record IsBus (layout : CycleLayout) (owners : List Owner) (requests : List R
   pub stand : All (Stands layout owners requests placed past next) nodes
   pub owned : All (IsOwned owners nodes) requests
 
--- a node knows an instance of the slot that may be sent in the cycle
+-- one of the nodes knows an instance of the slot that may be sent in the cycle
 abbrev pub IsKnown : List NodeState → ℕ → ℕ → Type 0
 IsKnown nodes cycle slot = Any (λ node. IsSome (instance_in node.entries slot cycle)) nodes
 
--- nodes know an instance of each flagged slot that may be sent in the cycle, and the window has the length of all these frames
+-- of each flagged slot one of the nodes knows an instance that may be sent in the cycle, and the window has the length of their frames
 pub record FitsOrder (l : ℕ) (opening : Opening) (nodes : List NodeState) : Type 0 where
   pub width : l ≡ width_of opening
   pub present : (slot : ℕ) → slot < slots → contains_slot opening.mask slot ≡ true → IsKnown nodes opening.cycle slot
