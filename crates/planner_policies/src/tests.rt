@@ -36,12 +36,19 @@ fn masks(
         cycle: 0,
         pending: Mask::empty(),
     };
-    while state.cycle < cycles.min(1_000) && valid(ranked, &state) {
+    for _ in 0..cycles {
+        if state.cycle >= 1_000 || !valid(ranked, &state) {
+            break;
+        }
         let mask = cycle_mask(ranked, w, &state);
         masks.push(mask.bits())?;
         match plan_cycle(ranked, w, &state) {
-            Ok((planned, next)) if planned == mask => state = next,
-            Ok(_) => break,
+            Ok((planned, next)) => {
+                if planned != mask {
+                    break;
+                }
+                state = next;
+            }
             Err(miss) => return Ok((masks, Some(miss))),
         }
     }
