@@ -1,24 +1,24 @@
 -- The plan of a cycle, from the line of its pending instances.
-use Rattle.std.proofs.Common.{◌≡◌, ◌≢◌, ℕ, zero, suc, ◌+◌, ◌-◌, ◌^◌, ◌<◌, ◌≤◌, ◌&&◌, ◌||◌, ◌↔◌, not, Bool, true, false, nat_eq, nat_le, Option, Some, None, List, [], ◌∷◌, ◌++◌, All, AllPairs, Any, Contains, length, get_or, map, take, drop, refl, sym, ap, ◌∙◌, ⊎_elim, arith}
+use Rattle.std.proofs.Common.{◌≡◌, ◌≢◌, ℕ, zero, suc, ◌+◌, ◌-◌, ◌^◌, ◌<◌, ◌≤◌, ◌&&◌, ◌||◌, ◌↔◌, not, Bool, true, false, nat_eq, nat_le, Option, Some, None, List, [], ◌∷◌, ◌++◌, All, AllPairs, Any, Contains, length, get_or, map, take, drop, refl, sym, ap, ◌∙◌, ⊎_elim, arith, length-take}
 use Rattle.std.specs.List.{list_any, sum_by}
 use Rattle.std.specs.Option.{option_map_or}
 use Rattle.std.proofs.lemmas.Bool.{and_from, and_parts, both_ways, cases_lt, eq-eqb, eqb-true, false_from_ne_true}
-use Rattle.std.proofs.lemmas.List.{get_or-map, length-map, take-map, take-take}
+use Rattle.std.proofs.lemmas.List.{get_or-map, get_or-take, length-map, take-map, take-take}
 use Rattle.std.proofs.lemmas.List.Elements.{All-contains, All-drop, All-head, All-map, All-tail, All-take, All-weaker, Contains-get_or}
 use Rattle.std.proofs.lemmas.List.Folds.{Any-from_list_any, list_any-from_Any}
 use Rattle.std.proofs.lemmas.List.Sums.{sum_by-cons, sum_by-take-le}
 use Rattle.requirement_table.specs.declared.entries.Placed.{Placed}
 use Rattle.requirement_table.specs.Instance.{Instance, MaySend, deadline_of, release_of, worst_of}
 use Rattle.requirement_table.specs.Slots.{contains_slot, set_of, slots}
-use Rattle.requirement_table.specs.Table.{IsWellPlaced, instance_in, is_last_in, worst_in}
-use Rattle.requirement_table.proofs.Shared.{set_of-from_slots}
+use Rattle.requirement_table.specs.Table.{IsWellPlaced, instance_in, is_last_in, width_in, worst_in}
+use Rattle.requirement_table.proofs.Shared.{set_of-from_slots, sum_where-same}
 use Rattle.planner_policies.specs.declared.due.Due.{Due}
 use Rattle.planner_policies.specs.declared.state.Miss.{Miss}
 use Rattle.planner_policies.specs.Due.{IsDueIn, IsLeastMissed, IsLongestFit, IsWholeLine, is_due_by, miss_of}
 use Rattle.planner_policies.specs.Order.{IsInKeyOrder, IsLongestFront}
 use Rattle.planner_policies.specs.Plan.{HasNoMissIn, IsHeldFrom, IsMissIn, IsValid, Planning, by_number, is_by, is_missed_in, key_in, key_of, left_after, pending_in, planned_in, priority_in}
 use Rattle.planner_policies.proofs.Held.{found-in, found-of}
-use Rattle.planner_policies.proofs.Longest.{left-iff, planned-iff, same-test}
+use Rattle.planner_policies.proofs.Longest.{has, left-iff, planned-iff, same-test, sum_where-list}
 use Rattle.planner_policies.proofs.Pairs.{pairs-map}
 
 abbrev slot_of : Due → ℕ
@@ -247,3 +247,28 @@ next-valid plan c before line n mask well whole none made slot left =
     let one = instance-with slot (drop n line) (slots-contain slot (drop n line) (sym (made slot) ∙ left)) in
     let in' = All-contains (IsDueIn plan c before) (drop n line) one.due (All-drop (IsDueIn plan c before) n line whole.each) one.stands in
     rw (← one.value) (held-next plan c before one.due well in' (All-contains (λ due. due.last ≢ c) (drop n line) one.due none one.stands))
+
+pairs-take : {X : Type 0} (R : X → X → Type 0) (n : ℕ) (xs : List X) → n ≤ length xs → AllPairs R xs → AllPairs R (take n xs)
+pairs-take R n xs room pairs i j d before within =
+    let small : j < n = omega (arith, length-take n xs) in
+    rw (get_or-take n xs i d (omega arith), get_or-take n xs j d small) (pairs i j d before (omega arith))
+
+has-order : (slot : ℕ) (xs : List Due) → list_any (has_slot slot) xs ≡ has (order_of xs) slot
+has-order slot [] = refl
+has-order slot (x ∷ xs) = ap (λ b. nat_eq x.slot slot || b) (has-order slot xs)
+
+-- what the first ones cost together is what the planned slots cost
+pub planned-width : (plan : Planning) (c : ℕ) (before : ℕ → Bool) (line : List Due) (n : ℕ) → IsWholeLine plan c before line
+    → IsLongestFit plan.window line n → width_in plan.placed c (planned_in plan c before) ≡ sum_by (λ due. due.cost) (take n line)
+planned-width plan c before line n whole fit =
+    let order = order-is plan c before line whole in
+    let front : take n (order_of line) ≡ order_of (take n line) = take-map slot_of n line in
+    let size : length (order_of line) ≡ length line = length-map line slot_of in
+    let room = fit.within in
+    let known : All (λ x. x < slots) (order_of (take n line)) = rw front at (All-take (λ x. x < slots) n (order_of line) order.known) in
+    let distinct : AllPairs (λ v w. v ≢ w) (order_of (take n line))
+    = rw front at (pairs-take (λ v w. v ≢ w) n (order_of line) (omega arith) order.distinct) in
+    sum_where-same slots (planned_in plan c before) (has (order_of (take n line))) (worst_in plan.placed c)
+    (λ slot within. sym (planned-is plan c before line n slot whole fit within) ∙ has-order slot (take n line))
+    ∙ sum_where-list slots (order_of (take n line)) (worst_in plan.placed c) known distinct
+    ∙ sum-costs plan c before (take n line) (All-take (IsDueIn plan c before) n line whole.each)

@@ -7,7 +7,6 @@ mod Missed
 mod KeyOrder
 mod Longest
 mod Loops
-mod Over
 mod Pairs
 mod Rows
 mod Steps

@@ -16,7 +16,7 @@ use Rattle.planner_policies.proofs.Lines.{same-read}
 use Rattle.planner_policies.proofs.Pairs.{pairs-head, pairs-tail}
 
 -- the test of a list
-abbrev has : List ℕ → ℕ → Bool
+abbrev pub has : List ℕ → ℕ → Bool
 has xs slot = list_any (λ x. nat_eq x slot) xs
 
 sum_where-none : (n : ℕ) (f : ℕ → ℕ) → sum_where n (λ _. false) f ≡ 0

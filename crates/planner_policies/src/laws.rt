@@ -111,15 +111,3 @@ pub fn keeping()
     ensures good { (plan : Planning) (n m : ℕ) → HasNoMiss plan n → m < n
         → IsGoodCycle plan.placed (flags_of plan) plan.from (contains_slot plan.pending) m }
 {}
-
-/// Entries whose slots are free again by a cycle have nothing to say from it on: a list without some of them is well placed, and has the
-/// same instances.
-pub fn entries_that_are_over()
-    ensures well_placed { (keep : Placed → Bool) (placed : List Placed) → IsWellPlaced placed → IsWellPlaced (filter keep placed) }
-    ensures instances { (keep : Placed → Bool) (placed : List Placed) (from c slot : ℕ) → IsWellPlaced placed
-        → All (λ p. keep p ≡ false → IsFreeAt p from) placed → from ≤ c
-        → instance_in (filter keep placed) slot c ≡ instance_in placed slot c }
-    ensures releases { (keep : Placed → Bool) (placed : List Placed) (from c slot : ℕ) → IsWellPlaced placed
-        → All (λ p. keep p ≡ false → IsFreeAt p from) placed → from ≤ c
-        → releases_in (filter keep placed) c slot ≡ releases_in placed c slot }
-{}

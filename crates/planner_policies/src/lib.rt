@@ -11,7 +11,7 @@ mod planning;
 mod ranking;
 mod state;
 
-pub use planning::{cycle_mask, plan_cycle, valid};
+pub use planning::{cycle_mask, cycle_width, plan_cycle, valid};
 pub use ranking::{Ranked, rank};
 pub use state::{Miss, PlanState};
 

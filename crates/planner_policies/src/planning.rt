@@ -1,9 +1,9 @@
 //! The plan of one cycle.
 
-ghost use Rattle.std.specs.Prelude.{◌≡◌, ℕ, ◌+◌, ◌^◌, ◌<◌, ◌↔◌, nat_eq, All, IsTrue, IfOk, IfErr};
+ghost use Rattle.std.specs.Prelude.{◌≡◌, ℕ, ◌+◌, ◌^◌, ◌<◌, ◌≤◌, ◌↔◌, nat_eq, sum_by, All, IsTrue, IfOk, IfErr};
 ghost use Rattle.std.specs.List.{list_any};
 ghost use Rattle.requirement_table.specs.Slots.{contains_slot, set_of, slots};
-ghost use Rattle.requirement_table.specs.Table.{IsInRange, IsWellPlaced};
+ghost use Rattle.requirement_table.specs.Table.{IsInRange, IsWellPlaced, width_in};
 ghost use Rattle.planner_policies.specs.Due.{IsLeastMissed, IsLongestFit, IsWholeLine, is_held_in, lesser_miss};
 ghost use Rattle.planner_policies.specs.Plan.{HasNoMissIn, IsMissIn, IsValid, left_after, planned_in, planning_of};
 
@@ -92,6 +92,22 @@ pub fn cycle_mask(ranked: &Ranked, w: u32, state: &PlanState) -> Mask
     slots_of(taken)
 }
 
+/// What the slots that are planned in the cycle of the state cost together, in bit times: the length of its synchronous window, at most
+/// `w`.
+///
+/// The state is valid.
+pub fn cycle_width(ranked: &Ranked, w: u32, state: &PlanState) -> u32
+    requires cycle { state.now.cycle < 2 ^ 42 }
+    requires valid { IsValid ranked.now.placed state.now.cycle state.now.pending }
+    ensures width { let plan = planning_of ranked.now w state.now.cycle state.now.pending in
+        result ≡ width_in plan.placed state.now.cycle (planned_in plan state.now.cycle (contains_slot state.now.pending)) }
+    ensures fits { result ≤ w }
+{
+    let line = line_of(ranked, w, state);
+    let (taken, _) = line.as_slice().split_at(fitting(line.as_slice(), w));
+    cost_of(taken)
+}
+
 /// The instances that are pending in the cycle of the state, in key order.
 fn line_of(ranked: &Ranked, w: u32, state: &PlanState) -> Line
     requires cycle { state.now.cycle < 2 ^ 42 }
@@ -122,6 +138,14 @@ fn fitting(line: &[Due], w: u32) -> usize
         room -= due.cost;
     }
     line.len()
+}
+
+/// What the frames of instances cost together, in bit times.
+fn cost_of(line: &[Due]) -> u32
+    requires few { sum_by (λ due. due.cost) line.now < 2 ^ 32 }
+    ensures cost { result ≡ sum_by (λ due. due.cost) line.now }
+{
+    line.iter().map(|due| due.cost).sum()
 }
 
 /// The slots of instances.
