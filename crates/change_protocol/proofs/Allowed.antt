@@ -2,7 +2,7 @@
 use Rattle.std.proofs.Common.{◌≡◌, ◌≢◌, ℕ, ◌<◌, ◌≤◌, ◌^◌, Bool, true, false, ◌||◌, nat_eq, nat_lt, nat_le, Option, Some, None, IfSome, IsSomeAnd, is_none, List, [], ◌∷◌, ◌++◌, length, map, All, AllPairs, append_assoc, refl, append-nil, arith}
 use Rattle.std.specs.List.{list_any}
 use Rattle.std.specs.Option.{option_map_or}
-use Rattle.std.proofs.lemmas.Bool.{eqb-false, or_parts}
+use Rattle.std.proofs.lemmas.Bool.{eqb-false, leb-false, or_parts}
 use Rattle.std.proofs.lemmas.List.Elements.{All-nil, All-cons, All-weaker}
 use Rattle.std.proofs.lemmas.List.Quantifiers.{all_pairs_push}
 use Rattle.std.proofs.lemmas.Bool.Decides.{nat_tests}
@@ -80,8 +80,12 @@ none-passes test [] none = All-nil (λ x. test x ≡ false)
 none-passes test (x ∷ xs) none =
     All-cons (λ x. test x ≡ false) x xs (or_parts (test x) (list_any test xs) none).0 (none-passes test xs (or_parts (test x) (list_any test xs) none).1)
 
+known : (nodes : ℕ) (placed_entry : Option Entry) → option_map_or (λ entry. nat_le nodes entry.node) placed_entry false ≡ false → IfSome placed_entry (λ entry. entry.node < nodes)
+known nodes None test = tt
+known nodes (Some entry) test = leb-false nodes entry.node test
+
 -- what no fault of an operation says of it
-allowed-at : (placed : List Placed) (nodes start : ℕ) (earlier : List Op) (op : Op) → whys placed nodes start earlier op ≡ [] → IsAllowed placed start op × All (λ other. Differ other op) earlier
+allowed-at : (placed : List Placed) (nodes start : ℕ) (earlier : List Op) (op : Op) → whys placed nodes start earlier op ≡ [] → IsAllowed placed start op × All (λ other. Differ other op) earlier × IfSome (entry_of op) (λ entry. entry.node < nodes)
 allowed-at placed nodes start earlier op none =
     let upto_busy = both-none (slot_range op ++ slot_twice earlier op ++ node_unknown nodes op ++ length_range op ++ period_zero op ++ deadline_range op ++ slot_busy placed start op) (slot_empty placed op) none in
     let upto_deadline = both-none (slot_range op ++ slot_twice earlier op ++ node_unknown nodes op ++ length_range op ++ period_zero op ++ deadline_range op) (slot_busy placed start op) upto_busy.0 in
@@ -98,6 +102,7 @@ allowed-at placed nodes start earlier op none =
       },
       All-weaker (λ other. nat_eq (slot_of other) (slot_of op) ≡ false) (λ other. Differ other op) (λ other no. eqb-false (slot_of other) (slot_of op) no) earlier
           (none-passes (λ other. nat_eq (slot_of other) (slot_of op)) earlier (not-held _ _ upto_range.1)),
+      known nodes (entry_of op) (not-held _ _ upto_twice.1),
     )
 
 -- where no operation breaks a rule, each is allowed
@@ -117,3 +122,12 @@ all-differ placed nodes start earlier (op ∷ ops) none differ =
     let others = (allowed-at placed nodes start earlier op (none-mapped (broken (length earlier)) (whys placed nodes start earlier op) parts.0)).1 in
     let more = all_pairs_push Differ earlier op differ (λ k d within. others k d within) in
     rw append_assoc at (all-differ placed nodes start (earlier ++ op ∷ []) ops parts.1 more)
+
+-- and their nodes are known
+pub all-known : (placed : List Placed) (nodes start : ℕ) (earlier ops : List Op) → op_faults placed nodes start earlier ops ≡ [] → All (λ op. IfSome (entry_of op) (λ entry. entry.node < nodes)) ops
+all-known placed nodes start earlier [] none = All-nil (λ op. IfSome (entry_of op) (λ entry. entry.node < nodes))
+all-known placed nodes start earlier (op ∷ ops) none =
+    let parts = both-none (map (broken (length earlier)) (whys placed nodes start earlier op)) (op_faults placed nodes start (earlier ++ op ∷ []) ops) none in
+    All-cons (λ op. IfSome (entry_of op) (λ entry. entry.node < nodes)) op ops
+    (allowed-at placed nodes start earlier op (none-mapped (broken (length earlier)) (whys placed nodes start earlier op) parts.0)).2
+    (all-known placed nodes start (earlier ++ op ∷ []) ops parts.1)

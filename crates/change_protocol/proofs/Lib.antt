@@ -8,4 +8,5 @@ mod Pairs
 mod Placing
 pub mod Shared
 mod Uses
+mod WellFormed
 mod WellPlaced

@@ -28,7 +28,7 @@ none-free : (end : Option ℕ) (deadline c : ℕ) → end ≡ None → IsSomeAnd
 none-free None deadline c none free = free
 none-free (Some e) deadline c none free = absurd (cc)
 
-never-free : (p : Placed) (c : ℕ) → p.end ≡ None → IsFreeAt p c → ⊥
+pub never-free : (p : Placed) (c : ℕ) → p.end ≡ None → IsFreeAt p c → ⊥
 never-free p c none free = none-free p.end p.entry.deadline c none free
 
 later-free : (end : Option ℕ) (deadline c d : ℕ) → c ≤ d → IsSomeAnd (option_map (λ e. e + deadline - 1) end) (λ from. from ≤ c) → IsSomeAnd (option_map (λ e. e + deadline - 1) end) (λ from. from ≤ d)
@@ -38,13 +38,13 @@ later-free (Some e) deadline c d later free = omega arith
 free-later : (p : Placed) (c d : ℕ) → c ≤ d → IsFreeAt p c → IsFreeAt p d
 free-later p c d later free = later-free p.end p.entry.deadline c d later free
 
-lives-parts : (slot : ℕ) (p : Placed) → lives_in slot p ≡ true → (p.entry.slot ≡ slot) × (p.end ≡ None)
+pub lives-parts : (slot : ℕ) (p : Placed) → lives_in slot p ≡ true → (p.entry.slot ≡ slot) × (p.end ≡ None)
 lives-parts slot p lives =
     let parts = and_parts (nat_eq p.entry.slot slot) (is_none p.end) lives in
     (eqb-true p.entry.slot slot parts.0, none-from_test p.end parts.1)
 
 -- each entry of a slot is its live entry, or free before the origin of that
-around-live : (placed : List Placed) (slot : ℕ) (live : Placed) → AllPairs GoesBefore placed → live_in placed slot ≡ Some live
+pub around-live : (placed : List Placed) (slot : ℕ) (live : Placed) → AllPairs GoesBefore placed → live_in placed slot ≡ Some live
     → All (λ p. p.entry.slot ≡ slot → (p ≡ live) ⊎ IsFreeAt p live.origin) placed
 around-live [] slot live pairs found = All-nil (λ p. p.entry.slot ≡ slot → (p ≡ live) ⊎ IsFreeAt p live.origin)
 around-live (x ∷ xs) slot live pairs found =
@@ -173,7 +173,7 @@ freed-free : (end : Option ℕ) (deadline c : ℕ) → is_none end ≡ false →
 freed-free None deadline c some below = absurd (cc)
 freed-free (Some e) deadline c some below = below
 
-freed-below : (p : Placed) (slot c : ℕ) → p.entry.slot ≡ slot → is_none p.end ≡ false → freed_by slot p ≤ c → IsFreeAt p c
+pub freed-below : (p : Placed) (slot c : ℕ) → p.entry.slot ≡ slot → is_none p.end ≡ false → freed_by slot p ≤ c → IsFreeAt p c
 freed-below p slot c same some below =
     let at : freed_by slot p ≡ option_map_or (λ from. from) (free_from p) 0 = rw (eq-eqb p.entry.slot slot same) refl in
     freed-free p.end p.entry.deadline c some (rw at at below)
@@ -239,7 +239,7 @@ before-placed placed start ops p (Change entry) well allowed dead freed around e
 any-at : {X : Type 0} (test : X → Bool) (xs : List X) (k : ℕ) (d : X) → k < length xs → test (get_or xs k d) ≡ true → list_any test xs ≡ true
 any-at test xs k d within holds = list_any-from_Any test xs (k, get_or xs k d, within, get_or_default xs k (get_or xs k d) d within, holds)
 
-most : (placed : List Placed) (slot k : ℕ) (d : Placed) → k < length placed → freed_by slot (get_or placed k d) ≤ free_in placed slot
+pub most : (placed : List Placed) (slot k : ℕ) (d : Placed) → k < length placed → freed_by slot (get_or placed k d) ≤ free_in placed slot
 most placed slot k d within = max_bounds (λ (ps : List Placed). free_in ps slot) (freed_by slot) refl (λ x xs. refl) placed k d within
 
 across : (placed : List Placed) (start : ℕ) (ops : List Op) → IsWellPlaced placed → All (IsAllowed placed start) ops

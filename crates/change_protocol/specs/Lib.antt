@@ -4,3 +4,4 @@ pub mod First
 pub mod Malformed
 pub mod Operations
 pub mod Slots
+pub mod WellFormed

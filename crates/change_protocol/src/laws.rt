@@ -1,6 +1,6 @@
 //! Laws about the definitions of this crate. Each function has an empty body, and its contract is the law.
 
-ghost use Rattle.std.specs.Prelude.{◌≡◌, ℕ, ◌<◌, ◌≤◌, List, Some, All, IsSomeAnd, length, slice_get};
+ghost use Rattle.std.specs.Prelude.{◌≡◌, ℕ, ◌<◌, ◌≤◌, ◌↔◌, List, Some, All, IsSomeAnd, length, slice_get};
 ghost use Rattle.std.specs.Option.{option_map};
 ghost use Rattle.requirement_table.specs.declared.entries.Placed.{Placed};
 ghost use Rattle.requirement_table.specs.Instance.{Instance, release_of};
@@ -8,7 +8,16 @@ ghost use Rattle.requirement_table.specs.Table.{IsWellPlaced, instance_in, is_la
 ghost use Rattle.change_protocol.specs.declared.operations.Change.{Change};
 ghost use Rattle.change_protocol.specs.Applied.{IsChangedAt, IsKept, IsNewFrom, applied, without_end};
 ghost use Rattle.change_protocol.specs.Malformed.{IsWellFormed};
+ghost use Rattle.change_protocol.specs.WellFormed.{BreaksNoRule};
 ghost use Rattle.change_protocol.specs.Operations.{HasTypes};
+
+/// A change is well formed exactly where it has 1 to 16 operations on distinct slots, starts below 2^40, and each of its
+/// operations has a known slot, an entry that can be placed, and finds its slot as it needs it: free at the start, or with a
+/// live entry that does not begin behind it.
+pub fn well_formed_changes()
+    ensures formed { (placed : List Placed) (nodes : ℕ) (change : Change) → IsWellPlaced placed
+        → IsWellFormed placed nodes change ↔ BreaksNoRule placed nodes change }
+{}
 
 /// What a change makes of a well placed list came from it by a change with that start, and it is well placed where the
 /// change is well formed.
