@@ -34,5 +34,5 @@ unfoldable pub requests_of_rows : List Owner → List (List (List ℕ)) → Resu
 requests_of_rows owners rows = requests_or_fault (items_below (meaning owners) [] rows)
 
 -- the requests of a file, or its fault
-abbrev pub requests_of : List Owner → List ℕ → Result (List Request) RequestFault
+unfoldable pub requests_of : List Owner → List ℕ → Result (List Request) RequestFault
 requests_of owners bytes = requests_of_rows owners (rows_of bytes)

@@ -76,7 +76,7 @@ unfoldable pub steps_of_rows : List (List (List ℕ)) → Result (List Step) Ste
 steps_of_rows rows = steps_or_fault (items_below meaning [] rows)
 
 -- the steps of a file, or its fault
-abbrev pub steps_of : List ℕ → Result (List Step) StepFault
+unfoldable pub steps_of : List ℕ → Result (List Step) StepFault
 steps_of bytes = steps_of_rows (rows_of bytes)
 
 -- what holds of the steps of each file

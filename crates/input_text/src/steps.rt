@@ -47,16 +47,16 @@ const MAX_LOOKS: u32 = 1_000;
 // The most cycles that the rows of a file run together.
 const MAX_CYCLES: u64 = 20_000;
 
-/// What matters of the rows above a row.
+// What matters of the rows above a row.
 #[derive(Clone, Copy)]
-pub struct Tally {
-    /// Whether the row directly above is of a change.
+struct Tally {
+    // Whether the row directly above is of a change.
     in_change: bool,
-    /// How many changes were begun.
+    // How many changes were begun.
     changes: u32,
-    /// How many looks there were.
+    // How many looks there were.
     looks: u32,
-    /// How many cycles were run.
+    // How many cycles were run.
     cycles: u64,
 }
 
@@ -161,14 +161,14 @@ fn read_row(row: &ByteRecord, above: Tally) -> Result<(Line, Tally), StepWhy>
     Ok((line, tally))
 }
 
-/// A change to which further rows may add operations.
+// A change to which further rows may add operations.
 #[derive(Drop)]
-pub struct Asked {
-    /// The operator.
+struct Asked {
+    // The operator.
     caller: u8,
-    /// The change's start.
+    // The change's start.
     start: u64,
-    /// Its operations so far.
+    // Its operations so far.
     ops: Vec<Op>,
 }
 
@@ -212,12 +212,12 @@ impl Asked {
     }
 }
 
-/// The steps of the rows so far.
+// The steps of the rows so far.
 #[derive(Drop)]
-pub struct Draft {
-    /// The steps that stay as they are.
+struct Draft {
+    // The steps that stay as they are.
     steps: Vec<Step>,
-    /// The change behind them, where the last row is of one.
+    // The change behind them, where the last row is of one.
     asked: Option<Asked>,
 }
 

@@ -7,7 +7,7 @@ use Rattle.csv.specs.Records.{fields_of}
 use Rattle.input_text.specs.CsvRows.{rows_of, trimmed}
 use Rattle.input_text.specs.RequestRow.{meaning}
 use Rattle.input_text.specs.RequestOwners.{IsOwnedTable}
-use Rattle.input_text.specs.RequestsFile.{AreRequests}
+use Rattle.input_text.specs.RequestsFile.{AreRequests, requests_of}
 use Rattle.input_text.specs.RowByRow.{IsFirstFault}
 use Rattle.input_text.proofs.CsvReading.{length-strip_bom-le, reads_all, reads_row}
 use Rattle.input_text.proofs.RequestsMean.{fault_computed, requests_computed}
@@ -60,6 +60,7 @@ returns-in-Err-clause-fault c =
     }
 
 pub returns-in-Err-clause-value : goal.returns-in-Err-clause-value
+unfolding requests_of
 returns-in-Err-clause-value c =
     let fault : IsFirstFault (meaning c.args.owners.now) (rows_of c.args.bytes.now) (c.len.result + 1) c.in-Err.why = returns-in-Err-clause-fault c in
     inr (fault_computed c.args.owners.now (rows_of c.args.bytes.now) (c.len.result + 1) c.in-Err.why fault)
@@ -95,6 +96,7 @@ returns-clause-ok c =
     rw (reads_all c.args.bytes.now a so_far.before so_far.reads ended) so_far.means
 
 pub returns-clause-value : goal.returns-clause-value
+unfolding requests_of
 returns-clause-value c =
     let are : AreRequests c.args.owners.now (rows_of c.args.bytes.now) c.loop-row.requests.items = returns-clause-ok c in
     requests_computed c.args.owners.now (rows_of c.args.bytes.now) c.loop-row.requests.items are

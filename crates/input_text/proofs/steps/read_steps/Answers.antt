@@ -10,7 +10,7 @@ use Rattle.input_text.proofs.RowByRow.{more_items, no_items}
 use Rattle.input_text.proofs.StepsLegal.{steps_legal}
 use Rattle.input_text.proofs.StepsSaid.{fault_computed, steps_computed}
 use Rattle.input_text.specs.RowByRow.{IsFirstFault}
-use Rattle.input_text.specs.StepsFile.{AreSteps, Say}
+use Rattle.input_text.specs.StepsFile.{AreSteps, Say, steps_of}
 use Rattle.std.proofs.lemmas.Result.{IfErr-weaker, IfOk-weaker, MatchResult-from_both}
 use Rattle.input_text.proofs.steps.read_steps.Goals as goal
 
@@ -88,6 +88,7 @@ loop-row-preserved c =
     )
 
 pub returns-in-Err-clause-value : goal.returns-in-Err-clause-value
+unfolding steps_of
 returns-in-Err-clause-value c =
     let fault : IsFirstFault meaning (rows_of c.args.bytes.now) (c.loop-row.number + 1) c.in-Err.why = returns-in-Err-clause-fault c in
     inr (fault_computed (rows_of c.args.bytes.now) (c.loop-row.number + 1) c.in-Err.why fault)
@@ -102,6 +103,7 @@ returns-clause-ok c =
     IfOk-weaker c.into_steps.result _ _ (λ steps e. rw rows record { lines = so_far.lines; read = so_far.are; say = subst (Say so_far.lines) (sym e) so_far.drafts.say }) c.into_steps.ensures.ok
 
 pub returns-clause-value : goal.returns-clause-value
+unfolding steps_of
 returns-clause-value c =
     let are : IfOk c.into_steps.result (λ steps. AreSteps (rows_of c.args.bytes.now) steps.items) = returns-clause-ok c in
     MatchResult-from_both c.into_steps.result _ _
