@@ -12,7 +12,7 @@ use Rattle.turn_lock.specs.History.{own}
 use Rattle.turn_lock.specs.Passes.{spent_view, longer, joined}
 use Rattle.turn_lock.specs.Rule.{IsLive, count_live, IsSeenWhole, IsBlamed, IsJoined, Fits, IsFree, IsTaken, Kept}
 use Rattle.turn_lock.specs.declared.view.View.{View}
-use Rattle.turn_lock.proofs.Lists.{own_between, at_below, longer_left, longer_right, longer_begins, longer_whole}
+use Rattle.turn_lock.proofs.Shared.{own_between, at_below, longer_left, longer_right, longer_begins, longer_whole}
 use Rattle.turn_lock.proofs.Live.{count-set_same, count-set_spent, count_some, live_after, live_before, same_view, other_holds}
 
 not_spent : false ≡ true → ⊥

@@ -1,4 +1,4 @@
-mod Lists
+pub mod Shared
 mod Live
 mod Told
 mod Moves

@@ -8,7 +8,7 @@ use Rattle.atomic_table.proofs.Lists.{at_set, set_here, set_else}
 use Rattle.turn_lock.specs.Passes.{spent_view}
 use Rattle.turn_lock.specs.Rule.{IsLive, count_live}
 use Rattle.turn_lock.specs.declared.view.View.{View}
-use Rattle.turn_lock.proofs.Lists.{at_below}
+use Rattle.turn_lock.proofs.Shared.{at_below}
 
 abbrev weight : Bool → ℕ
 weight spent = cond spent 0 1

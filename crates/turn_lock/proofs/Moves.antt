@@ -11,7 +11,7 @@ use Rattle.turn_lock.specs.Passes.{Facts}
 use Rattle.turn_lock.proofs.Told.{told}
 use Rattle.turn_lock.specs.Rule.{IsLive, IsSeenWhole, IsBlamed, IsJoined, Fits, IsFree, IsTaken, Kept}
 use Rattle.turn_lock.specs.declared.view.View.{View}
-use Rattle.turn_lock.proofs.Lists.{prefix_trans, at_below}
+use Rattle.turn_lock.proofs.Shared.{prefix_trans, at_below}
 use Rattle.turn_lock.proofs.Live.{count-set_same, live_here, live_after, live_before, same_view}
 
 -- what no step on the word changes of a view

@@ -10,7 +10,7 @@ use Rattle.turn_lock.specs.History.{own}
 use Rattle.turn_lock.specs.Passes.{split_from, split_off}
 use Rattle.turn_lock.specs.Rule.{IsLive, IsSeenWhole, IsBlamed, IsJoined, Fits, IsFree, IsTaken, Kept}
 use Rattle.turn_lock.specs.declared.view.View.{View}
-use Rattle.turn_lock.proofs.Lists.{own_none, at_below, at_snoc_at}
+use Rattle.turn_lock.proofs.Shared.{own_none, at_below, at_snoc_at}
 use Rattle.turn_lock.proofs.Live.{count-snoc, count-set_same, live_after, live_before, same_view, other_holds}
 
 no_element : {A : Type 0} (x : A) → Contains [] x → ⊥

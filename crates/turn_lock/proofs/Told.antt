@@ -6,7 +6,7 @@ use Rattle.turn_lock.specs.History.{own}
 use Rattle.turn_lock.specs.Passes.{Facts}
 use Rattle.turn_lock.specs.Rule.{count_live, Fits}
 use Rattle.turn_lock.specs.declared.view.View.{View}
-use Rattle.turn_lock.proofs.Lists.{own_none}
+use Rattle.turn_lock.proofs.Shared.{own_none}
 use Rattle.turn_lock.proofs.Live.{only_one, same_view}
 
 module _ {T E F : Type 0} (entries : T → List E) (fixed : T → F) (number : E → ℕ) (key : F) (views : List (View E F)) (log : List E) (i : ℕ) (v : View E F) (at : get_elem? views i ≡ some v) (alive : v.spent ≡ false)

@@ -15,7 +15,7 @@ use Rattle.turn_lock.specs.Passes.{carried, granted, refused, committed, given_b
 use Rattle.turn_lock.specs.Rule.{IsBlamed, IsFree, IsTaken, Kept}
 use Rattle.turn_lock.specs.Steps.{Looked, IsGranted, IsRefused, Tried, Committed, GivenBack}
 use Rattle.turn_lock.specs.declared.view.View.{View}
-use Rattle.turn_lock.proofs.Lists.{at_below, prefix_refl, prefix_length, own_one_more, own_no_more}
+use Rattle.turn_lock.proofs.Shared.{at_below, prefix_refl, prefix_length, own_one_more, own_no_more}
 use Rattle.turn_lock.proofs.Live.{two_live, same_view, other_holds}
 use Rattle.turn_lock.proofs.Moves.{Goes, blamed_after, kept_after}
 

@@ -97,7 +97,7 @@ pub record Facts {E F : Type 0} (number : E → ℕ) (v : View E F) : Type 0 whe
   pub counted : v.made ≡ v.out + length v.ended
   -- the lists that met in the last joining begin what it has seen
   pub met_begin : (xs : List E) → Contains v.met xs → IsPrefix xs v.seen
-  -- where the first pass has none out, it has seen no entry of any other number
+  -- where the first pass has none out, the number of each entry that it has seen is 0 or that of a pass that was joined
   pub covered : v.number ≡ 0 → v.out ≡ 0 → (n : ℕ) → n ≢ 0 → HasEnded v.ended n ⊎ (own number n v.seen ≡ [])
   -- the last word that refused it is odd
   pub odd : v.refused ≢ 0 → (k : ℕ) × (v.last ≡ 2 * k + 1)

@@ -9,4 +9,4 @@ fetch_add-requires g c =
     let found = ap (λ (k : Known g.row.T-Entry.Denot g.row.T-Fixed.Denot). k.view.found) c.pass.view_is ∙ next.1.1 in
     let by = next.1.3 ∙ sym (ap (λ (k : Known g.row.T-Entry.Denot g.row.T-Fixed.Denot). k.view.number) c.pass.view_is) in
     let fixed = c.requires.fixed ∙ sym (ap (λ (l : Lock g.row.T-Fixed.Denot). l.fixed) c.turn.view_is) in
-    (search rules, search rules, commits_at _ _ _ _ _ _ c.pass.inside.seat.me _ c.args.value next.1.0 next.0 c.exchange.ensures.3 c.pass.invariant.4 c.pass.invariant.3 found next.1.2 by fixed (g.T.Stands.few c.args.value))
+    (search rules, search rules, commits_at _ _ _ _ _ _ c.pass.inside.seat.me c.exchange.new.seat.me c.args.value next.1.0 next.0 c.exchange.ensures.3 c.pass.invariant.4 c.pass.invariant.3 found next.1.2 by fixed (g.T.Stands.few c.args.value))
