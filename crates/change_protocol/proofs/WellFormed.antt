@@ -152,8 +152,8 @@ no-whys placed nodes start earlier op well keeps differ =
     let in_slot = in-slot placed no_entry start op well keeps.finds in
     let range = held-not (nat_lt 39 (slot_of op)) _ (lt-leb 40 (slot_of op) slot) in
     let twice = held-not (list_any (λ other. nat_eq (slot_of other) (slot_of op)) earlier) _
-        (list_any_none (λ other. nat_eq (slot_of other) (slot_of op)) earlier
-        (All-weaker (λ other. Differ other op) (λ other. nat_eq (slot_of other) (slot_of op) ≡ false) (λ other differs. ne_eqb (slot_of other) (slot_of op) differs) earlier differ)) in
+    (list_any_none (λ other. nat_eq (slot_of other) (slot_of op)) earlier
+    (All-weaker (λ other. Differ other op) (λ other. nat_eq (slot_of other) (slot_of op) ≡ false) (λ other differs. ne_eqb (slot_of other) (slot_of op) differs) earlier differ)) in
     none_in_both _ _
     (none_in_both _ _
     (none_in_both _ _
