@@ -4,7 +4,7 @@ use Rattle.std.specs.List.{flat_map, list_all}
 use Rattle.requirement_table.specs.declared.entries.Entry.{Entry}
 use Rattle.requirement_table.specs.declared.entries.Placed.{Placed}
 use Rattle.requirement_table.specs.Table.{released_in}
-use Rattle.admission.specs.declared.Rules.{Rules}
+use Rattle.admission_rules.specs.declared.Rules.{Rules}
 use Rattle.fttcan_top.specs.declared.input.steps.Step.{Step}
 use Rattle.fttcan_top.specs.declared.input.steps.Step.TheVariants.{Cycle, Add}
 use Rattle.fttcan_top.specs.Entries.{total_cost}

@@ -2,7 +2,7 @@
 use Rattle.std.specs.Prelude.{◌≡◌, List}
 use Rattle.can_frame.specs.declared.data_frame.TimedFrame.{TimedFrame}
 use Rattle.cycle_layout.specs.Layout.{CycleLayout}
-use Rattle.admission.specs.declared.Rules.{Rules}
+use Rattle.admission_rules.specs.declared.Rules.{Rules}
 use Rattle.async_window.specs.declared.request.Request.{Request}
 use Rattle.cycle_engine.specs.Offered.{IsCanTrace}
 use Rattle.fttcan_top.specs.declared.history.Event.{Event}

@@ -5,7 +5,7 @@ ghost use Rattle.std.specs.List.{flat_map, position_or_len};
 ghost use Rattle.std.specs.String.{string_bytes};
 ghost use Rattle.can_frame.specs.declared.data_frame.TimedFrame.{TimedFrame};
 ghost use Rattle.requirement_table.specs.Table.{released_in};
-ghost use Rattle.admission.specs.declared.Rules.{Rules};
+ghost use Rattle.admission_rules.specs.declared.Rules.{Rules};
 ghost use Rattle.fttcan_top.specs.Entries.{IsLive, AreDistinct};
 ghost use Rattle.fttcan_top.specs.History.{is_open, next_of, placed_of, placed_of_event, IsLegal};
 ghost use Rattle.fttcan_top.specs.Log.{hex_digits, verdict_fields, submit_row, open_row, frame_row, end_row, started_in, log_text};

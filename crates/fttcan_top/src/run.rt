@@ -16,7 +16,7 @@ use crate::history::{Event, Verdict};
 use crate::input::steps::Step;
 use crate::table::Table;
 use crate::verdict::verdict;
-use admission::Rules;
+use admission_rules::Rules;
 use async_window::Request;
 use can_frame::TimedFrame;
 use cycle_engine::laws::{next_cycle, one_can_trace};

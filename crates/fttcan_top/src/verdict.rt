@@ -5,7 +5,7 @@ ghost use Rattle.fttcan_top.specs.Entries.{IsLive, total_cost};
 ghost use Rattle.fttcan_top.specs.History.{settled_from, IsCommonPeriod, IsLeastCommonPeriod, IsVerdict};
 
 use crate::history::Verdict;
-use admission::Rules;
+use admission_rules::Rules;
 use requirement_table::{Placed, cost};
 
 /// The worst lengths of all entries together, in bit times.

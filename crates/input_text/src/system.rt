@@ -14,7 +14,7 @@ ghost use Rattle.input_text.specs.declared.system_sections.Place.TheVariants as 
 use crate::owners::OwnerList;
 use crate::system_fault::{PathText, SystemFault};
 use crate::system_sections::{Kind, Place, Section};
-use admission::Rules;
+use admission_rules::Rules;
 use async_window::Owner;
 use cycle_layout::{Layout, LayoutFault};
 use planner_policies::Policy;

@@ -1,4 +1,5 @@
-//! The admission of changes to the table of an FTT-CAN master: the rules by which a change is judged.
+//! The rules by which changes of the table of an FTT-CAN master are judged. They stand in a crate of their
+//! own, so that the readers of files and the bus know nothing of how a change is judged.
 #![tactic(auto)]
 
 use planner_policies::Policy;
