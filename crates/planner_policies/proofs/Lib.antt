@@ -1,3 +1,4 @@
+pub mod Shared
 mod Cycles
 mod Fits
 mod Going

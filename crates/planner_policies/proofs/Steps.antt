@@ -20,7 +20,7 @@ pub record AreAlike (policy : Policy) (placed placed' : List Placed) (c c' : ℕ
 abbrev pub Agree : (ℕ → Bool) → (ℕ → Bool) → Type 0
 Agree before' before = (slot : ℕ) → slot < slots → before' slot ≡ before slot
 
-sum_where-costs : (n : ℕ) (p : ℕ → Bool) (f g : ℕ → ℕ) → ((s : ℕ) → s < n → f s ≡ g s) → sum_where n p f ≡ sum_where n p g
+pub sum_where-costs : (n : ℕ) (p : ℕ → Bool) (f g : ℕ → ℕ) → ((s : ℕ) → s < n → f s ≡ g s) → sum_where n p f ≡ sum_where n p g
 unfolding sum_where
 sum_where-costs zero p f g same = refl
 sum_where-costs (suc n) p f g same =

@@ -1,0 +1,206 @@
+-- What is decided of a list, by what was found in the walk over its planning.
+use Rattle.std.proofs.Common.{◌≡◌, ◌≢◌, ℕ, ◌+◌, ◌-◌, ◌^◌, ◌<◌, ◌≤◌, Bool, true, false, Option, Some, None, IfOk, Result, Ok, Err, List, [], refl, sym, ap, ◌∙◌, subst, arith}
+use Rattle.requirement_table.specs.declared.entries.Placed.{Placed}
+use Rattle.requirement_table.specs.Slots.{contains_slot, slots}
+use Rattle.requirement_table.specs.Table.{IsWellPlaced, not_over}
+use Rattle.requirement_table.proofs.Shared.{not_over-well_placed}
+use Rattle.planner_policies.specs.declared.state.PlanState.{PlanState}
+use Rattle.planner_policies.specs.Plan.{HasNoMiss, IsMissAt, IsValid, NeverMisses, Planning, Ranking, is_missed_at, planning_of}
+use Rattle.recurrence_check.specs.Course.{Breaks, Course, IsLeastRepeat, StaysNew}
+use Rattle.admission.specs.declared.decision.Decision.{Decision}
+use Rattle.admission_rules.specs.declared.Rules.{Rules}
+use Rattle.admission.specs.declared.verdict.Verdict.{Verdict}
+use Rattle.admission.specs.declared.verdict.Verdict.TheVariants.{Accepted, Horizon, Miss}
+use Rattle.admission.specs.Course.{course_of, is_held_from}
+use Rattle.admission.specs.Period.{IsPeriodUpTo}
+use Rattle.admission.specs.Recurrence.{HasNoRecurrence, bound_of}
+use Rattle.admission.specs.Verdict.{IsDecisionOnPlan, IsMissDecision, IsRules, IsSafe, IsTakenWhereDue, IsVerdictOnPlan, masks_of, placed_with, plan_from, trail_of}
+use Rattle.admission.specs.WalkLaws.{GoesOn}
+use Rattle.admission.specs.Walked.{IsWalked}
+use Rattle.admission.proofs.Complete.{StaysValid, recurs}
+use Rattle.admission.proofs.Cycles.{IsLike, like-refl}
+use Rattle.admission.proofs.Reduced.{decision-reduced, held-reduced, like-reduced, repeating-reduced}
+use Rattle.admission.proofs.Repeats.{LoopsOnce, is-recurrence, never-after, no-recurrence, none-within}
+use Rattle.admission.proofs.Same.{goes-on, held-tests}
+use Rattle.admission.proofs.States.{broken-missed, broken-none}
+
+abbrev ranking_of : Rules → List Placed → ℕ → Ranking
+ranking_of rules list from = record { placed = not_over from list; policy = rules.policy }
+
+on-plan : (horizon : ℕ) (plan : Planning) (verdict : Verdict) (decision : Decision) → decision.verdict ≡ verdict → IsVerdictOnPlan horizon plan verdict
+    → decision.placed ≡ placed_with plan.placed verdict → decision.trail ≡ trail_of plan verdict → IsDecisionOnPlan horizon plan decision
+on-plan horizon plan verdict decision is answer list trail = record {
+  answer = subst (λ v. IsVerdictOnPlan horizon plan v) (sym is) answer;
+  list = list ∙ ap (placed_with plan.placed) (sym is);
+  plan = trail ∙ ap (trail_of plan) (sym is);
+}
+
+module _ (rules : Rules) (list : List Placed) (from pending : ℕ) (walked : Ranking) (window : ℕ) (first : PlanState) (bound : ℕ) (period : Option ℕ)
+    (is : IsWalked rules list from pending walked window first bound period) where
+  abbrev pub whole : Planning
+  whole = plan_from rules list from pending
+
+  abbrev pub walk : Course PlanState
+  walk = course_of walked window first bound period
+
+  abbrev pub reduced : Course PlanState
+  reduced = course_of (ranking_of rules list from) rules.window (record { cycle = from; pending = pending }) bound period
+
+  to-reduced : (P : Course PlanState → Type 0) → P walk → P reduced
+  to-reduced P holds =
+      subst (λ r. P (course_of r rules.window (record { cycle = from; pending = pending }) bound period)) is.walked_is
+      (subst (λ s. P (course_of walked rules.window s bound period)) is.first_is
+      (subst (λ w. P (course_of walked w first bound period)) is.window_is holds))
+
+  abbrev pub walked_plan : Planning
+  walked_plan = planning_of walked window first.cycle first.pending
+
+  abbrev pub reduced_plan : Planning
+  reduced_plan = planning_of (ranking_of rules list from) rules.window from pending
+
+  to-reduced_plan : (P : Planning → Type 0) → P walked_plan → P reduced_plan
+  to-reduced_plan P holds =
+      subst (λ r. P (planning_of r rules.window from pending)) is.walked_is
+      (subst (λ (s : PlanState). P (planning_of walked rules.window s.cycle s.pending)) is.first_is
+      (subst (λ w. P (planning_of walked w first.cycle first.pending)) is.window_is holds))
+
+  from-reduced_plan : (P : Planning → Type 0) → P reduced_plan → P walked_plan
+  from-reduced_plan P holds =
+      subst (λ w. P (planning_of walked w first.cycle first.pending)) (sym is.window_is)
+      (subst (λ (s : PlanState). P (planning_of walked rules.window s.cycle s.pending)) (sym is.first_is)
+      (subst (λ r. P (planning_of r rules.window from pending)) (sym is.walked_is) holds))
+
+  like : (n : ℕ) → IsLike rules.policy (not_over from list) list (from + n) (from + n)
+  like n = like-reduced rules.policy list from n is.well
+
+  -- a repeat
+  pub accepted-never : LoopsOnce → (one other : ℕ) → IsLeastRepeat walk one other → NeverMisses whole
+  accepted-never loops one other least =
+      let here = to-reduced (λ course. IsLeastRepeat course one other) least in
+      never-after rules.policy rules.window list (not_over from list) from pending bound rules.horizon period is.known like is.bound_is is.period_is
+      loops is.well one other here.repeats
+
+  pub accepted : LoopsOnce → (number length : ℕ) (decision : Decision) → IsLeastRepeat walk number (number + length) → number + length ≤ rules.horizon
+      → decision.verdict ≡ Accepted (from + number) length → decision.placed ≡ Some list → decision.trail ≡ []
+      → IsDecisionOnPlan rules.horizon whole decision
+  accepted loops number length decision least within verdict placed trail =
+      let here = to-reduced (λ course. IsLeastRepeat course number (number + length)) least in
+      let never = accepted-never loops number (number + length) least in
+      on-plan rules.horizon whole (Accepted (from + number) length) decision verdict (
+        (λ m slot below. never m slot),
+        is-recurrence rules.policy rules.window list (not_over from list) from pending bound rules.horizon period is.known like is.bound_is is.period_is
+            never number length here,
+        omega arith,
+      )
+      placed trail
+
+  pub safe : LoopsOnce → (one other : ℕ) (placed : List Placed) → placed ≡ list → IsLeastRepeat walk one other → IsSafe rules placed from pending
+  safe loops one other placed same least =
+      subst (λ l. IsSafe rules l from pending) (sym same)
+      (record { well_placed = is.well; held = is.valid; in_time = accepted-never loops one other least })
+
+  -- no repeat
+  no-recurrence-whole : StaysNew walk rules.horizon → HasNoRecurrence whole rules.horizon
+  no-recurrence-whole stays =
+      no-recurrence rules.policy rules.window list (not_over from list) from pending bound rules.horizon period is.known like is.bound_is is.period_is
+      (to-reduced (λ course. StaysNew course rules.horizon) stays)
+
+  pub refused : (number : ℕ) (decision : Decision) → number ≡ rules.horizon → StaysNew walk number → decision.verdict ≡ Horizon from number
+      → decision.placed ≡ None → decision.trail ≡ [] → IsDecisionOnPlan rules.horizon whole decision
+  refused number decision all stays verdict placed trail =
+      let here : StaysNew walk rules.horizon = subst (λ n. StaysNew walk n) all stays in
+      on-plan rules.horizon whole (Horizon from number) decision verdict (
+        none-within rules.policy rules.window list (not_over from list) from pending bound rules.horizon period is.known like is.bound_is is.period_is
+            (to-reduced (λ course. StaysNew course rules.horizon) here),
+        no-recurrence-whole here,
+        refl,
+        all,
+      )
+      placed trail
+
+  pub refused-due : StaysValid → (number : ℕ) (verdict : Verdict) → number ≡ rules.horizon → StaysNew walk number → IsTakenWhereDue rules whole verdict
+  refused-due valid number verdict all stays never c period' settled releases least within =
+      let here : StaysNew walk rules.horizon = subst (λ n. StaysNew walk n) all stays in
+      absurd (recurs valid whole rules.horizon is.well is.valid never c period' settled releases least within (no-recurrence-whole here))
+
+  -- a miss
+  pub walked-none : (at : ℕ) → Breaks walk at → HasNoMiss walked_plan at
+  walked-none at breaks =
+      from-reduced_plan (λ plan. HasNoMiss plan at)
+      (broken-none rules.policy rules.window (not_over from list) (not_over from list) from pending bound period is.known
+      (λ n. like-refl rules.policy (not_over from list) (from + n)) at (to-reduced (λ course. Breaks course at) breaks))
+
+  pub walked-missed : (at : ℕ) → Breaks walk at → ¬ HasNoMiss walked_plan (at + 1)
+  walked-missed at breaks =
+      from-reduced_plan (λ plan. ¬ HasNoMiss plan (at + 1))
+      (broken-missed rules.policy rules.window (not_over from list) (not_over from list) from pending bound period is.known
+      (λ n. like-refl rules.policy (not_over from list) (from + n)) at (to-reduced (λ course. Breaks course at) breaks))
+
+  whole-none : (at : ℕ) → Breaks walk at → HasNoMiss whole at
+  whole-none at breaks =
+      broken-none rules.policy rules.window list (not_over from list) from pending bound period is.known like at
+      (to-reduced (λ course. Breaks course at) breaks)
+
+  whole-miss : (at : ℕ) (decision : Decision) → IsMissDecision walked_plan at decision → IsMissDecision whole at decision
+  whole-miss at decision miss =
+      decision-reduced list rules.policy rules.window from pending at decision is.well
+      (to-reduced_plan (λ plan. IsMissDecision plan at decision) miss)
+
+  on-miss : (at : ℕ) (decision : Decision) → at < rules.horizon → HasNoMiss whole at → IsMissDecision whole at decision
+      → IsDecisionOnPlan rules.horizon whole decision
+  on-miss at decision within none miss =
+      let count : at + 1 ≡ from + at + 1 - from = omega arith in
+      on-plan rules.horizon whole (Miss miss.slot miss.release (from + at)) decision miss.answer
+      (record { number = at; at = refl; none_before = none; miss = miss.miss }, omega arith) miss.list
+      (subst (λ n. decision.trail ≡ masks_of whole n) count miss.plan)
+
+  pub missed : (at : ℕ) (decision : Decision) → at < rules.horizon → Breaks walk at → IsMissDecision walked_plan at decision
+      → IsDecisionOnPlan rules.horizon whole decision
+  missed at decision within breaks miss = on-miss at decision within (whole-none at breaks) (whole-miss at decision miss)
+
+  pub missed-due : (at : ℕ) (decision : Decision) → IsMissDecision walked_plan at decision → IsTakenWhereDue rules whole decision.verdict
+  missed-due at decision miss never c period' settled releases least within =
+      let here = whole-miss at decision miss in
+      let is' = here.miss.missed in
+      let not = never at here.slot here.miss.known in
+      absurd (let both : true ≡ false = sym is' ∙ not in cc)
+
+-- what a walk over the planning needs
+module _ (rules : Rules) (list : List Placed) (walked : Ranking) (from pending : ℕ) (walked_is : walked ≡ ranking_of rules list from)
+    (well : IsWellPlaced list) where
+  pub walked-held : IsValid list from pending → (slot : ℕ) → contains_slot pending slot ≡ true → is_held_from walked.placed from slot ≡ true
+  walked-held valid =
+      subst (λ (r : Ranking). (slot : ℕ) → contains_slot pending slot ≡ true → is_held_from r.placed from slot ≡ true) (sym walked_is)
+      (held-tests (not_over from list) from pending (held-reduced list from pending valid))
+
+  pub walked-positive : (period : Option ℕ) → IsPeriodUpTo rules.horizon list period → (length : ℕ) → period ≡ Some length → 0 < length
+  walked-positive period period_is length found = (repeating-reduced from rules.horizon length list period well period_is found).positive
+
+  pub walked-goes_on : (window bound : ℕ) (period : Option ℕ) → bound ≡ bound_of from list → IsPeriodUpTo rules.horizon list period
+      → GoesOn walked window bound period
+  walked-goes_on window bound period bound_is period_is =
+      subst (λ b. GoesOn walked window b period) (sym bound_is)
+      (subst (λ r. GoesOn r window (bound_of from list) period) (sym walked_is)
+      (goes-on (ranking_of rules list from) window (bound_of from list) period
+      (λ length found. repeating-reduced from rules.horizon length list period well period_is found)))
+
+pub reduced-well_placed : (list left : List Placed) (from : ℕ) → left ≡ not_over from list → IsWellPlaced list → IsWellPlaced left
+reduced-well_placed list left from is well = subst IsWellPlaced (sym is) (not_over-well_placed from list well)
+
+pub ranked-is : (rules : Rules) (list left : List Placed) (from : ℕ) (walked : Ranking) → left ≡ not_over from list
+    → walked ≡ record { placed = left; policy = rules.policy } → walked ≡ record { placed = not_over from list; policy = rules.policy }
+ranked-is rules list left from walked is ranked =
+    ranked ∙ ap (λ (l : List Placed). record { placed = l; policy = rules.policy }) is
+
+if-ok : {X E : Type 0} (r : Result X E) (P Q : X → Type 0) → ((x : X) → P x → Q x) → IfOk r P → IfOk r Q
+if-ok (Ok x) P Q weaker holds = weaker x holds
+if-ok (Err e) P Q weaker holds = tt
+
+pub if_ok-weaker : {X E : Type 0} (r : Result X E) (P Q : X → Type 0) → IfOk r P → ((x : X) → P x → Q x) → IfOk r Q
+if_ok-weaker r P Q holds weaker = if-ok r P Q weaker holds
+
+pub on-list : {rules : Rules} {one : List Placed} {from pending : ℕ} {walked : Ranking} {window : ℕ} {first : PlanState} {bound : ℕ} {period : Option ℕ}
+    → (other : List Placed) → one ≡ other → IsWalked rules one from pending walked window first bound period
+    → IsWalked rules other from pending walked window first bound period
+on-list {rules} {one} {from} {pending} {walked} {window} {first} {bound} {period} other same is =
+    subst (λ l. IsWalked rules l from pending walked window first bound period) same is

@@ -1,0 +1,13 @@
+mod Changed
+mod Complete
+mod Cycles
+mod Decided
+mod Divided
+mod Later
+mod Multiples
+mod Once
+mod Planned
+mod Reduced
+mod Repeats
+mod Same
+mod States

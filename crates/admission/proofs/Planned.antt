@@ -1,0 +1,134 @@
+-- Cycles that are planned one after the other.
+use Rattle.std.proofs.Common.{◌≡◌, ℕ, zero, suc, ◌+◌, ◌^◌, ◌<◌, ◌≤◌, Bool, true, false, None, List, [], ◌∷◌, ◌++◌, refl, sym, ap, ◌∙◌, subst, arith, ⊎_elim}
+use Rattle.std.proofs.lemmas.Bool.{cases_lt}
+use Rattle.requirement_table.specs.Slots.{contains_slot, set_of, slots}
+use Rattle.requirement_table.proofs.Shared.{set_of-contains_slot, set_of-same}
+use Rattle.planner_policies.specs.declared.state.PlanState.{PlanState}
+use Rattle.planner_policies.specs.Plan.{HasNoMiss, HasNoMissIn, IsMissAt, IsMissIn, IsValid, Planning, Ranking, is_missed_at, is_missed_in, left_after, mask_at, pending_at, pending_before, planned_at, planned_in, planning_of}
+use Rattle.admission.specs.Course.{state_at}
+use Rattle.admission.specs.declared.decision.Decision.{Decision}
+use Rattle.admission.specs.declared.verdict.Verdict.{Verdict}
+use Rattle.admission.specs.declared.verdict.Verdict.TheVariants.{Miss}
+use Rattle.admission.specs.Verdict.{IsMissDecision, IsPlannedUpTo, masks_of}
+use Rattle.admission.proofs.Cycles.{Agree, agree-set, like-left, like-missed, like-planned, like-refl}
+
+-- what is planned, left and missed in a state
+abbrev pub planned_from : Ranking → ℕ → PlanState → ℕ
+planned_from ranking window state =
+    set_of slots (planned_in (planning_of ranking window state.cycle state.pending) state.cycle (contains_slot state.pending))
+
+abbrev pub remains_from : Ranking → ℕ → PlanState → ℕ
+remains_from ranking window state =
+    set_of slots (left_after (planning_of ranking window state.cycle state.pending) state.cycle (contains_slot state.pending))
+
+state-parts : (x y : PlanState) → x.cycle ≡ y.cycle → x.pending ≡ y.pending → x ≡ y
+state-parts x y cycle pending =
+    ap (λ (n : ℕ). record x { cycle = n }) cycle ∙ ap (λ (n : ℕ). record y { pending = n }) pending
+
+module _ (ranking : Ranking) (window from pending : ℕ) where
+  abbrev plan : Planning
+  plan = planning_of ranking window from pending
+
+  pending-first : pending < 2 ^ slots → pending_at plan 0 ≡ pending
+  unfolding pending_before
+  pending-first known = sym (set_of-contains_slot slots pending known)
+
+  pub planned-start : pending < 2 ^ slots → IsValid ranking.placed from pending
+      → IsPlannedUpTo plan 0 [] (record { cycle = from; pending = pending })
+  planned-start known valid = record {
+    state = state-parts (record { cycle = from; pending = pending }) (state_at plan 0)
+        (let same : from ≡ from + 0 = omega arith in same) (sym (pending-first known));
+    held = valid;
+    list = refl;
+  }
+
+  planned-at : (n : ℕ) → planned_from ranking window (state_at plan n) ≡ mask_at plan n
+  planned-at n =
+      set_of-same slots (planned_in (planning_of ranking window (from + n) (pending_at plan n)) (from + n) (contains_slot (pending_at plan n)))
+      (planned_at plan n)
+      (like-planned ranking.policy ranking.placed ranking.placed (from + n) (from + n) (like-refl ranking.policy ranking.placed (from + n)) window (from + n)
+      from (pending_at plan n) pending (contains_slot (pending_at plan n)) (pending_before plan n) (agree-set (pending_before plan n)))
+
+  left-before : (n : ℕ) → remains_from ranking window (state_at plan n) ≡ pending_at plan (suc n)
+  unfolding pending_before
+  left-before n =
+      set_of-same slots (left_after (planning_of ranking window (from + n) (pending_at plan n)) (from + n) (contains_slot (pending_at plan n)))
+      (left_after plan (from + n) (pending_before plan n))
+      (like-left ranking.policy ranking.placed ranking.placed (from + n) (from + n) (like-refl ranking.policy ranking.placed (from + n)) window (from + n)
+      from (pending_at plan n) pending (contains_slot (pending_at plan n)) (pending_before plan n) (agree-set (pending_before plan n)))
+
+  missed-same : (n : ℕ)
+      → Agree (is_missed_in (planning_of ranking window (from + n) (pending_at plan n)) (from + n) (contains_slot (pending_at plan n))) (is_missed_at plan n)
+  missed-same n =
+      like-missed ranking.policy ranking.placed ranking.placed (from + n) (from + n) (like-refl ranking.policy ranking.placed (from + n)) window (from + n)
+      from (pending_at plan n) pending (contains_slot (pending_at plan n)) (pending_before plan n) (agree-set (pending_before plan n))
+
+  pub planned-next : (n mask : ℕ) (masks : List ℕ) (state next : PlanState) → IsPlannedUpTo plan n masks state
+      → mask ≡ planned_from ranking window state → next.cycle ≡ state.cycle + 1 → next.pending ≡ remains_from ranking window state
+      → IsValid ranking.placed next.cycle next.pending → IsPlannedUpTo plan (n + 1) (masks ++ mask ∷ []) next
+  planned-next n mask masks state next planned is cycle left valid =
+      let mask_is : mask ≡ mask_at plan n = is ∙ ap (planned_from ranking window) planned.state ∙ planned-at n in
+      let left_is : next.pending ≡ pending_at plan (suc n) = left ∙ ap (remains_from ranking window) planned.state ∙ left-before n in
+      let now : state.cycle ≡ from + n = ap (λ (s : PlanState). s.cycle) planned.state in
+      let then' : next.cycle ≡ from + suc n = omega arith in
+      let up : suc n ≡ n + 1 = omega arith in
+      subst (λ k. IsPlannedUpTo plan k (masks ++ mask ∷ []) next) up (record {
+        state = state-parts next (state_at plan (suc n)) then' left_is;
+        held = valid;
+        list = ap (λ (list : List ℕ). list ++ mask ∷ []) planned.list ∙ ap (λ (m : ℕ). masks_of plan n ++ m ∷ []) mask_is;
+      })
+
+  -- a state in which nothing is missed
+  pub none-more : (n : ℕ) (state : PlanState) → state ≡ state_at plan n
+      → HasNoMissIn (planning_of ranking window state.cycle state.pending) state.cycle (contains_slot state.pending) → HasNoMiss plan n
+      → HasNoMiss plan (n + 1)
+  none-more n state is here before m slot below known =
+      let at : HasNoMissIn (planning_of ranking window (from + n) (pending_at plan n)) (from + n) (contains_slot (pending_at plan n)) =
+      subst (λ (s : PlanState). HasNoMissIn (planning_of ranking window s.cycle s.pending) s.cycle (contains_slot s.pending)) is here in
+      ⊎_elim
+      (λ (less : m < n). before m slot less known)
+      (λ (last : n ≤ m).
+      let same : n ≡ m = omega arith in
+      subst (λ k. is_missed_at plan k slot ≡ false) same (sym (missed-same n slot known) ∙ at slot known))
+      (cases_lt m n)
+
+  pub miss-at : (n slot release : ℕ) (state : PlanState) → state ≡ state_at plan n
+      → IsMissIn (planning_of ranking window state.cycle state.pending) state.cycle (contains_slot state.pending) slot release
+      → IsMissAt plan n slot release
+  miss-at n slot release state is here =
+      let at : IsMissIn (planning_of ranking window (from + n) (pending_at plan n)) (from + n) (contains_slot (pending_at plan n)) slot release =
+      subst (λ (s : PlanState). IsMissIn (planning_of ranking window s.cycle s.pending) s.cycle (contains_slot s.pending) slot release) is here in
+      let known = at.known in
+      record {
+        known = known;
+        missed = sym (missed-same n slot known) ∙ at.missed;
+        least = λ other less. sym (missed-same n other (omega arith)) ∙ at.least other less;
+        instance = at.instance;
+        found = at.found;
+        released = at.released;
+      }
+
+  -- where none is missed before the cycle of the state, none of the first n is
+  pub none-at : (n cycles : ℕ) (state : PlanState) → state ≡ state_at plan n → n < cycles → HasNoMiss plan cycles
+      → HasNoMissIn (planning_of ranking window state.cycle state.pending) state.cycle (contains_slot state.pending)
+  none-at n cycles state is below none =
+      subst (λ (s : PlanState). HasNoMissIn (planning_of ranking window s.cycle s.pending) s.cycle (contains_slot s.pending)) (sym is)
+      (λ slot known. missed-same n slot known ∙ none n slot below known)
+
+  pub miss-decided : (n slot release cycle mask : ℕ) (masks : List ℕ) (state : PlanState) (decision : Decision) → IsPlannedUpTo plan n masks state
+      → IsMissIn (planning_of ranking window state.cycle state.pending) state.cycle (contains_slot state.pending) slot release
+      → cycle ≡ state.cycle → mask ≡ planned_from ranking window state → decision.verdict ≡ Miss slot release cycle → decision.placed ≡ None
+      → decision.trail ≡ masks ++ mask ∷ [] → IsMissDecision plan n decision
+  miss-decided n slot release cycle mask masks state decision planned miss at is verdict list trail =
+      let now : state.cycle ≡ from + n = ap (λ (s : PlanState). s.cycle) planned.state in
+      let mask_is : mask ≡ mask_at plan n = is ∙ ap (planned_from ranking window) planned.state ∙ planned-at n in
+      let up : suc n ≡ n + 1 = omega arith in
+      record {
+        slot = slot;
+        release = release;
+        answer = verdict ∙ ap (Miss slot release) (at ∙ now);
+        miss = miss-at n slot release state planned.state miss;
+        list = list;
+        plan = subst (λ k. decision.trail ≡ masks_of plan k) up
+            (trail ∙ ap (λ (list : List ℕ). list ++ mask ∷ []) planned.list ∙ ap (λ (m : ℕ). masks_of plan n ++ m ∷ []) mask_is);
+      }

@@ -1,0 +1,124 @@
+-- A list without the entries that are over is planned as the whole list is.
+use Rattle.std.proofs.Common.{◌≡◌, ℕ, zero, suc, ◌+◌, ◌-◌, ◌%◌, ◌^◌, ◌<◌, ◌≤◌, Bool, true, false, not, nat_eq, nat_le, Option, Some, None, List, [], ◌∷◌, ◌++◌, All, length, get_or, map, max, refl, sym, ap, ◌∙◌, subst, arith}
+use Rattle.std.specs.List.{fold}
+use Rattle.std.specs.Option.{option_map_or}
+use Rattle.std.proofs.Math.Nat.{le-max_left, le-max_right, le_trans}
+use Rattle.std.proofs.lemmas.List.Elements.{All-cons, All-filter, All-nil}
+use Rattle.requirement_table.specs.declared.entries.Placed.{Placed}
+use Rattle.requirement_table.specs.Instance.{Instance, deadline_of, worst_of}
+use Rattle.requirement_table.specs.Slots.{contains_slot, slots}
+use Rattle.requirement_table.specs.Table.{IsWellPlaced, instance_in, is_last_in, is_over, not_over, releases_in, worst_in}
+use Rattle.requirement_table.proofs.Shared.{instance_in-not_over, releases_in-not_over}
+use Rattle.planner_policies.specs.declared.Policy.{Policy}
+use Rattle.planner_policies.specs.Loop.{RepeatsFrom, settled_at}
+use Rattle.planner_policies.specs.Plan.{IsHeldFrom, IsMissAt, IsValid, Planning, by_number, is_by, is_missed_at, key_in, key_of, priority_in}
+use Rattle.admission.specs.declared.decision.Decision.{Decision}
+use Rattle.admission.specs.Recurrence.{IsCommonPeriod, IsLeastCommonPeriod, bound_of}
+use Rattle.admission.specs.Period.{IsPeriodUpTo}
+use Rattle.admission.specs.Verdict.{IsDecisionOnPlan, IsMissDecision}
+use Rattle.admission.proofs.Cycles.{IsLike, like-refl, same-masks, same-missed}
+use Rattle.admission.proofs.Same.{IsRepeating}
+
+by-same : (a b a' b' : ℕ) (rest other : Bool) → a ≡ a' → b ≡ b' → rest ≡ other → by_number a b rest ≡ by_number a' b' other
+by-same a b a' b' rest other first second third = cc
+
+-- lists with the same instances in a cycle
+pub like-instances : (policy : Policy) (one other : List Placed) (c : ℕ)
+    → ((slot : ℕ) → instance_in one slot c ≡ instance_in other slot c) → ((slot : ℕ) → releases_in one c slot ≡ releases_in other c slot)
+    → IsLike policy one other c c
+like-instances policy one other c instances releases =
+    let key : (slot : ℕ) → key_in policy one c slot ≡ key_in policy other c slot =
+    λ slot. ap (λ (o : Option Instance). option_map_or (key_of policy) o 0) (instances slot) in
+    let priority : (slot : ℕ) → priority_in one c slot ≡ priority_in other c slot =
+    λ slot. ap (λ (o : Option Instance). option_map_or (λ i. i.placed.entry.priority) o 0) (instances slot) in
+    record {
+      releases = releases;
+      worst = λ slot. ap (λ (o : Option Instance). option_map_or worst_of o 0) (instances slot);
+      order = λ first second.
+          by-same (key_in policy one c first) (key_in policy one c second) (key_in policy other c first) (key_in policy other c second)
+          (by_number (priority_in one c first) (priority_in one c second) (nat_le first second))
+          (by_number (priority_in other c first) (priority_in other c second) (nat_le first second)) (key first) (key second)
+          (by-same (priority_in one c first) (priority_in one c second) (priority_in other c first) (priority_in other c second)
+          (nat_le first second) (nat_le first second) (priority first) (priority second) refl);
+      last = λ slot.
+          ap (λ (o : Option Instance). option_map_or (λ i. nat_eq (deadline_of i.placed i.number) (c + 1)) o false) (instances slot);
+    }
+
+-- the list without the entries that are over
+pub like-reduced : (policy : Policy) (placed : List Placed) (from n : ℕ) → IsWellPlaced placed
+    → IsLike policy (not_over from placed) placed (from + n) (from + n)
+like-reduced policy placed from n well =
+    like-instances policy (not_over from placed) placed (from + n) (λ slot. instance_in-not_over from placed slot (from + n) (omega arith))
+    (λ slot. releases_in-not_over from placed slot (from + n) well (omega arith))
+
+pub held-reduced : (placed : List Placed) (from pending : ℕ) → IsValid placed from pending → IsValid (not_over from placed) from pending
+held-reduced placed from pending valid slot in' =
+    let held = valid slot in' in
+    record {
+      instance = held.instance;
+      found = instance_in-not_over from placed slot from (omega arith) ∙ held.found;
+      before = held.before;
+    }
+
+-- what is missed in the one planning is missed in the other
+pub miss-reduced : (placed : List Placed) (policy : Policy) (window from pending n slot release : ℕ) → IsWellPlaced placed
+    → IsMissAt (record { placed = not_over from placed; policy = policy; window = window; from = from; pending = pending }) n slot release
+    → IsMissAt (record { placed = placed; policy = policy; window = window; from = from; pending = pending }) n slot release
+miss-reduced placed policy window from pending n slot release well miss =
+    let same = same-missed policy window (not_over from placed) placed from pending n (λ m below. like-reduced policy placed from m well) in
+    let known = miss.known in
+    record {
+      known = known;
+      missed = sym (same slot known) ∙ miss.missed;
+      least = λ other less. sym (same other (omega arith)) ∙ miss.least other less;
+      instance = miss.instance;
+      found = sym (instance_in-not_over from placed slot (from + n) (omega arith)) ∙ miss.found;
+      released = miss.released;
+    }
+
+pub decision-reduced : (placed : List Placed) (policy : Policy) (window from pending n : ℕ) (decision : Decision) → IsWellPlaced placed
+    → IsMissDecision (record { placed = not_over from placed; policy = policy; window = window; from = from; pending = pending }) n decision
+    → IsMissDecision (record { placed = placed; policy = policy; window = window; from = from; pending = pending }) n decision
+decision-reduced placed policy window from pending n decision well is = record {
+  slot = is.slot;
+  release = is.release;
+  answer = is.answer;
+  miss = miss-reduced placed policy window from pending n is.slot is.release well is.miss;
+  list = is.list;
+  plan = is.plan
+      ∙ same-masks policy window (not_over from placed) placed from pending (n + 1) (λ m below. like-reduced policy placed from m well);
+}
+
+-- each entry has settled by the bound
+
+fold-above : (from : ℕ) (ns : List ℕ) → from ≤ fold max from ns
+fold-above from [] = omega arith
+fold-above from (n ∷ ns) = le_trans (le-max_left from n) (fold-above (max from n) ns)
+
+pub settled-by : (from : ℕ) (placed : List Placed) → All (λ p. settled_at p ≤ bound_of from placed) placed
+settled-by from [] = λ i d within. absurd (omega arith)
+settled-by from (p ∷ placed) =
+    All-cons (λ q. settled_at q ≤ bound_of (max from (settled_at p)) placed) p placed
+    (le_trans (le-max_right from (settled_at p)) (fold-above (max from (settled_at p)) (map settled_at placed)))
+    (settled-by (max from (settled_at p)) placed)
+
+pub bound-above : (from : ℕ) (placed : List Placed) → from ≤ bound_of from placed
+bound-above from placed = fold-above from (map settled_at placed)
+
+-- so it repeats after a common period
+pub repeats-all : (from length' : ℕ) (placed : List Placed) → IsCommonPeriod placed length' → All (RepeatsFrom (bound_of from placed) length') placed
+repeats-all from length' placed common i d within =
+    record { settled = settled-by from placed i d within; divided = common.divided i d within }
+
+pub repeating-reduced : (from limit length' : ℕ) (placed : List Placed) (period : Option ℕ) → IsWellPlaced placed → IsPeriodUpTo limit placed period
+    → period ≡ Some length' → IsRepeating (bound_of from placed) length' (not_over from placed)
+repeating-reduced from limit length' placed None well upto is = absurd (cc)
+repeating-reduced from limit length' placed (Some found) well upto is =
+    let same : found ≡ length' = grind arith in
+    let common : IsCommonPeriod placed length' = subst (λ n. IsCommonPeriod placed n) same upto.0.common in
+    record {
+      positive = common.positive;
+      repeats = All-filter (λ p. not (is_over from p)) (RepeatsFrom (bound_of from placed) length') placed (repeats-all from length' placed common);
+      some_time = All-filter (λ p. not (is_over from p)) (λ p. 1 ≤ p.entry.deadline) placed
+          (λ i d within. let range = well.in_range i d within in range.entry.some_time);
+    }

@@ -1,0 +1,151 @@
+-- The same states go on in the same way, and have the same keys.
+use Rattle.std.proofs.Common.{◌≡◌, ◌≢◌, ℕ, ◌+◌, ◌-◌, ◌%◌, ◌<◌, ◌≤◌, Bool, true, false, nat_eq, nat_lt, if◌then◌else◌, ◌↔◌, Option, Some, None, List, All, get_or, refl, sym, ap, ◌∙◌, subst, arith, ⊎_elim}
+use Rattle.std.proofs.lemmas.Bool.{cases_lt, eq-eqb, eqb-true, ne_eqb}
+use Rattle.std.proofs.lemmas.Bool.Decides.{nat_tests}
+use Rattle.std.proofs.lemmas.Option.{same_Some}
+use Rattle.requirement_table.specs.declared.entries.Placed.{Placed}
+use Rattle.requirement_table.specs.Instance.{Instance, release_of}
+use Rattle.requirement_table.specs.Slots.{contains_slot, set_of, slots}
+use Rattle.requirement_table.specs.Table.{instance_in}
+use Rattle.requirement_table.proofs.Shared.{set_of-same}
+use Rattle.std.specs.Option.{option_map_or}
+use Rattle.planner_policies.specs.declared.Policy.{Policy}
+use Rattle.planner_policies.specs.declared.state.PlanState.{PlanState}
+use Rattle.planner_policies.specs.Loop.{RepeatsFrom}
+use Rattle.planner_policies.specs.Plan.{HasNoMissIn, IsHeldFrom, IsMissIn, IsValid, Ranking, is_missed_in, left_after, planning_of}
+use Rattle.admission.specs.Course.{IsSame, IsSameState, is_held_from, left_from, missed_from, state_behind}
+use Rattle.admission.specs.WalkLaws.{GoesOn}
+use Rattle.admission.proofs.Cycles.{Agree, IsLike, like-left, like-missed, like-sym, none-set, set-none}
+use Rattle.admission.proofs.Divided.{divided-along, divided-gap, not-by_zero, same-next}
+use Rattle.admission.proofs.Later.{IsSettled, like-behind}
+
+-- what every entry of a list has
+pub record IsRepeating (bound length : ℕ) (placed : List Placed) : Type 0 where
+  pub positive : 0 < length
+  pub repeats : All (RepeatsFrom bound length) placed
+  pub some_time : All (λ p. 1 ≤ p.entry.deadline) placed
+
+pub settled-all : (bound length : ℕ) (placed : List Placed) (c more : ℕ) → IsRepeating bound length placed → bound ≤ c → more % length ≡ 0
+    → All (IsSettled more c) placed
+settled-all bound length placed c more repeating later divided i d within =
+    let repeats = repeating.repeats i d within in
+    let settled = repeats.settled in
+    record {
+      begun = omega arith;
+      divided = λ live. divided-along (get_or placed i d).entry.period length more (repeats.divided live) divided;
+      positive = λ live. not-by_zero (get_or placed i d).entry.period length repeating.positive (repeats.divided live);
+      some_time = repeating.some_time i d within;
+    }
+
+-- cycles with one place in the period, from the bound on, are alike
+pub like-places : (policy : Policy) (bound length : ℕ) (placed : List Placed) (c d : ℕ) → IsRepeating bound length placed → bound ≤ c → bound ≤ d
+    → c % length ≡ d % length → IsLike policy placed placed c d
+like-places policy bound length placed c d repeating first second same =
+    ⊎_elim
+    (λ (before : c < d).
+    let gap : c + (d - c) ≡ d = omega arith in
+    let like = like-behind policy placed c (d - c)
+    (settled-all bound length placed c (d - c) repeating first (divided-gap c d length (omega arith) same)) in
+    subst (λ n. IsLike policy placed placed c n) gap like)
+    (λ (behind : d ≤ c).
+    let gap : d + (c - d) ≡ c = omega arith in
+    let like = like-behind policy placed d (c - d)
+    (settled-all bound length placed d (c - d) repeating second (divided-gap d c length behind (sym same))) in
+    like-sym policy placed placed d c (subst (λ n. IsLike policy placed placed d n) gap like))
+    (cases_lt c d)
+
+-- states with the same slots pending, in cycles that are alike, go on in the same way
+module _ (ranking : Ranking) (other : List Placed) (window c d pending has : ℕ)
+    (like : IsLike ranking.policy ranking.placed other c d) (same : Agree (contains_slot pending) (contains_slot has)) where
+  abbrev one_state : PlanState
+  one_state = record { cycle = c; pending = pending }
+
+  abbrev other_state : PlanState
+  other_state = record { cycle = d; pending = has }
+
+  abbrev other_ranking : Ranking
+  other_ranking = record { placed = other; policy = ranking.policy }
+
+  pub missed-like : missed_from ranking window one_state ≡ missed_from other_ranking window other_state
+  unfolding missed_from
+  missed-like =
+      set_of-same slots (is_missed_in (planning_of ranking window c pending) c (contains_slot pending))
+      (is_missed_in (planning_of other_ranking window d has) d (contains_slot has))
+      (like-missed ranking.policy ranking.placed other c d like window c d pending has (contains_slot pending) (contains_slot has) same)
+
+  pub left-like : left_from ranking window one_state ≡ left_from other_ranking window other_state
+  unfolding left_from
+  left-like =
+      set_of-same slots (left_after (planning_of ranking window c pending) c (contains_slot pending))
+      (left_after (planning_of other_ranking window d has) d (contains_slot has))
+      (like-left ranking.policy ranking.placed other c d like window c d pending has (contains_slot pending) (contains_slot has) same)
+
+-- so a walk goes on in the same way after states that are the same
+pub goes-on : (ranking : Ranking) (window bound : ℕ) (period : Option ℕ)
+    → ((length : ℕ) → period ≡ Some length → IsRepeating bound length ranking.placed) → GoesOn ranking window bound period
+goes-on ranking window bound None repeating one other same = absurd same
+goes-on ranking window bound (Some length) repeating one other same =
+    let like = like-places ranking.policy bound length ranking.placed one.cycle other.cycle (repeating length refl) same.one_settled same.other_settled same.place in
+    let agree : Agree (contains_slot one.pending) (contains_slot other.pending) = λ slot known. ap (λ mask. contains_slot mask slot) same.pending in (
+      missed-like ranking ranking.placed window one.cycle other.cycle one.pending other.pending like agree,
+      left-like ranking ranking.placed window one.cycle other.cycle one.pending other.pending like agree,
+    )
+
+-- the state behind a state, by what is known of its plan
+
+chosen : (b : Bool) (x : PlanState) → b ≡ true → Some x ≡ (if b then Some x else None)
+chosen true x is = refl
+chosen false x is = absurd (cc)
+
+unchosen : (b : Bool) (x : PlanState) → b ≡ false → None ≡ (if b then Some x else None)
+unchosen true x is = absurd (cc)
+unchosen false x is = refl
+
+state-same : (x y : PlanState) → x.cycle ≡ y.cycle → x.pending ≡ y.pending → x ≡ y
+state-same x y cycle pending =
+    ap (λ (n : ℕ). record x { cycle = n }) cycle ∙ ap (λ (n : ℕ). record y { pending = n }) pending
+
+pub behind-planned : (ranking : Ranking) (window : ℕ) (state next : PlanState)
+    → HasNoMissIn (planning_of ranking window state.cycle state.pending) state.cycle (contains_slot state.pending)
+    → next.cycle ≡ state.cycle + 1
+    → next.pending ≡ set_of slots (left_after (planning_of ranking window state.cycle state.pending) state.cycle (contains_slot state.pending))
+    → Some next ≡ state_behind ranking window state
+unfolding missed_from left_from
+behind-planned ranking window state next none cycle pending =
+    let missed : missed_from ranking window state ≡ 0 =
+    set-none (is_missed_in (planning_of ranking window state.cycle state.pending) state.cycle (contains_slot state.pending)) none in
+    let is = state-same next (record { cycle = state.cycle + 1; pending = left_from ranking window state }) cycle pending in
+    ap (λ (s : PlanState). Some s) is
+    ∙ chosen (nat_eq (missed_from ranking window state) 0) (record { cycle = state.cycle + 1; pending = left_from ranking window state })
+    (eq-eqb (missed_from ranking window state) 0 missed)
+
+pub behind-missed : (ranking : Ranking) (window slot release : ℕ) (state : PlanState)
+    → IsMissIn (planning_of ranking window state.cycle state.pending) state.cycle (contains_slot state.pending) slot release
+    → None ≡ state_behind ranking window state
+unfolding missed_from left_from
+behind-missed ranking window slot release state miss =
+    let wrong : missed_from ranking window state ≢ 0 = λ none.
+    let not = none-set (is_missed_in (planning_of ranking window state.cycle state.pending) state.cycle (contains_slot state.pending)) slot none miss.known in
+    let is = miss.missed in
+    cc in
+    unchosen (nat_eq (missed_from ranking window state) 0) (record { cycle = state.cycle + 1; pending = left_from ranking window state })
+    (ne_eqb (missed_from ranking window state) 0 wrong)
+
+-- validity as a test
+
+held-parts : (placed : List Placed) (c slot : ℕ) (o : Option Instance) → instance_in placed slot c ≡ o
+    → option_map_or (λ i. nat_lt (release_of i.placed i.number) c) o false ≡ true → IsHeldFrom placed c slot
+held-parts placed c slot None found test = absurd (cc)
+held-parts placed c slot (Some i) found test = record { instance = i; found = found; before = grind (arith, nat_tests) }
+
+pub held-from_tests : (placed : List Placed) (c pending : ℕ) → ((slot : ℕ) → contains_slot pending slot ≡ true → is_held_from placed c slot ≡ true)
+    → IsValid placed c pending
+held-from_tests placed c pending held slot in' = held-parts placed c slot (instance_in placed slot c) refl (held slot in')
+
+pub held-tests : (placed : List Placed) (c pending : ℕ) → IsValid placed c pending → (slot : ℕ) → contains_slot pending slot ≡ true
+    → is_held_from placed c slot ≡ true
+held-tests placed c pending valid slot in' =
+    let held = valid slot in' in
+    let before = held.before in
+    ap (λ o. option_map_or (λ i. nat_lt (release_of i.placed i.number) c) o false) held.found
+    ∙ grind (arith, nat_tests)

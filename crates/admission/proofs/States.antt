@@ -1,0 +1,120 @@
+-- The states that a walk over a planning comes to.
+use Rattle.std.proofs.Common.{◌≡◌, ◌≢◌, ℕ, zero, suc, ◌+◌, ◌-◌, ◌%◌, ◌^◌, ◌<◌, ◌≤◌, Bool, true, false, nat_eq, if◌then◌else◌, Option, Some, None, List, refl, sym, ap, ◌∙◌, subst, arith, ⊎_elim, add-one}
+use Rattle.std.specs.Option.{option_and_then}
+use Rattle.std.proofs.lemmas.Bool.{cases_lt, eq-eqb, eqb-true}
+use Rattle.std.proofs.lemmas.Option.{cond_some, same_Some}
+use Rattle.requirement_table.specs.declared.entries.Placed.{Placed}
+use Rattle.requirement_table.specs.Slots.{contains_slot, set_of, slots}
+use Rattle.requirement_table.proofs.Shared.{set_of-contains_slot, set_of-same}
+use Rattle.planner_policies.specs.declared.Policy.{Policy}
+use Rattle.planner_policies.specs.declared.state.PlanState.{PlanState}
+use Rattle.planner_policies.specs.Plan.{HasNoMiss, Planning, Ranking, is_missed_at, is_missed_in, left_after, pending_at, pending_before, planning_of}
+use Rattle.recurrence_check.specs.Course.{Breaks, Course, state_after}
+use Rattle.recurrence_check.proofs.Shared.{state_after-next, state_after-start, state_before}
+use Rattle.admission.specs.Course.{course_of, left_from, missed_from, state_at, state_behind}
+use Rattle.admission.proofs.Cycles.{Agree, AreLike, IsLike, agree-set, like-left, like-missed, none-set, set-none}
+
+-- a walk over a list that is alike in each cycle to the one that is planned
+module _ (policy : Policy) (window : ℕ) (placed walked : List Placed) (from pending bound : ℕ) (period : Option ℕ)
+    (known : pending < 2 ^ slots) (like : (n : ℕ) → IsLike policy walked placed (from + n) (from + n)) where
+  abbrev pub ranking : Ranking
+  ranking = record { placed = walked; policy = policy }
+
+  abbrev pub plan : Planning
+  plan = record { placed = placed; policy = policy; window = window; from = from; pending = pending }
+
+  abbrev pub course : Course PlanState
+  course = course_of ranking window (record { cycle = from; pending = pending }) bound period
+
+  missed-at : (n : ℕ) → missed_from ranking window (state_at plan n) ≡ set_of slots (is_missed_at plan n)
+  unfolding missed_from
+  missed-at n =
+      set_of-same slots (is_missed_in (planning_of ranking window (from + n) (pending_at plan n)) (from + n) (contains_slot (pending_at plan n)))
+      (is_missed_at plan n)
+      (like-missed policy walked placed (from + n) (from + n) (like n) window (from + n) from (pending_at plan n) pending
+      (contains_slot (pending_at plan n)) (pending_before plan n) (agree-set (pending_before plan n)))
+
+  left-at : (n : ℕ) → left_from ranking window (state_at plan n) ≡ set_of slots (left_after plan (from + n) (pending_before plan n))
+  unfolding left_from
+  left-at n =
+      set_of-same slots (left_after (planning_of ranking window (from + n) (pending_at plan n)) (from + n) (contains_slot (pending_at plan n)))
+      (left_after plan (from + n) (pending_before plan n))
+      (like-left policy walked placed (from + n) (from + n) (like n) window (from + n) from (pending_at plan n) pending
+      (contains_slot (pending_at plan n)) (pending_before plan n) (agree-set (pending_before plan n)))
+
+  pending-next : (n : ℕ) → left_from ranking window (state_at plan n) ≡ pending_at plan (n + 1)
+  unfolding pending_before
+  pending-next n = rw add-one (left-at n)
+
+  pending-start : pending_at plan 0 ≡ pending
+  unfolding pending_before
+  pending-start = sym (set_of-contains_slot slots pending known)
+
+  next-state : (n : ℕ) → missed_from ranking window (state_at plan n) ≡ 0 → state_behind ranking window (state_at plan n) ≡ Some (state_at plan (n + 1))
+  next-state n none =
+      let test : nat_eq (missed_from ranking window (state_at plan n)) 0 ≡ true = eq-eqb (missed_from ranking window (state_at plan n)) 0 none in
+      let cycle : from + n + 1 ≡ from + (n + 1) = omega arith in
+      ap (λ b. if b then Some (record { cycle = from + n + 1; pending = left_from ranking window (state_at plan n) }) else None) test
+      ∙ ap (λ (c : ℕ). Some (record { cycle = c; pending = left_from ranking window (state_at plan n) })) cycle
+      ∙ ap (λ (q : ℕ). Some (record { cycle = from + (n + 1); pending = q })) (pending-next n)
+
+  start-state : state_after course 0 ≡ Some (state_at plan 0)
+  start-state =
+      state_after-start course
+      ∙ ap (λ (c : ℕ). Some (record { cycle = c; pending = pending })) (let same : from ≡ from + 0 = omega arith in same)
+      ∙ ap (λ (q : ℕ). Some (record { cycle = from + 0; pending = q })) (sym pending-start)
+
+  -- the walk comes to the state of each cycle before which nothing is missed
+  pub comes-to : (n : ℕ) → HasNoMiss plan n → state_after course n ≡ Some (state_at plan n)
+  comes-to zero none = start-state
+  comes-to (suc n) none =
+      let here = comes-to n (λ m slot below known. none m slot (omega arith) known) in
+      let clear : missed_from ranking window (state_at plan n) ≡ 0 =
+      missed-at n ∙ set-none (is_missed_at plan n) (λ slot known. none n slot (omega arith) known) in
+      let next : n + 1 ≡ suc n = omega arith in
+      subst (λ k. state_after course k ≡ Some (state_at plan k)) next (state_after-next course n (state_at plan n) here ∙ next-state n clear)
+
+  no_miss-more : (n : ℕ) → HasNoMiss plan n → ((slot : ℕ) → slot < slots → is_missed_at plan n slot ≡ false) → HasNoMiss plan (n + 1)
+  no_miss-more n before here m slot below known =
+      ⊎_elim
+      (λ (less : m < n). before m slot less known)
+      (λ (last : n ≤ m). let same : n ≡ m = omega arith in subst (λ k. is_missed_at plan k slot ≡ false) same (here slot known))
+      (cases_lt m n)
+
+  goes-behind : (n : ℕ) (state : PlanState) → state_behind ranking window (state_at plan n) ≡ Some state
+      → (slot : ℕ) → slot < slots → is_missed_at plan n slot ≡ false
+  goes-behind n state goes slot known =
+      let test = cond_some (nat_eq (missed_from ranking window (state_at plan n)) 0)
+      (record { cycle = from + n + 1; pending = left_from ranking window (state_at plan n) }) state goes in
+      let none : missed_from ranking window (state_at plan n) ≡ 0 = eqb-true (missed_from ranking window (state_at plan n)) 0 test.0 in
+      none-set (is_missed_at plan n) slot (sym (missed-at n) ∙ none) known
+
+  -- and only to these
+  pub came-to : (n : ℕ) (state : PlanState) → state_after course n ≡ Some state → HasNoMiss plan n
+  came-to zero state there = λ m slot below known. absurd (omega arith)
+  came-to (suc n) state there =
+      let before = state_before course n (suc n) state there (omega arith) in
+      let none : HasNoMiss plan n = came-to n before.0 before.1 in
+      let next : suc n ≡ n + 1 = omega arith in
+      let goes : state_behind ranking window (state_at plan n) ≡ Some state =
+      sym (state_after-next course n (state_at plan n) (comes-to n none)) ∙ subst (λ k. state_after course k ≡ Some state) next there in
+      subst (λ k. HasNoMiss plan k) (sym next) (no_miss-more n none (goes-behind n state goes))
+
+  pub state-is : (n : ℕ) (state : PlanState) → state_after course n ≡ Some state → state ≡ state_at plan n
+  state-is n state there = same_Some state (state_at plan n) (sym there ∙ comes-to n (came-to n state there))
+
+  -- where the walk ends an instance is missed
+  pub ends-at : (n : ℕ) → HasNoMiss plan n → state_behind ranking window (state_at plan n) ≡ None → ¬ HasNoMiss plan (n + 1)
+  ends-at n none ends more =
+      let clear : missed_from ranking window (state_at plan n) ≡ 0 =
+      missed-at n ∙ set-none (is_missed_at plan n) (λ slot known. more n slot (omega arith) known) in
+      let goes = next-state n clear in
+      absurd (cc)
+
+  pub broken-none : (at : ℕ) → Breaks course at → HasNoMiss plan at
+  broken-none at breaks = came-to at breaks.last breaks.last_is
+
+  pub broken-missed : (at : ℕ) → Breaks course at → ¬ HasNoMiss plan (at + 1)
+  broken-missed at breaks =
+      ends-at at (broken-none at breaks)
+      (subst (λ s. state_behind ranking window s ≡ None) (state-is at breaks.last breaks.last_is) breaks.ends)

@@ -1,0 +1,6 @@
+pub mod Recurrence
+pub mod Verdict
+pub mod Course
+pub mod Period
+pub mod WalkLaws
+pub mod Walked

@@ -1,0 +1,219 @@
+//! What is decided of a change.
+
+ghost use Rattle.std.specs.Prelude.{◌≡◌, ◌+◌, ◌^◌, ◌<◌, ◌≤◌, [], None, IfErr, IfOk, IfSome};
+ghost use Rattle.requirement_table.specs.Slots.{contains_slot};
+ghost use Rattle.requirement_table.specs.Table.{IsWellPlaced};
+ghost use Rattle.change_protocol.specs.Applied.{applied};
+ghost use Rattle.change_protocol.specs.Malformed.{IsFaultOf};
+ghost use Rattle.planner_policies.specs.Plan.{HasNoMiss, HasNoMissIn, IsMissIn, IsValid, NeverMisses, planning_of};
+ghost use Rattle.admission.specs.Verdict.{IsDecision, IsDecisionOnPlan, IsInTime, IsMalformed, IsMissDecision, IsPlannedUpTo, IsRules, IsSafe, IsTakenWhereDue, plan_from};
+ghost use Rattle.admission.specs.Walked.{IsWalked};
+
+use crate::decision::{Decision, Trail};
+use crate::periods::{bound, period};
+use crate::verdict::Verdict;
+use crate::walk::PlanWalk;
+use admission_rules::Rules;
+use change_protocol::{ApplyFault, Change, apply};
+use planner_policies::laws::{loops, valid_states};
+use planner_policies::{Miss, PlanState, cycle_mask, plan_cycle, rank};
+use recurrence_check::{Repeat, WalkEnd, lasso_keyed};
+use requirement_table::{Mask, Placed, PlacedList, not_over};
+use std::alloc::{AllocError, Global};
+
+/// Decides of a change of the table. `state` is the next cycle to be opened, from which the changed table is planned, and the slots that are
+/// pending before it.
+///
+/// It takes time for about the cycles that are walked times the entries that are not over, and memory for the states.
+///
+/// # Errors
+///
+/// Only where memory runs out, which says nothing of the change.
+pub fn decide(
+    alloc: Global,
+    rules: &Rules,
+    placed: &[Placed],
+    state: &PlanState,
+    change: &Change,
+) -> Result<Decision, AllocError>
+    requires rules { IsRules rules.now }
+    requires well_placed { IsWellPlaced placed.now }
+    requires valid { IsValid placed.now state.now.cycle state.now.pending }
+    requires next { state.now.cycle ≤ 2 ^ 41 }
+    ensures decision { IfOk result (IsDecision rules.now placed.now state.now.pending state.now.cycle change.now) }
+    ensures complete { let plan = plan_from rules.now (applied placed.now change.now) state.now.cycle state.now.pending in
+        IfOk result (λ decision. IsInTime rules.now placed.now state.now.cycle change.now
+        → IsTakenWhereDue rules.now plan decision.verdict) }
+    ensures safe { IfOk result (λ decision. IfSome decision.placed
+        (λ list. IsSafe rules.now list state.now.cycle state.now.pending)) }
+{
+    let list = match apply(alloc, placed, rules.nodes, change) {
+        Ok(list) => list,
+        Err(fault) => return malformed(alloc, fault),
+    };
+    if change.start < state.cycle {
+        let verdict = Verdict::Passed {
+            start: change.start,
+            next: state.cycle,
+        };
+        return Ok(refusal(alloc, verdict));
+    }
+    decide_list(alloc, rules, list, state)
+}
+
+/// The answer to a change that was not applied.
+fn malformed(alloc: Global, fault: ApplyFault) -> Result<Decision, AllocError>
+    ensures decision { IfOk result (IsMalformed fault) }
+{
+    match fault {
+        ApplyFault::Malformed { op, why } => Ok(refusal(alloc, Verdict::Malformed { op, why })),
+        ApplyFault::Memory => Err(AllocError),
+    }
+}
+
+/// A change that is not taken, with no plan to show.
+fn refusal(alloc: Global, verdict: Verdict) -> Decision
+    ensures verdict { result.verdict ≡ verdict }
+    ensures placed { result.placed ≡ None }
+    ensures trail { result.trail ≡ [] }
+{
+    Decision {
+        verdict,
+        placed: None,
+        trail: Trail::of(Vec::new(alloc)),
+    }
+}
+
+/// Decides of the list that a change makes.
+fn decide_list(
+    alloc: Global,
+    rules: &Rules,
+    list: Vec<Placed>,
+    state: &PlanState,
+) -> Result<Decision, AllocError>
+    requires rules { IsRules rules.now }
+    requires well_placed { IsWellPlaced list.items }
+    requires valid { IsValid list.items state.now.cycle state.now.pending }
+    requires next { state.now.cycle ≤ 2 ^ 41 }
+    ensures decision { let plan = plan_from rules.now list.items state.now.cycle state.now.pending in
+        IfOk result (IsDecisionOnPlan rules.now.horizon plan) }
+    ensures complete { let plan = plan_from rules.now list.items state.now.cycle state.now.pending in
+        IfOk result (λ decision. IsTakenWhereDue rules.now plan decision.verdict) }
+    ensures safe { IfOk result (λ decision. IfSome decision.placed
+        (λ list. IsSafe rules.now list state.now.cycle state.now.pending)) }
+{
+    loops();
+    valid_states();
+    let walk = walk_over(alloc, rules, list.as_slice(), state)?;
+    match lasso_keyed(alloc, &walk, rules.horizon) {
+        Ok(Repeat { first, length }) => Ok(Decision {
+            verdict: Verdict::Accepted {
+                first: state.cycle + first,
+                length,
+            },
+            placed: Some(PlacedList::of(list)),
+            trail: Trail::of(Vec::new(alloc)),
+        }),
+        Err(WalkEnd::Broken { at }) => missed(alloc, &walk, at),
+        Err(WalkEnd::NoRepeat { walked }) => {
+            let from = state.cycle;
+            Ok(refusal(alloc, Verdict::Horizon { from, walked }))
+        }
+        Err(WalkEnd::Memory) => Err(AllocError),
+    }
+}
+
+/// The walk over the planning of a list, which is without the entries that are over.
+fn walk_over(
+    alloc: Global,
+    rules: &Rules,
+    list: &[Placed],
+    state: &PlanState,
+) -> Result<PlanWalk, AllocError>
+    requires horizon { 1 ≤ rules.now.horizon }
+    requires well_placed { IsWellPlaced list.now }
+    requires valid { IsValid list.now state.now.cycle state.now.pending }
+    requires next { state.now.cycle ≤ 2 ^ 41 }
+    ensures walked { IfOk result (λ walk. IsWalked rules.now list.now state.now.cycle state.now.pending
+        walk.ranked walk.window walk.first walk.bound walk.period) }
+{
+    state.pending.known();
+    let left = not_over(alloc, list, state.cycle)?;
+    Ok(PlanWalk {
+        ranked: rank(alloc, left.as_slice(), rules.policy)?,
+        window: rules.window,
+        first: *state,
+        bound: bound(list, state.cycle),
+        period: period(list, rules.horizon),
+    })
+}
+
+/// The answer where the first miss is in the cycle behind `at` cycles. They are planned once more.
+fn missed(alloc: Global, walk: &PlanWalk, at: u64) -> Result<Decision, AllocError>
+    requires near { at < 100000 }
+    requires none_before { let first = walk.now.first in
+        HasNoMiss (planning_of walk.now.ranked walk.now.window first.cycle first.pending) at }
+    requires missed { let first = walk.now.first in
+        ¬ HasNoMiss (planning_of walk.now.ranked walk.now.window first.cycle first.pending) (at + 1) }
+    ensures missed { let first = walk.now.first in
+        IfOk result (IsMissDecision (planning_of walk.now.ranked walk.now.window first.cycle first.pending) at) }
+{
+    let (mut masks, state) = plan_cycles(alloc, walk, at)?;
+    masks.push(cycle_mask(&walk.ranked, walk.window, &state))?;
+    let Miss {
+        slot,
+        release,
+        cycle,
+    } = miss(walk, &state);
+    Ok(Decision {
+        verdict: Verdict::Miss {
+            slot,
+            release,
+            cycle,
+        },
+        placed: None,
+        trail: Trail::of(masks),
+    })
+}
+
+/// Plans so many cycles, in which nothing is missed: the slots that are planned in them, and the state behind them.
+fn plan_cycles(
+    alloc: Global,
+    walk: &PlanWalk,
+    cycles: u64,
+) -> Result<(Vec<Mask>, PlanState), AllocError>
+    requires near { cycles < 100000 }
+    requires none_missed { let first = walk.now.first in
+        HasNoMiss (planning_of walk.now.ranked walk.now.window first.cycle first.pending) cycles }
+    ensures planned { let first = walk.now.first in
+        IfOk result (λ r. IsPlannedUpTo (planning_of walk.now.ranked walk.now.window first.cycle first.pending) cycles r.0.items r.1) }
+{
+    let mut masks = Vec::new(alloc);
+    let mut state = walk.first;
+    state.pending.known();
+    for _ in 0..cycles {
+        let (mask, next) = match plan_cycle(&walk.ranked, walk.window, &state) {
+            Ok(planned) => planned,
+            Err(_) => unreachable!(),
+        };
+        masks.push(mask)?;
+        state = next;
+    }
+    Ok((masks, state))
+}
+
+/// What is missed in the cycle of the state.
+fn miss(walk: &PlanWalk, state: &PlanState) -> Miss
+    requires cycle { state.now.cycle < 2 ^ 42 }
+    requires valid { IsValid walk.now.ranked.placed state.now.cycle state.now.pending }
+    requires missed { let plan = planning_of walk.now.ranked walk.now.window state.now.cycle state.now.pending in
+        ¬ HasNoMissIn plan state.now.cycle (contains_slot state.now.pending) }
+    ensures miss { let plan = planning_of walk.now.ranked walk.now.window state.now.cycle state.now.pending in
+        IsMissIn plan state.now.cycle (contains_slot state.now.pending) result.slot result.release }
+    ensures cycle { result.cycle ≡ state.now.cycle }
+{
+    match plan_cycle(&walk.ranked, walk.window, state) {
+        Ok(_) => unreachable!(),
+        Err(miss) => miss,
+    }
+}

@@ -1,0 +1,40 @@
+//! Laws about recurrences, verdicts and changes. Each function has no body of its own, and its contract is the law.
+
+ghost use Rattle.std.specs.Prelude.{◌≡◌, ℕ, ◌+◌, ◌<◌, ◌≤◌, List};
+ghost use Rattle.requirement_table.specs.declared.entries.Placed.{Placed};
+ghost use Rattle.requirement_table.specs.Table.{IsWellPlaced};
+ghost use Rattle.change_protocol.specs.declared.operations.Change.{Change};
+ghost use Rattle.change_protocol.specs.Applied.{applied};
+ghost use Rattle.planner_policies.specs.Plan.{HasNoMiss, NeverMisses, Planning, mask_at, pending_at};
+ghost use Rattle.admission_rules.specs.declared.Rules.{Rules};
+ghost use Rattle.admission.specs.declared.verdict.Verdict.{Verdict};
+ghost use Rattle.admission.specs.Recurrence.{IsRecurrence};
+ghost use Rattle.admission.specs.Verdict.{IsVerdict, plan_from};
+
+use planner_policies::laws::loops;
+
+/// There is one verdict on a change of a list, planned from a cycle on before which the same slots are pending, when the same cycle is the
+/// next one to be opened.
+pub fn one_verdict()
+    ensures same { (rules : Rules) (placed : List Placed) (pending from next : ℕ) (change : Change) (one other : Verdict)
+        → IsVerdict rules placed pending from next change one → IsVerdict rules placed pending from next change other → one ≡ other }
+{}
+
+/// A planning that repeats, and in which no instance is missed up to the end of the repeat, misses none at any later cycle, by any policy.
+pub fn repeats_for_ever()
+    ensures never { (plan : Planning) (first length n : ℕ) → IsWellPlaced plan.placed → IsRecurrence plan first length
+        → first + length ≤ plan.from + n → HasNoMiss plan n → NeverMisses plan }
+{
+    loops();
+}
+
+/// A change is not felt before its start: up to it the same slots are pending as without the change, and before it the same slots are
+/// planned. So a planning of the changed list that begins at an earlier cycle has the masks of all cycles that are opened until then.
+pub fn not_felt_before_its_start()
+    ensures pending { (rules : Rules) (placed : List Placed) (change : Change) (from pending n : ℕ) → IsWellPlaced placed
+        → from + n ≤ change.start
+        → pending_at (plan_from rules (applied placed change) from pending) n ≡ pending_at (plan_from rules placed from pending) n }
+    ensures planned { (rules : Rules) (placed : List Placed) (change : Change) (from pending n : ℕ) → IsWellPlaced placed
+        → from + n < change.start
+        → mask_at (plan_from rules (applied placed change) from pending) n ≡ mask_at (plan_from rules placed from pending) n }
+{}

@@ -1,0 +1,20 @@
+//! The admission of changes to the table of an FTT-CAN master: a change is taken only where no deadline can be missed at any later
+//! cycle, and each refusal says why.
+//!
+//! Cycles are elementary cycles, counted from 0. Lengths are bit times.
+#![tactic(auto)]
+
+mod deciding;
+mod decision;
+pub mod laws;
+mod periods;
+mod verdict;
+mod walk;
+
+pub use admission_rules::Rules;
+pub use deciding::decide;
+pub use decision::{Decision, Trail};
+pub use verdict::Verdict;
+
+#[cfg(test)]
+mod tests;

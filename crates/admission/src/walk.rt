@@ -1,0 +1,88 @@
+//! The planning of a list as a walk from state to state.
+
+ghost use Rattle.std.specs.Prelude.{◌≡◌, ℕ, ◌^◌, ◌<◌, ◌≤◌, true, Some};
+ghost use Rattle.requirement_table.specs.Slots.{contains_slot};
+ghost use Rattle.admission.specs.Course.{is_held_from};
+ghost use Rattle.admission.specs.WalkLaws.{GoesOn};
+
+use planner_policies::{PlanState, Ranked, plan_cycle};
+use recurrence_check::{Keyed, Walk};
+
+/// The planning of a list of placed entries. It goes on as long as no deadline is missed.
+#[derive(Drop)]
+pub struct PlanWalk {
+    /// The entries in the order of the policy.
+    pub ranked: Ranked,
+    /// The length of the largest synchronous window, in bit times.
+    pub window: u32,
+    /// The first state.
+    pub first: PlanState,
+    /// The first cycle by which all entries have settled.
+    pub bound: u64,
+    /// The least common multiple of the periods of the live entries, where it is at most the horizon.
+    pub period: Option<u64>,
+    ghost near: { first.cycle ≤ 2 ^ 41 },
+    ghost held: { (slot : ℕ) → contains_slot first.pending slot ≡ true → is_held_from ranked.placed first.cycle slot ≡ true },
+    ghost positive: { (length : ℕ) → period ≡ Some length → 0 < length },
+    ghost goes_on: { GoesOn ranked window bound period },
+}
+
+impl Walk for PlanWalk {
+    type State = PlanState;
+
+    ghost use Rattle.std.proofs.Common.{◌-◌};
+    ghost use Rattle.admission.specs.Course.{IsGoodState, course_of};
+    ghost use Rattle.admission.specs.WalkLaws.{kept, same-symmetric, same-transitive};
+
+    ghost course = { λ walk. course_of walk.ranked walk.window walk.first walk.bound walk.period };
+
+    ghost is_good = { λ walk state. IsGoodState walk.ranked walk.first.cycle state };
+
+    ghost number = { λ walk state. state.cycle - walk.first.cycle };
+
+    fn first(&self) -> PlanState {
+        self.first
+    }
+
+    fn step(&self, state: &PlanState) -> Option<PlanState> {
+        match plan_cycle(&self.ranked, self.window, state) {
+            Ok((_, next)) => Some(next),
+            Err(_) => None,
+        }
+    }
+
+    fn same(&self, one: &PlanState, other: &PlanState) -> bool {
+        match self.period {
+            None => false,
+            Some(period) => {
+                self.bound <= one.cycle
+                    && self.bound <= other.cycle
+                    && one.cycle % period == other.cycle % period
+                    && one.pending == other.pending
+            }
+        }
+    }
+
+    ghost symmetric = { λ walk one other same. same-symmetric walk.bound walk.period one other same };
+
+    ghost transitive = { λ walk one other third first second.
+        same-transitive walk.bound walk.period one other third first second };
+
+    ghost kept = { λ walk one other _ _ _ _ same.
+        kept walk.ranked walk.window walk.bound walk.period walk.goes_on one other same };
+}
+
+impl Keyed for PlanWalk {
+    ghost use Rattle.admission.specs.Course.{key_in_period};
+    ghost use Rattle.admission.specs.WalkLaws.{keyed};
+
+    ghost key_of = { λ walk state. key_in_period walk.bound walk.period state };
+
+    fn key(&self, state: &PlanState) -> Option<(u128, u64)> {
+        let period = self.period?;
+        let settled = self.bound <= state.cycle;
+        settled.then_some((state.pending.bits(), state.cycle % period))
+    }
+
+    ghost keyed = { λ walk one other _ _ _ _. keyed walk.bound walk.period one other };
+}

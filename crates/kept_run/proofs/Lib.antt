@@ -1,0 +1,9 @@
+mod Histories
+mod Lists
+mod Master
+mod Numbers
+mod Opened
+mod Plans
+mod Ready
+mod Served
+mod Steps

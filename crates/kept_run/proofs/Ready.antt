@@ -1,0 +1,230 @@
+-- The nodes of a run: what they know once they have learnt the list of an order and heard a cycle.
+use Rattle.std.proofs.Common.{◌≡◌, ℕ, ◌+◌, ◌*◌, ◌<◌, ◌≤◌, eqb, Bool, true, false, cond, List, [], ◌∷◌, ◌++◌, map, fold, All, Contains, Option, Some, None, refl, ap, sym, ◌∙◌, subst}
+use Rattle.std.specs.Prelude.{IfSome, is_some}
+use Rattle.std.proofs.lemmas.List.Elements.{All-contains, All-map, All-weaker}
+use Rattle.can_frame.specs.DataFrame.{DataFrame}
+use Rattle.can_frame.specs.declared.data_frame.TimedFrame.{TimedFrame}
+use Rattle.cycle_layout.specs.Layout.{CycleLayout}
+use Rattle.requirement_table.specs.declared.entries.Order.{Order}
+use Rattle.requirement_table.specs.declared.entries.Placed.{Placed}
+use Rattle.requirement_table.specs.Instance.{Instance, MaySend}
+use Rattle.requirement_table.specs.Slots.{contains_slot}
+use Rattle.requirement_table.specs.Table.{IsWellPlaced, instance_in, width_in}
+use Rattle.requirement_table.proofs.Shared.{instance_in-sound}
+use Rattle.planner_policies.specs.Plan.{mask_at}
+use Rattle.admission_rules.specs.declared.Rules.{Rules}
+use Rattle.master_core.specs.declared.event.Event.{Event}
+use Rattle.master_core.specs.declared.event.Event.TheVariants.{Open}
+use Rattle.master_core.specs.History.{IsLegal, IsRight, is_changed, is_open, next_of, placed_of, plan_of}
+use Rattle.master_core.specs.Orders.{IsOrder}
+use Rattle.async_window.specs.declared.request.Owner.{Owner}
+use Rattle.async_window.specs.declared.request.Request.{Request}
+use Rattle.node_model.specs.Node.{NodeState, after_frame, after_hearing, counted, entries_of, is_own_slot, learnt}
+use Rattle.node_model.specs.Own.{Stands}
+use Rattle.node_model.proofs.Shared.{instance-of_own}
+use Rattle.cycle_engine.specs.Cycle.{FitsWindow}
+use Rattle.cycle_engine.specs.Nodes.{FitsOrder, IsBefore, IsBus, IsKnown, IsNumber, IsOwned, NodesView, heard_by, learnt_by, opening_of, states_of}
+use Rattle.kept_run.specs.Progress.{AreReady, IsSetting, IsUnderWay, Setting}
+use Rattle.kept_run.proofs.Histories.{next_of-closed, next_of-push, placed_of-push, unchanged-closed}
+use Rattle.kept_run.proofs.Lists.{Contains-from_map}
+use Rattle.kept_run.proofs.Numbers.{IsOfNode, legal-of_nodes}
+
+-- Nodes keep their numbers
+
+abbrev numbers_of : List NodeState → List ℕ
+numbers_of nodes = map (λ node. node.number) nodes
+
+number-either : (test : Bool) (one other : NodeState) (number : ℕ) → one.number ≡ number → other.number ≡ number → (cond test one other).number ≡ number
+number-either true one other number is_one is_other = is_one
+number-either false one other number is_one is_other = is_other
+
+number-frame : (node : NodeState) (frame : DataFrame) → (after_frame node frame).number ≡ node.number
+number-frame node frame =
+    number-either (eqb frame.identifier 0) _ _ node.number refl (number-either (is_own_slot node.entries frame.identifier) _ _ node.number refl refl)
+
+number-heard : (frames : List TimedFrame) (node : NodeState) → (fold after_hearing node frames).number ≡ node.number
+number-heard [] node = refl
+number-heard (sent ∷ later) node =
+    number-heard later (after_hearing node sent) ∙ number-frame (record node { frames = counted node.frames }) sent.frame
+
+numbers-learnt : (placed : List Placed) (nodes : List NodeState) → numbers_of (map (learnt placed) nodes) ≡ numbers_of nodes
+numbers-learnt placed [] = refl
+numbers-learnt placed (node ∷ nodes) = ap (λ l. node.number ∷ l) (numbers-learnt placed nodes)
+
+numbers-learnt_by : (learned : Option (List Placed)) (nodes : List NodeState) → numbers_of (learnt_by learned nodes) ≡ numbers_of nodes
+numbers-learnt_by None nodes = refl
+numbers-learnt_by (Some placed) nodes = numbers-learnt placed nodes
+
+numbers-heard : (frames : List TimedFrame) (nodes : List NodeState) → numbers_of (heard_by frames nodes) ≡ numbers_of nodes
+numbers-heard frames [] = refl
+numbers-heard frames (node ∷ nodes) =
+    ap (λ n. n ∷ numbers_of (heard_by frames nodes)) (number-heard frames node) ∙ ap (λ l. node.number ∷ l) (numbers-heard frames nodes)
+
+-- Nodes that learn a list
+
+stands-learnt : (layout : CycleLayout) (owners : List Owner) (requests : List Request) (known placed : List Placed) (past : List TimedFrame) (next : ℕ) (node : NodeState)
+    → Stands layout owners requests known past next node → Stands layout owners requests placed past next (learnt placed node)
+stands-learnt layout owners requests known placed past next node stands = record {
+  same_layout = stands.same_layout;
+  own_entries = refl;
+  own_mail = stands.own_mail;
+  next_cycle = stands.next_cycle;
+}
+
+owned-same : (owners : List Owner) (before after : List NodeState) (request : Request) → numbers_of after ≡ numbers_of before → IsOwned owners before request → IsOwned owners after request
+owned-same owners before after request same owned = record {
+  owner = owned.owner;
+  owns = owned.owns;
+  identifier = owned.identifier;
+  node = subst (λ l. Contains l owned.owner.node) (sym same) owned.node;
+}
+
+-- nodes that learn a list, where it changed, are a bus for it
+bus-learnt : (layout : CycleLayout) (owners : List Owner) (requests : List Request) (known placed : List Placed) (past : List TimedFrame) (next : ℕ) (nodes : List NodeState) (changed : Bool)
+    → IsWellPlaced placed → IsBus layout owners requests known past next nodes → (changed ≡ false → known ≡ placed)
+    → IsBus layout owners requests placed past next (learnt_by (cond changed (Some placed) None) nodes)
+bus-learnt layout owners requests known placed past next nodes true well bus up_to_date =
+    let same = numbers-learnt placed nodes in
+    record {
+      well_placed = well;
+      are_owners = bus.are_owners;
+      stand = All-map (Stands layout owners requests placed past next) (learnt placed) nodes
+          (All-weaker (Stands layout owners requests known past next) (λ node. Stands layout owners requests placed past next (learnt placed node))
+          (λ node stands. stands-learnt layout owners requests known placed past next node stands) nodes bus.stand);
+      owned = All-weaker (IsOwned owners nodes) (IsOwned owners (map (learnt placed) nodes))
+          (λ request owned. owned-same owners nodes (map (learnt placed) nodes) request same owned) requests bus.owned;
+    }
+bus-learnt layout owners requests known placed past next nodes false well bus up_to_date =
+    subst (λ l. IsBus layout owners requests l past next nodes) (up_to_date refl) bus
+
+well-learned : (placed : List Placed) (changed : Bool) → IsWellPlaced placed → IfSome (cond changed (Some placed) None) IsWellPlaced
+well-learned placed true well = well
+well-learned placed false well = tt
+
+-- The first cycle
+
+pub ready-at_first : (setting : Setting) (nodes : NodesView) → nodes.layout ≡ setting.layout
+    → IsBus setting.layout setting.owners setting.requests [] [] 0 (states_of nodes.nodes)
+    → ((number : ℕ) → number < setting.rules.nodes → IsNumber (states_of nodes.nodes) number) → AreReady setting [] [] nodes
+ready-at_first setting nodes same bus numbers = record {
+  same_layout = same;
+  numbers = numbers;
+  known = [];
+  bus = bus;
+  up_to_date = λ _. refl;
+}
+
+-- A call that opens no cycle
+
+pub ready-answered : (setting : Setting) (trace : List TimedFrame) (nodes : NodesView) (history : List Event) (event : Event) → is_open event ≡ false
+    → AreReady setting history trace nodes → AreReady setting (history ++ event ∷ []) trace nodes
+ready-answered setting trace nodes history event closed ready = record {
+  same_layout = ready.same_layout;
+  numbers = ready.numbers;
+  known = ready.known;
+  bus = subst (λ n. IsBus setting.layout setting.owners setting.requests ready.known trace n (states_of nodes.nodes)) (sym (next_of-closed history event closed)) ready.bus;
+  up_to_date = λ not_changed.
+      let unchanged = unchanged-closed history event closed not_changed in
+      ready.up_to_date unchanged.was ∙ unchanged.same;
+}
+
+-- An order
+
+-- nodes know an instance of the slot, since each entry is that of a node
+known-instance : (layout : CycleLayout) (owners : List Owner) (requests : List Request) (count : ℕ) (placed : List Placed) (past : List TimedFrame) (next slot : ℕ) (nodes : List NodeState)
+    → IsBus layout owners requests placed past next nodes → ((number : ℕ) → number < count → IsNumber nodes number) → All (IsOfNode count) placed
+    → (i : Instance) → instance_in placed slot next ≡ Some i → IsKnown nodes next slot
+known-instance layout owners requests count placed past next slot nodes bus numbers of_nodes i found =
+    let sends = subst (λ x. IfSome x (λ y. Contains placed y.placed × (y.placed.entry.slot ≡ slot) × MaySend y.placed y.number next)) found (instance_in-sound placed slot next) in
+    let few = All-contains (IsOfNode count) placed i.placed of_nodes sends.0 in
+    let its = Contains-from_map (λ (node : NodeState). node.number) nodes i.placed.entry.node (numbers i.placed.entry.node few) in
+    let node : NodeState = its.0 in
+    let stands = All-contains (Stands layout owners requests placed past next) nodes node bus.stand its.1 in
+    let own : instance_in (entries_of node.number placed) slot next ≡ Some i =
+    instance-of_own node.number placed slot next i bus.well_placed found (sym its.2) in
+    let known : instance_in node.entries slot next ≡ Some i = ap (λ entries. instance_in entries slot next) stands.own_entries ∙ own in
+    (its.1.0, node, its.1.1, its.1.2, ap is_some known)
+
+-- the opening is right after the history
+pub order-right : (rules : Rules) (history : List Event) (order : Order) → IsOrder rules history order → IsRight rules history (Open order.cycle order.mask)
+order-right rules history order is = (is.cycle, is.mask ∙ ap (λ n. mask_at (plan_of rules (placed_of history)) n) (sym is.cycle))
+
+-- what the nodes are to learn is well placed
+pub order-learned : (rules : Rules) (history : List Event) (order : Order) → IsWellPlaced (placed_of history) → IsOrder rules history order → IfSome order.learned IsWellPlaced
+order-learned rules history order well is =
+    subst (λ o. IfSome o IsWellPlaced) (sym is.learned) (well-learned (placed_of history) (is_changed history) well)
+
+-- its flagged slots have instances to send, and fit the largest window together
+pub order-fits : (setting : Setting) (history : List Event) (order : Order) → IsSetting setting → IsOrder setting.rules history order
+    → FitsWindow setting.layout (opening_of order (placed_of history))
+order-fits setting history order known is =
+    let placed : List Placed = placed_of history in
+    let width : order.l ≡ width_in placed order.cycle (contains_slot order.mask) =
+    is.window ∙ ap (λ n. width_in placed n (contains_slot order.mask)) (sym is.cycle) in
+    record {
+      present = λ slot within flagged.
+          let found = is.present slot within flagged in
+          ap is_some (ap (λ n. instance_in placed slot n) is.cycle ∙ found.1);
+      width = subst (λ w. w ≤ setting.layout.window) width (subst (λ w. order.l ≤ w) known.same_window is.fits);
+    }
+
+module _ (setting : Setting) (history : List Event) (trace : List TimedFrame) (nodes : NodesView) (order : Order) where
+  abbrev after : List NodeState
+  after = learnt_by order.learned (states_of nodes.nodes)
+
+  -- the nodes are before the cycle of the order
+  pub order-next : AreReady setting history trace nodes → IsOrder setting.rules history order → All (λ node. node.next ≡ order.cycle) (states_of nodes.nodes)
+  order-next ready is =
+      All-weaker (Stands setting.layout setting.owners setting.requests ready.known trace (next_of history)) (λ node. node.next ≡ order.cycle)
+      (λ node stands. stands.next_cycle ∙ sym is.cycle) (states_of nodes.nodes) ready.bus.stand
+
+  -- the window is not above the largest one
+  pub order-window : IsSetting setting → AreReady setting history trace nodes → IsOrder setting.rules history order → order.l ≤ nodes.layout.window
+  order-window known ready is = subst (λ l. order.l ≤ l.window) (sym ready.same_layout) (subst (λ w. order.l ≤ w) known.same_window is.fits)
+
+  bus-now : IsWellPlaced (placed_of history) → AreReady setting history trace nodes → IsOrder setting.rules history order
+      → IsBus setting.layout setting.owners setting.requests (placed_of history) trace (next_of history) after
+  bus-now well ready is =
+      subst (λ o. IsBus setting.layout setting.owners setting.requests (placed_of history) trace (next_of history) (learnt_by o (states_of nodes.nodes))) (sym is.learned)
+      (bus-learnt setting.layout setting.owners setting.requests ready.known (placed_of history) trace (next_of history) (states_of nodes.nodes) (is_changed history) well ready.bus ready.up_to_date)
+
+  fits-now : IsWellPlaced (placed_of history) → IsLegal setting.rules history → AreReady setting history trace nodes → IsOrder setting.rules history order
+      → FitsOrder order.l (record { cycle = next_of history; mask = order.mask; placed = placed_of history }) after
+  fits-now well legal ready is = record {
+    width = is.window;
+    present = λ slot known flagged.
+        let found = is.present slot known flagged in
+        known-instance setting.layout setting.owners setting.requests setting.rules.nodes (placed_of history) trace (next_of history) slot after (bus-now well ready is)
+        (λ number few. subst (λ l. Contains l number) (sym (numbers-learnt_by order.learned (states_of nodes.nodes))) (ready.numbers number few))
+        (legal-of_nodes setting.rules history legal) found.0 found.1;
+  }
+
+  -- the nodes that have learnt it stand for a bus before the cycle of the order
+  pub order-before : IsWellPlaced (placed_of history) → IsUnderWay setting history trace → AreReady setting history trace nodes → IsOrder setting.rules history order
+      → IsBefore nodes.layout setting.owners setting.requests (placed_of history) trace order after
+  order-before well way ready is =
+      subst (λ l. IsBefore l setting.owners setting.requests (placed_of history) trace order after) (sym ready.same_layout)
+      (record {
+        bus = subst (λ n. IsBus setting.layout setting.owners setting.requests (placed_of history) trace n after) (sym is.cycle) (bus-now well ready is);
+        fits = subst (λ n. FitsOrder order.l (record { cycle = n; mask = order.mask; placed = placed_of history }) after) (sym is.cycle) (fits-now well way.legal ready is);
+        before = subst (λ n. All (λ sent. sent.start < n * setting.layout.cycle) trace) (sym is.cycle) way.can_trace.within;
+      })
+
+  -- a cycle was run
+  pub ready-run : AreReady setting history trace nodes → IsOrder setting.rules history order
+      → (new : NodesView) (frames : List TimedFrame) → new.layout ≡ nodes.layout → states_of new.nodes ≡ heard_by frames after
+      → IsBus nodes.layout setting.owners setting.requests (placed_of history) (trace ++ frames) (order.cycle + 1) (states_of new.nodes)
+      → AreReady setting (history ++ Open order.cycle order.mask ∷ []) (trace ++ frames) new
+  ready-run ready is new frames same heard bus =
+      let event = Open order.cycle order.mask in
+      let numbers : numbers_of (states_of new.nodes) ≡ numbers_of (states_of nodes.nodes) =
+      ap numbers_of heard ∙ numbers-heard frames after ∙ numbers-learnt_by order.learned (states_of nodes.nodes) in
+      let next : order.cycle + 1 ≡ next_of (history ++ event ∷ []) = ap (λ n. n + 1) is.cycle ∙ sym (next_of-push history event) in
+      record {
+        same_layout = same ∙ ready.same_layout;
+        numbers = λ number few. subst (λ l. Contains l number) (sym numbers) (ready.numbers number few);
+        known = placed_of history;
+        bus = subst (λ n. IsBus setting.layout setting.owners setting.requests (placed_of history) (trace ++ frames) n (states_of new.nodes)) next
+            (subst (λ l. IsBus l setting.owners setting.requests (placed_of history) (trace ++ frames) (order.cycle + 1) (states_of new.nodes)) ready.same_layout bus);
+        up_to_date = λ _. sym (placed_of-push history event);
+      }

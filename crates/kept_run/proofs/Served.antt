@@ -1,0 +1,256 @@
+-- What a run owes is served: each instance whose last cycle was run, and nothing else in its slot.
+use Rattle.std.proofs.Common.{◌≡◌, ℕ, ◌+◌, ◌*◌, ◌<◌, ◌≤◌, ◌⊎◌, ◌&&◌, Bool, true, false, eqb, leb, List, get_or, Option, Some, None, All, Contains, IsSome, refl, ap, sym, ◌∙◌, arith, subst, inl, inr}
+use Rattle.std.specs.Prelude.{option_map, IfSome}
+use Rattle.std.proofs.lemmas.Bool.{cases_eq, eq-eqb, ne_eqb, le-leb, leb-true, and_from, and_left, and_right, and_parts, false_from_ne_true, cond-false}
+use Rattle.std.proofs.lemmas.List.Elements.{All-contains, Contains-get_or}
+use Rattle.std.proofs.Math.Nat.{div-lt_iff_lt-mul, div-eq_of_lt-le}
+use Rattle.can_frame.specs.declared.data_frame.TimedFrame.{TimedFrame}
+use Rattle.cycle_layout.specs.Layout.{CycleLayout}
+use Rattle.requirement_table.specs.declared.entries.Placed.{Placed}
+use Rattle.requirement_table.specs.Flags.{IsFlaggedOnce}
+use Rattle.requirement_table.specs.Instance.{Instance, MaySend, bytes_of, payload, release_of}
+use Rattle.requirement_table.specs.Opening.{Opening}
+use Rattle.requirement_table.specs.Slots.{contains_slot, slots}
+use Rattle.requirement_table.specs.Table.{IsInRange, instance_in}
+use Rattle.requirement_table.proofs.Shared.{instance_in-found, instance_in-sound}
+use Rattle.change_protocol.specs.Applied.{without_end}
+use Rattle.planner_policies.specs.Plan.{Planning, flags_of, mask_at}
+use Rattle.admission_rules.specs.declared.Rules.{Rules}
+use Rattle.master_core.specs.History.{plan_of}
+use Rattle.node_model.specs.Opening.{first_identifier}
+use Rattle.cycle_engine.specs.Cycle.{IsRequestFrame, IsSentOnce, IsSlotFrame, RunsCycle, RunsCycles, cycle_of, frames_in, of_slot}
+use Rattle.kept_run.specs.Served.{AllGuarded, AllServed, IsInWindow, NoStrangers, frames_of}
+use Rattle.kept_run.proofs.Lists.{Contains-cases, Contains-filter, Contains-nil, filter-filter, filter-same, place-of}
+use Rattle.kept_run.proofs.Opened.{AreOpenedBy}
+use Rattle.kept_run.proofs.Plans.{PlanLaws, mask-planned, mask-sendable, planned_once}
+
+-- The frames of one cycle
+
+-- a frame that may come behind the trigger of its cycle
+abbrev IsLaterFrame : CycleLayout → Opening → TimedFrame → Type 0
+IsLaterFrame layout opening sent = IsRequestFrame layout opening sent ⊎ IsSlotFrame layout opening sent
+
+module _ (layout : CycleLayout) (opening : Opening) (frames : List TimedFrame) (runs : RunsCycle layout opening frames) where
+  -- the trigger has identifier 0
+  trigger_identifier : runs.trigger.frame.identifier ≡ 0
+  trigger_identifier = ap (λ f. f.identifier) runs.is_trigger
+
+  -- a frame of the cycle is its trigger, or one behind it
+  first_or_later : (sent : TimedFrame) → Contains frames sent → (sent.frame.identifier ≡ 0) ⊎ Contains runs.later sent
+  first_or_later sent among = elim (Contains-cases runs.trigger runs.later sent (subst (λ l. Contains l sent) runs.all_frames among)) [
+    | inl trigger ↦ inl (ap (λ s. s.frame.identifier) (sym trigger) ∙ trigger_identifier)
+    | inr later ↦ inr later
+  ]
+
+  -- the frames of a slot in the cycle are those behind its trigger
+  of_slot-cycle : (slot : ℕ) → of_slot slot frames ≡ of_slot slot runs.later
+  of_slot-cycle slot =
+      let zero = trigger_identifier in
+      ap (of_slot slot) runs.all_frames
+      ∙ cond-false (eqb runs.trigger.frame.identifier (first_identifier + slot)) _ _ (ne_eqb _ _ (λ same. omega arith))
+
+  -- a slot that is not flagged sends nothing in the cycle
+  nothing_sent : (slot : ℕ) (sent : TimedFrame) → slot < slots → contains_slot opening.mask slot ≡ false
+      → Contains frames sent → sent.frame.identifier ≡ first_identifier + slot → ⊥
+  nothing_sent slot sent known unflagged among same =
+      let kept : Contains (of_slot slot frames) sent = Contains-filter (λ s. eqb s.frame.identifier (first_identifier + slot)) frames sent among (eq-eqb _ _ same) in
+      Contains-nil sent (subst (λ l. Contains l sent) (of_slot-cycle slot ∙ runs.none slot known unflagged) kept)
+
+  -- the frame that a slot sends in the cycle lies in its window
+  in_window : (openings : List Opening) (slot : ℕ) → 0 < layout.cycle → Contains openings opening
+      → (sent : IsSentOnce layout opening runs.later slot) → IsInWindow layout openings sent.sent
+  in_window openings slot some_time opened sent =
+      let early = sent.within in
+      let after = sent.after in
+      let starts = runs.starts in
+      let ends = runs.ends in
+      record {
+        opening = opening;
+        opened = opened;
+        cycle = sym (div-eq_of_lt-le layout.cycle (omega arith) early);
+        after = after;
+        before = sent.before;
+      }
+
+-- Instances with and without ends
+
+bytes-same : (one other : Option Instance) → option_map without_end one ≡ option_map without_end other → option_map bytes_of one ≡ option_map bytes_of other
+bytes-same one other same = sym (bytes-without one) ∙ ap (option_map bytes_of) same ∙ bytes-without other
+  where
+    bytes-without : (o : Option Instance) → option_map bytes_of (option_map without_end o) ≡ option_map bytes_of o
+    bytes-without None = refl
+    bytes-without (Some i) = refl
+
+some-of : {X : Type 0} (o : Option X) → IsSome o → (x : X) × (o ≡ Some x)
+some-of (Some x) is = (x, refl)
+some-of None is = absurd (cc)
+
+-- The run of opened cycles
+
+-- the trace runs the openings, which are of the cycles below `next`, with the plan of this list
+pub record IsRunOf (rules : Rules) (layout : CycleLayout) (placed : List Placed) (next : ℕ) (openings : List Opening) (trace : List TimedFrame) : Type 0 where
+  pub some_time : 0 < layout.cycle
+  pub opened : AreOpenedBy rules placed next openings
+  pub within : All (λ sent. sent.start < next * layout.cycle) trace
+  pub cycles : RunsCycles layout openings trace
+
+module _ (laws : PlanLaws) (rules : Rules) (layout : CycleLayout) (placed : List Placed) (next : ℕ) (openings : List Opening) (trace : List TimedFrame)
+    (run : IsRunOf rules layout placed next openings trace) where
+  abbrev plan : Planning
+  plan = plan_of rules placed
+
+  -- an opened cycle is run
+  runs-opening : (o : Opening) → Contains openings o → RunsCycle layout o (frames_in layout o.cycle trace)
+  runs-opening o opened = All-contains (λ x. RunsCycle layout x (frames_in layout x.cycle trace)) openings o run.cycles opened
+
+  -- the flags of an opened cycle are those of the plan
+  flagged-as_planned : (o : Opening) (slot : ℕ) → Contains openings o → slot < slots → contains_slot o.mask slot ≡ flags_of plan o.cycle slot
+  flagged-as_planned o slot opened known =
+      ap (λ m. contains_slot m slot) (All-contains (λ x. x.mask ≡ mask_at plan x.cycle) openings o run.opened.masks opened)
+      ∙ mask-planned laws rules placed run.opened.well run.opened.in_time o.cycle slot known
+
+  -- a frame of the trace is among those of its cycle
+  in-its_cycle : (o : Opening) (sent : TimedFrame) → o.cycle ≡ cycle_of layout sent → Contains trace sent → Contains (frames_in layout o.cycle trace) sent
+  in-its_cycle o sent cycle among = Contains-filter (λ s. eqb (cycle_of layout s) o.cycle) trace sent among (eq-eqb _ _ (sym cycle))
+
+  -- what a slot sends in the cycles of an instance that is flagged once is what it sends in that cycle
+  sent_in-that_cycle : (p : Placed) (k last : ℕ) (o : Opening) → p.entry.slot < slots → last < next → Contains openings o
+      → (once : IsFlaggedOnce (flags_of plan) p.entry.slot (release_of p k) last) → o.cycle ≡ once.cycle
+      → frames_of layout (first_identifier + p.entry.slot) (release_of p k) last trace ≡ of_slot p.entry.slot (frames_in layout o.cycle trace)
+  sent_in-that_cycle p k last o known early opened once cycle =
+      let slot : ℕ = p.entry.slot in
+      let release : ℕ = release_of p k in
+      let is_slot : TimedFrame → Bool = λ s. eqb s.frame.identifier (first_identifier + slot) in
+      let in_cycles : TimedFrame → Bool = λ s. leb release (cycle_of layout s) && leb (cycle_of layout s) last in
+      let after = once.after in
+      let before = once.before in
+      let agree : (s : TimedFrame) → Contains trace s → (is_slot s && in_cycles s) ≡ (eqb (cycle_of layout s) o.cycle && is_slot s) = λ s among.
+      elim (cases_eq s.frame.identifier (first_identifier + slot)) [
+        | inr other ↦ and_left _ _ (ne_eqb _ _ other) ∙ sym (and_right _ _ (ne_eqb _ _ other))
+        | inl same ↦ elim (cases_eq (cycle_of layout s) o.cycle) [
+          | inl here ↦ and_from _ _ (eq-eqb _ _ same) (and_from _ _ (le-leb release (cycle_of layout s) (omega arith)) (le-leb (cycle_of layout s) last (omega arith)))
+              ∙ sym (and_from _ _ (eq-eqb _ _ here) (eq-eqb _ _ same))
+          | inr elsewhere ↦
+              and_right (is_slot s) _ (false_from_ne_true _ (λ within.
+              let parts = and_parts (leb release (cycle_of layout s)) _ within in
+              let late : release ≤ cycle_of layout s = leb-true _ _ parts.0 in
+              let in_time : cycle_of layout s ≤ last = leb-true _ _ parts.1 in
+              let other = run.opened.opened (cycle_of layout s) (omega arith) in
+              let unflagged : contains_slot other.0.mask slot ≡ false = false_from_ne_true _ (λ flagged.
+              let again : flags_of plan (cycle_of layout s) slot ≡ true =
+              ap (λ c. flags_of plan c slot) (sym other.2) ∙ sym (flagged-as_planned other.0 slot other.1 known) ∙ flagged in
+              let same_cycle = once.alone (cycle_of layout s) late in_time again in
+              elsewhere (same_cycle ∙ sym cycle)) in
+              nothing_sent layout other.0 _ (runs-opening other.0 other.1) slot s known unflagged (in-its_cycle other.0 s other.2 among) same))
+              ∙ sym (and_left _ _ (ne_eqb _ _ elsewhere))
+        ]
+      ] in
+      filter-same (λ s. is_slot s && in_cycles s) (λ s. eqb (cycle_of layout s) o.cycle && is_slot s) trace agree
+      ∙ sym (filter-filter is_slot (λ s. eqb (cycle_of layout s) o.cycle) trace)
+
+  -- the bytes that the slot sends in an opened cycle in which the instance may be sent
+  bytes-sent : (p : Placed) (k : ℕ) (o : Opening) → Contains openings o → Contains placed p → MaySend p k o.cycle
+      → option_map bytes_of (instance_in o.placed p.entry.slot o.cycle) ≡ Some (payload p.entry.length k)
+  bytes-sent p k o opened stands sends =
+      let place = place-of placed p stands in
+      let found = instance_in-found placed run.opened.well place.0 k o.cycle p place.1 sends in
+      bytes-same (instance_in o.placed p.entry.slot o.cycle) (instance_in placed p.entry.slot o.cycle)
+      (All-contains (λ x. (slot : ℕ) → option_map without_end (instance_in x.placed slot x.cycle) ≡ option_map without_end (instance_in placed slot x.cycle)) openings o run.opened.instances opened p.entry.slot)
+      ∙ ap (option_map bytes_of) found
+
+  -- every instance whose last cycle was run is served
+  pub all_served : AllServed layout placed openings next trace
+  all_served p k last stands exists is_last early =
+      let known = (All-contains IsInRange placed p run.opened.well.in_range stands).entry.slot in
+      let slot : ℕ = p.entry.slot in
+      let once = planned_once laws rules placed run.opened.well run.opened.in_time next p k last stands exists is_last early in
+      let after = once.after in
+      let before = once.before in
+      let opened = run.opened.opened once.cycle (omega arith) in
+      let o : Opening = opened.0 in
+      let cycle : o.cycle ≡ once.cycle = opened.2 in
+      let flagged : contains_slot o.mask slot ≡ true =
+      flagged-as_planned o slot opened.1 known ∙ ap (λ c. flags_of plan c slot) cycle ∙ once.flagged in
+      let runs = runs-opening o opened.1 in
+      let sent = runs.each slot known flagged in
+      let bytes = bytes-sent p k o opened.1 stands (record { exists = exists; released = omega arith; in_time = omega arith }) in
+      let carries : Some (payload p.entry.length k) ≡ Some sent.sent.frame.bytes = sym bytes ∙ sent.carries in
+      record {
+        sent = sent.sent;
+        once = sent_in-that_cycle p k last o known early opened.1 once cycle ∙ of_slot-cycle layout o _ runs slot ∙ sent.once;
+        in_window = in_window layout o _ runs openings slot run.some_time opened.1 sent;
+        carries = cc;
+      }
+
+  -- what a frame of the trace is
+  record IsFrameOf (sent : TimedFrame) : Type 0 where
+    opening : Opening
+    opened : Contains openings opening
+    cycle : opening.cycle ≡ cycle_of layout sent
+    is : (sent.frame.identifier ≡ 0) ⊎ IsLaterFrame layout opening sent
+
+  frame-of : (sent : TimedFrame) → Contains trace sent → IsFrameOf sent
+  frame-of sent among =
+      let started : sent.start < next * layout.cycle = All-contains (λ s. s.start < next * layout.cycle) trace sent run.within among in
+      let opened = run.opened.opened (cycle_of layout sent) ((div-lt_iff_lt-mul {k = layout.cycle} {x = sent.start} {y = next} run.some_time).1 started) in
+      let o : Opening = opened.0 in
+      let runs = runs-opening o opened.1 in
+      record {
+        opening = o;
+        opened = opened.1;
+        cycle = opened.2;
+        is = elim (first_or_later layout o _ runs sent (in-its_cycle o sent opened.2 among)) [
+          | inl trigger ↦ inl trigger
+          | inr later ↦ inr (All-contains (IsLaterFrame layout o) runs.later sent runs.all later)
+        ];
+      }
+
+  -- no frame of a request touches a trigger's time or a synchronous window
+  pub all_guarded : AllGuarded layout openings trace
+  all_guarded k d here request =
+      let sent : TimedFrame = get_or trace k d in
+      let frame = frame-of sent (Contains-get_or trace k d here) in
+      elim frame.is [
+        | inl trigger ↦ absurd (omega arith)
+        | inr later ↦ elim later [
+          | inl asynchronous ↦ record {
+            opening = frame.opening;
+            opened = frame.opened;
+            cycle = frame.cycle;
+            after = asynchronous.after;
+            before = asynchronous.before;
+          }
+          | inr of_slot ↦ absurd (let is = of_slot.identifier in let known = of_slot.known in let all : slots ≡ 40 = refl in omega arith)
+        ]
+      ]
+
+  -- a frame with the identifier of a slot is sent where the slot is flagged
+  slot-flagged : (o : Opening) (sent : TimedFrame) (slot : ℕ) → slot < slots → sent.frame.identifier ≡ first_identifier + slot
+      → (sent.frame.identifier ≡ 0) ⊎ IsLaterFrame layout o sent → contains_slot o.mask slot ≡ true
+  slot-flagged o sent slot known same is =
+      elim is [
+        | inl trigger ↦ absurd (omega arith)
+        | inr later ↦ elim later [
+          | inl frame ↦ absurd (let least = frame.identifier in let all : slots ≡ 40 = refl in omega arith)
+          | inr frame ↦ let id = frame.identifier in let slot_is : slot ≡ frame.slot = omega arith in ap (contains_slot o.mask) slot_is ∙ frame.flagged
+        ]
+      ]
+
+  -- nothing else is sent in a slot
+  pub no_strangers : NoStrangers layout placed trace
+  no_strangers slot known k d here same =
+      let sent : TimedFrame = get_or trace k d in
+      let frame = frame-of sent (Contains-get_or trace k d here) in
+      let o : Opening = frame.opening in
+      let mask : o.mask ≡ mask_at plan o.cycle = All-contains (λ x. x.mask ≡ mask_at plan x.cycle) openings o run.opened.masks frame.opened in
+      let flagged : contains_slot (mask_at plan o.cycle) slot ≡ true = ap (λ m. contains_slot m slot) (sym mask) ∙ slot-flagged o sent slot known same frame.is in
+      let some = some-of (instance_in placed slot o.cycle) (mask-sendable laws rules placed run.opened.well run.opened.in_time o.cycle slot flagged) in
+      let i : Instance = some.0 in
+      let sends = subst (λ x. IfSome x (λ y. Contains placed y.placed × (y.placed.entry.slot ≡ slot) × MaySend y.placed y.number o.cycle)) some.1 (instance_in-sound placed slot o.cycle) in
+      record {
+        p = i.placed;
+        k = i.number;
+        stands = sends.0;
+        of_slot = sends.1;
+        in_time = subst (λ c. MaySend i.placed i.number c) frame.cycle sends.2;
+      }

@@ -1,0 +1,47 @@
+use Rattle.std.proofs.Common.{◌*◌, ◌+◌, subst}
+use Rattle.bus_line.specs.Trace.{Follows}
+use Rattle.master_core.specs.declared.event.Event.TheVariants.{Open}
+use Rattle.cycle_engine.specs.Offered.{offered_in}
+use Rattle.master_core.specs.History.{placed_of}
+use Rattle.cycle_engine.specs.Nodes.{opening_of}
+use Rattle.kept_run.proofs.Histories.{legal-push}
+use Rattle.kept_run.proofs.Master.{MasterLaws}
+use Rattle.kept_run.proofs.Plans.{PlanLaws}
+use Rattle.kept_run.proofs.Ready.{order-right, ready-run}
+use Rattle.kept_run.proofs.Steps.{CycleLaws, opened}
+use Rattle.kept_run.proofs.laws.cycles_run.Goals as goal
+
+pub returns-clause-opened : goal.returns-clause-opened
+returns-clause-opened c =
+    let master : MasterLaws = record {
+      well_placed = c.legal_histories.ensures.well_placed;
+      in_time = c.legal_histories.ensures.in_time;
+      cycles = c.opened_cycles.ensures.cycles;
+      masks = c.opened_cycles.ensures.masks;
+      instances = c.opened_cycles.ensures.instances;
+    } in
+    let plans : PlanLaws = record {
+      good = c.keeping.ensures.good;
+      once = c.flagged_once.ensures.once;
+      planned = c.states.ensures.planned;
+      fits = c.planned_slots.ensures.fits;
+      sendable = c.planned_slots.ensures.sendable;
+      along = c.valid_states.ensures.along;
+    } in
+    let cycles : CycleLaws = record {
+      can_trace = c.next_cycle.ensures.can_trace;
+      ended = c.next_cycle.ensures.ended;
+      all_run = c.next_cycle.ensures.all_run;
+    } in
+    opened master plans cycles
+
+pub returns-clause-under_way : goal.returns-clause-under_way
+returns-clause-under_way c = λ setting history trace frames nodes order known way ready is follows.
+    returns-clause-opened c setting history order.cycle order.mask trace frames known way
+    (legal-push setting.rules history (Open order.cycle order.mask) way.legal (order-right setting.rules history order is))
+    (subst (λ l. Follows (offered_in l setting.requests (opening_of order (placed_of history))) trace (order.cycle * l.cycle) ((order.cycle + 1) * l.cycle) frames)
+    ready.same_layout follows)
+
+pub returns-clause-ready : goal.returns-clause-ready
+returns-clause-ready c = λ setting history trace frames nodes new order way ready is same heard bus.
+    ready-run setting history trace nodes order ready is new frames same heard bus

@@ -1,0 +1,33 @@
+-- What holds of the fields of every master.
+use Rattle.std.specs.Prelude.{◌≡◌, ℕ, ◌+◌, ◌^◌, ◌<◌, ◌≤◌, List, Option}
+use Rattle.requirement_table.specs.declared.entries.Placed.{Placed}
+use Rattle.requirement_table.specs.Table.{not_over}
+use Rattle.planner_policies.specs.Plan.{Ranking, pending_at}
+use Rattle.admission_rules.specs.declared.Rules.{Rules}
+use Rattle.admission.specs.Verdict.{IsRules}
+use Rattle.master_core.specs.declared.event.Event.{Event}
+use Rattle.master_core.specs.History.{IsPlainlyLegal, learned_of, next_of, placed_of, plan_of}
+
+-- what contracts see of a master: its rules, its history, and the number of events that it has room for
+pub record MasterView : Type 0 where
+  pub rules : Rules
+  pub history : List Event
+  pub spare : ℕ
+
+-- the fields agree with the history: the placed entries, the next cycle and what is pending before it, and what the nodes are to learn; the
+-- plan is made from the entries that were not over by the cycle `since`
+pub record IsKept (rules : Rules) (history : List Event) (list : List Placed) (since : ℕ) (ranked : Ranking) (cycle pending : ℕ) (learned : Option (List Placed)) : Type 0 where
+  pub ranges : IsRules rules
+  pub legal : IsPlainlyLegal rules history
+  pub placed : list ≡ placed_of history
+  pub next : cycle ≡ next_of history
+  pub near : cycle ≤ 2 ^ 41
+  pub waiting : pending ≡ pending_at (plan_of rules list) cycle
+  pub passed : since ≤ cycle
+  pub left : ranked ≡ record { placed = not_over since list; policy = rules.policy }
+  pub to_learn : learned ≡ learned_of history
+
+-- the room of a history: it has so many events, a vector that holds them has so much room in all, and so many more are spared
+pub record HasRoom (events room spare : ℕ) : Type 0 where
+  pub spared : events + spare ≤ room
+  pub few : events + spare < 2 ^ 61

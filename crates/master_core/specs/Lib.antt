@@ -1,0 +1,4 @@
+pub mod History
+pub mod Keeping
+pub mod Openings
+pub mod Orders

@@ -1,0 +1,29 @@
+//! What a master keeps of each call.
+
+use admission::{Trail, Verdict};
+use change_protocol::Change;
+use requirement_table::Mask;
+
+/// A call of a master with its answer.
+#[derive(Drop, Debug)]
+pub enum Event {
+    /// Operator `caller` asked for a change. It was planned from the cycle `from` on. Where an instance would miss its deadline,
+    /// `trail` are the slots that the plan flags in the cycles from `from` to the one of the miss.
+    Submit {
+        caller: u8,
+        change: Change,
+        from: u64,
+        verdict: Verdict,
+        trail: Trail,
+    },
+    /// Operator `caller` asked for the next cycle to be opened.
+    Look {
+        caller: u8,
+        next: u64,
+    },
+    /// A cycle was opened, in which these slots are flagged.
+    Open {
+        cycle: u64,
+        mask: Mask,
+    },
+}

@@ -1,0 +1,46 @@
+//! Laws about histories. Each function has an empty body, and its contract is the law.
+
+ghost use Rattle.std.specs.Prelude.{◌≡◌, ℕ, ◌<◌, ◌≤◌, ◌++◌, ◌∷◌, [], List, All, map, option_map};
+ghost use Rattle.std.specs.List.{range_with_len};
+ghost use Rattle.requirement_table.specs.Table.{IsWellPlaced, instance_in};
+ghost use Rattle.change_protocol.specs.Applied.{IsChangedAt, without_end};
+ghost use Rattle.planner_policies.specs.Plan.{IsValid, NeverMisses, mask_at, pending_at};
+ghost use Rattle.admission_rules.specs.declared.Rules.{Rules};
+ghost use Rattle.master_core.specs.declared.event.Event.{Event};
+ghost use Rattle.master_core.specs.History.{IsLegal, next_of, placed_of, plan_of};
+ghost use Rattle.master_core.specs.Openings.{openings_of};
+
+/// The placed entries of a legal history are well placed, and no deadline of theirs is ever missed. So what is pending before the next
+/// cycle can be planned from.
+pub fn legal_histories()
+    ensures well_placed { (rules : Rules) (history : List Event) → IsLegal rules history → IsWellPlaced (placed_of history) }
+    ensures in_time { (rules : Rules) (history : List Event) → IsLegal rules history → NeverMisses (plan_of rules (placed_of history)) }
+    ensures valid { (rules : Rules) (history : List Event) → IsLegal rules history
+        → IsValid (placed_of history) (next_of history) (pending_at (plan_of rules (placed_of history)) (next_of history)) }
+{}
+
+/// One event more does not change the cycles that were opened: it changes the list from a start on that is not below the next cycle. So
+/// the plan below that cycle stays, and what is pending before it, and each slot has the same instance there, but for an end that its entry
+/// got.
+pub fn one_event_more()
+    ensures changed { (rules : Rules) (history : List Event) (event : Event) → IsLegal rules (history ++ event ∷ [])
+        → (start : ℕ) × (next_of history ≤ start) × IsChangedAt start (placed_of history) (placed_of (history ++ event ∷ [])) }
+    ensures masks { (rules : Rules) (history : List Event) (event : Event) (c : ℕ) → IsLegal rules (history ++ event ∷ []) → c < next_of history
+        → mask_at (plan_of rules (placed_of (history ++ event ∷ []))) c ≡ mask_at (plan_of rules (placed_of history)) c }
+    ensures pending { (rules : Rules) (history : List Event) (event : Event) (c : ℕ) → IsLegal rules (history ++ event ∷ []) → c ≤ next_of history
+        → pending_at (plan_of rules (placed_of (history ++ event ∷ []))) c ≡ pending_at (plan_of rules (placed_of history)) c }
+    ensures instances { (rules : Rules) (history : List Event) (event : Event) (c slot : ℕ) → IsLegal rules (history ++ event ∷ []) → c < next_of history
+        → option_map without_end (instance_in (placed_of (history ++ event ∷ [])) slot c) ≡ option_map without_end (instance_in (placed_of history) slot c) }
+{}
+
+/// A legal history opens the cycles below the next one, in their order, each once. Each was opened with the plan of all placed entries
+/// there are, also of those that were placed later, and each slot had the same instance in it, but for an end that its entry got later.
+pub fn opened_cycles()
+    ensures cycles { (rules : Rules) (history : List Event) → IsLegal rules history
+        → map (λ o. o.cycle) (openings_of history) ≡ range_with_len 0 (next_of history) }
+    ensures masks { (rules : Rules) (history : List Event) → IsLegal rules history
+        → All (λ o. o.mask ≡ mask_at (plan_of rules (placed_of history)) o.cycle) (openings_of history) }
+    ensures instances { (rules : Rules) (history : List Event) → IsLegal rules history
+        → All (λ o. (slot : ℕ) → option_map without_end (instance_in o.placed slot o.cycle)
+        ≡ option_map without_end (instance_in (placed_of history) slot o.cycle)) (openings_of history) }
+{}

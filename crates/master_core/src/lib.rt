@@ -1,0 +1,18 @@
+//! The master of an FTT-CAN bus as a state machine: it answers changes of the table and looks, opens elementary cycles, and keeps the
+//! history of all of these.
+//!
+//! Cycles are elementary cycles, counted from 0.
+#![tactic(auto)]
+
+mod event;
+pub mod laws;
+mod master;
+mod planning;
+mod room;
+mod table;
+
+pub use event::Event;
+pub use master::Master;
+
+#[cfg(test)]
+mod tests;

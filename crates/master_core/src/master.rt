@@ -1,0 +1,243 @@
+//! The master, which answers calls and opens cycles.
+
+ghost use Rattle.std.specs.Prelude.{◌≡◌, ◌+◌, ◌^◌, ◌<◌, ◌≤◌, ◌++◌, ◌∷◌, [], List, ℕ, IfOk, OnErr, OnOk, length};
+ghost use Rattle.admission.specs.Verdict.{IsRules};
+ghost use Rattle.planner_policies.specs.Plan.{mask_at, pending_at};
+ghost use Rattle.master_core.specs.declared.event.Event.TheVariants.{Submit, Look, Open};
+ghost use Rattle.master_core.specs.History.{IsPlainlyLegal, next_of, placed_of, plan_of};
+ghost use Rattle.master_core.specs.Orders.{IsOrder};
+
+use crate::event::Event;
+use crate::planning::{Planned, plan_next};
+use crate::room::{make_room, put};
+use crate::table::{Table, copy_of, list_of};
+use admission::{Decision, Rules, Verdict, decide};
+use change_protocol::Change;
+use planner_policies::{PlanState, cycle_mask};
+use requirement_table::{Mask, Order, Placed, PlacedList};
+use std::alloc::{AllocError, Global};
+use std::marker::Model;
+
+/// A master. Contracts see its rules, its history, and the number of events that it has room for.
+#[derive(Drop, Debug)]
+pub struct Master {
+    rules: Rules,
+    history: Vec<Event>,
+    /// The number of further events that the history has room for.
+    spare: usize,
+    table: Table,
+    /// The next cycle, and the slots that are pending before it.
+    state: PlanState,
+    /// The placed entries as the nodes are to learn them, where they changed since the last opening.
+    learned: Option<PlacedList>,
+}
+
+impl Model for Master {
+    ghost use Rattle.std.specs.Prelude.{length, vec_capacity};
+    ghost use Rattle.master_core.specs.Keeping.{HasRoom, IsKept, MasterView};
+
+    ghost Value = { MasterView };
+
+    ghost view = { λ m. record { rules = m.rules; history = m.history.items; spare = m.spare } };
+
+    ghost invariant = { λ m. IsKept m.rules m.history.items m.table.placed.items m.table.since m.table.ranked m.state.cycle m.state.pending m.learned
+        × HasRoom (length m.history.items) (vec_capacity m.history) m.spare };
+}
+
+impl Master {
+    /// A master with these rules, which was not called yet.
+    ///
+    /// # Errors
+    ///
+    /// Only where memory runs out.
+    pub fn new(alloc: Global, rules: Rules) -> Result<Master, AllocError>
+        requires rules { IsRules rules }
+        ensures rules { IfOk result (λ master. master.rules ≡ rules) }
+        ensures history { IfOk result (λ master. master.history ≡ []) }
+    {
+        let table = Table::of(alloc, Vec::new(alloc), 0, rules.policy)?;
+        Ok(Master {
+            rules,
+            history: Vec::new(alloc),
+            spare: 0,
+            table,
+            state: PlanState {
+                cycle: 0,
+                pending: Mask::empty(),
+            },
+            learned: None,
+        })
+    }
+
+    /// Makes room for so many events, so that as many looks and openings need no memory.
+    ///
+    /// # Errors
+    ///
+    /// Only where memory runs out. Nothing is changed then.
+    pub fn reserve(&mut self, _alloc: Global, events: usize) -> Result<(), AllocError>
+        ensures rules { self.new.rules ≡ self.old.rules }
+        ensures history { self.new.history ≡ self.old.history }
+        ensures room { OnOk result (events ≤ self.new.spare) }
+        ensures kept { self.old.spare ≤ self.new.spare }
+        ensures same { OnErr result (self.new.spare ≡ self.old.spare) }
+        ensures few { length self.new.history + self.new.spare < 2 ^ 61 }
+    {
+        if events > self.spare {
+            make_room(&mut self.history, events)?;
+            self.spare = events;
+        }
+        Ok(())
+    }
+
+    /// Answers a change that operator `caller` asks for, 1 to 8. It is planned from the next cycle on. The table changes only where
+    /// the verdict is `Accepted`. It leaves the room as it was.
+    ///
+    /// # Errors
+    ///
+    /// Only where memory runs out. Nothing is changed then, and the call may be made again.
+    pub fn submit(
+        &mut self,
+        alloc: Global,
+        caller: u8,
+        change: &Change,
+    ) -> Result<Verdict, AllocError>
+        requires caller { (1 ≤ caller) × (caller ≤ 8) }
+        ensures rules { self.new.rules ≡ self.old.rules }
+        ensures event { IfOk result (λ verdict. (trail : List ℕ) × (self.new.history
+            ≡ self.old.history ++ Submit caller change.now (next_of self.old.history) verdict trail ∷ [])) }
+        ensures same { OnErr result (self.new.history ≡ self.old.history) }
+        ensures spare { self.new.spare ≡ self.old.spare }
+        ensures legal { IsPlainlyLegal self.new.rules self.new.history }
+        ensures few { length self.new.history + self.new.spare < 2 ^ 61 }
+    {
+        let decision = decide(
+            alloc,
+            &self.rules,
+            self.table.placed.as_slice(),
+            &self.state,
+            change,
+        )?;
+        let Decision {
+            verdict,
+            placed,
+            trail,
+        } = decision;
+        let event = Event::Submit {
+            caller,
+            change: copy_of(alloc, change)?,
+            from: self.state.cycle,
+            verdict,
+            trail,
+        };
+        let events = self.spare + 1;
+        match placed {
+            None => {
+                make_room(&mut self.history, events)?;
+                put(&mut self.history, event);
+                Ok(verdict)
+            }
+            Some(list) => {
+                let list = list.into_vec();
+                let learned = list_of(alloc, list.as_slice())?;
+                let table = Table::of(alloc, list, self.state.cycle, self.rules.policy)?;
+                make_room(&mut self.history, events)?;
+                self.table = table;
+                self.learned = Some(learned);
+                put(&mut self.history, event);
+                Ok(verdict)
+            }
+        }
+    }
+
+    /// Answers the next cycle to be opened, for operator `caller`, 1 to 8. It takes no memory, and one of the room.
+    pub fn look(&mut self, caller: u8) -> u64
+        requires caller { (1 ≤ caller) × (caller ≤ 8) }
+        requires spare { 1 ≤ self.old.spare }
+        ensures rules { self.new.rules ≡ self.old.rules }
+        ensures next { result ≡ next_of self.old.history }
+        ensures event { self.new.history ≡ self.old.history ++ Look caller result ∷ [] }
+        ensures spare { self.new.spare + 1 ≡ self.old.spare }
+        ensures legal { IsPlainlyLegal self.new.rules self.new.history }
+        ensures few { length self.new.history + self.new.spare < 2 ^ 61 }
+    {
+        let next = self.state.cycle;
+        put(&mut self.history, Event::Look { caller, next });
+        self.spare -= 1;
+        next
+    }
+
+    /// Plans and opens the next cycle, below 2^41. No deadline is missed in it, nor in any later one. It takes no memory, and one of
+    /// the room.
+    pub fn open(&mut self) -> Order
+        requires spare { 1 ≤ self.old.spare }
+        requires next { next_of self.old.history < 2 ^ 41 }
+        ensures rules { self.new.rules ≡ self.old.rules }
+        ensures order { IsOrder self.old.rules self.old.history result }
+        ensures event { self.new.history ≡ self.old.history ++ Open result.cycle result.mask ∷ [] }
+        ensures spare { self.new.spare + 1 ≡ self.old.spare }
+        ensures legal { IsPlainlyLegal self.new.rules self.new.history }
+        ensures few { length self.new.history + self.new.spare < 2 ^ 61 }
+    {
+        let cycle = self.state.cycle;
+        let Planned { mask, width, next } = plan_next(
+            &self.table.ranked,
+            self.rules.window,
+            &self.state,
+        );
+        self.state = next;
+        put(&mut self.history, Event::Open { cycle, mask });
+        self.spare -= 1;
+        Order {
+            cycle,
+            mask,
+            l: width,
+            learned: self.learned.take(),
+        }
+    }
+
+    /// The slots that `open` would flag now; the next cycle is below 2^41.
+    pub fn planned(&self) -> Mask
+        requires next { next_of self.now.history < 2 ^ 41 }
+        ensures mask { result ≡ mask_at (plan_of self.now.rules (placed_of self.now.history)) (next_of self.now.history) }
+    {
+        cycle_mask(&self.table.ranked, self.rules.window, &self.state)
+    }
+
+    /// The next cycle, and the slots that are pending before it: what `open` plans from.
+    pub fn state(&self) -> PlanState
+        ensures cycle { result.cycle ≡ next_of self.now.history }
+        ensures pending { result.pending ≡ pending_at (plan_of self.now.rules (placed_of self.now.history)) (next_of self.now.history) }
+    {
+        self.state
+    }
+
+    /// The next cycle to be opened.
+    pub fn next(&self) -> u64
+        ensures next { result ≡ next_of self.now.history }
+    {
+        self.state.cycle
+    }
+
+    /// The placed entries, in the order of their placing.
+    pub fn placed(&self) -> &[Placed]
+        ensures list { result.now ≡ placed_of self.now.history }
+    {
+        self.table.placed.as_slice()
+    }
+
+    /// All calls with their answers, in their order.
+    pub fn history(&self) -> &[Event]
+        ensures list { result.now ≡ self.now.history }
+        ensures legal { IsPlainlyLegal self.now.rules self.now.history }
+        ensures few { length self.now.history + self.now.spare < 2 ^ 61 }
+    {
+        self.history.as_slice()
+    }
+
+    /// The rules by which changes are judged.
+    pub fn rules(&self) -> Rules
+        ensures rules { result ≡ self.now.rules }
+    {
+        self.rules
+    }
+}

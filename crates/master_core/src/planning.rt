@@ -1,0 +1,41 @@
+//! The plan of the next cycle.
+
+ghost use Rattle.std.specs.Prelude.{◌≡◌, ◌+◌, ◌^◌, ◌<◌};
+ghost use Rattle.requirement_table.specs.Slots.{contains_slot, set_of, slots};
+ghost use Rattle.requirement_table.specs.Table.{width_in};
+ghost use Rattle.planner_policies.specs.Plan.{HasNoMissIn, IsValid, left_after, planned_in, planning_of};
+
+use planner_policies::{PlanState, Ranked, cycle_width, plan_cycle};
+use requirement_table::Mask;
+
+/// What is planned in a cycle.
+#[derive(Drop)]
+pub struct Planned {
+    /// The slots.
+    pub mask: Mask,
+    /// The length of their window, in bit times.
+    pub width: u32,
+    /// The state at the next cycle.
+    pub next: PlanState,
+}
+
+/// Plans the cycle of the state, in which no deadline is missed, within a window of `window` bit times.
+pub fn plan_next(ranked: &Ranked, window: u32, state: &PlanState) -> Planned
+    requires cycle { state.now.cycle < 2 ^ 42 }
+    requires valid { IsValid ranked.now.placed state.now.cycle state.now.pending }
+    requires in_time { let plan = planning_of ranked.now window state.now.cycle state.now.pending in
+        HasNoMissIn plan state.now.cycle (contains_slot state.now.pending) }
+    ensures mask { let plan = planning_of ranked.now window state.now.cycle state.now.pending in
+        result.mask ≡ set_of slots (planned_in plan state.now.cycle (contains_slot state.now.pending)) }
+    ensures width { let plan = planning_of ranked.now window state.now.cycle state.now.pending in
+        result.width ≡ width_in ranked.now.placed state.now.cycle (planned_in plan state.now.cycle (contains_slot state.now.pending)) }
+    ensures cycle { result.next.cycle ≡ state.now.cycle + 1 }
+    ensures pending { let plan = planning_of ranked.now window state.now.cycle state.now.pending in
+        result.next.pending ≡ set_of slots (left_after plan state.now.cycle (contains_slot state.now.pending)) }
+{
+    let width = cycle_width(ranked, window, state);
+    match plan_cycle(ranked, window, state) {
+        Ok((mask, next)) => Planned { mask, width, next },
+        Err(_) => unreachable!(),
+    }
+}
