@@ -1,5 +1,5 @@
 -- What a filter keeps.
-use Rattle.std.proofs.Common.{◌≡◌, ◌&&◌, Bool, true, cond, List, [], ◌∷◌, filter, refl, ap, sym, ◌∙◌, arith, subst, inl, inr}
+use Rattle.std.proofs.Common.{◌≡◌, ◌&&◌, Bool, true, false, cond, List, [], ◌∷◌, filter, refl, ap, sym, ◌∙◌, arith, subst, inl, inr}
 use Rattle.std.specs.Prelude.{Contains}
 use Rattle.std.proofs.lemmas.Bool.{cases_Bool, cond-true, cond-false, and_left}
 use Rattle.fttcan_top.proofs.Flagged.{Contains-cons_cases, Contains-head, Contains-tail}

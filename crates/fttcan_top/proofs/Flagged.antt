@@ -1,10 +1,10 @@
 -- What flagged slots send, and how wide their window is: facts on lists of placed entries.
-use Rattle.std.proofs.Common.{◌≡◌, ℕ, ◌≤◌, ◌⊎◌, eqb, List, [], ◌∷◌, get_or, Option, Some, None, refl, ap, sym, ◌∙◌, arith, subst, inl, inr}
+use Rattle.std.proofs.Common.{◌≡◌, ℕ, zero, suc, ◌≤◌, ◌⊎◌, eqb, List, [], ◌∷◌, length, get_or, Option, Some, None, refl, ap, sym, ◌∙◌, arith, subst, inl, inr}
 use Rattle.std.specs.Prelude.{option_map, map, slice_get, Contains}
 use Rattle.std.specs.List.{filter_map}
 use Rattle.std.proofs.lemmas.Bool.{cases_Bool, eqb-true, eq-eqb, cond-true}
 use Rattle.requirement_table.specs.declared.entries.Placed.{Placed}
-use Rattle.requirement_table.specs.Instance.{instance_of, MaySend, IsReleasedIn, Exists}
+use Rattle.requirement_table.specs.Instance.{instance_of, payload, MaySend, IsReleasedIn, Exists}
 use Rattle.requirement_table.specs.Table.{sendable, instance_in}
 use Rattle.requirement_table.specs.Instance.{Instance}
 use Rattle.std.proofs.lemmas.Bool.{cond-false}
@@ -137,3 +137,8 @@ instance_in-only placed slot c k p among same only sends =
     let is : some.0.placed ≡ p = only some.0.placed found.stands found.of_slot in
     let number : some.0.number ≡ k = let e : Some some.0.number ≡ Some k = sym found.sends ∙ ap (λ q. instance_of q c) is ∙ sends in cc in
     some.1 ∙ ap Some (same_instance some.0 p k is number)
+
+-- a payload has as many bytes as the entry's frames
+pub length-payload : (n k : ℕ) → length (payload n k) ≡ n
+length-payload zero k = refl
+length-payload (suc n) k = ap suc (length-payload n k)
