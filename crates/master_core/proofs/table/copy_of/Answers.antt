@@ -12,6 +12,9 @@ loop-op-preserved c =
     let within = c.loop-op-test.true in
     record {
       copied =
-          rw (c.in_ok-push.ensures.items, c.loop-op.invariant.copied, c.same.ensures.same, take_more ops i _ within) refl;
+          c.in_ok-push.ensures.items
+          ∙ ap (λ (l : List Op). l ++ c.same.result ∷ []) c.loop-op.invariant.copied
+          ∙ ap (λ (x : Op). take i ops ++ x ∷ []) c.same.ensures.same
+          ∙ sym (take_more ops i _ within);
       types = All-more HasTypes ops i _ within c.loop-op.invariant.types c.same.ensures.types;
     }
