@@ -96,8 +96,8 @@ pub fn orders()
     legal_histories();
 }
 
-/// A cycle that is opened, whatever its mask, and whose frames follow the trace by what is offered in it, keeps a run under way; and the
-/// run of an order on the bus keeps it under way and leaves its nodes ready.
+/// A cycle that is opened right after the history, with whatever slots the plan gives, and whose frames follow the trace by what is
+/// offered in it, keeps a run under way; and the run of an order on the bus keeps it under way and leaves its nodes ready.
 pub fn cycles_run()
     ensures opened { (setting : Setting) (history : List Event) (cycle mask : ℕ) (trace frames : List TimedFrame)
         → IsSetting setting → IsUnderWay setting history trace → IsLegal setting.rules (history ++ Open cycle mask ∷ [])
