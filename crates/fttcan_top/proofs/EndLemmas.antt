@@ -35,7 +35,7 @@ at_status P end now (inr (input, is)) here memory = subst P (sym is) (memory inp
 pub is_refusal : (refusal : Refusal) → IsRefusal (stopped_by refusal)
 is_refusal (TooLong source) = tt
 is_refusal (System fault) = tt
-is_refusal Steps = tt
+is_refusal (Steps fault) = tt
 is_refusal (Requests fault) = tt
 
 -- where there is nothing to run, the end answers what was asked

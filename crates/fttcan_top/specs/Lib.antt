@@ -1,17 +1,5 @@
-pub mod Entries
 pub mod Words
 pub mod Status
-pub mod Chain
-pub mod StepsFile
-pub mod History
 pub mod Output
 pub mod Loads
 pub mod Ends
-pub mod Kept
-pub mod Log
-pub mod Openings
-pub mod Promise
-pub mod Progress
-pub mod Logged
-pub mod Table
-pub mod Running

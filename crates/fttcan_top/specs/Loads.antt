@@ -11,7 +11,7 @@ use Rattle.fttcan_top.specs.Output.{Stopped, too_long, wrong_system, wrong_steps
 abbrev pub stopped_by : Refusal → Stopped
 stopped_by (TooLong source) = too_long source
 stopped_by (System fault) = wrong_system fault
-stopped_by Steps = wrong_steps
+stopped_by (Steps fault) = wrong_steps fault
 stopped_by (Requests fault) = wrong_requests fault
 
 -- the reason is that of what was asked, or a fault of the shelf where its count rose; memory may run out at any time

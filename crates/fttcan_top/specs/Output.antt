@@ -1,27 +1,30 @@
 -- The headline's definitions: what the words and the files ask for, what a run of it is, and how a call ends.
-use Rattle.std.specs.Prelude.{◌≡◌, ℕ, ◌⊎◌, ⊤, List, [], length, codes, if◌then◌else◌, nat_le, Option, Some, None, Result, Ok, Err}
+use Rattle.std.specs.Prelude.{◌≡◌, ℕ, ◌⊎◌, ⊤, Bool, true, List, [], length, list_all, codes, if◌then◌else◌, nat_le, Option, Some, None, Result, Ok, Err}
 use Rattle.can_frame.specs.declared.TimedFrame.{TimedFrame}
 use Rattle.ftt_io.specs.Files.{NamedFiles}
 use Rattle.ftt_io.specs.Puts.{Puts, PutsPrefix}
-use Rattle.fttcan_top.specs.Promise.{Kept}
-use Rattle.fttcan_top.specs.Log.{log_text}
+use Rattle.bus_trace.specs.Log.{log_text}
+use Rattle.replay_run.specs.Run.{IsRun}
 use Rattle.async_window.specs.declared.request.Owner.{Owner}
 use Rattle.async_window.specs.declared.request.Request.{Request}
 use Rattle.input_text.specs.SystemFile.{system_of}
 use Rattle.input_text.specs.SystemText.{system_fault_line}
 use Rattle.input_text.specs.RequestsFile.{requests_of}
-use Rattle.input_text.specs.RequestText.{text_of}
+use Rattle.input_text.specs.RequestText.{text_of as requests_line}
 use Rattle.input_text.specs.declared.system.System.{System}
 use Rattle.input_text.specs.declared.system_fault.SystemFault.{SystemFault}
 use Rattle.input_text.specs.declared.request_fault.RequestFault.{RequestFault}
-use Rattle.fttcan_top.specs.declared.input.steps.Step.{Step}
-use Rattle.fttcan_top.specs.declared.history.Event.{Event}
+use Rattle.input_text.specs.StepsFile.{steps_of}
+use Rattle.input_text.specs.StepText.{text_of as steps_line}
+use Rattle.input_text.specs.declared.steps.Step.{Step}
+use Rattle.input_text.specs.declared.step_fault.StepFault.{StepFault}
+use Rattle.admission.specs.Verdict.{is_accepted}
+use Rattle.master_core.specs.declared.event.Event.{Event}
+use Rattle.master_core.specs.declared.event.Event.TheVariants.{Submit, Look, Open}
 use Rattle.fttcan_top.specs.declared.load.Source.{Source}
 use Rattle.fttcan_top.specs.declared.status.Status.{Status}
 use Rattle.fttcan_top.specs.declared.status.Status.TheVariants.{Done, Refused, Words, Input, Read, Write, Memory}
-use Rattle.fttcan_top.specs.StepsFile.{steps_of}
 use Rattle.fttcan_top.specs.Words.{Command, replay, command_of}
-use Rattle.fttcan_top.specs.History.{AnswersSteps, all_accepted}
 
 -- What is asked
 
@@ -31,7 +34,7 @@ pub data Stopped : Type 0 where
   no_command : Stopped
   too_long : Source → Stopped
   wrong_system : SystemFault → Stopped
-  wrong_steps : Stopped
+  wrong_steps : StepFault → Stopped
   wrong_requests : RequestFault → Stopped
   absent : Stopped
 
@@ -56,11 +59,6 @@ abbrev pub within_limit : Source → Option (List ℕ) → Result (List ℕ) Sto
 within_limit source None = Err absent
 within_limit source (Some bytes) = if nat_le (length bytes) file_limit then Ok bytes else Err (too_long source)
 
--- what a text means, where it keeps to its format
-abbrev pub taken : {A : Type 0} → Option A → Stopped → Result A Stopped
-taken None why = Err why
-taken (Some value) why = Ok value
-
 -- the meaning of a text, or the fault in it as the reason why there is no run
 abbrev pub meant : {A Fault : Type 0} → (Fault → Stopped) → Result A Fault → Result A Stopped
 meant why (Ok value) = Ok value
@@ -70,9 +68,9 @@ meant why (Err fault) = Err (why fault)
 abbrev pub system_in : NamedFiles → List ℕ → Result System Stopped
 system_in files name = within_limit Source.System (files name) >>= λ bytes. meant wrong_system (system_of bytes)
 
--- the steps in the file of this name, for so many nodes
-abbrev pub steps_in : NamedFiles → List ℕ → ℕ → Result (List Step) Stopped
-steps_in files name nodes = within_limit Source.Steps (files name) >>= λ bytes. taken (steps_of nodes bytes) wrong_steps
+-- the steps in the file of this name
+abbrev pub steps_in : NamedFiles → List ℕ → Result (List Step) Stopped
+steps_in files name = within_limit Source.Steps (files name) >>= λ bytes. meant wrong_steps (steps_of bytes)
 
 -- the requests in the file of this name, for these owners; none where no file is named
 abbrev pub requests_in : NamedFiles → Option (List ℕ) → List Owner → Result (List Request) Stopped
@@ -85,7 +83,7 @@ abbrev pub asked_by : NamedFiles → Option Command → Result Asked Stopped
 asked_by files None = Err no_command
 asked_by files (Some (replay system_name steps_name requests_name)) =
     system_in files system_name >>= λ system.
-    steps_in files steps_name system.rules.nodes >>= λ steps.
+    steps_in files steps_name >>= λ steps.
     requests_in files requests_name system.owners >>= λ requests.
     Ok (record { system = system; steps = steps; requests = requests })
 
@@ -96,9 +94,18 @@ asked words files = asked_by files (command_of words)
 -- What is run
 
 -- a run of what was asked: the history answers the steps, and history and trace keep what is promised
-pub record IsRunOf (job : Asked) (history : List Event) (trace : List TimedFrame) : Type 0 where
-  pub answers : AnswersSteps history job.steps
-  pub kept : Kept job.system.rules job.system.layout job.requests history trace
+abbrev pub IsRunOf : Asked → List Event → List TimedFrame → Type 0
+IsRunOf job history trace = IsRun job.system job.steps job.requests history trace
+
+-- whether the event refuses no change
+abbrev pub refuses_nothing : Event → Bool
+refuses_nothing (Submit caller change from verdict trail) = is_accepted verdict
+refuses_nothing (Look caller next) = true
+refuses_nothing (Open cycle mask) = true
+
+-- whether each change of the history was accepted
+abbrev pub all_accepted : List Event → Bool
+all_accepted history = list_all refuses_nothing history
 
 -- how a run ends: refused where some change was refused
 abbrev pub status_of : List Event → Status
@@ -156,7 +163,7 @@ abbrev pub IsRefusal : Stopped → Type 0
 IsRefusal no_command = ⊥
 IsRefusal (too_long source) = ⊤
 IsRefusal (wrong_system fault) = ⊤
-IsRefusal wrong_steps = ⊤
+IsRefusal (wrong_steps fault) = ⊤
 IsRefusal (wrong_requests fault) = ⊤
 IsRefusal absent = ⊥
 
@@ -176,7 +183,7 @@ IsAnswer asked_for shelf_rose out_rose Memory = ⊤
 -- the line for a file that is longer than its limit
 abbrev pub length_line : Source → List ℕ
 length_line Source.System = codes "system: longer than 4194304 bytes\n"
-length_line Source.Steps = codes "steps: input\n"
+length_line Source.Steps = codes "steps: longer than 4194304 bytes\n"
 length_line Source.Requests = codes "requests: longer than 4194304 bytes\n"
 
 -- the line for a file that is refused
@@ -184,8 +191,8 @@ abbrev pub refusal : Stopped → List ℕ
 refusal no_command = []
 refusal (too_long source) = length_line source
 refusal (wrong_system fault) = system_fault_line fault
-refusal wrong_steps = codes "steps: input\n"
-refusal (wrong_requests fault) = text_of fault
+refusal (wrong_steps fault) = steps_line fault
+refusal (wrong_requests fault) = requests_line fault
 refusal absent = []
 
 -- the lines of a status, where it is that of a refused file, for this reason

@@ -5,16 +5,16 @@ ghost use Rattle.std.specs.Option.{ForSome};
 ghost use Rattle.ftt_io.specs.Counts.{next_count, Rose};
 ghost use Rattle.input_text.specs.SystemFile.{IsSystem};
 ghost use Rattle.input_text.specs.RequestsFile.{AreLegal};
+ghost use Rattle.input_text.specs.StepsFile.{AreLegalSteps};
 ghost use Rattle.fttcan_top.specs.Output.{within_limit, system_in, steps_in, requests_in, asked_by};
 ghost use Rattle.fttcan_top.specs.Loads.{Explains, asked_of};
-ghost use Rattle.fttcan_top.specs.StepsFile.{AreSteps};
 ghost use Rattle.fttcan_top.specs.Words.{named, replay};
 
-use crate::input::InputFault;
-use crate::input::steps::{Step, read_steps};
 use async_window::{Owner, Request};
 use ftt_io::{FetchFault, Shelf};
-use input_text::{RequestFault, System, SystemFault, read_requests, read_system};
+use input_text::{
+    RequestFault, Step, StepFault, System, SystemFault, read_requests, read_steps, read_system,
+};
 use std::alloc::Global;
 
 /// The greatest number of bytes of a file.
@@ -36,7 +36,7 @@ pub enum Refusal {
     /// The text of the system file breaks a rule of its format.
     System(SystemFault),
     /// The text of the steps file does.
-    Steps,
+    Steps(StepFault),
     /// The text of the requests file does.
     Requests(RequestFault),
 }
@@ -104,28 +104,23 @@ fn load_system<S: Shelf>(alloc: Global, shelf: &mut S, name: &str) -> Result<Sys
     }
 }
 
-/// Fetches and reads the steps file, at a system of so many nodes.
-fn load_steps<S: Shelf>(
-    alloc: Global,
-    shelf: &mut S,
-    name: &str,
-    nodes: u8,
-) -> Result<Vec<Step>, Stop>
+/// Fetches and reads the steps file.
+fn load_steps<S: Shelf>(alloc: Global, shelf: &mut S, name: &str) -> Result<Vec<Step>, Stop>
     ensures files_stay { S.told_files shelf.new ≡ S.told_files shelf.old }
     ensures counted { S.fetches shelf.new ≡ next_count (S.fetches shelf.old) }
     ensures fetches_never_fall { S.fetches shelf.old ≤ S.fetches shelf.new }
     ensures faults_never_fall { S.faults shelf.old ≤ S.faults shelf.new }
-    ensures valid { IfOk result (λ steps. AreSteps nodes steps.items) }
-    ensures ok { IfOk result (λ steps. ForSome (S.told_files shelf.old) (λ files. steps_in files name.now nodes ≡ Ok steps.items)) }
+    ensures valid { IfOk result (λ steps. AreLegalSteps steps.items) }
+    ensures ok { IfOk result (λ steps. ForSome (S.told_files shelf.old) (λ files. steps_in files name.now ≡ Ok steps.items)) }
     ensures stop { IfErr result (λ why. ForSome (S.told_files shelf.old)
-        (λ files. Explains (steps_in files name.now nodes) (Rose (S.faults shelf.old) (S.faults shelf.new)) why)) }
+        (λ files. Explains (steps_in files name.now) (Rose (S.faults shelf.old) (S.faults shelf.new)) why)) }
     ensures read { IsErrOf result Stop.Read → Rose (S.faults shelf.old) (S.faults shelf.new) ⊎ IsSome (S.told_files shelf.old) }
 {
     let bytes = fetch_file(alloc, shelf, Source::Steps, name)?;
-    match read_steps(alloc, bytes.as_slice(), nodes) {
+    match read_steps(alloc, bytes.as_slice()) {
         Ok(steps) => Ok(steps),
-        Err(InputFault::Refused) => Err(Stop::Input(Refusal::Steps)),
-        Err(InputFault::Memory) => Err(Stop::Memory),
+        Err(StepFault::Memory) => Err(Stop::Memory),
+        Err(fault) => Err(Stop::Input(Refusal::Steps(fault))),
     }
 }
 
@@ -191,7 +186,7 @@ pub fn load<S: Shelf>(
     ensures fetches_never_fall { S.fetches shelf.old ≤ S.fetches shelf.new }
     ensures faults_never_fall { S.faults shelf.old ≤ S.faults shelf.new }
     ensures system { IfOk result (λ job. IsSystem job.system) }
-    ensures steps { IfOk result (λ job. AreSteps job.system.rules.nodes job.steps.items) }
+    ensures steps { IfOk result (λ job. AreLegalSteps job.steps.items) }
     ensures requests { IfOk result (λ job. AreLegal job.system.owners job.requests.items) }
     ensures ok { IfOk result (λ job. ForSome (S.told_files shelf.old)
         (λ files. asked_by files (Some (replay system_name.now steps_name.now (option_map (λ word. word.now) requests_name.entry))) ≡ Ok (asked_of job))) }
@@ -201,7 +196,7 @@ pub fn load<S: Shelf>(
     ensures read { IsErrOf result Stop.Read → Rose (S.faults shelf.old) (S.faults shelf.new) ⊎ IsSome (S.told_files shelf.old) }
 {
     let system = load_system(alloc, shelf, system_name)?;
-    let steps = load_steps(alloc, shelf, steps_name, system.rules.nodes)?;
+    let steps = load_steps(alloc, shelf, steps_name)?;
     let requests = load_named_requests(alloc, shelf, requests_name, system.owners.as_slice())?;
     Ok(Job {
         system,

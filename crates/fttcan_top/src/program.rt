@@ -6,22 +6,21 @@ ghost use Rattle.ftt_io.specs.Counts.{Rose};
 ghost use Rattle.ftt_io.specs.Puts.{Puts, PutsPrefix};
 ghost use Rattle.input_text.specs.SystemFile.{IsSystem};
 ghost use Rattle.input_text.specs.RequestsFile.{AreLegal};
+ghost use Rattle.input_text.specs.StepsFile.{AreLegalSteps};
 ghost use Rattle.fttcan_top.specs.declared.load.Refusal.{Refusal};
-ghost use Rattle.fttcan_top.specs.History.{refuses_nothing};
 ghost use Rattle.fttcan_top.specs.Ends.{end_status, end_reason, stop_end, IsRunEnd, IsStatusOf};
 ghost use Rattle.fttcan_top.specs.Loads.{Explains, asked_of, stopped_by};
-ghost use Rattle.fttcan_top.specs.Output.{Asked, Stopped, asked, asked_by, refusal, IsAnswer, IsDone, IsCut, IsRefusal, IsStopped, LogsRun, LogsFront, message_of, status_of, Says};
-ghost use Rattle.fttcan_top.specs.StepsFile.{AreSteps};
+ghost use Rattle.fttcan_top.specs.Output.{Asked, Stopped, asked, asked_by, refusal, IsAnswer, IsDone, IsCut, IsRefusal, IsStopped, LogsRun, LogsFront, message_of, refuses_nothing, status_of, Says};
 ghost use Rattle.fttcan_top.specs.Words.{replay, command_of, file_count, named};
 
-use crate::history::{Event, Verdict};
 use crate::load::{Job, Refusal, Source, Stop, load};
-use crate::log::log_text;
 use crate::rows::put_rows;
-use crate::run::run;
 use crate::status::Status;
 use crate::words::names_of;
+use bus_trace::log_text;
 use ftt_io::{Shelf, Sink, write_all};
+use master_core::Event;
+use replay_run::replay as replay_steps;
 use std::alloc::{AllocError, Global};
 
 /// How a call ended, with the reason where a file was refused.
@@ -65,10 +64,11 @@ impl Refusal {
             Refusal::TooLong(Source::Requests) => {
                 String::from_str(alloc, "requests: longer than 4194304 bytes\n")
             }
-            Refusal::TooLong(Source::Steps) | Refusal::Steps => {
-                String::from_str(alloc, "steps: input\n")
+            Refusal::TooLong(Source::Steps) => {
+                String::from_str(alloc, "steps: longer than 4194304 bytes\n")
             }
             Refusal::System(fault) => fault.message(alloc),
+            Refusal::Steps(fault) => fault.message(alloc),
             Refusal::Requests(fault) => fault.message(alloc),
         }
     }
@@ -123,13 +123,10 @@ impl Stop {
 fn refuses_nothing(event: &Event) -> bool
     ensures test { result ≡ refuses_nothing event.now }
 {
-    !matches!(
-        event,
-        Event::Submit {
-            verdict: Verdict::TooHeavy { .. } | Verdict::Horizon { .. },
-            ..
-        }
-    )
+    match event {
+        Event::Submit { verdict, .. } => verdict.is_accepted(),
+        Event::Look { .. } | Event::Open { .. } => true,
+    }
 }
 
 /// How a run of this history ends.
@@ -149,7 +146,7 @@ fn run_end(history: &[Event]) -> End
 /// Runs what was asked and writes the log.
 fn run_job<O: Sink>(alloc: Global, job: &Job, out: &mut O) -> End
     requires system { IsSystem job.now.system }
-    requires steps { AreSteps job.now.system.rules.nodes job.now.steps.items }
+    requires steps { AreLegalSteps job.now.steps.items }
     requires requests { AreLegal job.now.system.owners job.now.requests.items }
     ensures faults_never_fall { O.faults out.old ≤ O.faults out.new }
     ensures run { IsRunEnd result }
@@ -157,7 +154,7 @@ fn run_job<O: Sink>(alloc: Global, job: &Job, out: &mut O) -> End
     ensures cut { IsCut (end_status result) → (O.told_bytes out.new ≡ O.told_bytes out.old) ⊎ LogsFront (asked_of job.now) (O.told_bytes out.old) (O.told_bytes out.new) }
     ensures write { result ≡ End.Write → Rose (O.faults out.old) (O.faults out.new) }
 {
-    let Ok(outcome) = run(
+    let Ok(run) = replay_steps(
         alloc,
         &job.system,
         job.steps.as_slice(),
@@ -165,11 +162,12 @@ fn run_job<O: Sink>(alloc: Global, job: &Job, out: &mut O) -> End
     ) else {
         return End::Memory;
     };
-    let Ok(text) = log_text(alloc, outcome.history.as_slice(), outcome.trace.as_slice()) else {
+    let history = run.master.history();
+    let Ok(text) = log_text(alloc, history, run.trace.as_slice()) else {
         return End::Memory;
     };
-    match put_rows(out, text.as_bytes()) {
-        Ok(()) => run_end(outcome.history.as_slice()),
+    match put_rows(out, text.as_slice()) {
+        Ok(()) => run_end(history),
         Err(_) => End::Write,
     }
 }

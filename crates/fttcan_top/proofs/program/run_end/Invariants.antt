@@ -1,5 +1,5 @@
 use Rattle.std.proofs.Common.{◌≡◌, true, take}
-use Rattle.fttcan_top.specs.History.{all_accepted}
+use Rattle.fttcan_top.specs.Output.{all_accepted}
 use Rattle.fttcan_top.proofs.program.run_end.Given as goal
 
 abbrev pub invariant-loop-event : goal.invariant-loop-event

@@ -1,0 +1,4 @@
+mod Histories
+pub mod Shared
+mod Steps
+mod Ways

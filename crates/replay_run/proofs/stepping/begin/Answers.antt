@@ -1,0 +1,10 @@
+use Rattle.std.proofs.Common.{◌≡◌, sym, subst}
+use Rattle.std.specs.List.{All, Any}
+use Rattle.replay_run.proofs.Ways.{owner-of}
+use Rattle.replay_run.proofs.stepping.begin.Goals as goal
+
+pub new-requires-clause-owned : goal.new-requires-clause-owned
+new-requires-clause-owned g c =
+    let (given, (system, requests)) = c.requires in
+    subst (λ owners. All (λ request. Any (λ owner. owner.id ≡ request.frame.identifier) owners) c.args.requests.now) (sym c.as_slice.ensures.list)
+    (λ k d within. owner-of c.args.system.now.owners _ (requests.each k d within).owned)

@@ -1,0 +1,12 @@
+//! The run of a steps file on a simulated bus: a master answers the steps, and each cycle that it opens is run by nodes.
+//!
+//! Cycles are elementary cycles, counted from 0; times are bit times.
+#![tactic(auto)]
+
+pub mod laws;
+mod stepping;
+
+pub use stepping::{Run, replay};
+
+#[cfg(test)]
+mod tests;
