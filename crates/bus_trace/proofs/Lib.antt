@@ -1,0 +1,6 @@
+mod HexText
+mod LogTrace
+mod LogHistory
+mod Plans
+mod Width
+mod Formed

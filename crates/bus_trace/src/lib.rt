@@ -3,6 +3,12 @@
 //! Cycles are elementary cycles, counted from 0; times are bit times.
 #![tactic(auto)]
 
+mod entries;
+mod frames;
 mod log;
+mod rows;
 
 pub use log::log_text;
+
+#[cfg(test)]
+mod tests;
