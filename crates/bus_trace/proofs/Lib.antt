@@ -3,4 +3,3 @@ mod LogTrace
 mod LogHistory
 mod Plans
 mod Width
-mod Formed

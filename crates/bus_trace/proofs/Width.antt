@@ -1,5 +1,5 @@
 -- What the flagged slots of a cycle cost together, entry by entry.
-use Rattle.std.proofs.Common.{◌≡◌, ℕ, zero, suc, ◌+◌, ◌*◌, ◌<◌, ◌≤◌, ◌&&◌, Bool, true, false, cond, eqb, Option, Some, None, IfSome, is_some, ⊥, List, [], ◌∷◌, length, drop, get_or, slice_get, Contains, refl, sym, ap, ◌∙◌, arith, subst, inl, inr}
+use Rattle.std.proofs.Common.{◌≡◌, ℕ, zero, suc, ◌+◌, ◌*◌, ◌<◌, ◌≤◌, ◌&&◌, Bool, true, false, cond, eqb, Option, Some, None, IfSome, is_some, List, [], ◌∷◌, length, drop, get_or, slice_get, Contains, refl, sym, ap, ◌∙◌, arith, subst, inl, inr}
 use Rattle.std.specs.List.{filter_map, cons_option}
 use Rattle.std.specs.Option.{option_map, option_map_or}
 use Rattle.std.proofs.lemmas.Bool.{cases_eq, cases_Bool, eqb-true, eq-eqb, ne_eqb, cond-true, cond-false}
@@ -28,9 +28,9 @@ sum_where-add (suc n) q f g h each =
     let here = cond-sum (q n) (h n) (f n) (g n) (each n (omega arith)) in
     omega arith
 
-cond-none : (b : Bool) → cond b 0 0 ≡ 0
-cond-none true = refl
-cond-none false = refl
+cond-none : (b : Bool) (x : ℕ) → x ≡ 0 → cond b x 0 ≡ 0
+cond-none true x none = none
+cond-none false x none = refl
 
 -- the one slot that costs something
 sum_where-one : (n a x : ℕ) (q : ℕ → Bool)
@@ -49,7 +49,7 @@ sum_where-one (suc n) a x q =
           (λ above. absurd (omega arith), λ below. omega arith)
       | inr other ↦
           let one : cond (eqb a n) x 0 ≡ 0 = cond-false (eqb a n) x 0 (ne_eqb a n other) in
-          let here : cond (q n) (cond (eqb a n) x 0) 0 ≡ 0 = ap (λ y. cond (q n) y 0) one ∙ cond-none (q n) in
+          let here : cond (q n) (cond (eqb a n) x 0) 0 ≡ 0 = cond-none (q n) (cond (eqb a n) x 0) one in
           (λ above. let none = front.0 (omega arith) in omega arith, λ below. let some = front.1 (omega arith) in omega arith)
     ]
 
@@ -131,8 +131,8 @@ worst_in-step p rest c slot well = by (eqb p.entry.slot slot) (instance_of p c) 
     by : (here : Bool) (number : Option ℕ) → eqb p.entry.slot slot ≡ here → instance_of p c ≡ number
         → option_map_or worst_of (slice_get (cons_option (cond here (option_map (λ k. record { placed = p; number = k }) number) None) (filter_map (sendable slot c) rest)) 0) 0
         ≡ cond here (cond (is_some number) (worst p.entry.length) 0) 0 + worst_in rest c slot
-    by false number is sends = refl
-    by true None is sends = refl
+    by false number is sends = omega arith
+    by true None is sends = omega arith
     by true (Some k) is sends =
         let none : instance_in rest slot c ≡ None = subst (λ s. instance_in rest s c ≡ None) (eqb-true p.entry.slot slot is) (none-later p rest c k well sends) in
         let nothing : worst_in rest c slot ≡ 0 = ap (λ o. option_map_or worst_of o 0) none in
@@ -149,16 +149,17 @@ width-step p rest c flagged well =
     let cost = cond-and (flagged p.entry.slot) (is_some (instance_of p c)) (worst p.entry.length) in
     split ∙ ap (λ x. x + width_in rest c flagged) (one ∙ sym cost)
 
--- the list of the entries from a place on
-pub width-next : (placed : List Placed) (i : ℕ) (p : Placed) (c : ℕ) (flagged : ℕ → Bool) → i < length placed → p ≡ get_or placed i p → IsWellPlaced (drop i placed)
-    → (width_in (drop i placed) c flagged ≡ cost_in c flagged p + width_in (drop (i + 1) placed) c flagged) × IsWellPlaced (drop (i + 1) placed) × IsInRange p
-width-next placed i p c flagged within here well =
-    let later : drop (suc i) placed ≡ drop (i + 1) placed = ap (λ n. drop n placed) (omega arith) in
-    let rest : drop i placed ≡ p ∷ drop (i + 1) placed = drop-cons placed i p within ∙ ap (λ q. q ∷ drop (suc i) placed) (sym here) ∙ ap (λ l. p ∷ l) later in
+-- the entries from a place on
+pub width-next : (placed : List Placed) (i : ℕ) (d : Placed) (c : ℕ) (flagged : ℕ → Bool) → i < length placed → IsWellPlaced (drop i placed)
+    → (width_in (drop i placed) c flagged ≡ cost_in c flagged (get_or placed i d) + width_in (drop (i + 1) placed) c flagged)
+    × IsWellPlaced (drop (i + 1) placed)
+width-next placed i d c flagged within well =
+    let p : Placed = get_or placed i d in
+    let next : suc i ≡ i + 1 = omega arith in
+    let rest : drop i placed ≡ p ∷ drop (i + 1) placed = drop-cons placed i d within ∙ ap (λ n. p ∷ drop n placed) next in
     let all = subst IsWellPlaced rest well in (
       ap (λ l. width_in l c flagged) rest ∙ width-step p (drop (i + 1) placed) c flagged all,
       well-tail p (drop (i + 1) placed) all,
-      well-head p (drop (i + 1) placed) all,
     )
 
 pub width-none : (c : ℕ) (flagged : ℕ → Bool) → width_in [] c flagged ≡ 0

@@ -13,7 +13,9 @@ ghost use Rattle.bus_trace.specs.Logged.{HasEntries, IsFormedIn, IsInTurn, IsLef
 
 use crate::entries::Entries;
 use crate::frames::{cycle_len, until_trigger};
-use crate::rows::{push_end_row, push_frame_rows, push_look_row, push_open_row, push_plan_rows, push_submit_row};
+use crate::rows::{
+    push_end_row, push_frame_rows, push_look_row, push_open_row, push_plan_rows, push_submit_row,
+};
 use admission::Verdict;
 use can_frame::TimedFrame;
 use master_core::Event;

@@ -121,12 +121,7 @@ fn refusals(rt: HostRuntime) -> Result<(), Fail> {
     let mut master = master(alloc, 135, 10_402)?;
     let four = [add(0, 8, 3), add(1, 8, 4), add(2, 8, 5), add(3, 8, 6)];
     ask(alloc, &mut master, 0, &four)?;
-    ask(
-        alloc,
-        &mut master,
-        0,
-        &[add(0, 0, 101), add(1, 0, 103)],
-    )?;
+    ask(alloc, &mut master, 0, &[add(0, 0, 101), add(1, 0, 103)])?;
     assert!(rt; is_log(alloc, &master, &[], REFUSED)?);
     Ok(())
 }
