@@ -52,18 +52,8 @@ fn ask(alloc: Global, master: &mut Master, start: u64, ops: &[Op]) -> Result<(),
     Ok(())
 }
 
-/// Opens so many cycles.
-fn open(alloc: Global, master: &mut Master, cycles: usize) -> Result<(), AllocError>
-    ensures rules { master.new.rules ≡ master.old.rules }
-{
-    for _ in 0..cycles {
-        open_one(alloc, master)?;
-    }
-    Ok(())
-}
-
 /// Opens one cycle.
-fn open_one(alloc: Global, master: &mut Master) -> Result<(), AllocError>
+fn open(alloc: Global, master: &mut Master) -> Result<(), AllocError>
     ensures rules { master.new.rules ≡ master.old.rules }
 {
     master.reserve(alloc, 1)?;
@@ -161,11 +151,11 @@ end,2
 fn opened_cycles(rt: HostRuntime) -> Result<(), Fail> {
     let alloc = rt.alloc();
     let mut master = master(alloc, 135, 10_000)?;
-    open(alloc, &mut master, 1)?;
+    open(alloc, &mut master)?;
     ask(alloc, &mut master, 0, &[add(0, 0, 1)])?;
     ask(alloc, &mut master, 1, &[add(0, 0, 1)])?;
     look(alloc, &mut master)?;
-    open(alloc, &mut master, 1)?;
+    open(alloc, &mut master)?;
     let trace = [
         sent(0, 127, 0, &[0; 8])?,
         sent(200, 51, 0x200, &[])?,
