@@ -6,9 +6,11 @@
 mod entries;
 mod frames;
 mod log;
+mod recent;
 mod rows;
 
 pub use log::log_text;
+pub use recent::Recent;
 
 #[cfg(test)]
 mod tests;

@@ -3,7 +3,7 @@
 ghost use Rattle.std.specs.Prelude.{◌≡◌, ◌≤◌, IfOk};
 ghost use Rattle.admission.specs.Verdict.{IsRules};
 
-use crate::log_text;
+use crate::{Recent, log_text};
 use admission::Rules;
 use can_frame::{Frame, TimedFrame};
 use change_protocol::{Change, Op, Ops};
@@ -163,5 +163,17 @@ fn opened_cycles(rt: HostRuntime) -> Result<(), Fail> {
         sent(1945, 51, 0x100, &[])?,
     ];
     assert!(rt; is_log(alloc, &master, &trace, CYCLES)?);
+    Ok(())
+}
+
+#[test]
+fn last_rows(rt: HostRuntime) -> Result<(), Fail> {
+    let alloc = rt.alloc();
+    let mut recent = Recent::new(alloc, 2)?;
+    assert!(rt; recent.text(alloc)?.is_empty());
+    recent.push(Vec::from_slice(alloc, b"open,0,0000000000,0\n")?);
+    recent.push(Vec::from_slice(alloc, b"look,2,1\n")?);
+    recent.push(Vec::from_slice(alloc, b"end,1\n")?);
+    assert!(rt; recent.text(alloc)?.as_slice() == b"look,2,1\nend,1\n".as_slice());
     Ok(())
 }
