@@ -1,0 +1,5 @@
+mod HexText
+mod LogTrace
+mod LogHistory
+mod Plans
+mod Width

@@ -3,6 +3,14 @@
 //! Cycles are elementary cycles, counted from 0; times are bit times.
 #![tactic(auto)]
 
+mod entries;
+mod frames;
 mod log;
+mod recent;
+mod rows;
 
 pub use log::log_text;
+pub use recent::Recent;
+
+#[cfg(test)]
+mod tests;

@@ -1,14 +1,100 @@
 //! The log as one text.
 
-ghost use Rattle.std.specs.Prelude.{◌≡◌, IfOk};
+ghost use Rattle.std.specs.Prelude.{if◌then◌else◌, ◌≡◌, ℕ, ◌+◌, ◌^◌, ◌<◌, ◌≤◌, ◌++◌, List, IfOk, OnOk, length, take, drop};
+ghost use Rattle.std.specs.String.{string_bytes};
+ghost use Rattle.can_frame.specs.declared.data_frame.TimedFrame.{TimedFrame};
+ghost use Rattle.requirement_table.specs.declared.entries.Placed.{Placed};
+ghost use Rattle.requirement_table.specs.Table.{IsWellPlaced};
 ghost use Rattle.admission_rules.specs.declared.Rules.{Rules};
 ghost use Rattle.admission.specs.Verdict.{IsRules};
-ghost use Rattle.master_core.specs.History.{IsLegal};
+ghost use Rattle.master_core.specs.History.{IsLegal, is_open, placed_after};
 ghost use Rattle.bus_trace.specs.Log.{log_text};
+ghost use Rattle.bus_trace.specs.Logged.{HasEntries, IsFormedIn, IsInTurn, IsLeft, IsNear, frames_of_event, rows_with};
 
+use crate::entries::Entries;
+use crate::frames::{cycle_len, until_trigger};
+use crate::rows::{
+    push_end_row, push_frame_rows, push_look_row, push_open_row, push_plan_rows, push_submit_row,
+};
+use admission::Verdict;
 use can_frame::TimedFrame;
 use master_core::Event;
 use std::alloc::{AllocError, Global};
+
+/// Whether the event opens a cycle.
+fn opens_cycle(event: &Event) -> bool
+    ensures opens { result ≡ is_open event.now }
+{
+    matches!(event, Event::Open { .. })
+}
+
+/// The number of frames whose rows follow that of an event.
+fn frame_count(event: &Event, left: &[TimedFrame]) -> usize
+    ensures within { result ≤ length left.now }
+    ensures frames { (trace : List TimedFrame) (next : ℕ) → IsLeft trace next left.now → IsInTurn next event.now
+        → take result left.now ≡ frames_of_event trace event.now }
+    ensures left { (trace : List TimedFrame) (next : ℕ) → IsLeft trace next left.now
+        → IsLeft trace (next + (if is_open event.now then 1 else 0)) (drop result left.now) }
+{
+    match event {
+        Event::Submit { .. } => 0,
+        Event::Look { .. } => 0,
+        Event::Open { .. } => cycle_len(left),
+    }
+}
+
+/// Appends the rows of an event, and the rows of the frames that follow it.
+fn push_event(
+    text: &mut String,
+    entries: &Entries,
+    event: &Event,
+    frames: &[TimedFrame],
+) -> Result<(), AllocError>
+    requires near { IsNear event.now }
+    requires left { IsWellPlaced entries.now.left.items }
+    ensures ok { OnOk result (string_bytes text.new ≡ string_bytes text.old ++ rows_with entries.now.left.items frames.now event.now) }
+{
+    match event {
+        Event::Submit {
+            caller,
+            from,
+            verdict,
+            trail,
+            ..
+        } => {
+            push_submit_row(text, *caller, *from, verdict)?;
+            push_plan_rows(text, *from, trail.as_slice())
+        }
+        Event::Look { caller, next } => push_look_row(text, *caller, *next),
+        Event::Open { cycle, mask } => {
+            push_open_row(text, *cycle, *mask, entries.width(*cycle, *mask))?;
+            push_frame_rows(text, frames)
+        }
+    }
+}
+
+/// Applies the change that an event accepts, when `next` is the next cycle to be opened.
+fn place_event(
+    entries: &mut Entries,
+    alloc: Global,
+    event: &Event,
+    next: u64,
+) -> Result<(), AllocError>
+    requires placed { IsWellPlaced entries.old.placed.items }
+    requires formed { IsFormedIn entries.old.placed.items event.now }
+    ensures entries { OnOk result ((list : List Placed) → HasEntries list next entries.old.placed.items entries.old.left.items
+        → HasEntries (placed_after list event.now) next entries.new.placed.items entries.new.left.items) }
+{
+    if let Event::Submit {
+        change,
+        verdict: Verdict::Accepted { .. },
+        ..
+    } = event
+    {
+        entries.accept(alloc, change, next)?;
+    }
+    Ok(())
+}
 
 /// The log of a history and a trace: the rows of its events in their order, each opened cycle followed by the frames that start in it, and
 /// the last row.
@@ -24,5 +110,17 @@ pub fn log_text(
     requires legal { (rules : Rules) × IsRules rules × IsLegal rules history.now }
     ensures text { IfOk result (λ text. text.items ≡ log_text history.now trace.now) }
 {
-    unreachable!()
+    let mut text = String::new(alloc);
+    let mut entries = Entries::new(alloc);
+    let mut next = 0u64;
+    let mut left = &trace[until_trigger(trace)..];
+    for event in history {
+        let (frames, later) = left.split_at(frame_count(event, left));
+        push_event(&mut text, &entries, event, frames)?;
+        place_event(&mut entries, alloc, event, next)?;
+        next += u64::from(opens_cycle(event));
+        left = later;
+    }
+    push_end_row(&mut text, next)?;
+    Ok(text.into_bytes())
 }

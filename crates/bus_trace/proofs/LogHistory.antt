@@ -1,0 +1,146 @@
+-- The rows of a history, event by event, and what is known of each event at its place.
+use Rattle.std.proofs.Common.{◌≡◌, ℕ, suc, ◌+◌, ◌^◌, ◌<◌, ◌≤◌, Bool, true, false, cond, List, [], ◌∷◌, ◌++◌, take, drop, length, get_or, refl, sym, ap, subst, ◌∙◌, arith, append_assoc}
+use Rattle.std.proofs.lemmas.List.{append-nil, take_more, take-append-drop}
+use Rattle.std.proofs.Math.Seq.{drop-cons}
+use Rattle.std.proofs.lemmas.List.Sums.{fold-append, sum_by_push}
+use Rattle.std.specs.List.{flat_map}
+use Rattle.can_frame.specs.declared.data_frame.TimedFrame.{TimedFrame}
+use Rattle.requirement_table.specs.declared.entries.Placed.{Placed}
+use Rattle.requirement_table.specs.Slots.{contains_slot}
+use Rattle.requirement_table.specs.Table.{IsWellPlaced, width_in}
+use Rattle.change_protocol.specs.declared.operations.Change.{Change}
+use Rattle.admission_rules.specs.declared.Rules.{Rules}
+use Rattle.admission.specs.declared.verdict.Verdict.{Verdict}
+use Rattle.admission.specs.declared.verdict.Verdict.TheVariants.{Malformed, Passed, Miss, Horizon, Accepted}
+use Rattle.admission.specs.Verdict.{IsRules, IsVerdict, is_accepted}
+use Rattle.master_core.specs.declared.event.Event.{Event}
+use Rattle.master_core.specs.declared.event.Event.TheVariants.{Submit, Look, Open}
+use Rattle.master_core.specs.History.{AllAfter, IsLegal, IsRight, is_open, next_of, placed_after, placed_of}
+use Rattle.bus_trace.specs.Log.{event_rows, events_rows, frame_row}
+use Rattle.bus_trace.specs.Logged.{HasEntries, IsFormed, IsFormedIn, IsInTurn, IsLeft, IsNear, frames_of_event, opened_row, rows_with}
+use Rattle.bus_trace.proofs.Width.{width-same}
+
+-- Rows
+
+-- the rows of an event by the entries that may still be sent
+rows_with-event : (trace : List TimedFrame) (before : List Event) (event : Event) (next : ℕ) (placed left : List Placed)
+    → HasEntries (placed_of before) next placed left → IsInTurn next event
+    → rows_with left (frames_of_event trace event) event ≡ event_rows trace before event
+rows_with-event trace before (Submit caller change from verdict trail) next placed left entries turn = refl
+rows_with-event trace before (Look caller looked) next placed left entries turn = refl
+rows_with-event trace before (Open cycle mask) next placed left entries turn =
+    let width : width_in left cycle (contains_slot mask) ≡ width_in (placed_of before) cycle (contains_slot mask) =
+    width-same left placed cycle (contains_slot mask) (λ slot. entries.same slot cycle (omega (arith, turn)))
+    ∙ ap (λ l. width_in l cycle (contains_slot mask)) entries.all in
+    ap (λ w. opened_row cycle mask w ++ flat_map frame_row (frames_of_event trace (Open cycle mask))) width
+
+-- the last event's rows come last
+events_rows-push : (trace : List TimedFrame) (before events : List Event) (event : Event)
+    → events_rows trace before (events ++ event ∷ []) ≡ events_rows trace before events ++ event_rows trace (before ++ events) event
+events_rows-push trace before [] event = append-nil _ ∙ ap (λ b. event_rows trace b event) (sym (append-nil before))
+events_rows-push trace before (first ∷ events) event =
+    ap (λ l. event_rows trace before first ++ l) (events_rows-push trace (before ++ first ∷ []) events event
+    ∙ ap (λ b. events_rows trace (before ++ first ∷ []) events ++ event_rows trace b event) (append_assoc before (first ∷ []) events))
+    ∙ sym (append_assoc (event_rows trace before first) _ _)
+
+-- Places
+
+-- each event is right at its place
+right-at : (rules : Rules) (before events later : List Event) (event : Event) → AllAfter (IsRight rules) before (events ++ event ∷ later)
+    → IsRight rules (before ++ events) event
+right-at rules before [] later event right = subst (λ b. IsRight rules b event) (sym (append-nil before)) right.0
+right-at rules before (first ∷ events) later event right =
+    subst (λ b. IsRight rules b event) (append_assoc before (first ∷ []) events) (right-at rules (before ++ first ∷ []) events later event right.1)
+
+in_turn : (rules : Rules) (before : List Event) (event : Event) → IsRight rules before event → IsInTurn (next_of before) event
+in_turn rules before (Submit caller change from verdict trail) right = tt
+in_turn rules before (Look caller next) right = tt
+in_turn rules before (Open cycle mask) right = right.0
+
+near : (rules : Rules) (before : List Event) (event : Event) → IsRight rules before event → next_of before < 2 ^ 63 → IsNear event
+near rules before (Submit caller change from verdict trail) right few = let opened = right.opened in omega arith
+near rules before (Look caller next) right few = tt
+near rules before (Open cycle mask) right few = tt
+
+formed-by : (rules : Rules) (placed : List Placed) (pending from next : ℕ) (change : Change) (verdict : Verdict) → IsRules rules
+    → IsVerdict rules placed pending from next change verdict → is_accepted verdict ≡ true → IsFormed placed change
+formed-by rules placed pending from next change (Malformed op why) ranges answer accepted = absurd (let none : ⊥ = cc in none)
+formed-by rules placed pending from next change (Passed start opened) ranges answer accepted = absurd (let none : ⊥ = cc in none)
+formed-by rules placed pending from next change (Miss slot release cycle) ranges answer accepted = absurd (let none : ⊥ = cc in none)
+formed-by rules placed pending from next change (Horizon first walked) ranges answer accepted = absurd (let none : ⊥ = cc in none)
+formed-by rules placed pending from next change (Accepted first length) ranges answer accepted =
+    record { nodes = rules.nodes; few = ranges.few_nodes; well_formed = answer.0.well_formed }
+
+formed : (rules : Rules) (before : List Event) (event : Event) → IsRules rules → IsRight rules before event → IsFormedIn (placed_of before) event
+formed rules before (Submit caller change from verdict trail) ranges right =
+    formed-by rules (placed_of before) _ from (next_of before) change verdict ranges right.answer
+formed rules before (Look caller next) ranges right = tt
+formed rules before (Open cycle mask) ranges right = tt
+
+placed_of-push : (before : List Event) (event : Event) → placed_of (before ++ event ∷ []) ≡ placed_after (placed_of before) event
+placed_of-push before event = fold-append placed_after [] before (event ∷ [])
+
+pub one_or_none : (b : Bool) → cond b 1 0 ≤ 1
+one_or_none true = omega arith
+one_or_none false = omega arith
+
+-- as the next cycle goes on, the entries stay
+entries-later : (list : List Placed) (next later : ℕ) (placed left : List Placed) → next ≤ later → HasEntries list next placed left → HasEntries list later placed left
+entries-later list next later placed left on entries = record {
+  all = entries.all;
+  well_placed = entries.well_placed;
+  left_well_placed = entries.left_well_placed;
+  same = λ slot c above. entries.same slot c (omega arith);
+}
+
+-- What is written
+
+-- the rows of the events before are written, and the entries, the next cycle and the frames left are those after them
+pub record IsWritten (trace : List TimedFrame) (before : List Event) (text : List ℕ) (placed left : List Placed) (next : ℕ) (frames : List TimedFrame) : Type 0 where
+  pub text_is : text ≡ events_rows trace [] before
+  pub entries : HasEntries (placed_of before) next placed left
+  pub next_is : next ≡ next_of before
+  pub left_is : IsLeft trace next frames
+
+-- the next event is in turn, and the change that it accepts can be applied
+pub record IsReady (placed : List Placed) (next : ℕ) (event : Event) : Type 0 where
+  pub in_turn : IsInTurn next event
+  pub near : IsNear event
+  pub formed : IsFormedIn placed event
+
+-- as each event of a legal history is
+module _ (trace : List TimedFrame) (history : List Event) (i : ℕ) (event : Event) (text : List ℕ) (placed left : List Placed) (next : ℕ) (frames : List TimedFrame)
+    (within : i < length history) (here : event ≡ get_or history i event) (is : IsWritten trace (take i history) text placed left next frames) where
+  abbrev before : List Event
+  before = take i history
+
+  pub ready-at : (rules : Rules) → IsRules rules → IsLegal rules history → next < 2 ^ 63 → IsReady placed next event
+  ready-at rules ranges legal few =
+      let later = drop (suc i) history in
+      let rest : drop i history ≡ event ∷ later = drop-cons history i event within ∙ ap (λ e. e ∷ later) (sym here) in
+      let whole : history ≡ before ++ event ∷ later = sym (take-append-drop i history) ∙ ap (λ l. before ++ l) rest in
+      let right : IsRight rules before event = right-at rules [] before later event (subst (AllAfter (IsRight rules) []) whole legal) in
+      record {
+        in_turn = subst (λ n. IsInTurn n event) (sym is.next_is) (in_turn rules before event right);
+        near = near rules before event right (subst (λ n. n < 2 ^ 63) is.next_is few);
+        formed = subst (λ l. IsFormedIn l event) (sym is.entries.all) (formed rules before event ranges right);
+      }
+
+  -- after the event
+  pub written-more : (more : List ℕ) (started later : List TimedFrame) (all kept : List Placed) (step : ℕ) → IsInTurn next event
+      → more ≡ text ++ rows_with left started event → started ≡ frames_of_event trace event
+      → HasEntries (placed_after (placed_of before) event) next all kept
+      → step ≡ cond (is_open event) 1 0 → IsLeft trace (next + cond (is_open event) 1 0) later
+      → IsWritten trace (take (i + 1) history) more all kept (next + step) later
+  written-more more started later all kept step turn rows all_frames table count after =
+      let events : take (i + 1) history ≡ before ++ event ∷ [] = take_more history i event within ∙ ap (λ e. before ++ e ∷ []) (sym here) in
+      subst (λ l. IsWritten trace l more all kept (next + step) later) (sym events) (record {
+        text_is = rows ∙ ap (λ l. l ++ rows_with left started event) is.text_is
+            ∙ ap (λ l. events_rows trace [] before ++ rows_with left l event) all_frames
+            ∙ ap (λ l. events_rows trace [] before ++ l) (rows_with-event trace before event next placed left is.entries turn)
+            ∙ sym (events_rows-push trace [] before event);
+        entries = subst (λ l. HasEntries l (next + step) all kept) (sym (placed_of-push before event))
+            (entries-later (placed_after (placed_of before) event) next (next + step) all kept (omega arith) table);
+        next_is = ap (λ n. next + n) count ∙ ap (λ n. n + cond (is_open event) 1 0) is.next_is ∙ sym (sum_by_push (λ e. cond (is_open e) 1 0) before event);
+        left_is = subst (λ n. IsLeft trace (next + n) later) (sym count) after;
+      })

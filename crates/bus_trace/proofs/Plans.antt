@@ -1,0 +1,14 @@
+-- The rows of a plan, row by row.
+use Rattle.std.proofs.Common.{◌≡◌, ℕ, ◌+◌, List, [], ◌∷◌, ◌++◌, length, refl, sym, ap, ◌∙◌, arith, append_assoc}
+use Rattle.std.proofs.lemmas.List.{append-nil}
+use Rattle.bus_trace.specs.Log.{plan_row, plan_rows}
+
+-- the last mask's row comes last
+pub plan_rows-push : (cycle at : ℕ) (masks : List ℕ) (mask : ℕ) → at ≡ cycle + length masks
+    → plan_rows cycle (masks ++ mask ∷ []) ≡ plan_rows cycle masks ++ plan_row at mask
+plan_rows-push cycle at [] mask is =
+    let here : at ≡ cycle = omega arith in
+    append-nil (plan_row cycle mask) ∙ ap (λ n. plan_row n mask) (sym here)
+plan_rows-push cycle at (first ∷ masks) mask is =
+    ap (λ l. plan_row cycle first ++ l) (plan_rows-push (cycle + 1) at masks mask (omega arith))
+    ∙ sym (append_assoc (plan_row cycle first) (plan_rows (cycle + 1) masks) (plan_row at mask))

@@ -1,0 +1,88 @@
+-- What is written of a log while it is made: which events are done, which frames are left, and which entries may still be sent.
+use Rattle.std.specs.Prelude.{◌≡◌, ℕ, ◌+◌, ◌^◌, ◌<◌, ◌≤◌, ◌==◌, ◌&&◌, Bool, true, is_some, if◌then◌else◌, List, [], ◌∷◌, ◌++◌, codes}
+use Rattle.std.specs.List.{flat_map}
+use Rattle.std.specs.Fmt.{decimal}
+use Rattle.can_frame.specs.declared.data_frame.TimedFrame.{TimedFrame}
+use Rattle.requirement_table.specs.declared.entries.Placed.{Placed}
+use Rattle.requirement_table.specs.Instance.{instance_of, worst}
+use Rattle.requirement_table.specs.Slots.{contains_slot}
+use Rattle.requirement_table.specs.Table.{IsWellPlaced, instance_in, width_in}
+use Rattle.change_protocol.specs.declared.operations.Change.{Change}
+use Rattle.change_protocol.specs.Malformed.{IsWellFormed}
+use Rattle.admission.specs.Verdict.{is_accepted}
+use Rattle.master_core.specs.declared.event.Event.{Event}
+use Rattle.master_core.specs.declared.event.Event.TheVariants.{Submit, Look, Open}
+use Rattle.bus_trace.specs.Log.{hex_digits, submit_row, plan_rows, look_row, frame_row, started_in}
+
+-- The frames
+
+-- whether the frame is a trigger
+abbrev pub is_trigger : TimedFrame → Bool
+is_trigger sent = sent.frame.identifier == 0
+
+-- there is no frame, or the first one is a trigger
+abbrev pub BeginsWithTrigger : List TimedFrame → Type 0
+BeginsWithTrigger [] = Unit {0}
+BeginsWithTrigger (sent ∷ later) = sent.frame.identifier ≡ 0
+
+-- what is left of a trace without the frames before the trigger of cycle `next`
+pub record IsLeft (trace : List TimedFrame) (next : ℕ) (left : List TimedFrame) : Type 0 where
+  pub begins : BeginsWithTrigger left
+  pub later : (cycle : ℕ) → next ≤ cycle → started_in cycle 0 trace ≡ started_in cycle next left
+
+-- where the event opens a cycle, it is this one
+abbrev pub IsInTurn : ℕ → Event → Type 0
+IsInTurn next (Submit caller change from verdict trail) = Unit {0}
+IsInTurn next (Look caller looked) = Unit {0}
+IsInTurn next (Open cycle mask) = cycle ≡ next
+
+-- the frames whose rows follow that of an event: those that start in the cycle that it opens
+abbrev pub frames_of_event : List TimedFrame → Event → List TimedFrame
+frames_of_event trace (Submit caller change from verdict trail) = []
+frames_of_event trace (Look caller next) = []
+frames_of_event trace (Open cycle mask) = started_in cycle 0 trace
+
+-- The rows
+
+-- where the event answers a change, the cycle from which it was planned is no large number
+abbrev pub IsNear : Event → Type 0
+IsNear (Submit caller change from verdict trail) = from < 2 ^ 63
+IsNear (Look caller next) = Unit {0}
+IsNear (Open cycle mask) = Unit {0}
+
+-- the row of an opened cycle, with the length of its synchronous window
+abbrev pub opened_row : ℕ → ℕ → ℕ → List ℕ
+opened_row cycle mask width =
+    codes "open," ++ decimal cycle ++ codes "," ++ hex_digits 10 mask ++ codes "," ++ decimal width ++ codes "\n"
+
+-- the rows of an event, by the entries whose instances may be sent in the cycle that it opens, and the rows of these frames
+abbrev pub rows_with : List Placed → List TimedFrame → Event → List ℕ
+rows_with placed frames (Submit caller change from verdict trail) = submit_row caller from verdict ++ plan_rows from trail
+rows_with placed frames (Look caller next) = look_row caller next
+rows_with placed frames (Open cycle mask) =
+    opened_row cycle mask (width_in placed cycle (contains_slot mask)) ++ flat_map frame_row frames
+
+-- The entries
+
+-- the change breaks no rule, for some number of nodes that rules can have
+pub record IsFormed (placed : List Placed) (change : Change) : Type 0 where
+  pub nodes : ℕ
+  pub few : nodes ≤ 30
+  pub well_formed : IsWellFormed placed nodes change
+
+-- where the event accepts a change, it is such a change
+abbrev pub IsFormedIn : List Placed → Event → Type 0
+IsFormedIn placed (Submit caller change from verdict trail) = is_accepted verdict ≡ true → IsFormed placed change
+IsFormedIn placed (Look caller next) = Unit {0}
+IsFormedIn placed (Open cycle mask) = Unit {0}
+
+-- these are the placed entries, and those among which each slot finds its instance in the cycles from `next` on
+pub record HasEntries (list : List Placed) (next : ℕ) (placed left : List Placed) : Type 0 where
+  pub all : placed ≡ list
+  pub well_placed : IsWellPlaced placed
+  pub left_well_placed : IsWellPlaced left
+  pub same : (slot c : ℕ) → next ≤ c → instance_in left slot c ≡ instance_in placed slot c
+
+-- what an entry costs in a cycle, in bit times: the worst length of its frame, where its slot is flagged and an instance of it may be sent
+abbrev pub cost_in : ℕ → (ℕ → Bool) → Placed → ℕ
+cost_in c flagged p = if flagged p.entry.slot && is_some (instance_of p c) then worst p.entry.length else 0

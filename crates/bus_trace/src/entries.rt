@@ -1,0 +1,106 @@
+//! The placed entries at a place of a history, and what the flagged slots of a cycle cost. All lengths are bit times.
+
+ghost use Rattle.std.specs.Prelude.{◌≡◌, ℕ, ◌≤◌, ◌^◌, ◌<◌, ◌*◌, [], IfOk, OnOk, length};
+ghost use Rattle.requirement_table.specs.Slots.{contains_slot};
+ghost use Rattle.requirement_table.specs.Table.{IsInRange, IsWellPlaced, width_in};
+ghost use Rattle.change_protocol.specs.Applied.{applied};
+ghost use Rattle.bus_trace.specs.Logged.{HasEntries, IsFormed, cost_in};
+
+use change_protocol::laws::well_formed_changes;
+use change_protocol::{ApplyFault, Change, apply};
+use requirement_table::laws::entries_that_are_over;
+use requirement_table::{Mask, Placed, cost, current, not_over};
+use std::alloc::{AllocError, Global};
+
+/// The greatest number of nodes that rules can have.
+const NODES: u8 = 30;
+
+/// The placed entries at a place of a history.
+#[derive(Drop, Debug)]
+pub struct Entries {
+    /// All of them.
+    placed: Vec<Placed>,
+    /// Those that were not over when the last change was accepted: no other can have an instance to send any more.
+    left: Vec<Placed>,
+}
+
+impl Entries {
+    /// The entries before any change: none.
+    pub fn new(alloc: Global) -> Entries
+        ensures entries { HasEntries [] 0 result.placed.items result.left.items }
+    {
+        Entries {
+            placed: Vec::new(alloc),
+            left: Vec::new(alloc),
+        }
+    }
+
+    /// Applies a change that was accepted when `next` was the next cycle to be opened.
+    ///
+    /// # Errors
+    ///
+    /// Only where memory runs out.
+    pub fn accept(&mut self, alloc: Global, change: &Change, next: u64) -> Result<(), AllocError>
+        requires placed { IsWellPlaced self.old.placed.items }
+        requires formed { IsFormed self.old.placed.items change.now }
+        ensures entries { OnOk result (HasEntries (applied self.old.placed.items change.now) next self.new.placed.items self.new.left.items) }
+    {
+        let placed = after_change(alloc, self.placed.as_slice(), change)?;
+        entries_that_are_over();
+        self.left = not_over(alloc, placed.as_slice(), next)?;
+        self.placed = placed;
+        Ok(())
+    }
+
+    /// The length of the synchronous window of a cycle in which these slots are flagged: their worst lengths together.
+    pub fn width(&self, cycle: u64, mask: Mask) -> u32
+        requires left { IsWellPlaced self.now.left.items }
+        ensures width { result ≡ width_in self.now.left.items cycle (contains_slot mask) }
+    {
+        width(self.left.as_slice(), cycle, mask)
+    }
+}
+
+/// The entries after a change that is well formed.
+fn after_change(
+    alloc: Global,
+    placed: &[Placed],
+    change: &Change,
+) -> Result<Vec<Placed>, AllocError>
+    requires placed { IsWellPlaced placed.now }
+    requires formed { IsFormed placed.now change.now }
+    ensures list { IfOk result (λ list. list.items ≡ applied placed.now change.now) }
+    ensures well_placed { IfOk result (λ list. IsWellPlaced list.items) }
+{
+    well_formed_changes();
+    match apply(alloc, placed, NODES, change) {
+        Ok(list) => Ok(list),
+        Err(ApplyFault::Memory) => Err(AllocError),
+        Err(ApplyFault::Malformed { .. }) => unreachable!(),
+    }
+}
+
+/// What these entries' instances that may be sent in a cycle cost together, of those whose slots are flagged.
+fn width(placed: &[Placed], cycle: u64, mask: Mask) -> u32
+    requires placed { IsWellPlaced placed.now }
+    ensures width { result ≡ width_in placed.now cycle (contains_slot mask) }
+{
+    let mut width = 0;
+    for p in placed {
+        width += cost_in(p, cycle, mask);
+    }
+    width
+}
+
+/// What the entry costs in a cycle: the worst length of its frame where its slot is flagged and an instance of it may be sent.
+fn cost_in(p: &Placed, cycle: u64, mask: Mask) -> u32
+    requires range { IsInRange p.now }
+    ensures cost { result ≡ cost_in cycle (contains_slot mask) p.now }
+    ensures range { result ≤ 135 }
+{
+    if mask.has(p.entry.slot) && current(p, cycle).is_some() {
+        cost(p.entry.length)
+    } else {
+        0
+    }
+}

@@ -1,0 +1,179 @@
+//! Logs that were worked out by hand.
+
+ghost use Rattle.std.specs.Prelude.{◌≡◌, ◌≤◌, IfOk};
+ghost use Rattle.admission.specs.Verdict.{IsRules};
+
+use crate::{Recent, log_text};
+use admission::Rules;
+use can_frame::{Frame, TimedFrame};
+use change_protocol::{Change, Op, Ops};
+use master_core::Master;
+use planner_policies::Policy;
+use requirement_table::Entry;
+use std::alloc::{AllocError, Global};
+use std::test::Fail;
+
+/// A master of one node, with windows of so many bit times and a horizon of so many cycles.
+fn master(alloc: Global, window: u32, horizon: u64) -> Result<Master, AllocError>
+    requires window { (55 ≤ window) × (window ≤ 16383) }
+    requires horizon { (1 ≤ horizon) × (horizon ≤ 100000) }
+    ensures rules { IfOk result (λ master. IsRules master.rules) }
+{
+    let rules = Rules {
+        nodes: 1,
+        policy: Policy::Rm,
+        window,
+        horizon,
+    };
+    Master::new(alloc, rules)
+}
+
+/// Adds an entry whose deadline is its period.
+fn add(slot: u8, length: u8, period: u16) -> Op {
+    Op::Add {
+        entry: Entry {
+            slot,
+            node: 0,
+            length,
+            phase: 0,
+            period,
+            deadline: period,
+            priority: 0,
+        },
+    }
+}
+
+/// Operator 1 asks for a change.
+fn ask(alloc: Global, master: &mut Master, start: u64, ops: &[Op]) -> Result<(), AllocError>
+    ensures rules { master.new.rules ≡ master.old.rules }
+{
+    let ops = Ops::of(ops.to_vec(alloc)?);
+    master.submit(alloc, 1, &Change { start, ops })?;
+    Ok(())
+}
+
+/// Opens one cycle.
+fn open(alloc: Global, master: &mut Master) -> Result<(), AllocError>
+    ensures rules { master.new.rules ≡ master.old.rules }
+{
+    master.reserve(alloc, 1)?;
+    if master.next() >= 1 << 41 {
+        return Err(AllocError);
+    }
+    master.open();
+    Ok(())
+}
+
+/// Operator 2 asks for the next cycle.
+fn look(alloc: Global, master: &mut Master) -> Result<(), AllocError>
+    ensures rules { master.new.rules ≡ master.old.rules }
+{
+    master.reserve(alloc, 1)?;
+    master.look(2);
+    Ok(())
+}
+
+/// Whether this is the log of the master's history and the trace.
+fn is_log(
+    alloc: Global,
+    master: &Master,
+    trace: &[TimedFrame],
+    expected: &str,
+) -> Result<bool, AllocError>
+    requires rules { IsRules master.now.rules }
+{
+    let text = log_text(alloc, master.history(), trace)?;
+    Ok(text.as_slice() == expected.as_bytes())
+}
+
+/// A frame on the bus.
+fn sent(start: u64, len: u32, id: u16, bytes: &[u8]) -> Result<TimedFrame, AllocError> {
+    match Frame::new(id, bytes) {
+        Ok(frame) => Ok(TimedFrame { start, len, frame }),
+        Err(_) => Err(AllocError),
+    }
+}
+
+const REFUSED: &str = "submit,1,0,miss,3,0,5
+plan,0,0000000001
+plan,1,0000000002
+plan,2,0000000004
+plan,3,0000000001
+plan,4,0000000002
+plan,5,0000000004
+submit,1,0,horizon,0,10402
+end,0
+";
+
+#[test]
+fn refusals(rt: HostRuntime) -> Result<(), Fail> {
+    let alloc = rt.alloc();
+    let mut master = master(alloc, 135, 10_402)?;
+    let four = [add(0, 8, 3), add(1, 8, 4), add(2, 8, 5), add(3, 8, 6)];
+    ask(alloc, &mut master, 0, &four)?;
+    ask(alloc, &mut master, 0, &[add(0, 0, 101), add(1, 0, 103)])?;
+    assert!(rt; is_log(alloc, &master, &[], REFUSED)?);
+    Ok(())
+}
+
+const AHEAD: &str = "submit,1,0,accepted,100,2
+submit,1,0,accepted,100,6
+submit,1,0,malformed,0,10,100
+submit,1,0,malformed,0,11
+end,0
+";
+
+#[test]
+fn changes_ahead(rt: HostRuntime) -> Result<(), Fail> {
+    let alloc = rt.alloc();
+    let mut master = master(alloc, 270, 10_000)?;
+    ask(alloc, &mut master, 100, &[add(0, 8, 2)])?;
+    ask(alloc, &mut master, 50, &[add(1, 8, 3)])?;
+    ask(alloc, &mut master, 50, &[Op::Remove { slot: 0 }])?;
+    ask(alloc, &mut master, 50, &[Op::Remove { slot: 39 }])?;
+    assert!(rt; is_log(alloc, &master, &[], AHEAD)?);
+    Ok(())
+}
+
+const CYCLES: &str = "open,0,0000000000,0
+frame,0,127,000,0000000000000000
+frame,200,51,200,
+submit,1,1,passed,0,1
+submit,1,1,accepted,1,1
+look,2,1
+open,1,0000000001,55
+frame,1000,126,000,0100370100000000
+frame,1945,51,100,
+end,2
+";
+
+#[test]
+fn opened_cycles(rt: HostRuntime) -> Result<(), Fail> {
+    let alloc = rt.alloc();
+    let mut master = master(alloc, 135, 10_000)?;
+    open(alloc, &mut master)?;
+    ask(alloc, &mut master, 0, &[add(0, 0, 1)])?;
+    ask(alloc, &mut master, 1, &[add(0, 0, 1)])?;
+    look(alloc, &mut master)?;
+    open(alloc, &mut master)?;
+    let trace = [
+        sent(0, 127, 0, &[0; 8])?,
+        sent(200, 51, 0x200, &[])?,
+        sent(1000, 126, 0, &[1, 0, 0x37, 1, 0, 0, 0, 0])?,
+        sent(1945, 51, 0x100, &[])?,
+    ];
+    assert!(rt; is_log(alloc, &master, &trace, CYCLES)?);
+    Ok(())
+}
+
+#[test]
+fn last_rows(rt: HostRuntime) -> Result<(), Fail> {
+    let alloc = rt.alloc();
+    let mut recent = Recent::new(alloc, 2)?;
+    assert!(rt; recent.text(alloc)?.is_empty());
+    recent.push(Vec::from_slice(alloc, b"open,0,0000000000,0\n")?);
+    recent.push(Vec::from_slice(alloc, b"look,2,1\n")?);
+    recent.push(Vec::from_slice(alloc, b"end,1\n")?);
+    assert!(rt; recent.text(alloc)?.as_slice() == b"look,2,1\nend,1\n".as_slice());
+    Ok(())
+}
