@@ -1,11 +1,7 @@
 //! Whole calls over files and streams in memory.
 
-mod backlog;
-mod body_network;
-mod entries_while_running;
 mod guard_edges;
-mod trigger_wraps;
-mod twelve_entries;
+mod moving_table;
 
 use crate::{Status, flushed, plain};
 use ftt_io::{MemShelf, MemSink, StdSink};
@@ -47,6 +43,90 @@ frame,405,124,000,01010e0300000000
 frame,540,126,100,0000000000000001
 frame,666,126,101,0000000000000001
 end,2
+";
+
+/// A window for two frames of eight bytes.
+const WIDE_WINDOW: &str = "[bus]\ncycle = 1000\nwindow = 270\nnodes = 1\n";
+
+/// Four entries of eight bytes, of which one fits a cycle.
+const OVERLOAD: &str =
+    "add,1,0,0,0,8,0,3,3,0\nand,add,1,0,8,0,4,4,0\nand,add,2,0,8,0,5,5,0\nand,add,3,0,8,0,6,6,0\n";
+
+const OVERLOAD_LOG: &str = "\
+submit,1,0,miss,3,0,5
+plan,0,0000000001
+plan,1,0000000002
+plan,2,0000000004
+plan,3,0000000001
+plan,4,0000000002
+plan,5,0000000004
+end,0
+";
+
+/// A start that has passed, one that has not, and a look.
+const PASSED: &str = "cycle,5\nadd,1,4,0,0,0,0,1,1,0\nadd,1,5,0,0,0,0,1,1,0\nlook,1\n";
+
+const PASSED_LOG: &str = "\
+open,0,0000000000,0
+frame,0,127,000,0000000000000000
+open,1,0000000000,0
+frame,1000,127,000,0100000000000000
+open,2,0000000000,0
+frame,2000,127,000,0200000000000000
+open,3,0000000000,0
+frame,3000,126,000,0300000000000000
+open,4,0000000000,0
+frame,4000,127,000,0400000000000000
+submit,1,5,passed,4,5
+submit,1,5,accepted,5,1
+look,1,5
+end,5
+";
+
+/// An entry that is changed in its place, and then removed; an entry is added too early, and in time.
+const IN_PLACE: &str =
+    "add,1,0,0,0,8,0,4,3,0\nchange,1,10,0,0,8,0,4,3,0\nremove,1,20,0\nadd,1,21,0,0,8,0,4,3,0\nadd,1,22,0,0,8,0,4,3,0\n";
+
+const IN_PLACE_LOG: &str = "\
+submit,1,0,accepted,0,4
+submit,1,0,accepted,12,4
+submit,1,0,accepted,22,1
+submit,1,0,malformed,0,10,22
+submit,1,0,accepted,22,4
+end,0
+";
+
+/// A swap that would miss a deadline, two cycles of the table that stands, and a change that names a slot twice.
+const SWAP: &str =
+    "add,1,0,0,0,8,0,2,2,0\nand,add,1,0,8,0,2,2,0\nremove,1,4,1\nand,add,2,0,8,0,1,1,0\ncycle,2\nremove,1,6,1\nand,add,1,0,8,0,2,2,0\n";
+
+const SWAP_LOG: &str = "\
+submit,1,0,accepted,0,2
+submit,1,0,miss,0,4,5
+plan,0,0000000001
+plan,1,0000000002
+plan,2,0000000001
+plan,3,0000000002
+plan,4,0000000004
+plan,5,0000000004
+open,0,0000000001,135
+frame,0,125,000,0000870100000000
+frame,865,126,100,0000000000000000
+open,1,0000000002,135
+frame,1000,124,000,0100870200000000
+frame,1865,126,101,0000000000000000
+submit,1,2,malformed,1,5
+end,2
+";
+
+/// Entries that begin later: the second before the first, which can't be removed before it begins.
+const FUTURE: &str = "add,1,100,0,0,8,0,2,2,0\nadd,2,50,1,0,8,0,3,3,0\nremove,8,50,0\n";
+
+const FUTURE_LOG: &str = "\
+submit,1,0,accepted,100,2
+submit,2,0,accepted,100,6
+submit,8,0,malformed,0,10,100
+end,0
 ";
 
 /// The words of a replay of two files.
@@ -160,31 +240,30 @@ fn a_replay_writes_its_log(rt: HostRuntime) -> Result<(), Fail> {
             ONE_NODE,
             "add,1,0,0,0,8,0,1,1,0\nadd,1,0,1,0,0,0,1,1,0\n",
             Status::Refused,
-            "submit,1,0,accepted,0,1\nsubmit,1,0,heavy,190,135\nend,0\n",
+            "submit,1,0,accepted,0,1\nsubmit,1,0,miss,1,0,0\nplan,0,0000000001\nend,0\n",
         ),
+        (ONE_NODE, OVERLOAD, Status::Refused, OVERLOAD_LOG),
+        (ONE_NODE, PASSED, Status::Refused, PASSED_LOG),
+        (ONE_NODE, IN_PLACE, Status::Refused, IN_PLACE_LOG),
+        (ONE_NODE, SWAP, Status::Refused, SWAP_LOG),
+        (
+            ONE_NODE,
+            "add,1,0,0,0,8,0,2,2,0\nand,add,1,0,8,1,3,3,0\n",
+            Status::Done,
+            "submit,1,0,accepted,1,6\nend,0\n",
+        ),
+        (
+            ONE_NODE,
+            "add,1,0,0,0,8,3,2,2,0\nand,add,1,0,8,1,4,4,0\nand,add,2,0,8,1,4,4,0\n",
+            Status::Done,
+            "submit,1,0,accepted,5,4\nend,0\n",
+        ),
+        (WIDE_WINDOW, FUTURE, Status::Refused, FUTURE_LOG),
         (
             ONE_NODE,
             "add,1,0,0,0,0,0,101,101,0\nadd,1,0,1,0,0,0,103,103,0\n",
             Status::Refused,
             "submit,1,0,accepted,0,101\nsubmit,1,0,horizon,0,10000\nend,0\n",
-        ),
-        (
-            trigger_wraps::SYSTEM,
-            trigger_wraps::STEPS,
-            Status::Done,
-            trigger_wraps::LOG,
-        ),
-        (
-            twelve_entries::SYSTEM,
-            twelve_entries::STEPS,
-            Status::Done,
-            twelve_entries::LOG,
-        ),
-        (
-            entries_while_running::SYSTEM,
-            entries_while_running::STEPS,
-            Status::Refused,
-            entries_while_running::LOG,
         ),
     ] {
         let answer = replay(rt.alloc(), system, steps)?;
@@ -197,9 +276,10 @@ fn a_replay_writes_its_log(rt: HostRuntime) -> Result<(), Fail> {
 
 #[test]
 fn a_replay_with_requests_writes_its_log(rt: HostRuntime) -> Result<(), Fail> {
-    for (texts, log) in [
+    for (texts, status, log) in [
         (
             [TWO_OWNERS, "cycle,1\n", "200,513,\n200,512,\n"],
+            Status::Done,
             "open,0,0000000000,0\nframe,0,127,000,0000000000000000\nframe,200,51,200,\nframe,251,50,201,\nend,1\n",
         ),
         (
@@ -208,6 +288,7 @@ fn a_replay_with_requests_writes_its_log(rt: HostRuntime) -> Result<(), Fail> {
                 "cycle,2\n",
                 "880,0x200,0102030405060708\n880,0x201,\n",
             ],
+            Status::Done,
             "open,0,0000000000,0\nframe,0,127,000,0000000000000000\nframe,880,50,201,\nopen,1,0000000000,0\nframe,1000,127,000,0100000000000000\nframe,1135,121,200,0102030405060708\nend,2\n",
         ),
         (
@@ -216,6 +297,7 @@ fn a_replay_with_requests_writes_its_log(rt: HostRuntime) -> Result<(), Fail> {
                 "add,1,0,0,0,8,0,1,1,0\ncycle,1\n",
                 "730,512,0011223344556677\n",
             ],
+            Status::Done,
             "submit,1,0,accepted,0,1\nopen,0,0000000001,135\nframe,0,125,000,0000870100000000\nframe,730,115,200,0011223344556677\nframe,865,126,100,0000000000000000\nend,1\n",
         ),
         (
@@ -224,10 +306,12 @@ fn a_replay_with_requests_writes_its_log(rt: HostRuntime) -> Result<(), Fail> {
                 "add,1,0,0,0,8,0,1,1,0\ncycle,2\n",
                 "731,512,0011223344556677\n",
             ],
+            Status::Done,
             "submit,1,0,accepted,0,1\nopen,0,0000000001,135\nframe,0,125,000,0000870100000000\nframe,865,126,100,0000000000000000\nopen,1,0000000001,135\nframe,1000,124,000,0100870100000000\nframe,1135,115,200,0011223344556677\nframe,1865,126,100,0000000000000001\nend,2\n",
         ),
         (
             [ONE_OWNER, "add,1,0,0,0,8,0,1,1,0\ncycle,1\n", "810,512,\n"],
+            Status::Done,
             "submit,1,0,accepted,0,1\nopen,0,0000000001,135\nframe,0,125,000,0000870100000000\nframe,810,51,200,\nframe,865,126,100,0000000000000000\nend,1\n",
         ),
         (
@@ -236,15 +320,8 @@ fn a_replay_with_requests_writes_its_log(rt: HostRuntime) -> Result<(), Fail> {
                 "add,1,0,0,0,8,0,1,1,0\nadd,1,0,1,0,8,0,1,1,0\ncycle,2\n",
                 "0,512,\n",
             ],
+            Status::Done,
             NO_WINDOW_LOG,
-        ),
-        (
-            [
-                body_network::SYSTEM,
-                body_network::STEPS,
-                body_network::REQUESTS,
-            ],
-            body_network::LOG,
         ),
         (
             [
@@ -252,15 +329,21 @@ fn a_replay_with_requests_writes_its_log(rt: HostRuntime) -> Result<(), Fail> {
                 guard_edges::STEPS,
                 guard_edges::REQUESTS,
             ],
+            Status::Done,
             guard_edges::LOG,
         ),
         (
-            [backlog::SYSTEM, backlog::STEPS, backlog::REQUESTS],
-            backlog::LOG,
+            [
+                moving_table::SYSTEM,
+                moving_table::STEPS,
+                moving_table::REQUESTS,
+            ],
+            Status::Refused,
+            moving_table::LOG,
         ),
     ] {
         let answer = replay_requests(rt.alloc(), texts)?;
-        assert_eq!(rt; answer.status, Status::Done, "{texts:?}");
+        assert_eq!(rt; answer.status, status, "{texts:?}");
         assert_eq!(rt; str::from_utf8(answer.out.bytes()), Ok(log), "{texts:?}");
         assert!(rt; answer.err.bytes().is_empty(), "{texts:?}");
     }
@@ -290,8 +373,8 @@ fn texts_outside_their_formats_are_refused(rt: HostRuntime) -> Result<(), Fail> 
     let long = spaces(alloc, MAX_FILE + 1)?;
     let long = long.as_str();
     for (texts, message) in [
-        ([ONE_NODE, "look,1\n", ""], "steps: input\n"),
-        ([ONE_NODE, long, ""], "steps: input\n"),
+        ([ONE_NODE, "look,1\nstop,1\n", ""], "steps: row 2 word\n"),
+        ([ONE_NODE, long, ""], "steps: longer than 4194304 bytes\n"),
         (
             [long, "cycle,1\n", ""],
             "system: longer than 4194304 bytes\n",
@@ -300,7 +383,7 @@ fn texts_outside_their_formats_are_refused(rt: HostRuntime) -> Result<(), Fail> 
             [ONE_NODE, "cycle,1\n", long],
             "requests: longer than 4194304 bytes\n",
         ),
-        (["[bus", "look,1\n", ""], "system: toml\n"),
+        (["[bus", "stop,1\n", ""], "system: toml\n"),
         (
             ["[bus]\nwindow = 135\nnodes = 1\n", "", ""],
             "system: key bus.cycle\n",
@@ -332,19 +415,20 @@ fn texts_outside_their_formats_are_refused(rt: HostRuntime) -> Result<(), Fail> 
 }
 
 #[test]
-fn the_horizon_is_that_of_the_system(rt: HostRuntime) -> Result<(), Fail> {
-    for (horizon, status, answered) in [
-        (10_402, Status::Refused, "horizon,0,10402"),
-        (10_403, Status::Done, "accepted,0,10403"),
+fn policy_and_horizon_are_those_of_the_system(rt: HostRuntime) -> Result<(), Fail> {
+    let two = "add,1,0,0,0,0,0,101,101,0\nand,add,1,0,0,0,103,103,0\n";
+    for (policy, horizon, steps, status, answered) in [
+        ("rm", 10_402, two, Status::Refused, "horizon,0,10402"),
+        ("dm", 10_403, two, Status::Done, "accepted,0,10403"),
+        ("edf", 10_000, OVERLOAD, Status::Done, "accepted,0,60"),
     ] {
         let alloc = rt.alloc();
         let system = format!(in alloc;
-            "{ONE_NODE}\n[plan]\npolicy = \"edf\"\nhorizon = {horizon}\n"
+            "{ONE_NODE}\n[plan]\npolicy = \"{policy}\"\nhorizon = {horizon}\n"
         )?;
-        let steps = "add,1,0,0,0,0,0,101,101,0\nadd,1,0,1,0,0,0,103,103,0\n";
-        let log = format!(in alloc; "submit,1,0,accepted,0,101\nsubmit,1,0,{answered}\nend,0\n")?;
+        let log = format!(in alloc; "submit,1,0,{answered}\nend,0\n")?;
         let answer = replay(alloc, system.as_str(), steps)?;
-        assert_eq!(rt; answer.status, status, "{horizon}");
+        assert_eq!(rt; answer.status, status, "{answered}");
         assert_eq!(rt; str::from_utf8(answer.out.bytes()), Ok(log.as_str()));
     }
     Ok(())
