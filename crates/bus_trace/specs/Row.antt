@@ -28,7 +28,8 @@ fields_of_verdict (Horizon from walked) = codes "horizon" ∷ decimal from ∷ d
 -- the fields of a frame
 abbrev pub fields_of_frame : TimedFrame → List (List ℕ)
 fields_of_frame timed =
-    codes "frame" ∷ decimal timed.start ∷ decimal timed.len ∷ hex_digits 3 timed.frame.identifier ∷ flat_map (hex_digits 2) timed.frame.bytes ∷ []
+    codes "frame" ∷ decimal timed.start ∷ decimal timed.len ∷ hex_digits 3 timed.frame.identifier
+    ∷ flat_map (hex_digits 2) timed.frame.bytes ∷ []
 
 -- the fields of a row
 abbrev pub fields_of_row : LogRow → List (List ℕ)
