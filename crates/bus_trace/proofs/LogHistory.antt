@@ -7,7 +7,7 @@ use Rattle.std.specs.List.{flat_map}
 use Rattle.can_frame.specs.declared.data_frame.TimedFrame.{TimedFrame}
 use Rattle.requirement_table.specs.declared.entries.Placed.{Placed}
 use Rattle.requirement_table.specs.Slots.{contains_slot}
-use Rattle.requirement_table.specs.Table.{IsWellPlaced, width_in}
+use Rattle.requirement_table.specs.Table.{width_in}
 use Rattle.change_protocol.specs.declared.operations.Change.{Change}
 use Rattle.admission_rules.specs.declared.Rules.{Rules}
 use Rattle.admission.specs.declared.verdict.Verdict.{Verdict}
@@ -46,23 +46,27 @@ events_rows-push trace before (first ∷ events) event =
 -- Places
 
 -- each event is right at its place
-right-at : (rules : Rules) (before events later : List Event) (event : Event) → AllAfter (IsRight rules) before (events ++ event ∷ later)
+right-at : (rules : Rules) (before events later : List Event) (event : Event)
+    → AllAfter (IsRight rules) before (events ++ event ∷ later)
     → IsRight rules (before ++ events) event
 right-at rules before [] later event right = subst (λ b. IsRight rules b event) (sym (append-nil before)) right.0
 right-at rules before (first ∷ events) later event right =
     subst (λ b. IsRight rules b event) (append_assoc before (first ∷ []) events) (right-at rules (before ++ first ∷ []) events later event right.1)
 
-in_turn : (rules : Rules) (before : List Event) (event : Event) → IsRight rules before event → IsInTurn (next_of before) event
+in_turn : (rules : Rules) (before : List Event) (event : Event) → IsRight rules before event
+    → IsInTurn (next_of before) event
 in_turn rules before (Submit caller change from verdict trail) right = tt
 in_turn rules before (Look caller next) right = tt
 in_turn rules before (Open cycle mask) right = right.0
 
-near : (rules : Rules) (before : List Event) (event : Event) → IsRight rules before event → next_of before < 2 ^ 63 → IsNear event
+near : (rules : Rules) (before : List Event) (event : Event) → IsRight rules before event → next_of before < 2 ^ 63
+    → IsNear event
 near rules before (Submit caller change from verdict trail) right few = let opened = right.opened in omega arith
 near rules before (Look caller next) right few = tt
 near rules before (Open cycle mask) right few = tt
 
-formed-by : (rules : Rules) (placed : List Placed) (pending from next : ℕ) (change : Change) (verdict : Verdict) → IsRules rules
+formed-by : (rules : Rules) (placed : List Placed) (pending from next : ℕ) (change : Change) (verdict : Verdict)
+    → IsRules rules
     → IsVerdict rules placed pending from next change verdict → is_accepted verdict ≡ true → IsFormed placed change
 formed-by rules placed pending from next change (Malformed op why) ranges answer accepted = absurd (let none : ⊥ = cc in none)
 formed-by rules placed pending from next change (Passed start opened) ranges answer accepted = absurd (let none : ⊥ = cc in none)
@@ -71,13 +75,15 @@ formed-by rules placed pending from next change (Horizon first walked) ranges an
 formed-by rules placed pending from next change (Accepted first length) ranges answer accepted =
     record { nodes = rules.nodes; few = ranges.few_nodes; well_formed = answer.0.well_formed }
 
-formed : (rules : Rules) (before : List Event) (event : Event) → IsRules rules → IsRight rules before event → IsFormedIn (placed_of before) event
+formed : (rules : Rules) (before : List Event) (event : Event) → IsRules rules → IsRight rules before event
+    → IsFormedIn (placed_of before) event
 formed rules before (Submit caller change from verdict trail) ranges right =
     formed-by rules (placed_of before) _ from (next_of before) change verdict ranges right.answer
 formed rules before (Look caller next) ranges right = tt
 formed rules before (Open cycle mask) ranges right = tt
 
-placed_of-push : (before : List Event) (event : Event) → placed_of (before ++ event ∷ []) ≡ placed_after (placed_of before) event
+placed_of-push : (before : List Event) (event : Event)
+    → placed_of (before ++ event ∷ []) ≡ placed_after (placed_of before) event
 placed_of-push before event = fold-append placed_after [] before (event ∷ [])
 
 pub one_or_none : (b : Bool) → cond b 1 0 ≤ 1
@@ -85,7 +91,8 @@ one_or_none true = omega arith
 one_or_none false = omega arith
 
 -- as the next cycle goes on, the entries stay
-entries-later : (list : List Placed) (next later : ℕ) (placed left : List Placed) → next ≤ later → HasEntries list next placed left → HasEntries list later placed left
+entries-later : (list : List Placed) (next later : ℕ) (placed left : List Placed) → next ≤ later
+    → HasEntries list next placed left → HasEntries list later placed left
 entries-later list next later placed left on entries = record {
   all = entries.all;
   well_placed = entries.well_placed;
@@ -127,7 +134,8 @@ module _ (trace : List TimedFrame) (history : List Event) (i : ℕ) (event : Eve
       }
 
   -- after the event
-  pub written-more : (more : List ℕ) (started later : List TimedFrame) (all kept : List Placed) (step : ℕ) → IsInTurn next event
+  pub written-more : (more : List ℕ) (started later : List TimedFrame) (all kept : List Placed) (step : ℕ)
+      → IsInTurn next event
       → more ≡ text ++ rows_with left started event → started ≡ frames_of_event trace event
       → HasEntries (placed_after (placed_of before) event) next all kept
       → step ≡ cond (is_open event) 1 0 → IsLeft trace (next + cond (is_open event) 1 0) later

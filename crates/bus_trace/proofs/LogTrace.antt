@@ -15,7 +15,8 @@ until frames = position_or_len is_trigger frames
 until-trigger : (sent : TimedFrame) (later : List TimedFrame) → is_trigger sent ≡ true → until (sent ∷ later) ≡ 0
 until-trigger sent later here = ap (λ b. cond (not b) (1 + until later) 0) {x = is_trigger sent} {y = true} here
 
-until-other : (sent : TimedFrame) (later : List TimedFrame) → is_trigger sent ≡ false → until (sent ∷ later) ≡ suc (until later)
+until-other : (sent : TimedFrame) (later : List TimedFrame) → is_trigger sent ≡ false
+    → until (sent ∷ later) ≡ suc (until later)
 until-other sent later other =
     let more : 1 + until later ≡ suc (until later) = omega arith in
     ap (λ b. cond (not b) (1 + until later) 0) {x = is_trigger sent} {y = false} other ∙ more
@@ -30,7 +31,8 @@ cond_both : {A : Type 0} (b : Bool) (x : A) → cond b x x ≡ x
 cond_both true x = refl
 cond_both false x = refl
 
-cond_joined : (b : Bool) (x : TimedFrame) (xs rest : List TimedFrame) → cond b (x ∷ []) [] ++ (cond b xs [] ++ rest) ≡ cond b (x ∷ xs) [] ++ rest
+cond_joined : (b : Bool) (x : TimedFrame) (xs rest : List TimedFrame)
+    → cond b (x ∷ []) [] ++ (cond b xs [] ++ rest) ≡ cond b (x ∷ xs) [] ++ rest
 cond_joined true x xs rest = refl
 cond_joined false x xs rest = refl
 
@@ -75,7 +77,8 @@ started_in-past cycle seen (sent ∷ later) past =
     ∙ started_in-past cycle now later (omega arith)
 
 -- nor from the next one's trigger on
-started_in-next : (cycle : ℕ) (frames : List TimedFrame) → BeginsWithTrigger frames → started_in cycle (cycle + 1) frames ≡ []
+started_in-next : (cycle : ℕ) (frames : List TimedFrame) → BeginsWithTrigger frames
+    → started_in cycle (cycle + 1) frames ≡ []
 started_in-next cycle [] begins = refl
 started_in-next cycle (sent ∷ later) begins =
     let now = triggers_with-trigger (cycle + 1) sent (eq-eqb _ _ begins) in
@@ -99,7 +102,8 @@ cycle_len [] = 0
 cycle_len (sent ∷ later) = suc (until later)
 
 -- as it is counted
-pub cycle_len-is : (left : List TimedFrame) (n : ℕ) → 1 ≤ length left → n ≡ until (take (length left - 1) (drop 1 left)) → 1 + n ≡ cycle_len left
+pub cycle_len-is : (left : List TimedFrame) (n : ℕ) → 1 ≤ length left
+    → n ≡ until (take (length left - 1) (drop 1 left)) → 1 + n ≡ cycle_len left
 cycle_len-is [] n some is = absurd (omega arith)
 cycle_len-is (sent ∷ later) n some is =
     let all : take (suc (length later) - 1) later ≡ later = grind (arith, common_steps) in
@@ -116,7 +120,8 @@ started_in-trigger cycle seen sent later zero_id =
     ∙ cond_joined (eqb (seen + 1) (cycle + 1)) sent (take (until later) later) _
 
 -- they are the frames that start in the next cycle
-pub started_in-cycle : (trace : List TimedFrame) (next : ℕ) (left : List TimedFrame) → IsLeft trace next left → take (cycle_len left) left ≡ started_in next 0 trace
+pub started_in-cycle : (trace : List TimedFrame) (next : ℕ) (left : List TimedFrame) → IsLeft trace next left
+    → take (cycle_len left) left ≡ started_in next 0 trace
 started_in-cycle trace next [] is = sym (is.later next (omega arith))
 started_in-cycle trace next (sent ∷ later) is =
     sym (is.later next (omega arith) ∙ started_in-trigger next next sent later is.begins
@@ -125,7 +130,8 @@ started_in-cycle trace next (sent ∷ later) is =
     ∙ cond-true (eqb (next + 1) (next + 1)) (sent ∷ take (until later) later) [] (eq-eqb _ _ refl))
 
 -- and without them the cycles after it are left
-pub IsLeft-next : (trace : List TimedFrame) (next : ℕ) (left : List TimedFrame) → IsLeft trace next left → IsLeft trace (next + 1) (drop (cycle_len left) left)
+pub IsLeft-next : (trace : List TimedFrame) (next : ℕ) (left : List TimedFrame) → IsLeft trace next left
+    → IsLeft trace (next + 1) (drop (cycle_len left) left)
 IsLeft-next trace next [] is = record { begins = tt; later = λ cycle above. is.later cycle (omega arith) }
 IsLeft-next trace next (sent ∷ later) is = record {
   begins = begins-until later;

@@ -2,13 +2,13 @@
 use Rattle.std.proofs.Common.{◌≡◌, ℕ, zero, suc, ◌+◌, ◌*◌, ◌<◌, ◌≤◌, ◌&&◌, Bool, true, false, cond, eqb, Option, Some, None, IfSome, is_some, List, [], ◌∷◌, length, drop, get_or, slice_get, Contains, refl, sym, ap, ◌∙◌, arith, subst, inl, inr}
 use Rattle.std.specs.List.{filter_map, cons_option}
 use Rattle.std.specs.Option.{option_map, option_map_or}
-use Rattle.std.proofs.lemmas.Bool.{cases_eq, cases_Bool, eqb-true, eq-eqb, ne_eqb, cond-true, cond-false}
+use Rattle.std.proofs.lemmas.Bool.{cases_eq, eqb-true, eq-eqb, ne_eqb, cond-true, cond-false}
 use Rattle.std.proofs.lemmas.List.Elements.{All-contains}
 use Rattle.std.proofs.Math.Seq.{drop-cons}
 use Rattle.requirement_table.specs.declared.entries.Placed.{Placed}
 use Rattle.requirement_table.specs.Instance.{Instance, MaySend, instance_of, worst, worst_of}
 use Rattle.requirement_table.specs.Slots.{slots, sum_where}
-use Rattle.requirement_table.specs.Table.{GoesBefore, IsInRange, IsWellPlaced, instance_in, sendable, width_in, worst_in}
+use Rattle.requirement_table.specs.Table.{IsInRange, IsWellPlaced, instance_in, sendable, width_in, worst_in}
 use Rattle.requirement_table.proofs.Shared.{MaySend-from_instance, instance_in-sound, one_instance}
 use Rattle.planner_policies.proofs.Shared.{sum_where-costs}
 use Rattle.bus_trace.specs.Logged.{cost_in}
@@ -68,7 +68,8 @@ sum_where-le (suc n) m q f each =
 
 -- Entries
 
-slice_get-contained : (rest : List Placed) (k : ℕ) (q : Placed) → k < length rest → get_or rest k q ≡ q → slice_get rest k ≡ Some q
+slice_get-contained : (rest : List Placed) (k : ℕ) (q : Placed) → k < length rest → get_or rest k q ≡ q
+    → slice_get rest k ≡ Some q
 slice_get-contained [] k q within here = absurd (omega arith)
 slice_get-contained (p ∷ rest) zero q within here = ap (λ x. Some x) here
 slice_get-contained (p ∷ rest) (suc k) q within here = slice_get-contained rest k q (omega arith) here
@@ -90,7 +91,9 @@ worst-of (Some i) few = few
 worst_in-le : (placed : List Placed) (c slot : ℕ) → IsWellPlaced placed → worst_in placed c slot ≤ 135
 worst_in-le placed c slot well = by (instance_in placed slot c) (instance_in-sound placed slot c)
   where
-    by : (o : Option Instance) → IfSome o (λ i. Contains placed i.placed × (i.placed.entry.slot ≡ slot) × MaySend i.placed i.number c) → option_map_or worst_of o 0 ≤ 135
+    by : (o : Option Instance)
+        → IfSome o (λ i. Contains placed i.placed × (i.placed.entry.slot ≡ slot) × MaySend i.placed i.number c)
+        → option_map_or worst_of o 0 ≤ 135
     by None sound = omega arith
     by (Some i) sound =
         let range = All-contains IsInRange placed i.placed well.in_range sound.0 in
@@ -98,7 +101,8 @@ worst_in-le placed c slot well = by (instance_in placed slot c) (instance_in-sou
         omega arith
 
 -- the slots of a well placed list cost no more together than all slots do at most
-pub width-le : (placed : List Placed) (c : ℕ) (flagged : ℕ → Bool) → IsWellPlaced placed → width_in placed c flagged ≤ 5400
+pub width-le : (placed : List Placed) (c : ℕ) (flagged : ℕ → Bool) → IsWellPlaced placed
+    → width_in placed c flagged ≤ 5400
 width-le placed c flagged well =
     let all = sum_where-le slots 135 flagged (worst_in placed c) (λ s below. worst_in-le placed c s well) in
     omega arith
@@ -112,10 +116,13 @@ cond-and true b x = refl
 cond-and false b x = refl
 
 -- where the first entry may send, no later one of its slot may
-none-later : (p : Placed) (rest : List Placed) (c k : ℕ) → IsWellPlaced (p ∷ rest) → instance_of p c ≡ Some k → instance_in rest p.entry.slot c ≡ None
+none-later : (p : Placed) (rest : List Placed) (c k : ℕ) → IsWellPlaced (p ∷ rest) → instance_of p c ≡ Some k
+    → instance_in rest p.entry.slot c ≡ None
 none-later p rest c k well sends = by (instance_in rest p.entry.slot c) (instance_in-sound rest p.entry.slot c)
   where
-    by : (o : Option Instance) → IfSome o (λ i. Contains rest i.placed × (i.placed.entry.slot ≡ p.entry.slot) × MaySend i.placed i.number c) → o ≡ None
+    by : (o : Option Instance)
+        → IfSome o (λ i. Contains rest i.placed × (i.placed.entry.slot ≡ p.entry.slot) × MaySend i.placed i.number c)
+        → o ≡ None
     by None sound = refl
     by (Some i) sound =
         let there : slice_get (p ∷ rest) (suc sound.0.0) ≡ Some i.placed = slice_get-contained rest sound.0.0 i.placed sound.0.1 sound.0.2 in
@@ -150,7 +157,8 @@ width-step p rest c flagged well =
     split ∙ ap (λ x. x + width_in rest c flagged) (one ∙ sym cost)
 
 -- the entries from a place on
-pub width-next : (placed : List Placed) (i : ℕ) (d : Placed) (c : ℕ) (flagged : ℕ → Bool) → i < length placed → IsWellPlaced (drop i placed)
+pub width-next : (placed : List Placed) (i : ℕ) (d : Placed) (c : ℕ) (flagged : ℕ → Bool) → i < length placed
+    → IsWellPlaced (drop i placed)
     → (width_in (drop i placed) c flagged ≡ cost_in c flagged (get_or placed i d) + width_in (drop (i + 1) placed) c flagged)
     × IsWellPlaced (drop (i + 1) placed)
 width-next placed i d c flagged within well =
@@ -166,7 +174,8 @@ pub width-none : (c : ℕ) (flagged : ℕ → Bool) → width_in [] c flagged �
 width-none c flagged = let none = sum_where-le slots 0 flagged (worst_in [] c) (λ s below. omega arith) in omega arith
 
 -- lists with the same instances in a cycle
-pub width-same : (left placed : List Placed) (c : ℕ) (flagged : ℕ → Bool) → ((slot : ℕ) → instance_in left slot c ≡ instance_in placed slot c)
+pub width-same : (left placed : List Placed) (c : ℕ) (flagged : ℕ → Bool)
+    → ((slot : ℕ) → instance_in left slot c ≡ instance_in placed slot c)
     → width_in left c flagged ≡ width_in placed c flagged
 width-same left placed c flagged same =
     sum_where-costs slots flagged (worst_in left c) (worst_in placed c) (λ s below. ap (λ o. option_map_or worst_of o 0) (same s))

@@ -1,3 +1,4 @@
 pub mod Log
 pub mod Logged
 pub mod Recent
+pub mod Row

@@ -43,7 +43,8 @@ impl Entries {
     pub fn accept(&mut self, alloc: Global, change: &Change, next: u64) -> Result<(), AllocError>
         requires placed { IsWellPlaced self.old.placed.items }
         requires formed { IsFormed self.old.placed.items change.now }
-        ensures entries { OnOk result (HasEntries (applied self.old.placed.items change.now) next self.new.placed.items self.new.left.items) }
+        ensures entries { OnOk result
+            (HasEntries (applied self.old.placed.items change.now) next self.new.placed.items self.new.left.items) }
     {
         let placed = after_change(alloc, self.placed.as_slice(), change)?;
         entries_that_are_over();

@@ -31,8 +31,10 @@ pub fn until_trigger(frames: &[TimedFrame]) -> usize
 /// The number of frames from the first one, a trigger, up to the next trigger; it is 0 where none is left.
 pub fn cycle_len(left: &[TimedFrame]) -> usize
     ensures within { result ≤ length left.now }
-    ensures frames { (trace : List TimedFrame) (next : ℕ) → IsLeft trace next left.now → take result left.now ≡ started_in next 0 trace }
-    ensures left { (trace : List TimedFrame) (next : ℕ) → IsLeft trace next left.now → IsLeft trace (next + 1) (drop result left.now) }
+    ensures frames { (trace : List TimedFrame) (next : ℕ) → IsLeft trace next left.now
+        → take result left.now ≡ started_in next 0 trace }
+    ensures left { (trace : List TimedFrame) (next : ℕ) → IsLeft trace next left.now
+        → IsLeft trace (next + 1) (drop result left.now) }
 {
     match left {
         [] => 0,

@@ -7,10 +7,12 @@ mod entries;
 mod frames;
 mod log;
 mod recent;
+mod row;
 mod rows;
 
 pub use log::log_text;
 pub use recent::Recent;
+pub use row::{LogRow, LogVerdict};
 
 #[cfg(test)]
 mod tests;

@@ -1,4 +1,4 @@
-use Rattle.std.proofs.Common.{◌≡◌, sym, ap, ◌∙◌, subst, rules}
+use Rattle.std.proofs.Common.{◌≡◌, sym, ap, ◌∙◌, subst}
 use Rattle.requirement_table.specs.Table.{IsWellPlaced, instance_in, not_over}
 use Rattle.change_protocol.specs.Applied.{applied}
 use Rattle.bus_trace.proofs.entries.Entries.accept.Goals as goal
