@@ -1,49 +1,68 @@
--- The headline's definitions: what the words and the files ask for, what a run of it is, and how a call ends.
-use Rattle.std.specs.Prelude.{◌≡◌, ℕ, ◌⊎◌, ⊤, Bool, true, List, [], length, codes, if◌then◌else◌, nat_le, Option, Some, None, Result, Ok, Err}
+-- The headline's definitions: what the words and the files ask for, what is written for it, and how a call ends.
+use Rattle.std.specs.Prelude.{◌≡◌, ℕ, ◌⊎◌, ⊤, Bool, true, List, [], ◌++◌, length, codes, if◌then◌else◌, nat_le, Option, Some, None, Result, Ok, Err}
+use Rattle.std.specs.Fmt.{decimal}
 use Rattle.std.specs.List.{list_all}
 use Rattle.can_frame.specs.declared.TimedFrame.{TimedFrame}
 use Rattle.ftt_io.specs.Files.{NamedFiles}
 use Rattle.ftt_io.specs.Puts.{Puts, PutsPrefix}
+use Rattle.plan_check.specs.Breaches.{IsBreach}
+use Rattle.plan_check.specs.Certificate.{CertificateView}
+use Rattle.plan_check.specs.PlanKept.{IsTaken}
+use Rattle.plan_check.specs.PlanText.{IsFirstWrongLine, IsReadable, plan_text}
+use Rattle.plan_check.specs.declared.breach.Breach.{Breach}
+use Rattle.plan_check.specs.declared.breach.Breach.TheVariants.{BadLoop, NotReleased, TooWide, Missed, NotClosed}
 use Rattle.bus_trace.specs.Log.{log_text}
-use Rattle.replay_run.specs.Run.{IsRun}
+use Rattle.replay_run.specs.AskedTable.{table_of}
+use Rattle.replay_run.specs.Run.{AnswersSteps, IsRun}
 use Rattle.async_window.specs.declared.request.Owner.{Owner}
 use Rattle.async_window.specs.declared.request.Request.{Request}
 use Rattle.input_text.specs.SystemFile.{system_of}
 use Rattle.input_text.specs.SystemText.{system_fault_line}
+use Rattle.input_text.specs.StepsFile.{steps_of}
+use Rattle.input_text.specs.StepText.{text_of as steps_line}
 use Rattle.input_text.specs.RequestsFile.{requests_of}
 use Rattle.input_text.specs.RequestText.{text_of as requests_line}
+use Rattle.input_text.specs.declared.steps.Step.{Step}
+use Rattle.input_text.specs.declared.step_fault.StepFault.{StepFault}
 use Rattle.input_text.specs.declared.system.System.{System}
 use Rattle.input_text.specs.declared.system_fault.SystemFault.{SystemFault}
 use Rattle.input_text.specs.declared.request_fault.RequestFault.{RequestFault}
-use Rattle.input_text.specs.StepsFile.{steps_of}
-use Rattle.input_text.specs.StepText.{text_of as steps_line}
-use Rattle.input_text.specs.declared.steps.Step.{Step}
-use Rattle.input_text.specs.declared.step_fault.StepFault.{StepFault}
 use Rattle.admission.specs.Verdict.{is_accepted}
+use Rattle.master_core.specs.Certificates.{IsCertificateOfPlan}
+use Rattle.master_core.specs.History.{IsPlainlyLegal, placed_of}
 use Rattle.master_core.specs.declared.event.Event.{Event}
 use Rattle.master_core.specs.declared.event.Event.TheVariants.{Submit, Look, Open}
 use Rattle.fttcan_top.specs.declared.load.Source.{Source}
 use Rattle.fttcan_top.specs.declared.status.Status.{Status}
-use Rattle.fttcan_top.specs.declared.status.Status.TheVariants.{Done, Refused, Words, Input, Read, Write, Memory}
-use Rattle.fttcan_top.specs.Words.{Command, replay, command_of}
+use Rattle.fttcan_top.specs.declared.status.Status.TheVariants.{Done, Refused, Words, Input, Read, Write, Memory, No}
+use Rattle.fttcan_top.specs.declared.words.Word.{Word}
+use Rattle.fttcan_top.specs.Words.{Command, command_of}
 
 -- What is asked
 
--- why a call has no run: the words are no command's; a file is longer than its limit; the text of one breaks a rule of its format; or a
--- file is not there
+-- why a call has nothing to do: the words are no command's; a file is longer than its limit; the text of one breaks a rule of its format, of a
+-- plan at this line; the plan does not begin at cycle 0 with nothing pending; or a file is not there
 pub data Stopped : Type 0 where
   no_command : Stopped
   too_long : Source → Stopped
   wrong_system : SystemFault → Stopped
   wrong_steps : StepFault → Stopped
   wrong_requests : RequestFault → Stopped
+  wrong_plan : ℕ → Stopped
+  later_plan : Stopped
   absent : Stopped
 
 -- a run that is asked for: the system, the steps and the requests
-pub record Asked : Type 0 where
+pub record Job : Type 0 where
   pub system : System
   pub steps : List Step
   pub requests : List Request
+
+-- what is asked for: the log of a run, the plan of the table behind a run, or the check of a plan
+pub data Asked : Type 0 where
+  log_of : Job → Asked
+  plan_of : Job → Asked
+  check_of : Job → CertificateView → Asked
 
 -- the greatest number of bytes of a file
 abbrev pub file_limit : ℕ
@@ -60,7 +79,7 @@ abbrev pub within_limit : Source → Option (List ℕ) → Result (List ℕ) Sto
 within_limit source None = Err absent
 within_limit source (Some bytes) = if nat_le (length bytes) file_limit then Ok bytes else Err (too_long source)
 
--- the meaning of a text, or the fault in it as the reason why there is no run
+-- the meaning of a text, or the fault in it as the reason why there is nothing to do
 abbrev pub meant : {A Fault : Type 0} → (Fault → Stopped) → Result A Fault → Result A Stopped
 meant why (Ok value) = Ok value
 meant why (Err fault) = Err (why fault)
@@ -79,24 +98,77 @@ requests_in files None owners = Ok []
 requests_in files (Some name) owners =
     within_limit Source.Requests (files name) >>= λ bytes. meant wrong_requests (requests_of owners bytes)
 
--- what a command asks of the files: first the system's file and its text, then the steps', then the requests'
-abbrev pub asked_by : NamedFiles → Option Command → Result Asked Stopped
-asked_by files None = Err no_command
-asked_by files (Some (replay system_name steps_name requests_name)) =
+-- the run that files of these names ask for: first the system's file and its text, then the steps', then the requests'
+abbrev pub job_in : NamedFiles → List ℕ → List ℕ → Option (List ℕ) → Result Job Stopped
+job_in files system_name steps_name requests_name =
     system_in files system_name >>= λ system.
     steps_in files steps_name >>= λ steps.
     requests_in files requests_name system.owners >>= λ requests.
     Ok (record { system = system; steps = steps; requests = requests })
 
+-- a certificate begins at cycle 0 with nothing pending
+pub record IsFromStart (certificate : CertificateView) : Type 0 where
+  pub from : certificate.from ≡ 0
+  pub pending : certificate.pending ≡ 0
+
+-- the certificate whose text these bytes are
+pub record IsPlanOf (bytes : List ℕ) (certificate : CertificateView) : Type 0 where
+  pub readable : IsReadable certificate
+  pub text : bytes ≡ plan_text certificate
+
+-- these bytes are the text of a plan that begins later, or with something pending
+pub record IsLaterPlan (bytes : List ℕ) : Type 0 where
+  pub certificate : CertificateView
+  pub plan : IsPlanOf bytes certificate
+  pub later : IsFromStart certificate → ⊥
+
+-- what the bytes of a plan's file mean, for a check
+abbrev pub IsPlanMeant : List ℕ → Result CertificateView Stopped → Type 0
+IsPlanMeant bytes (Ok certificate) = IsPlanOf bytes certificate × IsFromStart certificate
+IsPlanMeant bytes (Err (wrong_plan line)) = IsFirstWrongLine bytes line
+IsPlanMeant bytes (Err later_plan) = IsLaterPlan bytes
+IsPlanMeant bytes (Err no_command) = ⊥
+IsPlanMeant bytes (Err (too_long source)) = ⊥
+IsPlanMeant bytes (Err (wrong_system fault)) = ⊥
+IsPlanMeant bytes (Err (wrong_steps fault)) = ⊥
+IsPlanMeant bytes (Err (wrong_requests fault)) = ⊥
+IsPlanMeant bytes (Err absent) = ⊥
+
+-- what a plan's file means, where it could be read
+abbrev pub IsPlanRead : Result (List ℕ) Stopped → Result CertificateView Stopped → Type 0
+IsPlanRead (Ok bytes) plan = IsPlanMeant bytes plan
+IsPlanRead (Err why) plan = plan ≡ Err why
+
+-- what the plan of this name means; no command leaves the name out
+abbrev pub IsPlanIn : NamedFiles → Option (List ℕ) → Result CertificateView Stopped → Type 0
+IsPlanIn files None plan = ⊥
+IsPlanIn files (Some name) plan = IsPlanRead (within_limit Source.Plan (files name)) plan
+
+-- what a check asks for behind its system and steps
+pub record IsCheckAsked (files : NamedFiles) (name : Option (List ℕ)) (job : Job) (asked_for : Result Asked Stopped) : Type 0 where
+  pub plan : Result CertificateView Stopped
+  pub in_file : IsPlanIn files name plan
+  pub is : asked_for ≡ (plan >>= λ certificate. Ok (check_of job certificate))
+
+abbrev pub IsCheckOf : NamedFiles → Option (List ℕ) → Result Job Stopped → Result Asked Stopped → Type 0
+IsCheckOf files name (Ok job) asked_for = IsCheckAsked files name job asked_for
+IsCheckOf files name (Err why) asked_for = asked_for ≡ Err why
+
+-- what a command asks of the files: the first that stops decides
+abbrev pub IsAskedOf : NamedFiles → Word → List ℕ → List ℕ → Option (List ℕ) → Result Asked Stopped → Type 0
+IsAskedOf files Word.Replay system steps third asked_for = asked_for ≡ (job_in files system steps third >>= λ job. Ok (log_of job))
+IsAskedOf files Word.Admit system steps third asked_for = asked_for ≡ (job_in files system steps None >>= λ job. Ok (plan_of job))
+IsAskedOf files Word.Check system steps third asked_for = IsCheckOf files third (job_in files system steps None) asked_for
+
+abbrev pub IsAskedBy : NamedFiles → Option Command → Result Asked Stopped → Type 0
+IsAskedBy files None asked_for = asked_for ≡ Err no_command
+IsAskedBy files (Some command) asked_for = IsAskedOf files command.word command.system command.steps command.third asked_for
+
 -- *Input meaning*: what the words ask of the files
-abbrev pub asked : List (List ℕ) → NamedFiles → Result Asked Stopped
-asked words files = asked_by files (command_of words)
+abbrev pub IsAsked : List (List ℕ) → NamedFiles → Result Asked Stopped → Type 0
+IsAsked words files asked_for = IsAskedBy files (command_of words) asked_for
 
--- What is run
-
--- a run of what was asked: the history answers the steps, and history and trace keep what is promised
-abbrev pub IsRunOf : Asked → List Event → List TimedFrame → Type 0
-IsRunOf job history trace = IsRun job.system job.steps job.requests history trace
+-- What is written
 
 -- whether the event refuses no change
 abbrev pub refuses_nothing : Event → Bool
@@ -112,24 +184,74 @@ all_accepted history = list_all refuses_nothing history
 abbrev pub status_of : List Event → Status
 status_of history = if all_accepted history then Done else Refused
 
--- the log of a run was put to the output, and the status is that of the run
-pub record LogsRun (job : Asked) (status : Status) (old new : Option (List ℕ)) : Type 0 where
+-- the log of a run: the history answers the steps, and history and trace keep what is promised
+pub record IsLog (job : Job) (status : Status) (text : List ℕ) : Type 0 where
   pub history : List Event
   pub trace : List TimedFrame
-  pub run : IsRunOf job history trace
+  pub run : IsRun job.system job.steps job.requests history trace
   pub ended : status ≡ status_of history
-  pub puts : Puts old new (log_text history trace)
+  pub written : text ≡ log_text history trace
 
--- the first bytes of the log of a run were put to the output, or nothing was
-pub record LogsFront (job : Asked) (old new : Option (List ℕ)) : Type 0 where
+-- the plan of the table that stands when a master has answered the steps: from cycle 0 on, and it keeps that table for ever
+pub record IsPlanText (job : Job) (status : Status) (text : List ℕ) : Type 0 where
   pub history : List Event
-  pub trace : List TimedFrame
-  pub run : IsRunOf job history trace
-  pub puts : PutsPrefix old new (log_text history trace)
+  pub answers : AnswersSteps history job.steps
+  pub plain : IsPlainlyLegal job.system.rules history
+  pub certificate : CertificateView
+  pub made : IsCertificateOfPlan job.system.rules history certificate
+  pub taken : IsTaken (placed_of history) job.system.rules.window certificate
+  pub ended : status ≡ status_of history
+  pub written : text ≡ plan_text certificate
+
+-- the line of a breach
+abbrev pub breach_line : Breach → List ℕ
+breach_line (BadLoop slot) = codes "no,badloop," ++ decimal slot ++ codes "\n"
+breach_line (NotReleased cycle slot) = codes "no,notreleased," ++ decimal cycle ++ codes "," ++ decimal slot ++ codes "\n"
+breach_line (TooWide cycle sum) = codes "no,toowide," ++ decimal cycle ++ codes "," ++ decimal sum ++ codes "\n"
+breach_line (Missed slot release cycle) =
+    codes "no,missed," ++ decimal slot ++ codes "," ++ decimal release ++ codes "," ++ decimal cycle ++ codes "\n"
+breach_line (NotClosed slot) = codes "no,notclosed," ++ decimal slot ++ codes "\n"
+
+-- why a plan does not keep the table that the steps ask for
+pub record IsRefuted (job : Job) (certificate : CertificateView) (text : List ℕ) : Type 0 where
+  pub breach : Breach
+  pub first : IsBreach (table_of job.system.rules.nodes job.steps).placed job.system.rules.window certificate breach
+  pub written : text ≡ breach_line breach
+
+-- the answer to a plan: it keeps the table that the steps ask for, or the first breach
+abbrev pub IsCheckText : Job → CertificateView → Status → List ℕ → Type 0
+IsCheckText job certificate Done text =
+    IsTaken (table_of job.system.rules.nodes job.steps).placed job.system.rules.window certificate × (text ≡ codes "yes\n")
+IsCheckText job certificate No text = IsRefuted job certificate text
+IsCheckText job certificate Refused text = ⊥
+IsCheckText job certificate Words text = ⊥
+IsCheckText job certificate Input text = ⊥
+IsCheckText job certificate Read text = ⊥
+IsCheckText job certificate Write text = ⊥
+IsCheckText job certificate Memory text = ⊥
+
+-- *Output*: the text that answers what is asked, with the status of the call
+abbrev pub IsOutput : Asked → Status → List ℕ → Type 0
+IsOutput (log_of job) status text = IsLog job status text
+IsOutput (plan_of job) status text = IsPlanText job status text
+IsOutput (check_of job certificate) status text = IsCheckText job certificate status text
+
+-- the output was put, and the status is that of what was asked
+pub record Tells (asked_for : Asked) (status : Status) (old new : Option (List ℕ)) : Type 0 where
+  pub text : List ℕ
+  pub output : IsOutput asked_for status text
+  pub puts : Puts old new text
+
+-- the first bytes of the output were put, or nothing was
+pub record TellsFront (asked_for : Asked) (old new : Option (List ℕ)) : Type 0 where
+  pub status : Status
+  pub text : List ℕ
+  pub output : IsOutput asked_for status text
+  pub puts : PutsPrefix old new text
 
 -- How a call ends
 
--- the run was done
+-- what was asked was done
 abbrev pub IsDone : Status → Type 0
 IsDone Done = ⊤
 IsDone Refused = ⊤
@@ -138,8 +260,9 @@ IsDone Input = ⊥
 IsDone Read = ⊥
 IsDone Write = ⊥
 IsDone Memory = ⊥
+IsDone No = ⊤
 
--- the run, or the writing of its log, was cut short
+-- the work, or the writing of its output, was cut short
 abbrev pub IsCut : Status → Type 0
 IsCut Done = ⊥
 IsCut Refused = ⊥
@@ -148,8 +271,9 @@ IsCut Input = ⊥
 IsCut Read = ⊥
 IsCut Write = ⊤
 IsCut Memory = ⊤
+IsCut No = ⊥
 
--- there was no run
+-- there was nothing to do
 abbrev pub IsStopped : Status → Type 0
 IsStopped Done = ⊥
 IsStopped Refused = ⊥
@@ -158,6 +282,7 @@ IsStopped Input = ⊤
 IsStopped Read = ⊤
 IsStopped Write = ⊥
 IsStopped Memory = ⊥
+IsStopped No = ⊥
 
 -- a file is refused
 abbrev pub IsRefusal : Stopped → Type 0
@@ -166,18 +291,21 @@ IsRefusal (too_long source) = ⊤
 IsRefusal (wrong_system fault) = ⊤
 IsRefusal (wrong_steps fault) = ⊤
 IsRefusal (wrong_requests fault) = ⊤
+IsRefusal (wrong_plan line) = ⊤
+IsRefusal later_plan = ⊤
 IsRefusal absent = ⊥
 
--- the status is a true answer to what was asked, where `shelf_rose` and `out_rose` say that the shelf's and the output's count of
--- faults rose in this call; memory may run out in any call
-abbrev pub IsAnswer : Result Asked Stopped → Type 0 → Type 0 → Status → Type 0
-IsAnswer asked_for shelf_rose out_rose Done = (job : Asked) × (asked_for ≡ Ok job)
-IsAnswer asked_for shelf_rose out_rose Refused = (job : Asked) × (asked_for ≡ Ok job)
-IsAnswer asked_for shelf_rose out_rose Words = asked_for ≡ Err no_command
-IsAnswer asked_for shelf_rose out_rose Input = (why : Stopped) × IsRefusal why × (asked_for ≡ Err why)
-IsAnswer asked_for shelf_rose out_rose Read = shelf_rose ⊎ (asked_for ≡ Err absent)
-IsAnswer asked_for shelf_rose out_rose Write = out_rose × ((job : Asked) × (asked_for ≡ Ok job))
-IsAnswer asked_for shelf_rose out_rose Memory = ⊤
+-- the status is a true answer to what was asked, where `IsFor` says what was asked, and `shelf_rose` and `out_rose` that the shelf's and the
+-- output's count of faults rose in this call; memory may run out in any call
+abbrev pub IsAnswer : (Result Asked Stopped → Type 0) → Type 0 → Type 0 → Status → Type 0
+IsAnswer IsFor shelf_rose out_rose Done = (asked_for : Asked) × IsFor (Ok asked_for)
+IsAnswer IsFor shelf_rose out_rose Refused = (asked_for : Asked) × IsFor (Ok asked_for)
+IsAnswer IsFor shelf_rose out_rose Words = IsFor (Err no_command)
+IsAnswer IsFor shelf_rose out_rose Input = (why : Stopped) × IsRefusal why × IsFor (Err why)
+IsAnswer IsFor shelf_rose out_rose Read = shelf_rose ⊎ IsFor (Err absent)
+IsAnswer IsFor shelf_rose out_rose Write = out_rose × ((asked_for : Asked) × IsFor (Ok asked_for))
+IsAnswer IsFor shelf_rose out_rose Memory = ⊤
+IsAnswer IsFor shelf_rose out_rose No = (asked_for : Asked) × IsFor (Ok asked_for)
 
 -- What is put to the error sink
 
@@ -186,6 +314,7 @@ abbrev pub length_line : Source → List ℕ
 length_line Source.System = codes "system: longer than 4194304 bytes\n"
 length_line Source.Steps = codes "steps: longer than 4194304 bytes\n"
 length_line Source.Requests = codes "requests: longer than 4194304 bytes\n"
+length_line Source.Plan = codes "plan: longer than 4194304 bytes\n"
 
 -- the line for a file that is refused
 abbrev pub refusal : Stopped → List ℕ
@@ -194,17 +323,25 @@ refusal (too_long source) = length_line source
 refusal (wrong_system fault) = system_fault_line fault
 refusal (wrong_steps fault) = steps_line fault
 refusal (wrong_requests fault) = requests_line fault
+refusal (wrong_plan line) = codes "plan: line " ++ decimal line ++ codes "\n"
+refusal later_plan = codes "plan: start\n"
 refusal absent = []
+
+-- the lines that say which words a call may have
+abbrev pub usage : List ℕ
+usage =
+    codes "usage: fttcan replay SYSTEM STEPS [REQUESTS] [--tail N] [--report]\nusage: fttcan admit SYSTEM STEPS\nusage: fttcan check SYSTEM STEPS PLAN\n"
 
 -- the lines of a status, where it is that of a refused file, for this reason
 abbrev pub message_of : Status → Stopped → List ℕ
 message_of Done why = []
 message_of Refused why = []
-message_of Words why = codes "usage: fttcan replay SYSTEM STEPS [REQUESTS] [--tail N] [--report]\n"
+message_of Words why = usage
 message_of Input why = refusal why
 message_of Read why = codes "read fault\n"
 message_of Write why = codes "write fault\n"
 message_of Memory why = codes "out of memory\n"
+message_of No why = []
 
 -- the text was put to a sink, or its count of faults rose and the first bytes of the text were put
 abbrev pub Says : Option (List ℕ) → Option (List ℕ) → Type 0 → List ℕ → Type 0

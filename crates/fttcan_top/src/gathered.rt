@@ -35,7 +35,7 @@ pub fn flushed<W: Write + Drop, R: Sink>(
     ensures err_faults_never_fall { R.faults err.old ≤ R.faults err.new }
 {
     match status {
-        Status::Done | Status::Refused => {}
+        Status::Done | Status::Refused | Status::No => {}
         stopped => return stopped,
     }
     match out.flush() {

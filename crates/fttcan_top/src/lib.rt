@@ -7,6 +7,7 @@ mod program;
 mod rows;
 mod status;
 mod words;
+mod work;
 
 pub use gathered::flushed;
 pub use program::plain;

@@ -1,20 +1,25 @@
 //! What is asked for, from the bytes of the files that the words name.
 
-ghost use Rattle.std.specs.Prelude.{◌≡◌, ◌+◌, ◌≤◌, ◌⊎◌, IfOk, IfErr, IsErrOf, IsSome, Ok, Some, option_map};
+ghost use Rattle.std.specs.Prelude.{◌≡◌, ◌+◌, ◌≤◌, ◌⊎◌, IfOk, IfErr, IsErrOf, IsSome, Ok, Err, Some, None, option_map};
 ghost use Rattle.std.specs.Option.{ForSome};
 ghost use Rattle.ftt_io.specs.Counts.{next_count, Rose};
 ghost use Rattle.input_text.specs.SystemFile.{IsSystem};
 ghost use Rattle.input_text.specs.RequestsFile.{AreLegal};
 ghost use Rattle.input_text.specs.StepsFile.{AreLegalSteps};
-ghost use Rattle.fttcan_top.specs.Output.{within_limit, system_in, steps_in, requests_in, asked_by};
-ghost use Rattle.fttcan_top.specs.Loads.{Explains, asked_of};
-ghost use Rattle.fttcan_top.specs.Words.{named, replay};
+ghost use Rattle.fttcan_top.specs.declared.load.Refusal.{Refusal};
+ghost use Rattle.fttcan_top.specs.declared.words.Word.{Word};
+ghost use Rattle.fttcan_top.specs.Output.{IsAskedOf, IsPlanIn, IsPlanMeant, job_in, requests_in, steps_in, system_in, within_limit};
+ghost use Rattle.fttcan_top.specs.Loads.{Explains, IsJob, IsTask, IsToCheck, asked_of, job_of, stopped_by};
+ghost use Rattle.fttcan_top.specs.Words.{named};
 
+use crate::words::{Names, Word};
 use async_window::{Owner, Request};
 use ftt_io::{FetchFault, Shelf};
 use input_text::{
     RequestFault, Step, StepFault, System, SystemFault, read_requests, read_steps, read_system,
 };
+use requirement_table::Mask;
+use plan_check::{Certificate, PlanTextFault, read_plan};
 use std::alloc::Global;
 
 /// The greatest number of bytes of a file.
@@ -26,6 +31,7 @@ pub enum Source {
     System,
     Steps,
     Requests,
+    Plan,
 }
 
 /// Why a file is refused.
@@ -39,9 +45,13 @@ pub enum Refusal {
     Steps(StepFault),
     /// The text of the requests file does.
     Requests(RequestFault),
+    /// The text of the plan is none from this line on, counted from 1.
+    Plan(u64),
+    /// The plan does not begin at cycle 0 with nothing pending.
+    LaterPlan,
 }
 
-/// Why there is nothing to run.
+/// Why there is nothing to do.
 #[derive(Debug, Drop)]
 pub enum Stop {
     /// A file is refused.
@@ -52,12 +62,23 @@ pub enum Stop {
     Memory,
 }
 
-/// What is to be run.
+/// A run: in which system, by which steps, and with which requests.
 #[derive(Debug, Drop)]
 pub struct Job {
     pub system: System,
     pub steps: Vec<Step>,
     pub requests: Vec<Request>,
+}
+
+/// What is to be done.
+#[derive(Debug, Drop)]
+pub enum Task {
+    /// To write the log of the run.
+    Log(Job),
+    /// To write the plan of the table behind the run.
+    Table(Job),
+    /// To check the certificate against the changes of the steps.
+    Check(Job, Certificate),
 }
 
 /// Fetches a file's bytes.
@@ -73,7 +94,7 @@ fn fetch_file<S: Shelf>(
     ensures faults_never_fall { S.faults shelf.old ≤ S.faults shelf.new }
     ensures ok { IfOk result (λ bytes. ForSome (S.told_files shelf.old) (λ files. within_limit source (files name.now) ≡ Ok bytes.items)) }
     ensures stop { IfErr result (λ why. ForSome (S.told_files shelf.old)
-        (λ files. Explains (within_limit source (files name.now)) (Rose (S.faults shelf.old) (S.faults shelf.new)) why)) }
+        (λ files. Explains (λ read. read ≡ within_limit source (files name.now)) (Rose (S.faults shelf.old) (S.faults shelf.new)) why)) }
     ensures read { IsErrOf result Stop.Read → Rose (S.faults shelf.old) (S.faults shelf.new) ⊎ IsSome (S.told_files shelf.old) }
 {
     match shelf.fetch(alloc, name, FILE_LIMIT) {
@@ -93,7 +114,7 @@ fn load_system<S: Shelf>(alloc: Global, shelf: &mut S, name: &str) -> Result<Sys
     ensures valid { IfOk result IsSystem }
     ensures ok { IfOk result (λ system. ForSome (S.told_files shelf.old) (λ files. system_in files name.now ≡ Ok system)) }
     ensures stop { IfErr result (λ why. ForSome (S.told_files shelf.old)
-        (λ files. Explains (system_in files name.now) (Rose (S.faults shelf.old) (S.faults shelf.new)) why)) }
+        (λ files. Explains (λ read. read ≡ system_in files name.now) (Rose (S.faults shelf.old) (S.faults shelf.new)) why)) }
     ensures read { IsErrOf result Stop.Read → Rose (S.faults shelf.old) (S.faults shelf.new) ⊎ IsSome (S.told_files shelf.old) }
 {
     let bytes = fetch_file(alloc, shelf, Source::System, name)?;
@@ -113,7 +134,7 @@ fn load_steps<S: Shelf>(alloc: Global, shelf: &mut S, name: &str) -> Result<Vec<
     ensures valid { IfOk result (λ steps. AreLegalSteps steps.items) }
     ensures ok { IfOk result (λ steps. ForSome (S.told_files shelf.old) (λ files. steps_in files name.now ≡ Ok steps.items)) }
     ensures stop { IfErr result (λ why. ForSome (S.told_files shelf.old)
-        (λ files. Explains (steps_in files name.now) (Rose (S.faults shelf.old) (S.faults shelf.new)) why)) }
+        (λ files. Explains (λ read. read ≡ steps_in files name.now) (Rose (S.faults shelf.old) (S.faults shelf.new)) why)) }
     ensures read { IsErrOf result Stop.Read → Rose (S.faults shelf.old) (S.faults shelf.new) ⊎ IsSome (S.told_files shelf.old) }
 {
     let bytes = fetch_file(alloc, shelf, Source::Steps, name)?;
@@ -138,7 +159,7 @@ fn load_requests<S: Shelf>(
     ensures valid { IfOk result (λ requests. AreLegal owners.now requests.items) }
     ensures ok { IfOk result (λ requests. ForSome (S.told_files shelf.old) (λ files. requests_in files (Some name.now) owners.now ≡ Ok requests.items)) }
     ensures stop { IfErr result (λ why. ForSome (S.told_files shelf.old)
-        (λ files. Explains (requests_in files (Some name.now) owners.now) (Rose (S.faults shelf.old) (S.faults shelf.new)) why)) }
+        (λ files. Explains (λ read. read ≡ requests_in files (Some name.now) owners.now) (Rose (S.faults shelf.old) (S.faults shelf.new)) why)) }
     ensures read { IsErrOf result Stop.Read → Rose (S.faults shelf.old) (S.faults shelf.new) ⊎ IsSome (S.told_files shelf.old) }
 {
     let bytes = fetch_file(alloc, shelf, Source::Requests, name)?;
@@ -164,7 +185,7 @@ fn load_named_requests<S: Shelf>(
     ensures ok { IfOk result (λ requests. ForSome (S.told_files shelf.old)
         (λ files. requests_in files (option_map (λ word. word.now) name.entry) owners.now ≡ Ok requests.items)) }
     ensures stop { IfErr result (λ why. ForSome (S.told_files shelf.old)
-        (λ files. Explains (requests_in files (option_map (λ word. word.now) name.entry) owners.now) (Rose (S.faults shelf.old) (S.faults shelf.new)) why)) }
+        (λ files. Explains (λ read. read ≡ requests_in files (option_map (λ word. word.now) name.entry) owners.now) (Rose (S.faults shelf.old) (S.faults shelf.new)) why)) }
     ensures read { IsErrOf result Stop.Read → Rose (S.faults shelf.old) (S.faults shelf.new) ⊎ IsSome (S.told_files shelf.old) }
 {
     match name {
@@ -173,8 +194,8 @@ fn load_named_requests<S: Shelf>(
     }
 }
 
-/// What `replay` with these names asks for: the system's file and its text first, then the steps', then the requests' where one is named.
-pub fn load<S: Shelf>(
+/// The run that files of these names ask for: the system's file and its text first, then the steps', then the requests' where one is named.
+fn load_job<S: Shelf>(
     alloc: Global,
     shelf: &mut S,
     system_name: &str,
@@ -185,13 +206,11 @@ pub fn load<S: Shelf>(
     ensures counted { S.fetches shelf.new ≤ S.fetches shelf.old + (2 + named (option_map (λ word. word.now) requests_name.entry)) }
     ensures fetches_never_fall { S.fetches shelf.old ≤ S.fetches shelf.new }
     ensures faults_never_fall { S.faults shelf.old ≤ S.faults shelf.new }
-    ensures system { IfOk result (λ job. IsSystem job.system) }
-    ensures steps { IfOk result (λ job. AreLegalSteps job.steps.items) }
-    ensures requests { IfOk result (λ job. AreLegal job.system.owners job.requests.items) }
+    ensures job { IfOk result IsJob }
     ensures ok { IfOk result (λ job. ForSome (S.told_files shelf.old)
-        (λ files. asked_by files (Some (replay system_name.now steps_name.now (option_map (λ word. word.now) requests_name.entry))) ≡ Ok (asked_of job))) }
+        (λ files. job_in files system_name.now steps_name.now (option_map (λ word. word.now) requests_name.entry) ≡ Ok (job_of job))) }
     ensures stop { IfErr result (λ why. ForSome (S.told_files shelf.old)
-        (λ files. Explains (asked_by files (Some (replay system_name.now steps_name.now (option_map (λ word. word.now) requests_name.entry))))
+        (λ files. Explains (λ read. read ≡ job_in files system_name.now steps_name.now (option_map (λ word. word.now) requests_name.entry))
         (Rose (S.faults shelf.old) (S.faults shelf.new)) why)) }
     ensures read { IsErrOf result Stop.Read → Rose (S.faults shelf.old) (S.faults shelf.new) ⊎ IsSome (S.told_files shelf.old) }
 {
@@ -203,4 +222,93 @@ pub fn load<S: Shelf>(
         steps,
         requests,
     })
+}
+
+/// The certificate of a plan's text.
+fn plan_in(alloc: Global, bytes: &[u8]) -> Result<Certificate, Stop>
+    ensures certificate { IfOk result IsToCheck }
+    ensures ok { IfOk result (λ certificate. IsPlanMeant bytes.now (Ok certificate)) }
+    ensures stop { IfErr result (λ why. why ≡ Stop.Memory ⊎ ((refusal : Refusal) × (why ≡ Stop.Input refusal) × IsPlanMeant bytes.now (Err (stopped_by refusal)))) }
+{
+    let certificate = match read_plan(alloc, bytes) {
+        Ok(certificate) => certificate,
+        Err(PlanTextFault::Line { number }) => return Err(Stop::Input(Refusal::Plan(number))),
+        Err(PlanTextFault::Memory) => return Err(Stop::Memory),
+    };
+    if certificate.from() != 0 || certificate.pending() != Mask::empty() {
+        return Err(Stop::Input(Refusal::LaterPlan));
+    }
+    Ok(certificate)
+}
+
+/// Fetches and reads the plan file.
+fn load_plan<S: Shelf>(alloc: Global, shelf: &mut S, name: &str) -> Result<Certificate, Stop>
+    ensures files_stay { S.told_files shelf.new ≡ S.told_files shelf.old }
+    ensures counted { S.fetches shelf.new ≡ next_count (S.fetches shelf.old) }
+    ensures fetches_never_fall { S.fetches shelf.old ≤ S.fetches shelf.new }
+    ensures faults_never_fall { S.faults shelf.old ≤ S.faults shelf.new }
+    ensures certificate { IfOk result IsToCheck }
+    ensures ok { IfOk result (λ certificate. ForSome (S.told_files shelf.old) (λ files. IsPlanIn files (Some name.now) (Ok certificate))) }
+    ensures stop { IfErr result (λ why. ForSome (S.told_files shelf.old)
+        (λ files. Explains (IsPlanIn files (Some name.now)) (Rose (S.faults shelf.old) (S.faults shelf.new)) why)) }
+    ensures read { IsErrOf result Stop.Read → Rose (S.faults shelf.old) (S.faults shelf.new) ⊎ IsSome (S.told_files shelf.old) }
+{
+    let bytes = fetch_file(alloc, shelf, Source::Plan, name)?;
+    plan_in(alloc, bytes.as_slice())
+}
+
+/// The check that names ask for.
+fn load_check<S: Shelf>(
+    alloc: Global,
+    shelf: &mut S,
+    system_name: &str,
+    steps_name: &str,
+    plan_name: &str,
+) -> Result<Task, Stop>
+    ensures files_stay { S.told_files shelf.new ≡ S.told_files shelf.old }
+    ensures counted { S.fetches shelf.new ≤ S.fetches shelf.old + 3 }
+    ensures fetches_never_fall { S.fetches shelf.old ≤ S.fetches shelf.new }
+    ensures faults_never_fall { S.faults shelf.old ≤ S.faults shelf.new }
+    ensures task { IfOk result IsTask }
+    ensures ok { IfOk result (λ task. ForSome (S.told_files shelf.old)
+        (λ files. IsAskedOf files Word.Check system_name.now steps_name.now (Some plan_name.now) (Ok (asked_of task)))) }
+    ensures stop { IfErr result (λ why. ForSome (S.told_files shelf.old)
+        (λ files. Explains (IsAskedOf files Word.Check system_name.now steps_name.now (Some plan_name.now))
+        (Rose (S.faults shelf.old) (S.faults shelf.new)) why)) }
+    ensures read { IsErrOf result Stop.Read → Rose (S.faults shelf.old) (S.faults shelf.new) ⊎ IsSome (S.told_files shelf.old) }
+{
+    let job = load_job(alloc, shelf, system_name, steps_name, None)?;
+    let certificate = load_plan(alloc, shelf, plan_name)?;
+    Ok(Task::Check(job, certificate))
+}
+
+/// The task that names ask for; those of a check have a plan.
+pub fn load<S: Shelf>(alloc: Global, shelf: &mut S, names: Names<'_>) -> Result<Task, Stop>
+    requires plan { names.entry.word ≡ Word.Check → IsSome (option_map (λ word. word.now) names.entry.third) }
+    ensures files_stay { S.told_files shelf.new ≡ S.told_files shelf.old }
+    ensures counted { S.fetches shelf.new ≤ S.fetches shelf.old + (2 + named (option_map (λ word. word.now) names.entry.third)) }
+    ensures fetches_never_fall { S.fetches shelf.old ≤ S.fetches shelf.new }
+    ensures faults_never_fall { S.faults shelf.old ≤ S.faults shelf.new }
+    ensures task { IfOk result IsTask }
+    ensures ok { IfOk result (λ task. ForSome (S.told_files shelf.old) (λ files. IsAskedOf files names.entry.word names.entry.system.now
+        names.entry.steps.now (option_map (λ word. word.now) names.entry.third) (Ok (asked_of task)))) }
+    ensures stop { IfErr result (λ why. ForSome (S.told_files shelf.old) (λ files. Explains (IsAskedOf files names.entry.word
+        names.entry.system.now names.entry.steps.now (option_map (λ word. word.now) names.entry.third))
+        (Rose (S.faults shelf.old) (S.faults shelf.new)) why)) }
+    ensures read { IsErrOf result Stop.Read → Rose (S.faults shelf.old) (S.faults shelf.new) ⊎ IsSome (S.told_files shelf.old) }
+{
+    match names.word {
+        Word::Replay => {
+            let job = load_job(alloc, shelf, names.system, names.steps, names.third)?;
+            Ok(Task::Log(job))
+        }
+        Word::Admit => {
+            let job = load_job(alloc, shelf, names.system, names.steps, None)?;
+            Ok(Task::Table(job))
+        }
+        Word::Check => match names.third {
+            Some(plan) => load_check(alloc, shelf, names.system, names.steps, plan),
+            None => unreachable!(),
+        },
+    }
 }

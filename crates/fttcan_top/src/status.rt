@@ -6,7 +6,7 @@ ghost use Rattle.fttcan_top.specs.Status.{code_of};
 /// How a call of the program ended.
 #[derive(Clone, Copy, PartialEq, Eq, Debug)]
 pub enum Status {
-    /// What was asked was done, and no change was refused.
+    /// What was asked was done: no change was refused, or the checked plan keeps the table.
     Done,
     /// The run was done, and some change was refused.
     Refused,
@@ -20,10 +20,12 @@ pub enum Status {
     Write,
     /// Memory ran out.
     Memory,
+    /// A plan was checked, and it does not keep the table.
+    No,
 }
 
 impl Status {
-    /// The exit status of the process, from 0 to 6.
+    /// The exit status of the process, from 0 to 7.
     pub fn code(self) -> u8
         ensures code { result ≡ code_of self }
     {
@@ -35,6 +37,7 @@ impl Status {
             Status::Read => 4,
             Status::Write => 5,
             Status::Memory => 6,
+            Status::No => 7,
         }
     }
 }

@@ -1,2 +1,3 @@
+pub mod AskedTable
 pub mod Progress
 pub mod Run

@@ -3,7 +3,7 @@ use Rattle.std.specs.Option.{ForSome}
 use Rattle.std.specs.Prelude.{map, string_bytes}
 use Rattle.fttcan_top.specs.declared.status.Status.TheVariants.{Input}
 use Rattle.fttcan_top.specs.Ends.{end_reason}
-use Rattle.fttcan_top.specs.Output.{asked, IsRefusal}
+use Rattle.fttcan_top.specs.Output.{IsAsked, IsRefusal}
 use Rattle.fttcan_top.proofs.EndLemmas.{at_status, end-input, is_refusal}
 use Rattle.fttcan_top.proofs.program.plain.Goals as goal
 
@@ -11,11 +11,11 @@ pub returns-clause-message : goal.returns-clause-message
 returns-clause-message g c = (
   end_reason c.call-end.result,
   at_status (λ status. status ≡ Input → IsRefusal (end_reason c.call-end.result) × ForSome (g.S.Shelf.told_files c.args.shelf.now)
-      (λ files. asked (map string_bytes c.args.words.now) files ≡ Err (end_reason c.call-end.result)))
+      (λ files. IsAsked (map string_bytes c.args.words.now) files (Err (end_reason c.call-end.result))))
       c.call-end.result c.tell.result c.tell.ensures.status
       (λ is. let found = end-input c.call-end.result is in
       subst (λ end. IsRefusal (end_reason end)
-      × ForSome (g.S.Shelf.told_files c.args.shelf.now) (λ files. asked (map string_bytes c.args.words.now) files ≡ Err (end_reason end)))
+      × ForSome (g.S.Shelf.told_files c.args.shelf.now) (λ files. IsAsked (map string_bytes c.args.words.now) files (Err (end_reason end))))
       (sym found.1) (is_refusal found.0, c.call-end.ensures.refusal found.0 found.1))
       (λ input is. absurd (cc)),
   c.tell.ensures.message,

@@ -5,9 +5,11 @@ use Rattle.replay_run.proofs.stepping.run_steps.Goals as goal
 
 pub run_step-requires : goal.run_step-requires
 run_step-requires g c =
-    let (given, (system, (steps, requests))) = c.requires in
-    (c.loop-step.invariant.on_the_way, step-next c.args.steps.now c.loop-step.step-index c.step-item.result c.step-item.result
-    (next_of c.loop-step.run.master.history) (omega arith) (sym c.step-item.is) steps c.loop-step.invariant.next)
+    let (given, (system, (steps, requests))) = c.requires in (
+      c.loop-step.invariant.on_the_way,
+      step-next c.args.steps.now c.loop-step.step-index c.step-item.result c.step-item.result
+          (next_of c.loop-step.run.master.history) (omega arith) (sym c.step-item.is) steps c.loop-step.invariant.next,
+    )
 
 pub loop-step-preserved : goal.loop-step-preserved
 loop-step-preserved g c = record {

@@ -1,0 +1,139 @@
+//! What is done of what was asked: the answer to a task as a text, before it is written.
+
+ghost use Rattle.std.specs.Prelude.{◌≡◌, ◌++◌, ◌×◌, List, ℕ, IfOk, OnOk, string_bytes};
+ghost use Rattle.plan_check.specs.declared.breach.Breach.{Breach};
+ghost use Rattle.master_core.specs.declared.event.Event.{Event};
+ghost use Rattle.fttcan_top.specs.Loads.{IsJob, IsTask, IsToCheck, asked_of, job_of};
+ghost use Rattle.fttcan_top.specs.Output.{IsCheckText, IsDone, IsLog, IsOutput, IsPlanText, breach_line, refuses_nothing, status_of};
+
+use crate::load::{Job, Task};
+use crate::status::Status;
+use bus_trace::log_text;
+use master_core::Event;
+use plan_check::{Breach, Certificate, check, write_plan};
+use replay_run::{asked_table, replay};
+use std::alloc::{AllocError, Global};
+
+/// The answer to a task.
+#[derive(Drop)]
+pub struct Outcome {
+    /// The status of a call that writes it whole.
+    pub status: Status,
+    pub text: Vec<u8>,
+}
+
+/// Whether the event refuses no change.
+fn refuses_nothing(event: &Event) -> bool
+    ensures test { result ≡ refuses_nothing event.now }
+{
+    match event {
+        Event::Submit { verdict, .. } => verdict.is_accepted(),
+        Event::Look { .. } | Event::Open { .. } => true,
+    }
+}
+
+/// The status of a run with this history.
+fn status_of(history: &[Event]) -> Status
+    ensures status { result ≡ status_of history.now }
+    ensures done { IsDone result }
+{
+    for event in history {
+        if !refuses_nothing(event) {
+            return Status::Refused;
+        }
+    }
+    Status::Done
+}
+
+/// Runs the steps, and answers with the log.
+fn log_of(alloc: Global, job: &Job) -> Result<Outcome, AllocError>
+    requires job { IsJob job.now }
+    ensures log { IfOk result (λ outcome. IsLog (job_of job.now) outcome.status outcome.text.items) }
+    ensures done { IfOk result (λ outcome. IsDone outcome.status) }
+{
+    let run = replay(
+        alloc,
+        &job.system,
+        job.steps.as_slice(),
+        job.requests.as_slice(),
+    )?;
+    let history = run.master.history();
+    let text = log_text(alloc, history, run.trace.as_slice())?;
+    Ok(Outcome {
+        status: status_of(history),
+        text,
+    })
+}
+
+/// Runs the steps, and answers with the plan of the table that stands then.
+fn plan_of(alloc: Global, job: &Job) -> Result<Outcome, AllocError>
+    requires job { IsJob job.now }
+    ensures plan { IfOk result (λ outcome. IsPlanText (job_of job.now) outcome.status outcome.text.items) }
+    ensures done { IfOk result (λ outcome. IsDone outcome.status) }
+{
+    let run = replay(
+        alloc,
+        &job.system,
+        job.steps.as_slice(),
+        job.requests.as_slice(),
+    )?;
+    let certificate = run.master.certificate(alloc)?;
+    let text = write_plan(alloc, &certificate)?;
+    Ok(Outcome {
+        status: status_of(run.master.history()),
+        text,
+    })
+}
+
+/// The line of a breach.
+fn breach_line(alloc: Global, breach: &Breach) -> Result<Vec<u8>, AllocError>
+    ensures line { IfOk result (λ text. text.items ≡ breach_line breach.now) }
+{
+    let mut text = String::new(alloc);
+    match breach {
+        Breach::BadLoop { slot } => writeln!(text, "no,badloop,{slot}")?,
+        Breach::NotReleased { cycle, slot } => writeln!(text, "no,notreleased,{cycle},{slot}")?,
+        Breach::TooWide { cycle, sum } => writeln!(text, "no,toowide,{cycle},{sum}")?,
+        Breach::Missed {
+            slot,
+            release,
+            cycle,
+        } => writeln!(text, "no,missed,{slot},{release},{cycle}")?,
+        Breach::NotClosed { slot } => writeln!(text, "no,notclosed,{slot}")?,
+    }
+    Ok(text.into_bytes())
+}
+
+/// Checks a plan against the table that the steps ask for.
+fn check_of(alloc: Global, job: &Job, certificate: &Certificate) -> Result<Outcome, AllocError>
+    requires job { IsJob job.now }
+    requires certificate { IsToCheck certificate.now }
+    ensures answer { IfOk result (λ outcome. IsCheckText (job_of job.now) certificate.now outcome.status outcome.text.items) }
+    ensures done { IfOk result (λ outcome. IsDone outcome.status) }
+{
+    let rules = &job.system.rules;
+    let placed = asked_table(alloc, rules.nodes, job.steps.as_slice())?;
+    match check(placed.as_slice(), rules.window, certificate) {
+        Ok(()) => Ok(Outcome {
+            status: Status::Done,
+            text: b"yes\n".to_vec(alloc)?,
+        }),
+        Err(breach) => Ok(Outcome {
+            status: Status::No,
+            text: breach_line(alloc, &breach)?,
+        }),
+    }
+}
+
+/// The answer to a task, as it is to be written.
+pub fn work_out(alloc: Global, task: &Task) -> Result<Outcome, AllocError>
+    requires task { IsTask task.now }
+    ensures output { IfOk result (λ outcome. IsOutput (asked_of task.now) outcome.status outcome.text.items) }
+    ensures done { IfOk result (λ outcome. IsDone outcome.status) }
+{
+    match task {
+        Task::Log(job) => log_of(alloc, job),
+        Task::Table(job) => plan_of(alloc, job),
+        Task::Check(job, certificate) => check_of(alloc, job, certificate),
+    }
+}
