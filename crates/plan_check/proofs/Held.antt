@@ -90,7 +90,7 @@ one-release placed p q k m c slot well stands also of_slot other_slot sends othe
     = sym (found-of placed p k c well stands sends) ∙ ap (λ s. instance_in placed s c) (of_slot ∙ sym other_slot) ∙ found-of placed q m c well also other in
     ap (λ i. release_of i.placed i.number) (same_Some one two same)
 
-max-below : (a b k : ℕ) → a ≤ k → b ≤ k → max a b ≤ k
+pub max-below : (a b k : ℕ) → a ≤ k → b ≤ k → max a b ≤ k
 max-below a b k left right = max-le {a = a} {b = b} {k = k} left right
 
 -- The first cycle that passes a test

@@ -1,2 +1,4 @@
 mod Held
+mod Repeated
 mod Rounds
+mod Taken
