@@ -1,4 +1,6 @@
+mod Current
 mod Held
 mod Repeated
 mod Rounds
+mod SlotSets
 mod Taken

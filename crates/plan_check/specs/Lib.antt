@@ -1,3 +1,4 @@
 pub mod Breaches
 pub mod Certificate
 pub mod PlanKept
+pub mod Rows

@@ -7,6 +7,8 @@
 mod breach;
 mod certificate;
 mod checking;
+mod rows;
+mod sets;
 
 pub use breach::Breach;
 pub use certificate::Certificate;
