@@ -57,7 +57,7 @@ release-in placed slot c well test =
     }
 
 -- the slot releases an instance in the cycle of its release
-releases-own : (placed : List Placed) (p : Placed) (k : ℕ) → IsWellPlaced placed → Contains placed p → Exists p (release_of p k)
+pub releases-own : (placed : List Placed) (p : Placed) (k : ℕ) → IsWellPlaced placed → Contains placed p → Exists p (release_of p k)
     → releases_in placed (release_of p k) p.entry.slot ≡ true
 releases-own placed p k well stands exists =
     let range = All-contains IsInRange placed p well.in_range stands in
@@ -70,6 +70,20 @@ releases-own placed p k well stands exists =
       stands.1,
       stands.2,
       and_from (nat_eq p.entry.slot p.entry.slot) (is_some (released_by p (release_of p k))) (eq-eqb p.entry.slot p.entry.slot refl) (ap is_some found),
+    )
+
+-- an instance that the slot releases is the one that may be sent
+pub released-one : (placed : List Placed) (slot c : ℕ) → IsWellPlaced placed → releases_in placed c slot ≡ true
+    → (i : Instance) × (instance_in placed slot c ≡ Some i) × (release_of i.placed i.number ≡ c)
+released-one placed slot c well test =
+    let r = release-in placed slot c well test in
+    let release = r.released.release in
+    let some = r.in_range.entry.some_time in
+    let exists : Exists r.entry (release_of r.entry r.number) = rw release r.released.exists in
+    let sends : MaySend r.entry r.number c = record { exists = exists; released = omega arith; in_time = omega arith } in (
+      record { placed = r.entry; number = r.number },
+      ap (λ s. instance_in placed s c) (sym r.of_slot) ∙ found-of placed r.entry r.number c well r.stands sends,
+      release,
     )
 
 -- in its last cycle an instance is the one that is found there

@@ -1,4 +1,5 @@
 mod Current
+mod CycleSteps
 mod Held
 mod Repeated
 mod Rounds

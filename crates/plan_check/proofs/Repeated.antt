@@ -14,7 +14,7 @@ use Rattle.plan_check.specs.Breaches.{IsGoodAt, is_flagged, is_missed, is_unrele
 use Rattle.plan_check.proofs.Rounds.{GoesRound, SameAgain, rounds-of, same-again}
 use Rattle.plan_check.proofs.Held.{before-suc}
 
-sum_where-costs : (n : ℕ) (p : ℕ → Bool) (f g : ℕ → ℕ) → ((s : ℕ) → s < n → f s ≡ g s) → sum_where n p f ≡ sum_where n p g
+pub sum_where-costs : (n : ℕ) (p : ℕ → Bool) (f g : ℕ → ℕ) → ((s : ℕ) → s < n → f s ≡ g s) → sum_where n p f ≡ sum_where n p g
 unfolding sum_where
 sum_where-costs zero p f g same = refl
 sum_where-costs (suc n) p f g same =

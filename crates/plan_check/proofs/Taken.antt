@@ -17,6 +17,9 @@ use Rattle.plan_check.proofs.Rounds.{found-of}
 use Rattle.plan_check.proofs.Held.{flagged-once, holder-of, max-below, waits-of}
 use Rattle.plan_check.proofs.Repeated.{good_cycle-of, good-ever}
 
+pub passes-none : (test : ℕ → Bool) (slot : ℕ) → NoSlot test → IsLeastSlot test slot → ⊥
+passes-none test slot none least = let passes = least.passes in let nothing = none slot least.known in absurd (cc)
+
 module _ (placed : List Placed) (window : ℕ) (certificate : CertificateView) (well : IsWellPlaced placed)
     (valid : HasPending placed certificate.from (contains_slot certificate.pending)) where
   only-owed : ((n : ℕ) → IsGoodAt placed window certificate n) → (c n slot : ℕ) → c ≡ certificate.from + n → slot < slots
@@ -118,9 +121,6 @@ module _ (placed : List Placed) (window : ℕ) (certificate : CertificateView) (
 
     goods : (n : ℕ) → IsGoodAt placed window certificate n
     goods n = good-up_to (suc n) n (omega arith)
-
-    passes-none : (test : ℕ → Bool) (slot : ℕ) → NoSlot test → IsLeastSlot test slot → ⊥
-    passes-none test slot none least = let passes = least.passes in let nothing = none slot least.known in absurd (cc)
 
     -- where it is taken there is no breach
     pub breach-wrong : (breach : Breach) → IsBreach placed window certificate breach → ⊥

@@ -64,15 +64,18 @@ fn goes_round(p: &Placed, first: u64, length: u64) -> bool
     match p.end {
         Some(end) => end + u64::from(p.entry.deadline) - 1 <= first,
         None => {
-            p.origin + u64::from(p.entry.phase) <= first
-                && length % u64::from(p.entry.period) == 0
+            p.origin + u64::from(p.entry.phase) <= first && length % u64::from(p.entry.period) == 0
         }
     }
 }
 
 /// Walks the listed cycles of a certificate, whose loop has no bad slot: the slots that are pending before its first repeated cycle, and
 /// those that are pending behind its last one.
-fn check_cycles(placed: &[Placed], w: u32, certificate: &Certificate) -> Result<(Mask, Mask), Breach>
+fn check_cycles(
+    placed: &[Placed],
+    w: u32,
+    certificate: &Certificate,
+) -> Result<(Mask, Mask), Breach>
     requires well_placed { IsWellPlaced placed.now }
     requires pending { HasPending placed.now certificate.now.from (contains_slot certificate.now.pending) }
     requires cycles { certificate.now.from + length certificate.now.masks ≤ 2 ^ 42 }
@@ -85,12 +88,13 @@ fn check_cycles(placed: &[Placed], w: u32, certificate: &Certificate) -> Result<
     ensures good { IfOk result (λ _. (n : ℕ) → n < length certificate.now.masks → IsGoodAt placed.now w certificate.now n) }
     ensures breach { IfErr result (λ breach. IsBreach placed.now w certificate.now breach) }
 {
+    let first = certificate.first();
     let mut places = [0; SLOTS as usize];
     let mut cycle = certificate.from();
     let mut held = certificate.pending();
     let mut before = held;
     for mask in certificate.masks() {
-        before = chosen(cycle <= certificate.first(), held, before);
+        before = chosen(cycle <= first, held, before);
         places = places_at(placed, cycle, places);
         held = check_cycle(&row_at(placed, cycle, &places), w, cycle, held, *mask)?;
         cycle += 1;
