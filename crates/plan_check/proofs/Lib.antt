@@ -1,7 +1,10 @@
 mod Current
 mod CycleSteps
+mod Decimals
 mod Held
+mod HexText
 mod Repeated
 mod Rounds
 mod SlotSets
 mod Taken
+mod TextLines

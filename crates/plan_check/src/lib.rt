@@ -7,9 +7,12 @@
 mod breach;
 mod certificate;
 mod checking;
+mod plan_reading;
+mod plan_text;
 mod rows;
 mod sets;
 
 pub use breach::Breach;
 pub use certificate::Certificate;
 pub use checking::check;
+pub use plan_text::write_plan;
