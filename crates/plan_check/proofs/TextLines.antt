@@ -1,8 +1,12 @@
 -- The lines of a plan text.
-use Rattle.std.proofs.Common.{◌≡◌, ◌≢◌, ℕ, zero, suc, ◌+◌, ◌-◌, ◌^◌, ◌<◌, ◌≤◌, List, [], ◌∷◌, ◌++◌, All, codes, drop, get_or, length, map, take, refl, sym, ap, ◌∙◌, subst, ⊎_elim, arith, append_assoc}
+use Rattle.std.proofs.Common.{◌≡◌, ◌≢◌, ℕ, zero, suc, ◌+◌, ◌-◌, ◌^◌, ◌<◌, ◌≤◌, List, [], ◌∷◌, ◌++◌, All, Bool, true, false, codes, nat_eq, drop, get_or, length, map, take, refl, sym, ap, ◌∙◌, subst, ⊎_elim, arith, append_assoc}
 use Rattle.std.specs.Fmt.{decimal}
-use Rattle.std.proofs.lemmas.Bool.{cases_lt}
-use Rattle.std.proofs.lemmas.List.{append-nil}
+use Rattle.std.specs.Char.{is_ascii_digit}
+use Rattle.std.specs.Cmp.Lexicographic.{other_text, pointwise, same_text}
+use Rattle.std.specs.List.{list_all}
+use Rattle.std.proofs.lemmas.Bool.{and_parts, cases_lt}
+use Rattle.std.proofs.lemmas.Bool.Decides.{nat_tests}
+use Rattle.std.proofs.lemmas.List.{append-nil, append_cancel_left, take-append-drop}
 use Rattle.plan_check.specs.Certificate.{CertificateView, length_of}
 use Rattle.plan_check.specs.PlanText.{HasNoFeed, head_lines, mask_digits, mask_lines, plan_lines, plan_text, text_of}
 
@@ -45,3 +49,35 @@ pub no_line : (xs line r : List ℕ) → HasNoFeed xs → xs ≡ line ++ 10 ∷ 
 no_line xs [] r none is = rw is at none 0 (omega arith) refl
 no_line [] (y ∷ line) r none is = cc
 no_line (x ∷ xs) (y ∷ line) r none is = let rest : xs ≡ line ++ 10 ∷ r = cc in no_line xs line r (feed-rest x xs none) rest
+
+pub no_feed-append : (xs ys : List ℕ) → HasNoFeed xs → HasNoFeed ys → HasNoFeed (xs ++ ys)
+no_feed-append [] ys one other i within = other i within
+no_feed-append (x ∷ xs) ys one other zero within = one zero (omega arith)
+no_feed-append (x ∷ xs) ys one other (suc i) within = no_feed-append xs ys (feed-rest x xs one) other i (omega arith)
+
+digit-no_feed : (x : ℕ) → is_ascii_digit x ≡ true → x ≢ 10
+digit-no_feed x test is = let same = ap is_ascii_digit is in absurd (cc)
+
+pub no_feed-digits : (xs : List ℕ) → list_all is_ascii_digit xs ≡ true → HasNoFeed xs
+no_feed-digits [] all i within = absurd (omega arith)
+no_feed-digits (x ∷ xs) all zero within = digit-no_feed x (and_parts (is_ascii_digit x) (list_all is_ascii_digit xs) all).0
+no_feed-digits (x ∷ xs) all (suc i) within = no_feed-digits xs (and_parts (is_ascii_digit x) (list_all is_ascii_digit xs) all).1 i (omega arith)
+
+-- A word at the front of a line
+
+pub stripped-none : (line word x : List ℕ) → pointwise nat_eq (take (length word) line) word ≡ false → line ≡ word ++ x → ⊥
+stripped-none line word x none is =
+    other_text (take (length word) line) word (sym none) (ap (take (length word)) is ∙ take-front word x)
+  where
+    take-front : (xs ys : List ℕ) → take (length xs) (xs ++ ys) ≡ xs
+    take-front [] ys = refl
+    take-front (z ∷ xs) ys = ap (λ t. z ∷ t) (take-front xs ys)
+
+pub stripped-some : (line word rest : List ℕ) → pointwise nat_eq (take (length word) line) word ≡ true → rest ≡ drop (length word) line → line ≡ word ++ rest
+stripped-some line word rest some is =
+    let front = same_text (take (length word) line) word (sym some) in
+    sym (take-append-drop (length word) line) ∙ ap (λ t. t ++ drop (length word) line) front ∙ ap (λ t. word ++ t) (sym is)
+
+-- the first line is the one that the text begins with
+pub line-is : (text line after x a : List ℕ) → text ≡ line ++ 10 ∷ after → HasNoFeed line → HasNoFeed x → text ≡ x ++ 10 ∷ a → line ≡ x
+line-is text line after x a is clean other there = (same_line line x after a clean other (sym is ∙ there)).0
