@@ -1,8 +1,10 @@
 mod Current
 mod CycleSteps
 mod Decimals
+mod HeadReads
 mod Held
 mod HexText
+mod PlanReads
 mod Repeated
 mod Rounds
 mod SlotSets

@@ -2,6 +2,8 @@
 use Rattle.std.specs.Prelude.{◌≡◌, ◌≢◌, ℕ, zero, suc, ◌+◌, ◌-◌, ◌/◌, ◌%◌, ◌^◌, ◌<◌, ◌≤◌, List, [], ◌∷◌, ◌++◌, All, false, codes, get_or, length, map, take}
 use Rattle.std.specs.Fmt.{decimal, digit_glyph}
 use Rattle.requirement_table.specs.Slots.{slots}
+use Rattle.plan_check.specs.declared.text_fault.PlanTextFault.{PlanTextFault}
+use Rattle.plan_check.specs.declared.text_fault.PlanTextFault.TheVariants.{Line, Memory}
 use Rattle.plan_check.specs.Certificate.{CertificateView, length_of}
 
 -- the last `count` hexadecimal digits of a number, lower case, the most significant one first
@@ -26,14 +28,17 @@ text_of (line ∷ lines) = (line ++ 10 ∷ []) ++ text_of lines
 abbrev pub mask_lines : List ℕ → List (List ℕ)
 mask_lines masks = map mask_digits masks ++ codes "end" ∷ []
 
-abbrev pub head_lines : CertificateView → List (List ℕ)
-head_lines certificate =
+abbrev pub lines_of_head : ℕ → ℕ → ℕ → ℕ → List (List ℕ)
+lines_of_head from pending first length =
     codes "fttcan plan 1"
-    ∷ ((codes "from " ++ decimal certificate.from)
-    ∷ ((codes "pending " ++ mask_digits certificate.pending)
-    ∷ ((codes "first " ++ decimal certificate.first)
-    ∷ ((codes "length " ++ decimal (length_of certificate))
+    ∷ ((codes "from " ++ decimal from)
+    ∷ ((codes "pending " ++ mask_digits pending)
+    ∷ ((codes "first " ++ decimal first)
+    ∷ ((codes "length " ++ decimal length)
     ∷ []))))
+
+abbrev pub head_lines : CertificateView → List (List ℕ)
+head_lines certificate = lines_of_head certificate.from certificate.pending certificate.first (length_of certificate)
 
 abbrev pub plan_lines : CertificateView → List (List ℕ)
 plan_lines certificate = head_lines certificate ++ mask_lines certificate.masks
@@ -61,9 +66,42 @@ pub record BeginsAsPlan (bytes : List ℕ) (count : ℕ) : Type 0 where
   pub rest : List ℕ
   pub split : bytes ≡ text_of (take count (plan_lines certificate)) ++ rest
 
--- the line of this number, counted from 1, is the first one that breaks the form: the lines before it begin a plan, and with it they don't
+-- the text is not that of a plan, and the line of this number, counted from 1, is the first one that breaks the form: the lines before it
+-- begin a plan, and with it they don't
 pub record IsFirstWrongLine (bytes : List ℕ) (number : ℕ) : Type 0 where
   pub count : ℕ
   pub at : number ≡ count + 1
+  pub other : (certificate : CertificateView) → IsReadable certificate → bytes ≡ plan_text certificate → ⊥
   pub before : BeginsAsPlan bytes count
   pub wrong : BeginsAsPlan bytes number → ⊥
+
+-- what a fault of the reader says
+abbrev pub IsTextFault : List ℕ → PlanTextFault → Type 0
+IsTextFault bytes (Line number) = IsFirstWrongLine bytes number
+IsTextFault bytes Memory = Unit {0}
+
+-- Words for contracts inside the crate
+
+-- the four numbers of a head are in the ranges of the reader
+pub record IsReadableHead (from pending first length : ℕ) : Type 0 where
+  pub from_below : from < 2 ^ 42
+  pub pending_below : pending < 2 ^ slots
+  pub first_below : first < 2 ^ 42
+  pub after : from ≤ first
+  pub near : first ≤ from + 200000
+  pub some : 1 ≤ length
+  pub few : length ≤ 200000
+
+-- masks were read, fewer than `count`, and no line with a mask follows them; the number is that of this line
+pub record IsWrongMask (rest : List ℕ) (count number : ℕ) : Type 0 where
+  pub masks : List ℕ
+  pub below : All (λ mask. mask < 2 ^ slots) masks
+  pub more : length masks < count
+  pub after : List ℕ
+  pub read : rest ≡ text_of (map mask_digits masks) ++ after
+  pub none : (mask : ℕ) (later : List ℕ) → mask < 2 ^ slots → after ≡ mask_digits mask ++ 10 ∷ later → ⊥
+  pub at : number ≡ 6 + length masks
+
+abbrev pub IsMaskFault : List ℕ → ℕ → PlanTextFault → Type 0
+IsMaskFault rest count (Line number) = IsWrongMask rest count number
+IsMaskFault rest count Memory = Unit {0}

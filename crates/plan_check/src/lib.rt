@@ -11,8 +11,10 @@ mod plan_reading;
 mod plan_text;
 mod rows;
 mod sets;
+mod text_fault;
 
 pub use breach::Breach;
 pub use certificate::Certificate;
 pub use checking::check;
-pub use plan_text::write_plan;
+pub use plan_text::{read_plan, write_plan};
+pub use text_fault::PlanTextFault;
