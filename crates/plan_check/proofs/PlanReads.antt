@@ -44,7 +44,7 @@ clean-append : (xs ys : List (List ℕ)) → AllClean xs → AllClean ys → All
 clean-append [] ys one other = other
 clean-append (x ∷ xs) ys one other = (one.0, clean-append xs ys one.1 other)
 
-clean-take : (k : ℕ) (xs : List (List ℕ)) → AllClean xs → AllClean (take k xs)
+pub clean-take : (k : ℕ) (xs : List (List ℕ)) → AllClean xs → AllClean (take k xs)
 clean-take zero xs clean = tt
 clean-take (suc k) [] clean = tt
 clean-take (suc k) (x ∷ xs) clean = (clean.0, clean-take k xs clean.1)
@@ -140,11 +140,13 @@ head-wrong bytes lines rest k number is clean size early at before none =
 abbrev pub filler : ℕ → ℕ → ℕ → ℕ → CertificateView
 filler from pending first length = record { from = from; pending = pending; first = first; masks = replicate (first - from + length) 0 }
 
+sum-less : (a b : ℕ) → a + b - a ≡ b
+sum-less a b = omega arith
+
 filler-length : (from pending first length : ℕ) → length_of (filler from pending first length) ≡ length
 filler-length from pending first size =
     let count : length (replicate (first - from + size) 0) ≡ first - from + size = length-replicate (first - from + size) 0 in
-    let less : first - from + size - (first - from) ≡ size = omega arith in
-    ap (λ n. n - (first - from)) count ∙ less
+    ap (λ n. n - (first - from)) count ∙ sum-less (first - from) size
 
 filler-readable : (from pending first length : ℕ) → IsReadableHead from pending first length → IsReadable (filler from pending first length)
 filler-readable from pending first size head =

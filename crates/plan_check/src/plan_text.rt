@@ -125,10 +125,10 @@ fn read_head(bytes: &[u8]) -> Result<(Head, &[u8]), u64>
     let Some((from, behind_from)) = number_line(rest, b"from ") else {
         return Err(2);
     };
-    let Some((pending, behind_pending)) = mask_line(behind_from, b"pending ") else {
+    let Some(pending) = mask_line(behind_from, b"pending ") else {
         return Err(3);
     };
-    let Some((first, behind_first)) = number_line(behind_pending, b"first ") else {
+    let Some((first, behind_first)) = number_line(pending.1, b"first ") else {
         return Err(4);
     };
     if !is_near(from, first) {
@@ -142,7 +142,7 @@ fn read_head(bytes: &[u8]) -> Result<(Head, &[u8]), u64>
     }
     let head = Head {
         from,
-        pending,
+        pending: pending.0,
         first,
         length,
     };
