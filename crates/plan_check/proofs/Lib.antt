@@ -1,4 +1,5 @@
 mod Current
+mod BodyReads
 mod CycleSteps
 mod Decimals
 mod HeadReads

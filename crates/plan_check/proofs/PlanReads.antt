@@ -17,7 +17,7 @@ abbrev pub AllClean : List (List ℕ) → Type 0
 AllClean [] = Unit {0}
 AllClean (x ∷ xs) = HasNoFeed x × AllClean xs
 
-text-cons : (x : List ℕ) (xs : List (List ℕ)) (r : List ℕ) → text_of (x ∷ xs) ++ r ≡ x ++ 10 ∷ (text_of xs ++ r)
+pub text-cons : (x : List ℕ) (xs : List (List ℕ)) (r : List ℕ) → text_of (x ∷ xs) ++ r ≡ x ++ 10 ∷ (text_of xs ++ r)
 text-cons x xs r = append_assoc (x ++ 10 ∷ []) (text_of xs) r ∙ append_assoc x (10 ∷ []) (text_of xs ++ r)
 
 pub same_front : (xs ys : List (List ℕ)) (r s : List ℕ) → AllClean xs → AllClean ys → length xs ≡ length ys → text_of xs ++ r ≡ text_of ys ++ s
@@ -40,7 +40,7 @@ front-more bytes lines rest x after is next =
     ∙ sym (append_assoc (text_of lines) (text_of (x ∷ [])) after)
     ∙ ap (λ t. t ++ after) (sym (text_of-append lines (x ∷ [])))
 
-clean-append : (xs ys : List (List ℕ)) → AllClean xs → AllClean ys → AllClean (xs ++ ys)
+pub clean-append : (xs ys : List (List ℕ)) → AllClean xs → AllClean ys → AllClean (xs ++ ys)
 clean-append [] ys one other = other
 clean-append (x ∷ xs) ys one other = (one.0, clean-append xs ys one.1 other)
 
@@ -53,7 +53,7 @@ pub clean-masks : (masks : List ℕ) → AllClean (map mask_digits masks)
 clean-masks [] = tt
 clean-masks (m ∷ masks) = (hex-no_feed 10 m, clean-masks masks)
 
-literal-clean : (word : List ℕ) → list_all (λ b. not (nat_eq b 10)) word ≡ true → HasNoFeed word
+pub literal-clean : (word : List ℕ) → list_all (λ b. not (nat_eq b 10)) word ≡ true → HasNoFeed word
 literal-clean [] test i within = absurd (omega arith)
 literal-clean (b ∷ word) test zero within = λ is. let one = (and_parts (not (nat_eq b 10)) (list_all (λ c. not (nat_eq c 10)) word) test).0 in let same = ap (λ c. not (nat_eq c 10)) is in absurd (cc)
 literal-clean (b ∷ word) test (suc i) within =
