@@ -6,10 +6,12 @@ use Rattle.std.proofs.lemmas.List.{append-nil, append_cancel_left, length-append
 use Rattle.std.proofs.lemmas.List.Elements.{All-append, All-head, All-replicate, All-tail}
 use Rattle.std.proofs.Math.Seq.{take-append_seam}
 use Rattle.requirement_table.specs.Slots.{slots}
+use Rattle.plan_check.specs.declared.text_fault.PlanTextFault.{PlanTextFault}
+use Rattle.plan_check.specs.declared.text_fault.PlanTextFault.TheVariants.{Line, Memory}
 use Rattle.plan_check.specs.Certificate.{CertificateView, length_of}
-use Rattle.plan_check.specs.PlanText.{BeginsAsPlan, HasNoFeed, IsFirstWrongLine, IsReadable, IsReadableHead, IsWrongMask, head_lines, lines_of_head, mask_digits, mask_lines, plan_lines, plan_text, text_of}
+use Rattle.plan_check.specs.PlanText.{BeginsAsPlan, HasNoFeed, IsFirstWrongLine, IsMaskFault, IsReadable, IsReadableHead, IsTextFault, IsWrongMask, head_lines, lines_of_head, mask_digits, mask_lines, plan_lines, plan_text, text_of}
 use Rattle.plan_check.proofs.HexText.{hex-injective}
-use Rattle.plan_check.proofs.PlanReads.{AllClean, begins-by, clean-append, clean-head, clean-masks, clean-plan, clean-take, count-lines, literal-clean, number-same, same_front, text-cons}
+use Rattle.plan_check.proofs.PlanReads.{AllClean, begins-by, clean-append, clean-head, clean-masks, clean-plan, clean-take, count-lines, front-more, literal-clean, number-same, same_front, text-cons}
 use Rattle.plan_check.proofs.TextLines.{text_of-append}
 
 -- the head of a text is of one certificate
@@ -77,6 +79,18 @@ masks-same (x ∷ xs) (y ∷ ys) small other size same =
     let rest : mask_lines xs ≡ mask_lines ys = cc in
     let more = masks-same xs ys (All-tail P x xs small) (All-tail P y ys other) (omega arith) rest in
     cc
+
+abbrev view : ℕ → ℕ → ℕ → List ℕ → CertificateView
+view from pending first masks = record { from = from; pending = pending; first = first; masks = masks }
+
+view-same : (certificate : CertificateView) (from pending first : ℕ) (masks : List ℕ) → from ≡ certificate.from → pending ≡ certificate.pending
+    → first ≡ certificate.first → masks ≡ certificate.masks
+    → view from pending first masks ≡ certificate
+view-same certificate from pending first masks one two three four =
+    ap (λ x. view x pending first masks) one
+    ∙ ap (λ x. view certificate.from x first masks) two
+    ∙ ap (λ x. view certificate.from certificate.pending x masks) three
+    ∙ ap (λ x. view certificate.from certificate.pending certificate.first x) four
 
 -- A head was read, and masks behind it
 
@@ -221,3 +235,140 @@ module _ (bytes : List ℕ) (from pending first size : ℕ) (rest : List ℕ) (h
   wrong-end-of number at all none =
       body-wrong number at (omega arith) (λ certificate readable count later line.
       none later (line ∙ ap (λ x. x ++ 10 ∷ later) (mask-line-end certificate.masks (length masks) (all ∙ sym count))))
+
+  -- All masks and the last line were read
+
+  module _ (all : length masks ≡ first - from + size) (tail : List ℕ) (ends : after ≡ codes "end" ++ 10 ∷ tail) where
+    abbrev made : CertificateView
+    made = record { from = from; pending = pending; first = first; masks = masks }
+
+    made-length : length_of made ≡ size
+    made-length = ap (λ n. n - (first - from)) all ∙ sum-less (first - from) size
+      where
+        sum-less : (a b : ℕ) → a + b - a ≡ b
+        sum-less a b = omega arith
+
+    made-readable : IsReadable made
+    made-readable =
+        let whole = made-length in
+        let some = head.some in
+        let most = head.few in
+        record {
+          from = head.from_below;
+          pending = head.pending_below;
+          first = head.first_below;
+          after = head.after;
+          near = head.near;
+          some = omega arith;
+          few = omega arith;
+          masks = small;
+        }
+
+    body-is : rest ≡ text_of (mask_lines masks) ++ tail
+    body-is = front-more rest (map mask_digits masks) after (codes "end") tail read ends
+
+    made-is : bytes ≡ plan_text made ++ tail
+    made-is =
+        is
+        ∙ ap (λ n. text_of (lines_of_head from pending first n) ++ rest) (sym made-length)
+        ∙ ap (λ t. text_of (head_lines made) ++ t) body-is
+        ∙ sym (append_assoc (text_of (head_lines made)) (text_of (mask_lines masks)) tail)
+        ∙ ap (λ t. t ++ tail) (sym (whole-split made))
+
+    other-masks : (certificate : CertificateView) → IsReadable certificate → bytes ≡ plan_text certificate
+        → (mask_lines masks ≡ mask_lines certificate.masks) × (tail ≡ [])
+    other-masks certificate readable plan =
+        let same = head-same bytes rest (text_of (mask_lines certificate.masks)) certificate from pending first size readable head is (plan ∙ whole-split certificate) in
+        let count = count-of certificate readable (text_of (mask_lines certificate.masks)) same in
+        let mine = count-mask_lines masks in
+        let its = count-mask_lines certificate.masks in
+        same_front (mask_lines masks) (mask_lines certificate.masks) tail [] (clean-mask_lines masks) (clean-mask_lines certificate.masks) (omega arith)
+        (sym body-is ∙ same.rest_is ∙ sym (append-nil (text_of (mask_lines certificate.masks))))
+
+    wrong-behind-of : (number : ℕ) → number ≡ 7 + length masks → (tail ≡ [] → ⊥) → IsFirstWrongLine bytes number
+    wrong-behind-of number at some =
+        let lines = count-lines made in
+        record {
+          count = 6 + length masks;
+          at = omega arith;
+          other = λ certificate readable plan. some (other-masks certificate readable plan).1;
+          before = record {
+            certificate = made;
+            readable = made-readable;
+            within = omega arith;
+            rest = tail;
+            split = made-is ∙ ap (λ l. text_of l ++ tail) (sym (take_all (6 + length masks) (plan_lines made) (omega arith)));
+          };
+          wrong = λ begins.
+              let c = begins.certificate in
+              let j = length masks + 2 in
+              let whole = behind-head c j number begins.rest (omega arith) begins.split in
+              let same = head-same bytes rest (text_of (take j (mask_lines c.masks)) ++ begins.rest) c from pending first size begins.readable head is whole in
+              let count = count-of c begins.readable (text_of (take j (mask_lines c.masks)) ++ begins.rest) same in
+              let within = begins.within in
+              let its = count-lines c in
+              absurd (omega arith);
+        }
+
+    made-back : (certificate : CertificateView) → IsReadable certificate → bytes ≡ plan_text certificate → made ≡ certificate
+    made-back certificate readable plan =
+        let same = head-same bytes rest (text_of (mask_lines certificate.masks)) certificate from pending first size readable head is (plan ∙ whole-split certificate) in
+        let count = count-of certificate readable (text_of (mask_lines certificate.masks)) same in
+        let masks_are = masks-same masks certificate.masks small readable.masks (omega arith) (other-masks certificate readable plan).0 in
+        view-same certificate from pending first masks (sym same.from_is) (sym same.pending_is) (sym same.first_is) masks_are
+
+-- The same without modules
+
+pub wrong-mask : (bytes : List ℕ) (from pending first size : ℕ) (rest : List ℕ) → IsReadableHead from pending first size
+    → bytes ≡ text_of (lines_of_head from pending first size) ++ rest → (count number : ℕ) → count ≡ first - from + size
+    → IsWrongMask rest count number → IsFirstWrongLine bytes number
+wrong-mask bytes from pending first size rest head is count number counted wrong =
+    let more = wrong.more in
+    wrong-mask-of bytes from pending first size rest head is wrong.masks wrong.after wrong.read wrong.below number wrong.at (omega arith) wrong.none
+
+pub wrong-end : (bytes : List ℕ) (from pending first size : ℕ) (rest : List ℕ) → IsReadableHead from pending first size
+    → bytes ≡ text_of (lines_of_head from pending first size) ++ rest → (masks after : List ℕ) → rest ≡ text_of (map mask_digits masks) ++ after
+    → All (λ m. m < 2 ^ slots) masks → length masks ≡ first - from + size → (number : ℕ) → number ≡ 6 + length masks
+    → ((later : List ℕ) → after ≡ codes "end" ++ 10 ∷ later → ⊥) → IsFirstWrongLine bytes number
+wrong-end bytes from pending first size rest head is masks after read small all number at none =
+    wrong-end-of bytes from pending first size rest head is masks after read small number at all none
+
+pub wrong-behind : (bytes : List ℕ) (from pending first size : ℕ) (rest : List ℕ) → IsReadableHead from pending first size
+    → bytes ≡ text_of (lines_of_head from pending first size) ++ rest → (masks after : List ℕ) → rest ≡ text_of (map mask_digits masks) ++ after
+    → All (λ m. m < 2 ^ slots) masks → length masks ≡ first - from + size → (tail : List ℕ) → after ≡ codes "end" ++ 10 ∷ tail
+    → (number : ℕ) → number ≡ 7 + length masks → (tail ≡ [] → ⊥) → IsFirstWrongLine bytes number
+wrong-behind bytes from pending first size rest head is masks after read small all tail ends number at some =
+    wrong-behind-of bytes from pending first size rest head is masks after read small all tail ends number at some
+
+-- what was read, where nothing follows the last line
+pub record WasRead (bytes : List ℕ) (certificate : CertificateView) : Type 0 where
+  pub plan : bytes ≡ plan_text certificate
+  pub readable : IsReadable certificate
+  pub back : (other : CertificateView) → IsReadable other → bytes ≡ plan_text other → certificate ≡ other
+
+pub was-read : (bytes : List ℕ) (from pending first size : ℕ) (rest : List ℕ) → IsReadableHead from pending first size
+    → bytes ≡ text_of (lines_of_head from pending first size) ++ rest → (masks after : List ℕ) → rest ≡ text_of (map mask_digits masks) ++ after
+    → All (λ m. m < 2 ^ slots) masks → length masks ≡ first - from + size → (tail : List ℕ) → after ≡ codes "end" ++ 10 ∷ tail → tail ≡ []
+    → (certificate : CertificateView) → certificate.from ≡ from → certificate.pending ≡ pending → certificate.first ≡ first → certificate.masks ≡ masks
+    → WasRead bytes certificate
+was-read bytes from pending first size rest head is masks after read small all tail ends none certificate one two three four =
+    let there : WasRead bytes (view from pending first masks) = record {
+      plan = made-is bytes from pending first size rest head is masks after read small all tail ends
+          ∙ ap (λ t. plan_text (view from pending first masks) ++ t) none
+          ∙ append-nil (plan_text (view from pending first masks));
+      readable = made-readable bytes from pending first size rest head is masks after read small all tail ends;
+      back = λ other readable plan. made-back bytes from pending first size rest head is masks after read small all tail ends other readable plan;
+    } in
+    let P : CertificateView → Type 0 = λ c. WasRead bytes c in
+    subst P (view-same certificate from pending first masks (sym one) (sym two) (sym three) (sym four)) there
+
+-- a fault of the masks is one of the text
+pub mask-fault : (bytes rest : List ℕ) (count : ℕ) (fault : PlanTextFault) → IsMaskFault rest count fault
+    → ((number : ℕ) → IsWrongMask rest count number → IsFirstWrongLine bytes number) → IsTextFault bytes fault
+mask-fault bytes rest count (Line number) wrong text = text number wrong
+mask-fault bytes rest count Memory wrong text = tt
+
+pub fault-back : (bytes : List ℕ) (fault : PlanTextFault) → IsTextFault bytes fault → (certificate : CertificateView) → IsReadable certificate
+    → bytes ≡ plan_text certificate → fault ≡ Memory
+fault-back bytes (Line number) wrong certificate readable plan = absurd (wrong.other certificate readable plan)
+fault-back bytes Memory wrong certificate readable plan = refl
