@@ -1,0 +1,13 @@
+mod Current
+mod BodyReads
+mod CycleSteps
+mod Decimals
+mod HeadReads
+mod Held
+mod HexText
+mod PlanReads
+mod Repeated
+mod Rounds
+mod SlotSets
+mod Taken
+mod TextLines
