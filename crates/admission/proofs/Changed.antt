@@ -1,17 +1,16 @@
 -- A change is not felt before its start.
-use Rattle.std.proofs.Common.{◌≡◌, ℕ, zero, suc, ◌+◌, ◌<◌, ◌≤◌, Bool, true, nat_le, Option, Some, None, List, [], IfOk, Result, refl, sym, ap, ◌∙◌, subst, arith}
+use Rattle.std.proofs.Common.{◌≡◌, ℕ, ◌+◌, ◌<◌, ◌≤◌, Bool, nat_le, Option, Some, None, List, refl, sym, ap, ◌∙◌, arith}
 use Rattle.std.specs.Option.{option_map, option_map_or}
 use Rattle.std.proofs.lemmas.Option.{same_Some}
 use Rattle.requirement_table.specs.declared.entries.Placed.{Placed}
 use Rattle.requirement_table.specs.Instance.{Instance, release_of}
-use Rattle.requirement_table.specs.Slots.{contains_slot}
 use Rattle.requirement_table.specs.Table.{IsWellPlaced, instance_in}
 use Rattle.change_protocol.specs.declared.operations.Change.{Change}
 use Rattle.change_protocol.specs.Applied.{IsChangedAt, applied, without_end}
 use Rattle.change_protocol.proofs.Shared.{changed-applied, kept-instance, same-instances, same-last, same-releases, same-worst}
 use Rattle.planner_policies.specs.declared.Policy.{Policy}
 use Rattle.planner_policies.specs.declared.Policy.TheVariants.{Rm, Dm, Edf}
-use Rattle.planner_policies.specs.Plan.{IsHeldFrom, IsValid, by_number, is_by, key_in, key_of, mask_at, pending_at, priority_in}
+use Rattle.planner_policies.specs.Plan.{IsValid, by_number, key_in, key_of, mask_at, pending_at, priority_in}
 use Rattle.admission_rules.specs.declared.Rules.{Rules}
 use Rattle.admission.specs.Verdict.{plan_from}
 use Rattle.admission.proofs.Cycles.{IsLike, same-mask, same-pending}

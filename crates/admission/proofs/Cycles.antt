@@ -1,12 +1,12 @@
 -- Cycles in which plans go on in the same way, and plannings that are the same.
-use Rattle.std.proofs.Common.{◌≡◌, ℕ, zero, suc, ◌+◌, ◌<◌, ◌≤◌, Bool, true, false, not, ◌&&◌, ◌||◌, nat_le, nat_lt, if◌then◌else◌, List, ◌++◌, ◌∷◌, [], refl, sym, ap, ◌∙◌, arith}
+use Rattle.std.proofs.Common.{◌≡◌, ℕ, zero, suc, ◌+◌, ◌<◌, Bool, false, not, ◌&&◌, ◌||◌, nat_le, if◌then◌else◌, List, ◌++◌, ◌∷◌, [], refl, sym, ap, ◌∙◌, arith}
 use Rattle.std.proofs.lemmas.Bool.{lt-ltb}
 use Rattle.requirement_table.specs.declared.entries.Placed.{Placed}
 use Rattle.requirement_table.specs.Slots.{contains_slot, set_of, slots, sum_where}
 use Rattle.requirement_table.specs.Table.{is_last_in, releases_in, width_in, worst_in}
 use Rattle.requirement_table.proofs.Shared.{contains_slot-none, contains_slot-set_of, set_of-contains_slot, set_of-same, sum_where-same}
 use Rattle.planner_policies.specs.declared.Policy.{Policy}
-use Rattle.planner_policies.specs.Plan.{HasNoMiss, HasNoMissIn, Planning, is_by, is_missed_at, is_missed_in, is_taken, left_after, mask_at, pending_at, pending_before, pending_in, planned_in}
+use Rattle.planner_policies.specs.Plan.{HasNoMiss, Planning, is_by, is_missed_at, is_missed_in, is_taken, left_after, mask_at, pending_at, pending_before, pending_in, planned_in}
 use Rattle.admission.specs.Verdict.{masks_of}
 
 -- two tests agree on all slots

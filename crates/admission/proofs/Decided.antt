@@ -1,28 +1,30 @@
 -- What is decided of a list, by what was found in the walk over its planning.
-use Rattle.std.proofs.Common.{◌≡◌, ◌≢◌, ℕ, ◌+◌, ◌-◌, ◌^◌, ◌<◌, ◌≤◌, Bool, true, false, Option, Some, None, IfOk, Result, Ok, Err, List, [], refl, sym, ap, ◌∙◌, subst, arith}
+use Rattle.std.proofs.Common.{◌≡◌, ℕ, ◌+◌, ◌-◌, ◌<◌, ◌≤◌, true, false, Option, Some, None, IfOk, Result, Ok, Err, List, [], refl, sym, ap, ◌∙◌, subst, arith}
 use Rattle.requirement_table.specs.declared.entries.Placed.{Placed}
-use Rattle.requirement_table.specs.Slots.{contains_slot, slots}
+use Rattle.requirement_table.specs.Slots.{contains_slot}
 use Rattle.requirement_table.specs.Table.{IsWellPlaced, not_over}
 use Rattle.requirement_table.proofs.Shared.{not_over-well_placed}
+use Rattle.planner_policies.specs.declared.state.Miss.{Miss as MissedInstance}
 use Rattle.planner_policies.specs.declared.state.PlanState.{PlanState}
-use Rattle.planner_policies.specs.Plan.{HasNoMiss, IsMissAt, IsValid, NeverMisses, Planning, Ranking, is_missed_at, planning_of}
+use Rattle.planner_policies.specs.Plan.{HasNoMiss, IsValid, NeverMisses, Planning, Ranking, planning_of}
 use Rattle.recurrence_check.specs.Course.{Breaks, Course, IsLeastRepeat, StaysNew}
 use Rattle.admission.specs.declared.decision.Decision.{Decision}
 use Rattle.admission_rules.specs.declared.Rules.{Rules}
 use Rattle.admission.specs.declared.verdict.Verdict.{Verdict}
 use Rattle.admission.specs.declared.verdict.Verdict.TheVariants.{Accepted, Horizon, Miss}
+use Rattle.admission.specs.Certified.{IsMissBehind}
 use Rattle.admission.specs.Course.{course_of, is_held_from}
 use Rattle.admission.specs.Period.{IsPeriodUpTo}
 use Rattle.admission.specs.Recurrence.{HasNoRecurrence, bound_of}
-use Rattle.admission.specs.Verdict.{IsDecisionOnPlan, IsMissDecision, IsRules, IsSafe, IsTakenWhereDue, IsVerdictOnPlan, masks_of, placed_with, plan_from, trail_of}
+use Rattle.admission.specs.Verdict.{IsDecisionOnPlan, IsMissDecision, IsPlannedUpTo, IsSafe, IsTakenWhereDue, IsVerdictOnPlan, masks_of, placed_with, plan_from, trail_of}
 use Rattle.admission.specs.WalkLaws.{GoesOn}
 use Rattle.admission.specs.Walked.{IsWalked}
 use Rattle.admission.proofs.Complete.{StaysValid, recurs}
-use Rattle.admission.proofs.Cycles.{IsLike, like-refl}
-use Rattle.admission.proofs.Reduced.{decision-reduced, held-reduced, like-reduced, repeating-reduced}
+use Rattle.admission.proofs.Cycles.{IsLike, like-refl, same-masks}
+use Rattle.admission.proofs.Reduced.{decision-reduced, held-reduced, like-reduced, miss-reduced, repeating-reduced}
 use Rattle.admission.proofs.Repeats.{LoopsOnce, is-recurrence, never-after, no-recurrence, none-within}
 use Rattle.admission.proofs.Same.{goes-on, held-tests}
-use Rattle.admission.proofs.States.{broken-missed, broken-none}
+use Rattle.admission.proofs.States.{broken-missed, broken-none, came-to}
 
 abbrev ranking_of : Rules → List Placed → ℕ → Ranking
 ranking_of rules list from = record { placed = not_over from list; policy = rules.policy }
@@ -80,19 +82,36 @@ module _ (rules : Rules) (list : List Placed) (from pending : ℕ) (walked : Ran
       never-after rules.policy rules.window list (not_over from list) from pending bound rules.horizon period is.known like is.bound_is is.period_is
       loops is.well one other here.repeats
 
-  pub accepted : LoopsOnce → (number length : ℕ) (decision : Decision) → IsLeastRepeat walk number (number + length) → number + length ≤ rules.horizon
-      → decision.verdict ≡ Accepted (from + number) length → decision.placed ≡ Some list → decision.trail ≡ []
-      → IsDecisionOnPlan rules.horizon whole decision
-  accepted loops number length decision least within verdict placed trail =
+  -- what the repeat says of the planning
+  pub repeats-on : LoopsOnce → (number length : ℕ) → IsLeastRepeat walk number (number + length) → number + length ≤ rules.horizon
+      → IsVerdictOnPlan rules.horizon whole (Accepted (from + number) length)
+  repeats-on loops number length least within =
       let here = to-reduced (λ course. IsLeastRepeat course number (number + length)) least in
-      let never = accepted-never loops number (number + length) least in
-      on-plan rules.horizon whole (Accepted (from + number) length) decision verdict (
+      let never = accepted-never loops number (number + length) least in (
         (λ m slot below. never m slot),
         is-recurrence rules.policy rules.window list (not_over from list) from pending bound rules.horizon period is.known like is.bound_is is.period_is
             never number length here,
         omega arith,
       )
-      placed trail
+
+  pub accepted : LoopsOnce → (number length : ℕ) (decision : Decision) → IsLeastRepeat walk number (number + length) → number + length ≤ rules.horizon
+      → decision.verdict ≡ Accepted (from + number) length → decision.placed ≡ Some list → decision.trail ≡ []
+      → IsDecisionOnPlan rules.horizon whole decision
+  accepted loops number length decision least within verdict placed trail =
+      on-plan rules.horizon whole (Accepted (from + number) length) decision verdict (repeats-on loops number length least within) placed trail
+
+  -- nothing is missed up to it, and what is planned of the entries that are walked is the plan of all
+  pub repeated-none : (one other : ℕ) → IsLeastRepeat walk one other → HasNoMiss walked_plan other
+  repeated-none one other least =
+      let here = to-reduced (λ course. IsLeastRepeat course one other) least in
+      from-reduced_plan (λ plan. HasNoMiss plan other)
+      (came-to rules.policy rules.window (not_over from list) (not_over from list) from pending bound period is.known
+      (λ n. like-refl rules.policy (not_over from list) (from + n)) other here.repeats.again here.repeats.again_is)
+
+  pub planned-whole : (number : ℕ) (masks : List ℕ) (behind : PlanState) → IsPlannedUpTo walked_plan number masks behind → masks ≡ masks_of whole number
+  planned-whole number masks behind planned =
+      (to-reduced_plan (λ plan. IsPlannedUpTo plan number masks behind) planned).list
+      ∙ same-masks rules.policy rules.window (not_over from list) list from pending number (λ m below. like m)
 
   pub safe : LoopsOnce → (one other : ℕ) (placed : List Placed) → placed ≡ list → IsLeastRepeat walk one other → IsSafe rules placed from pending
   safe loops one other placed same least =
@@ -105,18 +124,20 @@ module _ (rules : Rules) (list : List Placed) (from pending : ℕ) (walked : Ran
       no-recurrence rules.policy rules.window list (not_over from list) from pending bound rules.horizon period is.known like is.bound_is is.period_is
       (to-reduced (λ course. StaysNew course rules.horizon) stays)
 
-  pub refused : (number : ℕ) (decision : Decision) → number ≡ rules.horizon → StaysNew walk number → decision.verdict ≡ Horizon from number
-      → decision.placed ≡ None → decision.trail ≡ [] → IsDecisionOnPlan rules.horizon whole decision
-  refused number decision all stays verdict placed trail =
-      let here : StaysNew walk rules.horizon = subst (λ n. StaysNew walk n) all stays in
-      on-plan rules.horizon whole (Horizon from number) decision verdict (
+  pub stays-on : (number : ℕ) → number ≡ rules.horizon → StaysNew walk number → IsVerdictOnPlan rules.horizon whole (Horizon from number)
+  stays-on number all stays =
+      let here : StaysNew walk rules.horizon = subst (λ n. StaysNew walk n) all stays in (
         none-within rules.policy rules.window list (not_over from list) from pending bound rules.horizon period is.known like is.bound_is is.period_is
             (to-reduced (λ course. StaysNew course rules.horizon) here),
         no-recurrence-whole here,
         refl,
         all,
       )
-      placed trail
+
+  pub refused : (number : ℕ) (decision : Decision) → number ≡ rules.horizon → StaysNew walk number → decision.verdict ≡ Horizon from number
+      → decision.placed ≡ None → decision.trail ≡ [] → IsDecisionOnPlan rules.horizon whole decision
+  refused number decision all stays verdict placed trail =
+      on-plan rules.horizon whole (Horizon from number) decision verdict (stays-on number all stays) placed trail
 
   pub refused-due : StaysValid → (number : ℕ) (verdict : Verdict) → number ≡ rules.horizon → StaysNew walk number → IsTakenWhereDue rules whole verdict
   refused-due valid number verdict all stays never c period' settled releases least within =
@@ -164,6 +185,20 @@ module _ (rules : Rules) (list : List Placed) (from pending : ℕ) (walked : Ran
       let is' = here.miss.missed in
       let not = never at here.slot here.miss.known in
       absurd (let both : true ≡ false = sym is' ∙ not in cc)
+
+  pub breaks-on : (at : ℕ) (miss : MissedInstance) → at < rules.horizon → Breaks walk at → IsMissBehind walked_plan at miss
+      → IsVerdictOnPlan rules.horizon whole (Miss miss.slot miss.release miss.cycle)
+  breaks-on at miss within breaks behind =
+      let here = to-reduced_plan (λ plan. IsMissBehind plan at miss) behind in
+      let cycle : miss.cycle ≡ from + at = here.cycle in (
+        record {
+          number = at;
+          at = cycle;
+          none_before = whole-none at breaks;
+          miss = miss-reduced list rules.policy rules.window from pending at miss.slot miss.release is.well here.at;
+        },
+        omega arith,
+      )
 
 -- what a walk over the planning needs
 module _ (rules : Rules) (list : List Placed) (walked : Ranking) (from pending : ℕ) (walked_is : walked ≡ ranking_of rules list from)

@@ -1,20 +1,20 @@
 -- Entries that have settled do the same again after a common period.
-use Rattle.std.proofs.Common.{◌≡◌, ℕ, zero, suc, ◌+◌, ◌-◌, ◌*◌, ◌/◌, ◌%◌, ◌<◌, ◌≤◌, Bool, true, false, ◌&&◌, ◌||◌, nat_eq, nat_le, nat_lt, cond, if◌then◌else◌, Option, Some, None, is_some, List, [], ◌∷◌, slice_get, All, refl, sym, ap, ◌∙◌, subst, arith}
-use Rattle.std.specs.List.{cons_option, filter_map, list_any}
+use Rattle.std.proofs.Common.{◌≡◌, ℕ, ◌+◌, ◌-◌, ◌*◌, ◌/◌, ◌%◌, ◌<◌, ◌≤◌, Bool, true, false, ◌&&◌, ◌||◌, nat_eq, nat_le, nat_lt, if◌then◌else◌, Option, Some, None, is_some, List, [], ◌∷◌, slice_get, All, refl, sym, ap, ◌∙◌, subst, arith}
+use Rattle.std.specs.List.{cons_option, filter_map}
 use Rattle.std.specs.Option.{option_map, option_map_or, option_or}
 use Rattle.std.proofs.Math.Nat.{add-mul-div_right}
 use Rattle.std.proofs.lemmas.Bool.Decides.{nat_tests}
 use Rattle.std.proofs.lemmas.List.Elements.{All-head, All-tail}
 use Rattle.requirement_table.specs.declared.entries.Placed.{Placed}
 use Rattle.requirement_table.specs.Instance.{Instance, deadline_of, exists, instance_of, latest, may_send, release_of, released_by, worst_of}
-use Rattle.requirement_table.specs.Table.{instance_in, is_last_in, releases_in, sendable, worst_in}
+use Rattle.requirement_table.specs.Table.{instance_in, releases_in, sendable}
 use Rattle.requirement_table.proofs.Shared.{IsReleasedIn-from_released_by, MaySend-from_instance, exists-true}
 use Rattle.planner_policies.specs.declared.Policy.{Policy}
 use Rattle.planner_policies.specs.declared.Policy.TheVariants.{Rm, Dm, Edf}
-use Rattle.planner_policies.specs.Loop.{RepeatsFrom, settled_at}
-use Rattle.planner_policies.specs.Plan.{by_number, is_by, key_in, key_of, priority_in}
+use Rattle.planner_policies.specs.Loop.{settled_at}
+use Rattle.planner_policies.specs.Plan.{by_number, key_in, key_of, priority_in}
 use Rattle.admission.proofs.Cycles.{IsLike}
-use Rattle.admission.proofs.Divided.{divided-along, not-by_zero, parts-of}
+use Rattle.admission.proofs.Divided.{parts-of}
 
 -- the instance `j` of an entry is released `more` cycles behind the instance `i`
 pub record IsBehind (more : ℕ) (i j : Instance) : Type 0 where

@@ -1,13 +1,17 @@
+mod Certified
 mod Changed
 mod Complete
 mod Cycles
 mod Decided
 mod Divided
+mod Due
 mod Later
+mod Listed
 mod Multiples
 mod Once
 mod Planned
 mod Reduced
 mod Repeats
+mod Row
 mod Same
 mod States

@@ -1,5 +1,5 @@
 -- Least multiples, and the least common period of the first entries of a list.
-use Rattle.std.proofs.Common.{◌≡◌, ◌≢◌, ℕ, ◌+◌, ◌-◌, ◌*◌, ◌/◌, ◌%◌, ◌<◌, ◌≤◌, Option, Some, None, List, [], ◌∷◌, ◌++◌, All, length, get_or, map, max, take, drop, refl, sym, ap, ◌∙◌, subst, arith, ⊎_elim}
+use Rattle.std.proofs.Common.{◌≡◌, ◌≢◌, ℕ, ◌+◌, ◌-◌, ◌*◌, ◌/◌, ◌%◌, ◌<◌, ◌≤◌, Option, Some, None, List, [], ◌∷◌, ◌++◌, All, length, get_or, map, max, take, drop, sym, ap, ◌∙◌, subst, arith, ⊎_elim}
 use Rattle.std.specs.List.{fold}
 use Rattle.std.proofs.Math.Nat.{div-add-mod', dvd-mul_left_of_dvd, dvd-sub, lt-div-mul-add, mod-eq-sub-div-mul, mod-one, mod_self, mul-le-mul_right, mul-mod_left}
 use Rattle.std.proofs.lemmas.Bool.{cases_lt}
@@ -13,7 +13,7 @@ use Rattle.std.proofs.lemmas.Nat.Gcd.{dvd_of_mod-eq-zero, le_of_dvd, mod-eq-zero
 use Rattle.requirement_table.specs.declared.entries.Placed.{Placed}
 use Rattle.planner_policies.specs.Loop.{settled_at}
 use Rattle.admission.specs.Period.{IsLeastMultiple, IsLeastWith, IsMultipleOfBoth, IsMultipleWith, IsPeriodUpTo}
-use Rattle.admission.specs.Recurrence.{IsCommonPeriod, IsLeastCommonPeriod}
+use Rattle.admission.specs.Recurrence.{IsCommonPeriod}
 use Rattle.admission.proofs.Divided.{divided-along, parts-of}
 
 all-parts : {X : Type 0} (P : X → Type 0) (xs : List X) (x : X) → All P (xs ++ x ∷ []) → All P xs × P x

@@ -1,24 +1,23 @@
 -- A list, a change and a state have one verdict.
-use Rattle.std.proofs.Common.{◌≡◌, ◌≢◌, ℕ, ◌+◌, ◌-◌, ◌%◌, ◌<◌, ◌≤◌, Bool, true, false, Option, Some, None, List, [], slice_get, refl, sym, ap, ◌∙◌, subst, arith, ⊎_elim}
-use Rattle.std.proofs.lemmas.Bool.{cases_lt, cases_order}
+use Rattle.std.proofs.Common.{◌≡◌, ℕ, ◌+◌, ◌<◌, ◌≤◌, true, false, Some, None, List, [], slice_get, refl, sym, ap, ◌∙◌, subst, arith, ⊎_elim}
+use Rattle.std.proofs.lemmas.Bool.{cases_order}
 use Rattle.std.proofs.lemmas.Option.{same_Some}
 use Rattle.requirement_table.specs.declared.entries.Placed.{Placed}
 use Rattle.requirement_table.specs.Instance.{Instance, release_of}
-use Rattle.requirement_table.specs.Slots.{slots}
 use Rattle.requirement_table.specs.Table.{IsWellPlaced}
 use Rattle.change_protocol.specs.declared.operations.Change.{Change}
 use Rattle.change_protocol.specs.declared.malformed.Why.{Why}
 use Rattle.change_protocol.specs.Applied.{applied}
 use Rattle.change_protocol.specs.Malformed.{Broken, IsWellFormed, broken, faults, first_fault}
-use Rattle.planner_policies.specs.Plan.{HasNoMiss, IsFirstMiss, IsMissAt, NeverMisses, Planning, is_missed_at}
+use Rattle.planner_policies.specs.Plan.{HasNoMiss, IsFirstMiss, IsMissAt, NeverMisses, Planning}
 use Rattle.admission_rules.specs.declared.Rules.{Rules}
 use Rattle.admission.specs.declared.verdict.Verdict.{Verdict}
 use Rattle.admission.specs.declared.verdict.Verdict.TheVariants.{Malformed, Passed, Miss, Horizon, Accepted}
-use Rattle.admission.specs.Recurrence.{AreAlike, HasNoRecurrence, IsLeastCommonPeriod, IsRecurrence, bound_of}
+use Rattle.admission.specs.Recurrence.{AreAlike, HasNoRecurrence, IsRecurrence}
 use Rattle.admission.specs.Verdict.{IsInTime, IsVerdict, IsVerdictOnPlan, plan_from}
 use Rattle.admission.proofs.Repeats.{LoopsOnce, alike-never, least-same}
 
-no-fault : (xs : List Broken) (b : Broken) → xs ≡ [] → slice_get xs 0 ≡ Some b → ⊥
+pub no-fault : (xs : List Broken) (b : Broken) → xs ≡ [] → slice_get xs 0 ≡ Some b → ⊥
 no-fault xs b none some =
     let empty : slice_get xs 0 ≡ None = ap (λ (l : List Broken). slice_get l 0) none in
     cc

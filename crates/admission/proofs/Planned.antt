@@ -1,5 +1,5 @@
 -- Cycles that are planned one after the other.
-use Rattle.std.proofs.Common.{◌≡◌, ℕ, zero, suc, ◌+◌, ◌^◌, ◌<◌, ◌≤◌, Bool, true, false, None, List, [], ◌∷◌, ◌++◌, refl, sym, ap, ◌∙◌, subst, arith, ⊎_elim}
+use Rattle.std.proofs.Common.{◌≡◌, ℕ, suc, ◌+◌, ◌^◌, ◌<◌, ◌≤◌, false, None, List, [], ◌∷◌, ◌++◌, refl, sym, ap, ◌∙◌, subst, arith, ⊎_elim}
 use Rattle.std.proofs.lemmas.Bool.{cases_lt}
 use Rattle.requirement_table.specs.Slots.{contains_slot, set_of, slots}
 use Rattle.requirement_table.proofs.Shared.{set_of-contains_slot, set_of-same}
@@ -7,7 +7,6 @@ use Rattle.planner_policies.specs.declared.state.PlanState.{PlanState}
 use Rattle.planner_policies.specs.Plan.{HasNoMiss, HasNoMissIn, IsMissAt, IsMissIn, IsValid, Planning, Ranking, is_missed_at, is_missed_in, left_after, mask_at, pending_at, pending_before, planned_at, planned_in, planning_of}
 use Rattle.admission.specs.Course.{state_at}
 use Rattle.admission.specs.declared.decision.Decision.{Decision}
-use Rattle.admission.specs.declared.verdict.Verdict.{Verdict}
 use Rattle.admission.specs.declared.verdict.Verdict.TheVariants.{Miss}
 use Rattle.admission.specs.Verdict.{IsMissDecision, IsPlannedUpTo, masks_of}
 use Rattle.admission.proofs.Cycles.{Agree, agree-set, like-left, like-missed, like-planned, like-refl}

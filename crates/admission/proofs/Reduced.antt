@@ -1,22 +1,21 @@
 -- A list without the entries that are over is planned as the whole list is.
-use Rattle.std.proofs.Common.{◌≡◌, ℕ, zero, suc, ◌+◌, ◌-◌, ◌%◌, ◌^◌, ◌<◌, ◌≤◌, Bool, true, false, not, nat_eq, nat_le, Option, Some, None, List, [], ◌∷◌, ◌++◌, All, length, get_or, map, max, refl, sym, ap, ◌∙◌, subst, arith}
+use Rattle.std.proofs.Common.{◌≡◌, ℕ, ◌+◌, ◌≤◌, Bool, false, not, nat_eq, nat_le, Option, Some, None, List, [], ◌∷◌, All, map, max, refl, sym, ap, ◌∙◌, subst, arith}
 use Rattle.std.specs.List.{fold}
 use Rattle.std.specs.Option.{option_map_or}
 use Rattle.std.proofs.Math.Nat.{le-max_left, le-max_right, le_trans}
-use Rattle.std.proofs.lemmas.List.Elements.{All-cons, All-filter, All-nil}
+use Rattle.std.proofs.lemmas.List.Elements.{All-cons, All-filter}
 use Rattle.requirement_table.specs.declared.entries.Placed.{Placed}
 use Rattle.requirement_table.specs.Instance.{Instance, deadline_of, worst_of}
-use Rattle.requirement_table.specs.Slots.{contains_slot, slots}
-use Rattle.requirement_table.specs.Table.{IsWellPlaced, instance_in, is_last_in, is_over, not_over, releases_in, worst_in}
+use Rattle.requirement_table.specs.Table.{IsWellPlaced, instance_in, is_over, not_over, releases_in}
 use Rattle.requirement_table.proofs.Shared.{instance_in-not_over, releases_in-not_over}
 use Rattle.planner_policies.specs.declared.Policy.{Policy}
 use Rattle.planner_policies.specs.Loop.{RepeatsFrom, settled_at}
-use Rattle.planner_policies.specs.Plan.{IsHeldFrom, IsMissAt, IsValid, Planning, by_number, is_by, is_missed_at, key_in, key_of, priority_in}
+use Rattle.planner_policies.specs.Plan.{IsMissAt, IsValid, by_number, key_in, key_of, priority_in}
 use Rattle.admission.specs.declared.decision.Decision.{Decision}
-use Rattle.admission.specs.Recurrence.{IsCommonPeriod, IsLeastCommonPeriod, bound_of}
+use Rattle.admission.specs.Recurrence.{IsCommonPeriod, bound_of}
 use Rattle.admission.specs.Period.{IsPeriodUpTo}
-use Rattle.admission.specs.Verdict.{IsDecisionOnPlan, IsMissDecision}
-use Rattle.admission.proofs.Cycles.{IsLike, like-refl, same-masks, same-missed}
+use Rattle.admission.specs.Verdict.{IsMissDecision}
+use Rattle.admission.proofs.Cycles.{IsLike, same-masks, same-missed}
 use Rattle.admission.proofs.Same.{IsRepeating}
 
 by-same : (a b a' b' : ℕ) (rest other : Bool) → a ≡ a' → b ≡ b' → rest ≡ other → by_number a b rest ≡ by_number a' b' other

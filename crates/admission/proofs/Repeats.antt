@@ -1,5 +1,5 @@
 -- What the first repeat of a walk says of the planning.
-use Rattle.std.proofs.Common.{◌≡◌, ◌≢◌, ℕ, zero, suc, ◌+◌, ◌-◌, ◌%◌, ◌^◌, ◌<◌, ◌≤◌, Option, Some, None, List, All, length, refl, sym, ap, ◌∙◌, subst, arith, ⊎_elim}
+use Rattle.std.proofs.Common.{◌≡◌, ℕ, ◌+◌, ◌-◌, ◌%◌, ◌^◌, ◌<◌, ◌≤◌, Option, Some, None, List, All, refl, sym, subst, arith, ⊎_elim}
 use Rattle.std.proofs.lemmas.Bool.{cases_lt}
 use Rattle.std.proofs.lemmas.Nat.Gcd.{dvd_of_mod-eq-zero, le_of_dvd}
 use Rattle.requirement_table.specs.declared.entries.Placed.{Placed}
@@ -10,7 +10,7 @@ use Rattle.planner_policies.specs.declared.state.PlanState.{PlanState}
 use Rattle.planner_policies.specs.Loop.{RepeatsFrom}
 use Rattle.planner_policies.specs.Plan.{HasNoMiss, NeverMisses, Planning, pending_at}
 use Rattle.recurrence_check.specs.Course.{IsLeastRepeat, IsRepeat, StaysNew, state_after}
-use Rattle.admission.specs.Course.{IsSame, IsSameState, state_at}
+use Rattle.admission.specs.Course.{IsSame, state_at}
 use Rattle.admission.specs.Period.{IsPeriodUpTo}
 use Rattle.admission.specs.Recurrence.{AreAlike, HasNoRecurrence, IsCommonPeriod, IsLeastCommonPeriod, IsRecurrence, bound_of}
 use Rattle.admission.proofs.Cycles.{IsLike}

@@ -1,8 +1,7 @@
 -- The same states go on in the same way, and have the same keys.
-use Rattle.std.proofs.Common.{◌≡◌, ◌≢◌, ℕ, ◌+◌, ◌-◌, ◌%◌, ◌<◌, ◌≤◌, Bool, true, false, nat_eq, nat_lt, if◌then◌else◌, ◌↔◌, Option, Some, None, List, All, get_or, refl, sym, ap, ◌∙◌, subst, arith, ⊎_elim}
-use Rattle.std.proofs.lemmas.Bool.{cases_lt, eq-eqb, eqb-true, ne_eqb}
+use Rattle.std.proofs.Common.{◌≡◌, ◌≢◌, ℕ, ◌+◌, ◌-◌, ◌%◌, ◌<◌, ◌≤◌, Bool, true, false, nat_eq, nat_lt, if◌then◌else◌, Option, Some, None, List, All, get_or, refl, sym, ap, ◌∙◌, subst, arith, ⊎_elim}
+use Rattle.std.proofs.lemmas.Bool.{cases_lt, eq-eqb, ne_eqb}
 use Rattle.std.proofs.lemmas.Bool.Decides.{nat_tests}
-use Rattle.std.proofs.lemmas.Option.{same_Some}
 use Rattle.requirement_table.specs.declared.entries.Placed.{Placed}
 use Rattle.requirement_table.specs.Instance.{Instance, release_of}
 use Rattle.requirement_table.specs.Slots.{contains_slot, set_of, slots}
@@ -13,10 +12,10 @@ use Rattle.planner_policies.specs.declared.Policy.{Policy}
 use Rattle.planner_policies.specs.declared.state.PlanState.{PlanState}
 use Rattle.planner_policies.specs.Loop.{RepeatsFrom}
 use Rattle.planner_policies.specs.Plan.{HasNoMissIn, IsHeldFrom, IsMissIn, IsValid, Ranking, is_missed_in, left_after, planning_of}
-use Rattle.admission.specs.Course.{IsSame, IsSameState, is_held_from, left_from, missed_from, state_behind}
+use Rattle.admission.specs.Course.{is_held_from, left_from, missed_from, state_behind}
 use Rattle.admission.specs.WalkLaws.{GoesOn}
 use Rattle.admission.proofs.Cycles.{Agree, IsLike, like-left, like-missed, like-sym, none-set, set-none}
-use Rattle.admission.proofs.Divided.{divided-along, divided-gap, not-by_zero, same-next}
+use Rattle.admission.proofs.Divided.{divided-along, divided-gap, not-by_zero}
 use Rattle.admission.proofs.Later.{IsSettled, like-behind}
 
 -- what every entry of a list has

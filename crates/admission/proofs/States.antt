@@ -1,6 +1,5 @@
 -- The states that a walk over a planning comes to.
-use Rattle.std.proofs.Common.{◌≡◌, ◌≢◌, ℕ, zero, suc, ◌+◌, ◌-◌, ◌%◌, ◌^◌, ◌<◌, ◌≤◌, Bool, true, false, nat_eq, if◌then◌else◌, Option, Some, None, List, refl, sym, ap, ◌∙◌, subst, arith, ⊎_elim, add-one}
-use Rattle.std.specs.Option.{option_and_then}
+use Rattle.std.proofs.Common.{◌≡◌, ℕ, zero, suc, ◌+◌, ◌^◌, ◌<◌, ◌≤◌, true, false, nat_eq, if◌then◌else◌, Option, Some, None, List, sym, ap, ◌∙◌, subst, arith, ⊎_elim, add-one}
 use Rattle.std.proofs.lemmas.Bool.{cases_lt, eq-eqb, eqb-true}
 use Rattle.std.proofs.lemmas.Option.{cond_some, same_Some}
 use Rattle.requirement_table.specs.declared.entries.Placed.{Placed}
@@ -12,7 +11,7 @@ use Rattle.planner_policies.specs.Plan.{HasNoMiss, Planning, Ranking, is_missed_
 use Rattle.recurrence_check.specs.Course.{Breaks, Course, state_after}
 use Rattle.recurrence_check.proofs.Shared.{state_after-next, state_after-start, state_before}
 use Rattle.admission.specs.Course.{course_of, left_from, missed_from, state_at, state_behind}
-use Rattle.admission.proofs.Cycles.{Agree, AreLike, IsLike, agree-set, like-left, like-missed, none-set, set-none}
+use Rattle.admission.proofs.Cycles.{IsLike, agree-set, like-left, like-missed, none-set, set-none}
 
 -- a walk over a list that is alike in each cycle to the one that is planned
 module _ (policy : Policy) (window : ℕ) (placed walked : List Placed) (from pending bound : ℕ) (period : Option ℕ)

@@ -4,3 +4,4 @@ pub mod Course
 pub mod Period
 pub mod WalkLaws
 pub mod Walked
+pub mod Certified

@@ -43,7 +43,8 @@ pub record IsInTime (rules : Rules) (placed : List Placed) (next : ℕ) (change 
   pub well_formed : IsWellFormed placed rules.nodes change
   pub ahead : next ≤ change.start
 
--- a planning within the horizon: no miss in it
+-- what is to be answered of a planning within a horizon: its first miss, where that lies within it; else there is none in it, and the
+-- answer is the recurrence that lies within it, or that there is none
 abbrev pub IsVerdictOnPlan : ℕ → Planning → Verdict → Type 0
 IsVerdictOnPlan horizon plan (Malformed op why) = ⊥
 IsVerdictOnPlan horizon plan (Passed start next) = ⊥

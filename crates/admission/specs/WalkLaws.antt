@@ -1,5 +1,5 @@
 -- What a walk over the states of a planning owes of them.
-use Rattle.std.specs.Prelude.{◌≡◌, ℕ, ◌+◌, ◌%◌, ◌≤◌, ◌↔◌, Bool, true, false, nat_eq, nat_le, if◌then◌else◌, Option, Some, None, refl}
+use Rattle.std.specs.Prelude.{◌≡◌, ℕ, ◌+◌, ◌%◌, ◌↔◌, Bool, true, false, nat_eq, nat_le, if◌then◌else◌, Option, Some, None}
 use Rattle.std.proofs.Common.{ap, sym, ◌∙◌, subst}
 use Rattle.std.proofs.Math.Nat.{le-add_right, le_trans, mod-add-mod}
 use Rattle.std.proofs.lemmas.Bool.{cond-true, le-leb, leb-true}
@@ -7,7 +7,7 @@ use Rattle.std.proofs.lemmas.Option.{cond_some, none-some}
 use Rattle.planner_policies.specs.declared.state.PlanState.{PlanState}
 use Rattle.planner_policies.specs.Plan.{Ranking}
 use Rattle.recurrence_check.specs.Course.{GoOnAlike}
-use Rattle.admission.specs.Course.{IsSame, IsSameState, key_in_period, left_from, missed_from, state_behind}
+use Rattle.admission.specs.Course.{IsSame, key_in_period, left_from, missed_from, state_behind}
 
 pub same-symmetric : (bound : ℕ) (period : Option ℕ) (one other : PlanState) → IsSame bound period one other → IsSame bound period other one
 same-symmetric bound None one other same = absurd same

@@ -24,7 +24,8 @@ use std::alloc::{AllocError, Global};
 /// Decides of a change of the table. `state` is the next cycle to be opened, from which the changed table is planned, and the slots that are
 /// pending before it.
 ///
-/// It takes time for about the cycles that are walked times the entries that are not over, and memory for the states.
+/// The state is valid, and its cycle is at most 2^41. The rules have 1 to 30 nodes, a window of 55 to 16,383 bit times and a horizon of 1
+/// to 100,000 cycles. It takes time for about the cycles that are walked times the entries that are not over, and memory for the states.
 ///
 /// # Errors
 ///
@@ -124,7 +125,7 @@ fn decide_list(
 }
 
 /// The walk over the planning of a list, which is without the entries that are over.
-fn walk_over(
+pub fn walk_over(
     alloc: Global,
     rules: &Rules,
     list: &[Placed],
@@ -177,12 +178,12 @@ fn missed(alloc: Global, walk: &PlanWalk, at: u64) -> Result<Decision, AllocErro
 }
 
 /// Plans so many cycles, in which nothing is missed: the slots that are planned in them, and the state behind them.
-fn plan_cycles(
+pub fn plan_cycles(
     alloc: Global,
     walk: &PlanWalk,
     cycles: u64,
 ) -> Result<(Vec<Mask>, PlanState), AllocError>
-    requires near { cycles < 100000 }
+    requires near { cycles ≤ 100000 }
     requires none_missed { let first = walk.now.first in
         HasNoMiss (planning_of walk.now.ranked walk.now.window first.cycle first.pending) cycles }
     ensures planned { let first = walk.now.first in
@@ -203,7 +204,7 @@ fn plan_cycles(
 }
 
 /// What is missed in the cycle of the state.
-fn miss(walk: &PlanWalk, state: &PlanState) -> Miss
+pub fn miss(walk: &PlanWalk, state: &PlanState) -> Miss
     requires cycle { state.now.cycle < 2 ^ 42 }
     requires valid { IsValid walk.now.ranked.placed state.now.cycle state.now.pending }
     requires missed { let plan = planning_of walk.now.ranked walk.now.window state.now.cycle state.now.pending in

@@ -1,17 +1,18 @@
 //! Laws about recurrences, verdicts and changes. Each function has no body of its own, and its contract is the law.
 
-ghost use Rattle.std.specs.Prelude.{◌≡◌, ℕ, ◌+◌, ◌<◌, ◌≤◌, List};
+ghost use Rattle.std.specs.Prelude.{◌≡◌, ℕ, ◌+◌, ◌<◌, ◌≤◌, List, All};
 ghost use Rattle.requirement_table.specs.declared.entries.Placed.{Placed};
 ghost use Rattle.requirement_table.specs.Table.{IsWellPlaced};
 ghost use Rattle.change_protocol.specs.declared.operations.Change.{Change};
 ghost use Rattle.change_protocol.specs.Applied.{applied};
-ghost use Rattle.planner_policies.specs.Plan.{HasNoMiss, NeverMisses, Planning, mask_at, pending_at};
+ghost use Rattle.change_protocol.specs.Operations.{HasTypes};
+ghost use Rattle.planner_policies.specs.Plan.{HasNoMiss, IsValid, NeverMisses, Planning, mask_at, pending_at};
 ghost use Rattle.admission_rules.specs.declared.Rules.{Rules};
 ghost use Rattle.admission.specs.declared.verdict.Verdict.{Verdict};
 ghost use Rattle.admission.specs.Recurrence.{IsRecurrence};
-ghost use Rattle.admission.specs.Verdict.{IsVerdict, plan_from};
+ghost use Rattle.admission.specs.Verdict.{IsInTime, IsTakenWhereDue, IsVerdict, plan_from};
 
-use planner_policies::laws::loops;
+use planner_policies::laws::{loops, valid_states};
 
 /// There is one verdict on a change of a list, planned from a cycle on before which the same slots are pending, when the same cycle is the
 /// next one to be opened.
@@ -38,3 +39,14 @@ pub fn not_felt_before_its_start()
         → from + n < change.start
         → mask_at (plan_from rules (applied placed change) from pending) n ≡ mask_at (plan_from rules placed from pending) n }
 {}
+
+/// A change that is in time, and whose planning from a cycle on never misses a deadline, is accepted wherever there is a cycle by which all
+/// entries have settled, in which each live entry releases an instance, and which lies a whole common period within the horizon.
+pub fn taken_where_due()
+    ensures taken { (rules : Rules) (placed : List Placed) (pending from next : ℕ) (change : Change) (verdict : Verdict) → IsWellPlaced placed
+        → All HasTypes change.ops → IsValid placed from pending → from ≤ next → IsInTime rules placed next change
+        → IsVerdict rules placed pending from next change verdict
+        → IsTakenWhereDue rules (plan_from rules (applied placed change) from pending) verdict }
+{
+    valid_states();
+}

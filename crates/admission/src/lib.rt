@@ -4,6 +4,8 @@
 //! Cycles are elementary cycles, counted from 0. Lengths are bit times.
 #![tactic(auto)]
 
+mod certify_fault;
+mod certifying;
 mod deciding;
 mod decision;
 pub mod laws;
@@ -12,6 +14,8 @@ mod verdict;
 mod walk;
 
 pub use admission_rules::Rules;
+pub use certify_fault::CertifyFault;
+pub use certifying::certify;
 pub use deciding::decide;
 pub use decision::{Decision, Trail};
 pub use verdict::Verdict;

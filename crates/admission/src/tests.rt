@@ -1,7 +1,11 @@
 //! Verdicts on tables that were worked out by hand.
 
-use crate::{Decision, Rules, Verdict, decide};
+ghost use Rattle.std.specs.Prelude.{◌↔◌, IsTrue};
+ghost use Rattle.admission.specs.Verdict.{IsRules};
+
+use crate::{CertifyFault, Decision, Rules, Verdict, certify, decide};
 use change_protocol::{Change, Op, Ops, Why};
+use plan_check::Certificate;
 use planner_policies::{PlanState, Policy, rank, valid};
 use requirement_table::{Entry, Mask, Placed, PlacedList, well_placed};
 use std::alloc::{AllocError, Global};
@@ -37,6 +41,15 @@ fn rules(policy: Policy, window: u32, horizon: u64) -> Rules {
     }
 }
 
+/// Whether the rules are in range.
+fn known(rules: &Rules) -> bool
+    ensures { IsTrue result ↔ IsRules rules.now }
+{
+    (1..=30).contains(&rules.nodes)
+        && (55..=16_383).contains(&rules.window)
+        && (1..=100_000).contains(&rules.horizon)
+}
+
 /// What is decided where nothing is pending before the cycle; nothing where the call is not allowed.
 fn decided(
     alloc: Global,
@@ -50,10 +63,7 @@ fn decided(
         cycle,
         pending: Mask::empty(),
     };
-    let known = (1..=30).contains(&rules.nodes)
-        && (55..=16_383).contains(&rules.window)
-        && (1..=100_000).contains(&rules.horizon);
-    if !known || cycle > 1 << 41 || !well_placed(placed) {
+    if !known(rules) || cycle > 1 << 41 || !well_placed(placed) {
         return Ok(None);
     }
     if !valid(&rank(alloc, placed, rules.policy)?, &state) {
@@ -236,6 +246,86 @@ fn changes_one_after_the_other(rt: HostRuntime) -> Result<(), Fail> {
             let (verdict, list) = after(placed, decision);
             assert_eq!(rt; verdict, Some(wanted));
             placed = list;
+        }
+    }
+    Ok(())
+}
+
+/// The certificate of a table of which no cycle was opened; nothing where the call is not allowed.
+fn certified(
+    alloc: Global,
+    rules: &Rules,
+    placed: &[Placed],
+) -> Result<Option<Certificate>, CertifyFault> {
+    if !known(rules) || !well_placed(placed) {
+        return Ok(None);
+    }
+    let state = PlanState {
+        cycle: 0,
+        pending: Mask::empty(),
+    };
+    Ok(Some(certify(alloc, rules, placed, &[], &state)?))
+}
+
+/// A live entry that was placed at cycle 0.
+fn live(fields: Fields) -> Placed {
+    Placed {
+        entry: entry(fields),
+        origin: 0,
+        end: None,
+    }
+}
+
+#[test]
+fn certificates_of_new_tables(rt: HostRuntime) -> Result<(), Fail> {
+    let three = [
+        live((0, 8, 0, 2, 2)),
+        live((1, 8, 0, 2, 2)),
+        live((2, 8, 0, 2, 2)),
+    ];
+    let settling = [
+        live((0, 8, 3, 2, 2)),
+        live((1, 8, 1, 4, 4)),
+        live((2, 8, 1, 4, 4)),
+    ];
+    let long = [live((0, 0, 0, 101, 101)), live((1, 0, 0, 103, 103))];
+    let miss = CertifyFault::Miss {
+        slot: 2,
+        release: 0,
+        cycle: 1,
+    };
+    let no_repeat = CertifyFault::NoRepeat { walked: 10_402 };
+    // The masks, or the fault.
+    let rows = [
+        (
+            rules(Policy::Rm, 270, 10_000),
+            three.as_slice(),
+            Ok((0, [3, 4].as_slice())),
+        ),
+        (
+            rules(Policy::Rm, 135, 10_000),
+            settling.as_slice(),
+            Ok((5, [0, 2, 4, 1, 0, 1, 2, 1, 4].as_slice())),
+        ),
+        (rules(Policy::Rm, 135, 10_000), three.as_slice(), Err(miss)),
+        (
+            rules(Policy::Rm, 135, 10_402),
+            long.as_slice(),
+            Err(no_repeat),
+        ),
+    ];
+    for (rules, list, wanted) in rows {
+        match (certified(rt.alloc(), &rules, list), wanted) {
+            (Ok(Some(certificate)), Ok((first, masks))) => {
+                assert_eq!(rt; certificate.from(), 0);
+                assert_eq!(rt; certificate.first(), first);
+                assert_eq!(rt; certificate.masks().len(), masks.len());
+                for (mask, row) in certificate.masks().iter().zip(masks) {
+                    assert_eq!(rt; mask.bits(), *row);
+                }
+            }
+            (Err(fault), Err(wanted)) => assert_eq!(rt; fault, wanted),
+            _ => assert!(rt; false, "the other kind of answer"),
         }
     }
     Ok(())

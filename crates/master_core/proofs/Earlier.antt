@@ -76,7 +76,7 @@ fresh rules history (Open cycle mask) right =
     })
     (All-nil P)
 
-range-more : (a n : ℕ) → range_with_len a (suc n) ≡ range_with_len a n ++ (a + n) ∷ []
+pub range-more : (a n : ℕ) → range_with_len a (suc n) ≡ range_with_len a n ++ (a + n) ∷ []
 range-more a zero = ap (λ (n : ℕ). n ∷ []) (sym (add-zero a))
 range-more a (suc n) =
     let at : a + 1 + n ≡ a + suc n = omega arith in

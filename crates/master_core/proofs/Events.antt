@@ -1,5 +1,5 @@
 -- What each call keeps of a master.
-use Rattle.std.proofs.Common.{◌≡◌, ℕ, zero, suc, ◌+◌, ◌-◌, ◌^◌, ◌<◌, ◌≤◌, Bool, true, false, cond, if◌then◌else◌, List, [], ◌∷◌, ◌++◌, Option, Some, None, All, length, length-append, refl, sym, ap, ◌∙◌, subst, add-zero, arith}
+use Rattle.std.proofs.Common.{◌≡◌, ℕ, zero, ◌+◌, ◌-◌, ◌^◌, ◌<◌, ◌≤◌, Bool, true, false, cond, if◌then◌else◌, List, [], ◌∷◌, ◌++◌, Option, Some, None, All, length, length-append, refl, sym, ap, ◌∙◌, subst, add-zero, arith}
 use Rattle.std.proofs.lemmas.List.Sums.{sum_by-append}
 use Rattle.std.proofs.lemmas.Option.{same_Some}
 use Rattle.requirement_table.specs.declared.entries.Placed.{Placed}
@@ -18,7 +18,7 @@ use Rattle.admission.specs.declared.verdict.Verdict.TheVariants.{Malformed, Pass
 use Rattle.admission.specs.Verdict.{IsDecision, IsRules, IsVerdict, is_accepted, placed_with, plan_from, trail_of}
 use Rattle.master_core.specs.declared.event.Event.{Event}
 use Rattle.master_core.specs.declared.event.Event.TheVariants.{Submit, Look, Open}
-use Rattle.master_core.specs.History.{IsRightAnswer, IsSince, accepts, is_changed, is_changed_after, is_open, learned_of, next_of, placed_after, placed_of, plan_of}
+use Rattle.master_core.specs.History.{IsRightAnswer, IsSince, is_changed, is_changed_after, is_open, learned_of, next_of, placed_after, placed_of, plan_of}
 use Rattle.master_core.specs.Keeping.{HasRoom, IsKept}
 use Rattle.master_core.proofs.Earlier.{same-of_legal}
 use Rattle.master_core.proofs.Histories.{is_changed-push, legal-push, next_of-push, placed_of-push}

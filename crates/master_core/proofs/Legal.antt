@@ -22,7 +22,7 @@ use Rattle.master_core.proofs.Accepted.{never-missed-then}
 use Rattle.master_core.proofs.Recurring.{recurring}
 use Rattle.master_core.proofs.Histories.{kept-along, placed_of-push}
 
-both-none : {A : Type 0} (xs ys : List A) → xs ++ ys ≡ [] → (xs ≡ []) × (ys ≡ [])
+pub both-none : {A : Type 0} (xs ys : List A) → xs ++ ys ≡ [] → (xs ≡ []) × (ys ≡ [])
 both-none [] ys e = (refl, e)
 both-none (x ∷ xs) ys e = absurd (cc)
 

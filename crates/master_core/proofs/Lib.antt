@@ -1,8 +1,10 @@
 mod Accepted
+mod Certificates
 mod Earlier
 mod Events
 mod Histories
 mod Legal
 mod Planned
 mod Recurring
+mod Repeating
 mod Unfelt

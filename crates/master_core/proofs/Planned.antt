@@ -1,5 +1,5 @@
 -- The plan of the next cycle, made from the entries that are not over.
-use Rattle.std.proofs.Common.{◌≡◌, ℕ, zero, suc, ◌+◌, ◌<◌, ◌≤◌, ◌&&◌, Bool, true, false, nat_lt, List, Option, Some, None, IsSome, refl, sym, ap, ◌∙◌, subst, zero-add, arith}
+use Rattle.std.proofs.Common.{◌≡◌, ℕ, suc, ◌+◌, ◌<◌, ◌≤◌, ◌&&◌, Bool, true, List, Option, Some, None, IsSome, refl, sym, ap, ◌∙◌, subst, zero-add, arith}
 use Rattle.std.proofs.lemmas.Bool.{lt-ltb}
 use Rattle.requirement_table.specs.declared.entries.Placed.{Placed}
 use Rattle.requirement_table.specs.Slots.{contains_slot, set_of, slots}
@@ -25,7 +25,7 @@ module _ (rules : Rules) (history : List Event) (list : List Placed) (since : �
   pub kept-well_placed : IsWellPlaced list
   kept-well_placed = subst IsWellPlaced (sym kept.placed) (sound-of_legal rules history kept.legal.legal).well_placed
 
-  kept-in_time : NeverMisses (plan_of rules list)
+  pub kept-in_time : NeverMisses (plan_of rules list)
   kept-in_time = subst (λ (l : List Placed). NeverMisses (plan_of rules l)) (sym kept.placed) (sound-of_legal rules history kept.legal.legal).in_time
 
   pub kept-valid : IsValid list cycle pending

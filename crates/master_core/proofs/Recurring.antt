@@ -5,10 +5,10 @@ use Rattle.std.proofs.lemmas.List.Elements.{All-cons, All-nil}
 use Rattle.std.proofs.lemmas.Nat.Gcd.{dvd_of_mod-eq-zero, dvd_trans, mod-eq-zero_of_dvd}
 use Rattle.requirement_table.specs.declared.entries.Placed.{Placed}
 use Rattle.requirement_table.specs.Table.{IsWellPlaced}
-use Rattle.planner_policies.specs.Loop.{settled_at}
+use Rattle.planner_policies.specs.Loop.{RepeatsFrom, settled_at}
 use Rattle.planner_policies.specs.Plan.{HasNoMiss, NeverMisses, Planning}
 use Rattle.planner_policies.proofs.Shared.{never-missed}
-use Rattle.admission.specs.Recurrence.{IsRecurrence}
+use Rattle.admission.specs.Recurrence.{AreAlike, IsCommonPeriod, IsRecurrence}
 
 -- what a divisor divides its divisors divide
 divided-along : (small great n : ℕ) → great % small ≡ 0 → n % great ≡ 0 → n % small ≡ 0
@@ -16,7 +16,7 @@ divided-along small great n first second =
     mod-eq-zero_of_dvd small (dvd_trans small (dvd_of_mod-eq-zero small first) (dvd_of_mod-eq-zero great second))
 
 -- numbers with the same rest differ by a multiple
-divided-gap : (one other length : ℕ) → one ≤ other → one % length ≡ other % length → (other - one) % length ≡ 0
+pub divided-gap : (one other length : ℕ) → one ≤ other → one % length ≡ other % length → (other - one) % length ≡ 0
 divided-gap one other length order same =
     let first = div-add-mod' one length in
     let second = div-add-mod' other length in
@@ -36,21 +36,24 @@ settled-within (p ∷ placed) from bound within =
     begun [] from bound within = within
     begun (p ∷ placed) from bound within = let above = begun placed (max from (settled_at p)) bound within in omega arith
 
+-- between two cycles with the same plan state every entry repeats
+pub alike-repeats : (plan : Planning) (period n m : ℕ) → n ≤ m → IsCommonPeriod plan.placed period → AreAlike plan period n m
+    → All (RepeatsFrom (plan.from + n) (m - n)) plan.placed
+alike-repeats plan period n m order common alike i d inside =
+    let gap : (plan.from + m) - (plan.from + n) ≡ m - n = omega arith in
+    let whole : (m - n) % period ≡ 0 =
+    subst (λ (k : ℕ). k % period ≡ 0) gap (divided-gap (plan.from + n) (plan.from + m) period (omega arith) alike.place) in
+    record {
+      settled = settled-within plan.placed plan.from (plan.from + n) alike.one_settled i d inside;
+      divided = λ live. divided-along _ period (m - n) (common.divided i d inside live) whole;
+    }
+
 pub recurring : (plan : Planning) (horizon first length : ℕ) → IsWellPlaced plan.placed → HasNoMiss plan horizon → IsRecurrence plan first length
     → first + length ≤ plan.from + horizon → NeverMisses plan
 recurring plan horizon first length well none recurrence within =
     let n = recurrence.number in
     let at = recurrence.at in
     let some = recurrence.some_cycles in
-    let alike = recurrence.alike in
-    let divided : ((plan.from + (n + length)) - (plan.from + n)) % recurrence.period ≡ 0
-    = divided-gap (plan.from + n) (plan.from + (n + length)) recurrence.period (omega arith) alike.place in
-    let gap : (plan.from + (n + length)) - (plan.from + n) ≡ (n + length) - n = omega arith in
-    let whole : ((n + length) - n) % recurrence.period ≡ 0 = subst (λ (m : ℕ). m % recurrence.period ≡ 0) gap divided in
-    let settled = settled-within plan.placed plan.from (plan.from + n) alike.one_settled in
     never-missed plan n (n + length) well (omega arith)
-    (λ i d inside. record {
-      settled = settled i d inside;
-      divided = λ live. divided-along _ recurrence.period ((n + length) - n) (recurrence.least_common.common.divided i d inside live) whole;
-    })
-    alike.pending (λ m slot early known. none m slot (omega arith) known)
+    (alike-repeats plan recurrence.period n (n + length) (omega arith) recurrence.least_common.common recurrence.alike)
+    recurrence.alike.pending (λ m slot early known. none m slot (omega arith) known)

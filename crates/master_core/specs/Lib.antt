@@ -1,3 +1,4 @@
+pub mod Certificates
 pub mod History
 pub mod Keeping
 pub mod Openings

@@ -16,7 +16,7 @@ pub enum Event {
         verdict: Verdict,
         trail: Trail,
     },
-    /// Operator `caller` asked for the next cycle to be opened.
+    /// Operator `caller` asked which cycle is opened next.
     Look {
         caller: u8,
         next: u64,

@@ -7,6 +7,7 @@
 mod event;
 pub mod laws;
 mod master;
+mod opened;
 mod planning;
 mod room;
 mod table;

@@ -1,18 +1,25 @@
 //! The master, which answers calls and opens cycles.
 
 ghost use Rattle.std.specs.Prelude.{◌≡◌, ◌+◌, ◌^◌, ◌<◌, ◌≤◌, ◌++◌, ◌∷◌, [], List, ℕ, IfOk, OnErr, OnOk, length};
-ghost use Rattle.admission.specs.Verdict.{IsRules};
+ghost use Rattle.change_protocol.specs.Applied.{applied};
 ghost use Rattle.planner_policies.specs.Plan.{mask_at, pending_at};
+ghost use Rattle.plan_check.specs.PlanKept.{IsTaken};
+ghost use Rattle.admission.specs.Certified.{end_of};
+ghost use Rattle.admission.specs.Verdict.{IsInTime, IsRules, IsTakenWhereDue, plan_from};
+ghost use Rattle.master_core.specs.Certificates.{IsCertificateOfPlan};
 ghost use Rattle.master_core.specs.declared.event.Event.TheVariants.{Submit, Look, Open};
 ghost use Rattle.master_core.specs.History.{IsPlainlyLegal, next_of, placed_of, plan_of};
 ghost use Rattle.master_core.specs.Orders.{IsOrder};
 
 use crate::event::Event;
+use crate::opened::opened_masks;
 use crate::planning::{Planned, plan_next};
 use crate::room::{make_room, put};
 use crate::table::{Table, copy_of, list_of};
-use admission::{Decision, Rules, Verdict, decide};
+use admission::{CertifyFault, Decision, Rules, Verdict, certify, decide};
 use change_protocol::Change;
+use plan_check::Certificate;
+use planner_policies::laws::loops;
 use planner_policies::{PlanState, cycle_mask};
 use requirement_table::{Mask, Order, Placed, PlacedList};
 use std::alloc::{AllocError, Global};
@@ -106,6 +113,11 @@ impl Master {
         ensures event { IfOk result (λ verdict. (trail : List ℕ) × (self.new.history
             ≡ self.old.history ++ Submit caller change.now (next_of self.old.history) verdict trail ∷ [])) }
         ensures same { OnErr result (self.new.history ≡ self.old.history) }
+        ensures complete { let next = next_of self.old.history in
+            let pending = pending_at (plan_of self.old.rules (placed_of self.old.history)) next in
+            let plan = plan_from self.old.rules (applied (placed_of self.old.history) change.now) next pending in
+            IfOk result (λ verdict. IsInTime self.old.rules (placed_of self.old.history) next change.now
+            → IsTakenWhereDue self.old.rules plan verdict) }
         ensures spare { self.new.spare ≡ self.old.spare }
         ensures legal { IsPlainlyLegal self.new.rules self.new.history }
         ensures few { length self.new.history + self.new.spare < 2 ^ 61 }
@@ -209,6 +221,31 @@ impl Master {
         ensures pending { result.pending ≡ pending_at (plan_of self.now.rules (placed_of self.now.history)) (next_of self.now.history) }
     {
         self.state
+    }
+
+    /// The certificate of the table: its plan from cycle 0 on, before which nothing is pending, up to the end of the first repeat of the plan
+    /// that goes on from the next cycle. That repeat is within the horizon of the rules, and no deadline is missed at any cycle.
+    ///
+    /// It takes time for about twice the cycles up to the end of the repeat times the entries that are not over, and for the history; and
+    /// memory for the masks and the states.
+    ///
+    /// # Errors
+    ///
+    /// Only where memory runs out.
+    pub fn certificate(&self, alloc: Global) -> Result<Certificate, AllocError>
+        ensures certificate { IfOk result (IsCertificateOfPlan self.now.rules self.now.history) }
+        ensures taken { IfOk result (IsTaken (placed_of self.now.history) self.now.rules.window) }
+        ensures cycles { IfOk result (λ certificate. end_of certificate ≤ 2 ^ 42) }
+    {
+        loops();
+        let placed = self.table.placed.as_slice();
+        let opened = opened_masks(alloc, self.history.as_slice())?;
+        match certify(alloc, &self.rules, placed, opened.as_slice(), &self.state) {
+            Ok(certificate) => Ok(certificate),
+            Err(CertifyFault::Memory) => Err(AllocError),
+            Err(CertifyFault::Miss { .. }) => unreachable!(),
+            Err(CertifyFault::NoRepeat { .. }) => unreachable!(),
+        }
     }
 
     /// The next cycle to be opened.

@@ -4,7 +4,7 @@ use crate::Master;
 use admission::{Rules, Verdict};
 use change_protocol::{Change, Op, Ops, Why};
 use planner_policies::Policy;
-use requirement_table::Entry;
+use requirement_table::{Entry, Mask};
 use std::alloc::{AllocError, Global};
 use std::test::Fail;
 
@@ -123,6 +123,16 @@ fn change_in_place(rt: HostRuntime) -> Result<(), Fail> {
             }
     );
     assert!(rt; opened(alloc, &mut master)? == (3, 0, 0, Some(2)));
+    // From cycle 0 to the end of the new entry's first period, with a flag wherever one of the two is released.
+    let certificate = master.certificate(alloc)?;
+    assert!(rt; certificate.from() == 0);
+    assert!(rt; certificate.pending() == Mask::empty());
+    assert!(rt; certificate.first() == 12);
+    assert!(rt; certificate.length() == 4);
+    assert!(rt; certificate.masks().len() == 16);
+    for (cycle, mask) in certificate.masks().iter().enumerate() {
+        assert!(rt; mask.bits() == u128::from(cycle % 4 == 0));
+    }
     assert!(rt; opened(alloc, &mut master)? == (4, 1, 135, None));
     assert!(rt; master.rules().window == 135);
     assert!(rt; master.history().len() == 8);

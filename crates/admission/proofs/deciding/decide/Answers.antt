@@ -1,4 +1,4 @@
-use Rattle.std.proofs.Common.{◌≡◌, ◌≤◌, List, IfOk, subst}
+use Rattle.std.proofs.Common.{List, IfOk, subst}
 use Rattle.requirement_table.specs.declared.entries.Placed.{Placed}
 use Rattle.admission.specs.Verdict.{IsInTime, IsTakenWhereDue, plan_from}
 use Rattle.admission.proofs.Changed.{held-changed}

@@ -1,4 +1,4 @@
-use Rattle.std.proofs.Common.{◌≡◌, ◌+◌, Some, List, ap, refl, ◌∙◌}
+use Rattle.std.proofs.Common.{◌+◌, Some, List, ap, refl, ◌∙◌}
 use Rattle.requirement_table.specs.declared.entries.Placed.{Placed}
 use Rattle.planner_policies.specs.Plan.{planning_of}
 use Rattle.admission.specs.Verdict.{IsDecisionOnPlan, IsMissDecision, IsTakenWhereDue, plan_from}

@@ -1,4 +1,4 @@
-use Rattle.std.proofs.Common.{◌≡◌, ◌+◌, List, [], ℕ, sym, subst}
+use Rattle.std.proofs.Common.{◌+◌, List, ℕ, sym, subst}
 use Rattle.planner_policies.specs.Plan.{planning_of}
 use Rattle.admission.specs.Verdict.{IsPlannedUpTo}
 use Rattle.admission.proofs.Planned.{none-at, planned-next, planned-start}

@@ -1,4 +1,4 @@
-use Rattle.std.proofs.Common.{None, arith, sym, subst}
+use Rattle.std.proofs.Common.{sym, subst}
 use Rattle.admission.specs.Period.{IsPeriodUpTo}
 use Rattle.admission.proofs.Multiples.{none-more, so_far-all, so_far-more}
 use Rattle.admission.proofs.periods.period.Goals as goal

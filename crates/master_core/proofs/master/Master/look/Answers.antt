@@ -1,4 +1,4 @@
-use Rattle.std.proofs.Common.{◌≡◌, ◌≤◌, ap, arith}
+use Rattle.std.proofs.Common.{◌≡◌, ap, arith}
 use Rattle.master_core.specs.Keeping.{MasterView}
 use Rattle.master_core.proofs.Events.{kept-look, room-used}
 use Rattle.master_core.proofs.master.Master.look.Goals as goal

@@ -1,4 +1,4 @@
-use Rattle.std.proofs.Common.{◌≡◌, ◌≤◌, ◌<◌, ◌^◌, ap, ◌∙◌, sym, subst, arith}
+use Rattle.std.proofs.Common.{◌≡◌, ap, ◌∙◌, subst, arith}
 use Rattle.master_core.specs.History.{next_of}
 use Rattle.master_core.specs.Keeping.{MasterView}
 use Rattle.master_core.specs.Orders.{IsOrder}

@@ -1,4 +1,4 @@
-use Rattle.std.proofs.Common.{◌≡◌, ℕ, List, ap, ◌∙◌}
+use Rattle.std.proofs.Common.{ℕ, List, ap, ◌∙◌}
 use Rattle.requirement_table.specs.declared.entries.Placed.{Placed}
 use Rattle.planner_policies.specs.Plan.{mask_at}
 use Rattle.master_core.specs.History.{next_of, placed_of, plan_of}

@@ -1,4 +1,6 @@
-use Rattle.std.proofs.Common.{◌≡◌, ◌≤◌, ap, ◌∙◌, arith}
+use Rattle.std.proofs.Common.{subst}
+use Rattle.master_core.specs.Keeping.{MasterView}
+use Rattle.master_core.proofs.Certificates.{IsDue, kept-due}
 use Rattle.master_core.proofs.Events.{kept-refused, kept-taken, room-made, taken-well_placed}
 use Rattle.master_core.proofs.Planned.{kept-valid, kept-well_placed}
 use Rattle.master_core.proofs.master.Master.submit.Goals as goal
@@ -58,3 +60,17 @@ returns-in_ok-make_room-in-Some-clause-legal c =
     let types = c.in_ok-copy_of.ensures.types in
     rw (c.put-in-Some.ensures.events, c.in_ok-make_room-in-Some.ensures.same, c.in_ok-copy_of.ensures.same)
     (kept-taken _ _ _ _ _ _ _ _ c.self.invariant.0 c.args.caller c.args.change.now c.in_ok-decision.decision types decided c.in-Some.list c.in-Some.is).legal
+
+pub returns-in_ok-make_room-in-None-clause-complete : goal.returns-in_ok-make_room-in-None-clause-complete
+returns-in_ok-make_room-in-None-clause-complete c =
+    let list = c.as_slice.ensures.value in
+    let due = rw list at c.in_ok-decision.ensures.complete in
+    subst (λ (v : MasterView). IsDue v.rules v.history c.args.change.now c.in_ok-decision.decision.verdict) c.self.view_is
+    (kept-due _ _ _ _ _ _ _ _ c.self.invariant.0 c.args.change.now c.in_ok-decision.decision.verdict due)
+
+pub returns-in_ok-make_room-in-Some-clause-complete : goal.returns-in_ok-make_room-in-Some-clause-complete
+returns-in_ok-make_room-in-Some-clause-complete c =
+    let list = c.as_slice.ensures.value in
+    let due = rw list at c.in_ok-decision.ensures.complete in
+    subst (λ (v : MasterView). IsDue v.rules v.history c.args.change.now c.in_ok-decision.decision.verdict) c.self.view_is
+    (kept-due _ _ _ _ _ _ _ _ c.self.invariant.0 c.args.change.now c.in_ok-decision.decision.verdict due)

@@ -1,6 +1,3 @@
-use Rattle.std.proofs.Common.{subst, sym, ◌∙◌, List}
-use Rattle.requirement_table.specs.declared.entries.Placed.{Placed}
-use Rattle.requirement_table.specs.Table.{IsWellPlaced}
 use Rattle.requirement_table.proofs.Shared.{not_over-well_placed}
 use Rattle.master_core.proofs.table.Table.of.Goals as goal
 

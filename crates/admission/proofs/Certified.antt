@@ -1,0 +1,154 @@
+-- What is answered where a certificate is asked for, by what was found in the walk over the planning.
+use Rattle.std.proofs.Common.{◌≡◌, ℕ, ◌+◌, ◌-◌, ◌%◌, ◌<◌, ◌≤◌, false, List, ◌++◌, All, length, sym, ap, ◌∙◌, subst, ⊎_elim, zero-add, arith}
+use Rattle.std.proofs.lemmas.Bool.{cases_lt}
+use Rattle.requirement_table.specs.declared.entries.Placed.{Placed}
+use Rattle.requirement_table.specs.Slots.{slots}
+use Rattle.requirement_table.specs.Table.{IsWellPlaced}
+use Rattle.planner_policies.specs.declared.state.PlanState.{PlanState}
+use Rattle.planner_policies.specs.Loop.{RepeatsFrom}
+use Rattle.planner_policies.specs.Plan.{HasNoMiss, NeverMisses, Planning, is_missed_at, pending_at, pending_before}
+use Rattle.planner_policies.proofs.Shared.{on-missed, on-pending}
+use Rattle.plan_check.specs.Certificate.{CertificateView, length_of}
+use Rattle.plan_check.specs.PlanKept.{IsTaken}
+use Rattle.admission_rules.specs.declared.Rules.{Rules}
+use Rattle.admission.specs.declared.verdict.Verdict.TheVariants.{Accepted}
+use Rattle.admission.specs.Certified.{IsCertificateOf, end_of}
+use Rattle.admission.specs.Recurrence.{IsRecurrence}
+use Rattle.admission.specs.Verdict.{IsVerdictOnPlan, masks_of, plan_from}
+use Rattle.requirement_table.proofs.Shared.{set_of-same}
+use Rattle.admission.proofs.Divided.{divided-along, divided-gap}
+use Rattle.admission.proofs.Listed.{later_plan, masks-length, on-masks}
+use Rattle.admission.proofs.Once.{repeat-never}
+use Rattle.admission.proofs.Reduced.{settled-by}
+use Rattle.admission.proofs.Row.{PlanLaws, row, row-length, row-taken}
+
+-- what is known of a certificate that was made
+pub record IsMade (rules : Rules) (placed : List Placed) (opened : List ℕ) (state : PlanState) (made : CertificateView) : Type 0 where
+  pub certificate : IsCertificateOf rules placed opened state made
+  pub whole : made.masks ≡ masks_of (plan_from rules placed 0 0) (end_of made)
+  pub taken : IsTaken placed rules.window made
+
+-- the plan from cycle 0 on goes on behind the opened cycles as it is planned from the state
+module _ (rules : Rules) (placed : List Placed) (cycle pending : ℕ) (left : pending ≡ pending_at (plan_from rules placed 0 0) cycle) where
+  abbrev whole : Planning
+  whole = plan_from rules placed 0 0
+
+  abbrev onward : Planning
+  onward = plan_from rules placed cycle pending
+
+  onward-is : later_plan whole cycle ≡ onward
+  onward-is =
+      ap (λ n. plan_from rules placed n (pending_at whole cycle)) (zero-add cycle) ∙ ap (λ set. plan_from rules placed cycle set) (sym left)
+
+  pub whole-masks : (n : ℕ) → masks_of whole (cycle + n) ≡ masks_of whole cycle ++ masks_of onward n
+  whole-masks n = on-masks whole cycle n ∙ ap (λ (plan : Planning). masks_of whole cycle ++ masks_of plan n) onward-is
+
+  pub whole-pending : (n : ℕ) → pending_at whole (cycle + n) ≡ pending_at onward n
+  whole-pending n =
+      set_of-same slots (pending_before whole (cycle + n)) (pending_before onward n)
+      (λ slot known. on-pending whole cycle n slot known ∙ ap (λ (plan : Planning). pending_before plan n slot) onward-is)
+
+  whole-missed : (n slot : ℕ) → slot < slots → is_missed_at whole (cycle + n) slot ≡ is_missed_at onward n slot
+  whole-missed n slot known = on-missed whole cycle n slot known ∙ ap (λ (plan : Planning). is_missed_at plan n slot) onward-is
+
+  pub whole-never : HasNoMiss whole cycle → NeverMisses onward → NeverMisses whole
+  whole-never none never m slot known =
+      ⊎_elim
+      (λ (early : m < cycle). none m slot early known)
+      (λ (late : cycle ≤ m).
+      let at : cycle + (m - cycle) ≡ m = omega arith in
+      subst (λ n. is_missed_at whole n slot ≡ false) at (whole-missed (m - cycle) slot known ∙ never (m - cycle) slot known))
+      (cases_lt m cycle)
+
+  module _ (laws : PlanLaws) (opened planned : List ℕ) (b d : ℕ) (well : IsWellPlaced placed) (none : HasNoMiss whole cycle) (opened_is : opened ≡ masks_of whole cycle)
+      (number : ℕ) (at : b ≡ cycle + number) (planned_is : planned ≡ masks_of onward (number + d))
+      (found : IsVerdictOnPlan rules.horizon onward (Accepted b d)) where
+    recurrence : IsRecurrence onward b d
+    recurrence = found.1
+
+    some : 0 < d
+    some = recurrence.some_cycles
+
+    never : NeverMisses whole
+    never = whole-never none (repeat-never laws.never_missed onward b d rules.horizon well recurrence found.2 found.0)
+
+    pub listed-whole : opened ++ planned ≡ masks_of whole (b + d)
+    listed-whole =
+        let end : cycle + (number + d) ≡ b + d = omega arith in
+        ap (λ (list : List ℕ). list ++ planned) opened_is
+        ∙ ap (λ (list : List ℕ). masks_of whole cycle ++ list) planned_is
+        ∙ sym (whole-masks (number + d))
+        ∙ ap (masks_of whole) end
+
+    again : pending_at whole b ≡ pending_at whole (b + d)
+    again =
+        let first = recurrence.at in
+        let one : cycle + recurrence.number ≡ b = omega arith in
+        let other : cycle + (recurrence.number + d) ≡ b + d = omega arith in
+        ap (λ n. pending_at whole n) (sym one)
+        ∙ whole-pending recurrence.number
+        ∙ recurrence.alike.pending
+        ∙ sym (whole-pending (recurrence.number + d))
+        ∙ ap (λ n. pending_at whole n) other
+
+    repeats : All (RepeatsFrom b d) placed
+    repeats i x within =
+        let first = recurrence.at in
+        let alike = recurrence.alike in
+        let settled = alike.one_settled in
+        let by = settled-by cycle placed i x within in
+        let gap : cycle + (recurrence.number + d) - (cycle + recurrence.number) ≡ d = omega arith in
+        let whole_periods : d % recurrence.period ≡ 0 =
+        subst (λ n. n % recurrence.period ≡ 0) gap
+        (divided-gap (cycle + recurrence.number) (cycle + (recurrence.number + d)) recurrence.period (omega arith) alike.place) in
+        record {
+          settled = omega arith;
+          divided = λ live. divided-along _ recurrence.period d (recurrence.least_common.common.divided i x within live) whole_periods;
+        }
+
+    row-is : (certificate : CertificateView) → certificate.from ≡ 0 → certificate.pending ≡ 0 → certificate.first ≡ b → certificate.masks ≡ opened ++ planned
+        → row laws rules placed b d well some ≡ certificate
+    row-is certificate from pends first masks =
+        ap (λ (n : ℕ). record (row laws rules placed b d well some) { from = n }) (sym from)
+        ∙ ap (λ (n : ℕ). record (row laws rules placed b d well some) { from = certificate.from; pending = n }) (sym pends)
+        ∙ ap (λ (n : ℕ). record (row laws rules placed b d well some) { from = certificate.from; pending = certificate.pending; first = n }) (sym first)
+        ∙ ap (λ (list : List ℕ). record certificate { masks = list }) (sym (masks ∙ listed-whole))
+
+    -- the certificate that is made of them
+    module _ (certificate : CertificateView) (from : certificate.from ≡ 0) (pends : certificate.pending ≡ 0) (first : certificate.first ≡ b)
+        (masks : certificate.masks ≡ opened ++ planned) where
+      same : row laws rules placed b d well some ≡ certificate
+      same = row-is certificate from pends first masks
+
+      taken-is : IsTaken placed rules.window certificate
+      taken-is = subst (λ (c : CertificateView). IsTaken placed rules.window c) same (row-taken laws rules placed b d well some repeats again never)
+
+      length-is : length_of certificate ≡ d
+      length-is = ap length_of (sym same) ∙ row-length laws rules placed b d well some
+
+      end-is : end_of certificate ≡ b + d
+      end-is = let all = length-is in omega arith
+
+      whole-is : certificate.masks ≡ masks_of whole (end_of certificate)
+      whole-is = masks ∙ listed-whole ∙ ap (masks_of whole) (sym end-is)
+
+      certificate-is : IsCertificateOf rules placed opened (record { cycle = cycle; pending = pending }) certificate
+      certificate-is =
+          let behind : number + d ≡ end_of certificate - cycle = let end = end-is in omega arith in
+          record {
+            start = from;
+            nothing_pending = pends;
+            listed = masks ∙ ap (λ (list : List ℕ). opened ++ list) (planned_is ∙ ap (masks_of onward) behind);
+            repeats =
+                subst (λ n. IsVerdictOnPlan rules.horizon onward (Accepted n (length_of certificate))) (sym first)
+                (subst (λ n. IsVerdictOnPlan rules.horizon onward (Accepted b n)) (sym length-is) found);
+          }
+
+      pub made-of : IsMade rules placed opened (record { cycle = cycle; pending = pending }) certificate
+      made-of = record { certificate = certificate-is; whole = whole-is; taken = taken-is }
+
+    pub within-listed : (masks : List ℕ) → masks ≡ opened ++ planned → b < 0 + length masks
+    within-listed masks is =
+        let all : length masks ≡ b + d = ap length (is ∙ listed-whole) ∙ masks-length whole (b + d) in
+        let more = some in
+        omega arith

@@ -1,0 +1,51 @@
+-- A verdict is an acceptance wherever one is due.
+use Rattle.std.proofs.Common.{◌≡◌, ℕ, ◌≤◌, true, false, List, [], ◌∷◌, ◌++◌, All, refl, sym, ◌∙◌, arith}
+use Rattle.std.proofs.Math.Nat.{le_trans}
+use Rattle.requirement_table.specs.declared.entries.Placed.{Placed}
+use Rattle.requirement_table.specs.Table.{IsWellPlaced}
+use Rattle.change_protocol.specs.declared.operations.Change.{Change}
+use Rattle.change_protocol.specs.Applied.{applied}
+use Rattle.change_protocol.specs.Malformed.{broken, change_faults, faults, op_faults}
+use Rattle.change_protocol.specs.Operations.{HasTypes}
+use Rattle.change_protocol.proofs.Shared.{changed-applied, well_placed-applied}
+use Rattle.planner_policies.specs.Plan.{IsValid}
+use Rattle.admission_rules.specs.declared.Rules.{Rules}
+use Rattle.admission.specs.declared.verdict.Verdict.{Verdict}
+use Rattle.admission.specs.declared.verdict.Verdict.TheVariants.{Malformed, Passed, Miss, Horizon, Accepted}
+use Rattle.admission.specs.Verdict.{IsInTime, IsTakenWhereDue, IsVerdict, plan_from}
+use Rattle.admission.proofs.Changed.{held-changed}
+use Rattle.admission.proofs.Complete.{StaysValid, recurs}
+use Rattle.admission.proofs.Once.{no-fault}
+
+both-none : {A : Type 0} (xs ys : List A) → xs ++ ys ≡ [] → (xs ≡ []) × (ys ≡ [])
+both-none [] ys e = (refl, e)
+both-none (x ∷ xs) ys e = absurd (cc)
+
+module _ (valid : StaysValid) (rules : Rules) (placed : List Placed) (pending from next : ℕ) (change : Change) (well : IsWellPlaced placed)
+    (types : All HasTypes change.ops) (held : IsValid placed from pending) (opened : from ≤ next) (in_time : IsInTime rules placed next change) where
+  applied-well : IsWellPlaced (applied placed change)
+  applied-well =
+      let formed = both-none (change_faults change.start change.ops) (op_faults placed rules.nodes change.start [] change.ops) in_time.well_formed in
+      well_placed-applied placed rules.nodes change well formed.0 formed.1 types
+
+  applied-held : IsValid (applied placed change) from pending
+  applied-held =
+      held-changed change.start from pending placed (applied placed change) (changed-applied placed change well.in_range) (le_trans opened in_time.ahead) held
+
+  pub taken-due : (verdict : Verdict) → IsVerdict rules placed pending from next change verdict
+      → IsTakenWhereDue rules (plan_from rules (applied placed change) from pending) verdict
+  taken-due (Malformed op why) is never c period settled releases least within =
+      absurd (no-fault (faults placed rules.nodes change) (broken op why) in_time.well_formed is)
+  taken-due (Passed start after) is never c period settled releases least within =
+      let early = is.1 in
+      let ahead = in_time.ahead in
+      absurd (omega arith)
+  taken-due (Miss slot release cycle) is never c period settled releases least within =
+      let miss = is.1.0.miss in
+      let not = never is.1.0.number slot miss.known in
+      absurd (let both : true ≡ false = sym miss.missed ∙ not in cc)
+  taken-due (Horizon first walked) is never c period settled releases least within =
+      absurd
+      (recurs valid (plan_from rules (applied placed change) from pending) rules.horizon applied-well applied-held never c period settled releases least within
+      is.1.1)
+  taken-due (Accepted first length) is never c period settled releases least within = refl

@@ -1,0 +1,102 @@
+//! Certificates of a table.
+
+ghost use Rattle.std.specs.Prelude.{◌≡◌, ◌+◌, ◌^◌, ◌<◌, ◌≤◌, ◌++◌, IfErr, IfOk};
+ghost use Rattle.requirement_table.specs.Table.{IsWellPlaced};
+ghost use Rattle.planner_policies.specs.Plan.{HasNoMiss, pending_at, planning_of};
+ghost use Rattle.plan_check.specs.PlanKept.{IsTaken};
+ghost use Rattle.admission.specs.Certified.{IsCertificateOf, IsFaultOnPlan, IsMissBehind, end_of};
+ghost use Rattle.admission.specs.Verdict.{IsRules, masks_of, plan_from};
+
+use crate::certify_fault::CertifyFault;
+use crate::deciding::{miss, plan_cycles, walk_over};
+use crate::walk::PlanWalk;
+use admission_rules::Rules;
+use plan_check::Certificate;
+use planner_policies::laws::{keeping, loops, valid_states};
+use planner_policies::{Miss, PlanState};
+use recurrence_check::{Repeat, WalkEnd, lasso_keyed};
+use requirement_table::laws::flagged_once;
+use requirement_table::{Mask, Placed};
+use std::alloc::{AllocError, Global};
+
+/// The certificate of a table: the plan from cycle 0 on with nothing pending, up to the end of its first repeat at or behind the state.
+///
+/// `opened` are the masks of the cycles from 0 to below the state's cycle, at most 2^41: the plan of the placed entries, in which nothing
+/// is missed. `state` is the state behind them. The rules have 1 to 30 nodes, a window of 55 to 16,383 bit times and a horizon of 1 to
+/// 100,000 cycles. It takes time for about twice the cycles that are walked times the entries that are not over, and memory for their
+/// states and for all masks.
+///
+/// # Errors
+///
+/// `Miss` exactly where an instance would miss its deadline in a cycle below the state's cycle + horizon. `NoRepeat` exactly where none
+/// would and the plan has no repeat at or below that. `Memory` says nothing of the table.
+pub fn certify(
+    alloc: Global,
+    rules: &Rules,
+    placed: &[Placed],
+    opened: &[Mask],
+    state: &PlanState,
+) -> Result<Certificate, CertifyFault>
+    requires rules { IsRules rules.now }
+    requires well_placed { IsWellPlaced placed.now }
+    requires next { state.now.cycle ≤ 2 ^ 41 }
+    requires opened { opened.now ≡ masks_of (plan_from rules.now placed.now 0 0) state.now.cycle }
+    requires in_time { HasNoMiss (plan_from rules.now placed.now 0 0) state.now.cycle }
+    requires pending { state.now.pending ≡ pending_at (plan_from rules.now placed.now 0 0) state.now.cycle }
+    ensures certificate { IfOk result (IsCertificateOf rules.now placed.now opened.now state.now) }
+    ensures whole { IfOk result (λ certificate.
+        certificate.masks ≡ masks_of (plan_from rules.now placed.now 0 0) (end_of certificate)) }
+    ensures taken { IfOk result (IsTaken placed.now rules.now.window) }
+    ensures fault { IfErr result
+        (IsFaultOnPlan rules.now.horizon (plan_from rules.now placed.now state.now.cycle state.now.pending)) }
+{
+    keeping();
+    loops();
+    valid_states();
+    flagged_once();
+    let walk = walk_over(alloc, rules, placed, state)?;
+    match lasso_keyed(alloc, &walk, rules.horizon) {
+        Ok(Repeat { first, length }) => {
+            let (planned, _) = plan_cycles(alloc, &walk, first + length)?;
+            let masks = joined(alloc, opened, planned.as_slice())?;
+            Ok(Certificate::new(0, Mask::empty(), state.cycle + first, masks))
+        }
+        Err(WalkEnd::Broken { at }) => {
+            let Miss {
+                slot,
+                release,
+                cycle,
+            } = first_miss(alloc, &walk, at)?;
+            Err(CertifyFault::Miss {
+                slot,
+                release,
+                cycle,
+            })
+        }
+        Err(WalkEnd::NoRepeat { walked }) => Err(CertifyFault::NoRepeat { walked }),
+        Err(WalkEnd::Memory) => Err(CertifyFault::Memory),
+    }
+}
+
+/// The masks of both lists, in memory of their own.
+fn joined(alloc: Global, opened: &[Mask], planned: &[Mask]) -> Result<Vec<Mask>, AllocError>
+    ensures masks { IfOk result (λ masks. masks.items ≡ opened.now ++ planned.now) }
+{
+    let mut masks = opened.to_vec(alloc)?;
+    masks.extend_from_slice(planned)?;
+    Ok(masks)
+}
+
+/// The miss of a plan, where the first one is in the cycle behind `at` cycles. They are planned once more.
+fn first_miss(alloc: Global, walk: &PlanWalk, at: u64) -> Result<Miss, AllocError>
+    requires near { at < 100000 }
+    requires none_before { let first = walk.now.first in
+        HasNoMiss (planning_of walk.now.ranked walk.now.window first.cycle first.pending) at }
+    requires missed { let first = walk.now.first in
+        ¬ HasNoMiss (planning_of walk.now.ranked walk.now.window first.cycle first.pending) (at + 1) }
+    ensures miss { let first = walk.now.first in
+        IfOk result (IsMissBehind (planning_of walk.now.ranked walk.now.window first.cycle first.pending) at) }
+{
+    let (_, state) = plan_cycles(alloc, walk, at)?;
+    Ok(miss(walk, &state))
+}
