@@ -18,8 +18,8 @@ use ftt_io::{FetchFault, Shelf};
 use input_text::{
     RequestFault, Step, StepFault, System, SystemFault, read_requests, read_steps, read_system,
 };
-use requirement_table::Mask;
 use plan_check::{Certificate, PlanTextFault, read_plan};
+use requirement_table::Mask;
 use std::alloc::Global;
 
 /// The greatest number of bytes of a file.

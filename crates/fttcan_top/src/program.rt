@@ -11,10 +11,10 @@ ghost use Rattle.fttcan_top.specs.Output.{Asked, Stopped, IsAnswer, IsAsked, IsA
 ghost use Rattle.fttcan_top.specs.Words.{command_of, file_count, named};
 
 use crate::load::{Refusal, Source, Stop, Task, load};
-use crate::work::{Outcome, work_out};
 use crate::rows::put_rows;
 use crate::status::Status;
 use crate::words::names_of;
+use crate::work::{Outcome, work_out};
 use ftt_io::{Shelf, Sink, write_all};
 use std::alloc::{AllocError, Global};
 

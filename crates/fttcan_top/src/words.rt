@@ -61,8 +61,12 @@ fn word_of_three(word: &str) -> Option<Word>
 
 /// What the words ask for and the files that they name, where they are those of a command.
 pub fn names_of(words: &[String]) -> Option<Names<'_>>
-    ensures command { option_map (λ names. record { word = names.word; system = names.system.now; steps = names.steps.now;
-        third = option_map (λ word. word.now) names.third }) result ≡ command_of (map string_bytes words.now) }
+    ensures command { option_map (λ names. record {
+      word = names.word;
+      system = names.system.now;
+      steps = names.steps.now;
+      third = option_map (λ word. word.now) names.third;
+    }) result ≡ command_of (map string_bytes words.now) }
     ensures plan { IfSome result (λ names. names.word ≡ Word.Check → IsSome (option_map (λ word. word.now) names.third)) }
 {
     match words {
@@ -79,8 +83,12 @@ pub fn names_of(words: &[String]) -> Option<Names<'_>>
 
 /// The names of a command of two files.
 fn two_files<'a>(word: &str, system: &'a str, steps: &'a str) -> Option<Names<'a>>
-    ensures command { option_map (λ names. record { word = names.word; system = names.system.now; steps = names.steps.now;
-        third = option_map (λ word. word.now) names.third }) result ≡ command_of (word.now ∷ system.now ∷ steps.now ∷ []) }
+    ensures command { option_map (λ names. record {
+      word = names.word;
+      system = names.system.now;
+      steps = names.steps.now;
+      third = option_map (λ word. word.now) names.third;
+    }) result ≡ command_of (word.now ∷ system.now ∷ steps.now ∷ []) }
     ensures plan { IfSome result (λ names. names.word ≡ Word.Check → IsSome (option_map (λ word. word.now) names.third)) }
 {
     if is_option(system) || is_option(steps) {
@@ -98,14 +106,13 @@ fn two_files<'a>(word: &str, system: &'a str, steps: &'a str) -> Option<Names<'a
 }
 
 /// The names of a command of three files.
-fn three_files<'a>(
-    word: &str,
-    system: &'a str,
-    steps: &'a str,
-    third: &'a str,
-) -> Option<Names<'a>>
-    ensures command { option_map (λ names. record { word = names.word; system = names.system.now; steps = names.steps.now;
-        third = option_map (λ word. word.now) names.third }) result ≡ command_of (word.now ∷ system.now ∷ steps.now ∷ third.now ∷ []) }
+fn three_files<'a>(word: &str, system: &'a str, steps: &'a str, third: &'a str) -> Option<Names<'a>>
+    ensures command { option_map (λ names. record {
+      word = names.word;
+      system = names.system.now;
+      steps = names.steps.now;
+      third = option_map (λ word. word.now) names.third;
+    }) result ≡ command_of (word.now ∷ system.now ∷ steps.now ∷ third.now ∷ []) }
     ensures plan { IfSome result (λ names. names.word ≡ Word.Check → IsSome (option_map (λ word. word.now) names.third)) }
 {
     if is_option(system) || is_option(steps) || is_option(third) {

@@ -9,6 +9,3 @@ mod stepping;
 
 pub use asked::asked_table;
 pub use stepping::{Run, replay};
-
-#[cfg(test)]
-mod tests;
