@@ -105,12 +105,7 @@ pub fn read_plan(alloc: Global, bytes: &[u8]) -> Result<Certificate, PlanTextFau
     if !after.is_empty() {
         return Err(PlanTextFault::Line { number: number + 1 });
     }
-    Ok(Certificate::new(
-        head.from,
-        head.pending,
-        head.first,
-        masks,
-    ))
+    Ok(Certificate::new(head.from, head.pending, head.first, masks))
 }
 
 /// The five lines before the masks, and what follows them, or the number of the first wrong line.
