@@ -1,1 +1,3 @@
+mod Calling
+mod Openings
 mod Standing

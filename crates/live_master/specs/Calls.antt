@@ -1,5 +1,5 @@
 -- What a call of the shared master does to the pass that makes it.
-use Rattle.std.specs.Prelude.{◌≡◌, ◌≢◌, ℕ, ◌+◌, ◌*◌, ◌%◌, ◌≤◌, List, [], ◌∷◌, ◌++◌, length, All, false, Option, None}
+use Rattle.std.specs.Prelude.{◌≡◌, ◌≢◌, ℕ, ◌+◌, ◌*◌, ◌%◌, ◌≤◌, List, [], ◌∷◌, ◌++◌, length, None}
 use Rattle.turn_lock.specs.Passes.{Known, knowing, refused}
 use Rattle.requirement_table.specs.declared.entries.Order.{Order}
 use Rattle.change_protocol.specs.declared.operations.Change.{Change}
@@ -7,7 +7,7 @@ use Rattle.admission_rules.specs.declared.Rules.{Rules}
 use Rattle.admission.specs.declared.verdict.Verdict.{Verdict}
 use Rattle.master_core.specs.declared.event.Event.{Event}
 use Rattle.master_core.specs.declared.event.Event.TheVariants.{Submit, Look, Open}
-use Rattle.master_core.specs.History.{is_open}
+use Rattle.master_core.specs.History.{next_of}
 use Rattle.master_core.specs.Orders.{IsOrder}
 use Rattle.live_master.specs.declared.fault.TryFault.{TryFault}
 use Rattle.live_master.specs.declared.fault.TryFault.TheVariants.{Busy, Memory}
@@ -49,11 +49,11 @@ pub record Submitted (old new : Known Event Rules) (change : Change) (verdict : 
 abbrev pub LookedAt : Known Event Rules → Known Event Rules → ℕ → Type 0
 LookedAt old new next = Answered old new (Look old.view.number next)
 
--- a cycle was opened by this order, which is that of the history before the opening. No other pass opened one in between
+-- a cycle was opened by this order, which is that of the history before the opening. No other cycle was opened in between
 pub record Opened (rules : Rules) (old new : Known Event Rules) (order : Order) : Type 0 where
   pub answered : Answered old new (Open order.cycle order.mask)
   pub is_order : IsOrder rules (old.view.seen ++ answered.between) order
-  pub alone : All (λ e. is_open e ≡ false) answered.between
+  pub alone : next_of answered.between ≡ 0
 
 -- a call that tries once was not answered: another pass held the turn, or memory ran out once it was got
 abbrev pub Faulted : Known Event Rules → Known Event Rules → TryFault → Type 0

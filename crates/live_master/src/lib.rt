@@ -8,6 +8,7 @@ mod desk;
 mod fault;
 mod live;
 mod passes;
+mod turns;
 
 pub use fault::TryFault;
 pub use live::LiveMaster;
