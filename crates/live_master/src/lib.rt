@@ -8,6 +8,7 @@ mod desk;
 mod fault;
 mod live;
 mod passes;
+mod tries;
 mod turns;
 
 pub use fault::TryFault;
