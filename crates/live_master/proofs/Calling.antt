@@ -1,8 +1,8 @@
 -- What a call does to a pass, from the steps that it makes on the turn.
-use Rattle.std.proofs.Common.{◌≡◌, ℕ, ◌++◌, ◌∷◌, [], List, Some, None, length, drop, refl, sym, ap, ◌∙◌, subst}
+use Rattle.std.proofs.Common.{◌≡◌, ℕ, ◌+◌, ◌++◌, ◌∷◌, [], List, Some, None, length, drop, add_assoc, arith, refl, sym, ap, ◌∙◌, subst}
 use mathlib.Core.List.{IsPrefix}
 use Rattle.turn_lock.specs.History.{own}
-use Rattle.turn_lock.specs.Passes.{Facts, Known, knowing, granted, committed}
+use Rattle.turn_lock.specs.Passes.{Facts, Known, knowing, granted, committed, refused}
 use Rattle.requirement_table.specs.declared.entries.Order.{Order}
 use Rattle.admission_rules.specs.declared.Rules.{Rules}
 use Rattle.master_core.specs.declared.event.Event.{Event}
@@ -10,7 +10,7 @@ use Rattle.master_core.specs.declared.event.Event.TheVariants.{Submit, Look, Ope
 use Rattle.master_core.specs.History.{next_of}
 use Rattle.master_core.specs.Orders.{IsOrder}
 use Rattle.live_master.specs.Callers.{number_of}
-use Rattle.live_master.specs.Calls.{Answered, Opened}
+use Rattle.live_master.specs.Calls.{Answered, IsRefused, Opened, Waited}
 use Rattle.live_master.proofs.Openings.{none_between}
 
 drop_found : (found : List Event) (event : Event) → drop (length found) (found ++ event ∷ []) ≡ event ∷ []
@@ -59,3 +59,18 @@ opened rules old new order found begins is ordered zeroth facts owned =
     (subst (λ (l : List Event). IsOrder rules l order) (sym split) ordered)
     zeroth facts
     (ap (λ (l : List Event). own number_of old.view.number l) split ∙ owned)
+
+-- nothing was refused yet
+pub waited_none : (old : Known Event Rules) → Waited old old
+waited_none old = record { times = 0; last = old.view.last; is = refl; never = λ _. refl }
+
+-- one refusal more
+pub waited_more : (old till new : Known Event Rules) (word : ℕ) → Waited old till → IsRefused till new word → Waited old new
+waited_more old till new word waited refusal = record {
+  times = waited.times + 1;
+  last = word;
+  is =
+      refusal.is ∙ (ap (λ (k : Known Event Rules). knowing k (refused word k.view)) waited.is
+      ∙ ap (λ n. knowing old (record old.view { refused = n; last = word })) (add_assoc old.view.refused waited.times 1));
+  never = λ none. absurd (omega arith);
+}

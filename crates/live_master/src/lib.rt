@@ -7,9 +7,12 @@
 mod desk;
 mod fault;
 mod live;
+mod operators;
 mod passes;
+mod pauses;
 mod tries;
 mod turns;
+mod waits;
 
 pub use fault::TryFault;
 pub use live::LiveMaster;
