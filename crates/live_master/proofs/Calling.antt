@@ -62,7 +62,14 @@ opened rules old new order found begins is ordered zeroth facts owned =
 
 -- nothing was refused yet
 pub waited_none : (old : Known Event Rules) → Waited old old
-waited_none old = record { times = 0; last = old.view.last; is = refl; never = λ _. refl }
+waited_none old =
+    let none : old.view.refused ≡ old.view.refused + 0 = omega arith in
+    record {
+      times = 0;
+      last = old.view.last;
+      is = ap (λ n. knowing old (record old.view { refused = n; last = old.view.last })) none;
+      never = λ _. refl;
+    }
 
 -- one refusal more
 pub waited_more : (old till new : Known Event Rules) (word : ℕ) → Waited old till → IsRefused till new word → Waited old new

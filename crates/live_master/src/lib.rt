@@ -6,6 +6,7 @@
 
 mod desk;
 mod fault;
+pub mod laws;
 mod live;
 mod operators;
 mod passes;
