@@ -77,11 +77,7 @@ pub fn submit_once(
 }
 
 /// Tries once to open the next cycle, for the dispatcher, which opened fewer than 2^41.
-pub fn open_once(
-    turn: &Turn<Desk>,
-    alloc: Global,
-    pass: &mut Pass<Desk>,
-) -> Result<Order, TryFault>
+pub fn open_once(turn: &Turn<Desk>, alloc: Global, pass: &mut Pass<Desk>) -> Result<Order, TryFault>
     requires standing { IsPassOf turn.now pass.old }
     requires dispatcher { pass.old.view.number ≡ 0 }
     requires cycles { next_of pass.old.view.mine < 2 ^ 41 }

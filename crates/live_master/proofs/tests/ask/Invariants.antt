@@ -1,0 +1,7 @@
+use Rattle.turn_lock.specs.Passes.{IsOf}
+use Rattle.live_master.proofs.tests.ask.Given as goal
+
+abbrev pub invariant-loop-start : goal.invariant-loop-start
+invariant-loop-start g l = record {
+  of : IsOf l.shared l.pass;
+}
