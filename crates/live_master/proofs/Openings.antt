@@ -1,5 +1,5 @@
 -- The openings of a history are the events of the pass of number 0.
-use Rattle.std.proofs.Common.{◌≡◌, ℕ, ◌+◌, ◌==◌, ◌++◌, ◌∷◌, [], List, Bool, true, false, cond, length, length-append, refl, sym, ap, ◌∙◌, arith, zero-add, filter, count_by}
+use Rattle.std.proofs.Common.{◌≡◌, ℕ, ◌+◌, ◌==◌, ◌++◌, ◌∷◌, [], List, Bool, true, false, cond, length, length-append, refl, sym, ap, ◌∙◌, arith, zero-add, filter}
 use Rattle.std.proofs.lemmas.List.Sums.{length-filter, sum_by-cons}
 use Rattle.turn_lock.specs.History.{own}
 use Rattle.turn_lock.proofs.Shared.{own-append}

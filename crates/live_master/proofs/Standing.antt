@@ -1,8 +1,8 @@
 -- What holds of passes between calls.
-use Rattle.std.proofs.Common.{◌≡◌, ℕ, ◌++◌, ◌∷◌, [], List, Option, Some, None, Bool, true, false, cond, nat_le, length, Contains, refl, sym, ap, ◌∙◌, subst}
+use Rattle.std.proofs.Common.{◌≡◌, List, Some, None, Bool, true, false, cond, nat_le, length, sym, ap, ◌∙◌, subst}
 use Rattle.turn_lock.specs.declared.view.View.{View}
 use Rattle.turn_lock.specs.History.{own}
-use Rattle.turn_lock.specs.Passes.{Facts, IsCovered, IsOf, IsReady, Known, Lock, joined, knowing, split_from, split_off}
+use Rattle.turn_lock.specs.Passes.{Facts, IsCovered, IsOf, Known, Lock, joined, knowing, split_from, split_off}
 use Rattle.master_core.specs.History.{IsPlainlyLegal}
 use Rattle.admission_rules.specs.declared.Rules.{Rules}
 use Rattle.master_core.specs.declared.event.Event.{Event}

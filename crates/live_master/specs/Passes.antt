@@ -1,5 +1,5 @@
 -- What holds of a shared master's passes between calls.
-use Rattle.std.specs.Prelude.{◌≡◌, ℕ, List, Option, Some, None, Contains}
+use Rattle.std.specs.Prelude.{◌≡◌, ℕ, List, Some, None, Contains}
 use Rattle.turn_lock.specs.declared.view.View.{View}
 use Rattle.turn_lock.specs.History.{own}
 use Rattle.turn_lock.specs.Passes.{Facts, IsCovered, IsReady, Known, Lock}

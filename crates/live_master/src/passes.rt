@@ -1,6 +1,6 @@
 //! The passes of a shared master.
 
-ghost use Rattle.std.specs.Prelude.{◌≡◌};
+ghost use Rattle.std.specs.Prelude.{◌≡◌, ◌≤◌};
 ghost use Rattle.turn_lock.specs.Passes.{Facts};
 ghost use Rattle.master_core.specs.History.{next_of};
 ghost use Rattle.live_master.specs.Callers.{number_of};
@@ -39,6 +39,7 @@ impl DispatcherPass {
     /// How many operators were made with it.
     pub fn made(&self) -> u64
         ensures made { result ≡ self.now.view.made }
+        ensures number { self.now.view.number ≡ 0 }
         ensures facts { Facts number_of self.now.view }
     {
         self.pass.made()
@@ -47,6 +48,7 @@ impl DispatcherPass {
     /// How many of these were not retired.
     pub fn out(&self) -> u64
         ensures out { result ≡ self.now.view.out }
+        ensures number { self.now.view.number ≡ 0 }
         ensures facts { Facts number_of self.now.view }
     {
         self.pass.out()
@@ -55,6 +57,7 @@ impl DispatcherPass {
     /// How many cycles it opened.
     pub fn cycles(&self) -> u64
         ensures cycles { result ≡ next_of self.now.view.mine }
+        ensures number { self.now.view.number ≡ 0 }
         ensures facts { Facts number_of self.now.view }
     {
         self.cycles
@@ -82,4 +85,16 @@ impl Model for OperatorPass {
     ghost view = { λ p. p.pass };
 
     ghost invariant = { λ p. IsIdle p.pass.view × (p.pass.view.number ≡ p.caller) × (1 ≤ p.caller) × (p.caller ≤ 8) };
+}
+
+impl OperatorPass {
+    /// Its caller number, 1 to 8: 1 for the operator that was made first.
+    pub fn caller(&self) -> u8
+        ensures caller { result ≡ self.now.view.number }
+        ensures some { 1 ≤ result }
+        ensures few { result ≤ 8 }
+        ensures facts { Facts number_of self.now.view }
+    {
+        self.caller
+    }
 }

@@ -56,6 +56,7 @@ fn each_call_stands_in_the_history(rt: HostRuntime) -> Result<(), Fail> {
     let alloc: Global = rt.alloc();
     let (shared, mut dispatcher) = LiveMaster::new(alloc, rules())?;
     let mut operator = shared.operator(&mut dispatcher);
+    assert_eq!(rt; operator.caller(), 1);
     assert_eq!(rt;
         (dispatcher.made(), dispatcher.out(), dispatcher.cycles()),
         (1, 1, 0)

@@ -1,4 +1,3 @@
-use Rattle.std.proofs.Common.{sym, ap, ◌∙◌}
 use Rattle.live_master.proofs.Openings.{next_found}
 use Rattle.live_master.proofs.laws.openings_of_dispatchers.Goals as goal
 

@@ -1,8 +1,5 @@
-use Rattle.std.proofs.Common.{rules, ◌≡◌, ◌<◌, ◌^◌, subst, sym, ap, ℕ}
+use Rattle.std.proofs.Common.{rules, ◌≡◌, ◌<◌, ◌^◌, subst, sym}
 use Rattle.turn_lock.specs.Passes.{knowing, refused}
-use Rattle.admission_rules.specs.declared.Rules.{Rules}
-use Rattle.master_core.specs.History.{next_of}
-use Rattle.master_core.specs.Orders.{IsOrder}
 use Rattle.live_master.proofs.Calling.{opened}
 use Rattle.live_master.proofs.Openings.{next_found}
 use Rattle.live_master.proofs.turns.open_once.Goals as goal

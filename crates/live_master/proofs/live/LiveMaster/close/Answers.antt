@@ -1,4 +1,4 @@
-use Rattle.std.proofs.Common.{◌≡◌, ap, sym, subst, List}
+use Rattle.std.proofs.Common.{subst}
 use Rattle.turn_lock.specs.Passes.{Known}
 use Rattle.master_core.specs.declared.event.Event.{Event}
 use Rattle.admission_rules.specs.declared.Rules.{Rules}
