@@ -1,5 +1,5 @@
 -- What holds of passes between calls.
-use Rattle.std.proofs.Common.{◌≡◌, List, Some, None, Bool, true, false, cond, nat_le, length, sym, ap, ◌∙◌, subst}
+use Rattle.std.proofs.Common.{◌≡◌, List, Contains, Some, None, Bool, true, false, cond, nat_le, length, sym, ap, ◌∙◌, subst}
 use Rattle.turn_lock.specs.declared.view.View.{View}
 use Rattle.turn_lock.specs.History.{own}
 use Rattle.turn_lock.specs.Passes.{Facts, IsCovered, IsOf, Known, Lock, joined, knowing, split_from, split_off}
@@ -13,7 +13,7 @@ pub all_calls : (v : View Event Rules) (history : List Event) → IsIdle v → h
 all_calls v history idle same covered = record {
   mine = ap (λ (l : List Event). own number_of v.number l) same ∙ idle.facts.own_are;
   ended = λ n calls there. ap (λ (l : List Event). own number_of n l) same ∙ (idle.facts.ended_are n calls there).0;
-  covered = covered;
+  covered = λ e there. covered e (subst (λ (l : List Event). Contains l e) same there);
 }
 
 -- an idle pass of a shared master stands at it

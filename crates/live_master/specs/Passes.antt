@@ -1,8 +1,8 @@
 -- What holds of a shared master's passes between calls.
-use Rattle.std.specs.Prelude.{◌≡◌, ℕ, List, Some, None, Contains}
+use Rattle.std.specs.Prelude.{◌≡◌, ◌⊎◌, ℕ, List, Some, None, Contains}
 use Rattle.turn_lock.specs.declared.view.View.{View}
 use Rattle.turn_lock.specs.History.{own}
-use Rattle.turn_lock.specs.Passes.{Facts, IsCovered, IsReady, Known, Lock}
+use Rattle.turn_lock.specs.Passes.{Facts, IsReady, Known, Lock}
 use Rattle.admission_rules.specs.declared.Rules.{Rules}
 use Rattle.master_core.specs.declared.event.Event.{Event}
 use Rattle.master_core.specs.History.{IsPlainlyLegal}
@@ -22,9 +22,9 @@ pub record IsPassOf (shared : Lock Rules) (pass : Known Event Rules) : Type 0 wh
   pub facts : Facts number_of pass.view
   pub legal : IsPlainlyLegal shared.fixed pass.view.seen
 
--- a history has each pass's calls, each once and in that pass's order, and no others: the pass's own, and those of the passes that were
--- joined into it
+-- a history has each pass's calls, each once and in that pass's order, and no others: this pass's own, and under their numbers those of the
+-- passes that were joined into it
 pub record HasAllCalls (history : List Event) (v : View Event Rules) : Type 0 where
   pub mine : own number_of v.number history ≡ v.mine
   pub ended : (n : ℕ) (calls : List Event) → Contains v.ended (n, calls) → own number_of n history ≡ calls
-  pub covered : IsCovered v
+  pub covered : (e : Event) → Contains history e → Contains v.mine e ⊎ ((n : ℕ) × (calls : List Event) × Contains v.ended (n, calls) × Contains calls e)
