@@ -1,6 +1,6 @@
 //! Calls of one thread, and of several.
 
-ghost use Rattle.std.specs.Prelude.{◌≡◌, ◌<◌, ◌≤◌, length, All, IfOk, vec_len};
+ghost use Rattle.std.specs.Prelude.{◌≡◌, ◌+◌, ◌*◌, ◌≤◌, length, All, IfOk, OnOk, vec_len};
 ghost use Rattle.turn_lock.specs.Passes.{IsOf};
 ghost use Rattle.admission.specs.Verdict.{IsRules};
 
@@ -106,6 +106,7 @@ fn ask<R: Wait>(
 ) -> Result<(), AllocError>
     requires of { IsOf shared.now pass.old }
     ensures of { IsOf shared.now pass.new }
+    ensures mine { OnOk result (length pass.new.view.mine ≡ length pass.old.view.mine + 2 * ROUNDS) }
 {
     for start in 0..ROUNDS {
         shared.look(rt, alloc, pass)?;
