@@ -10,7 +10,7 @@ use Rattle.admission.specs.declared.verdict.Verdict.{Verdict}
 use Rattle.master_core.specs.declared.event.Event.{Event}
 use Rattle.master_core.specs.declared.event.Event.TheVariants.{Submit, Look, Open}
 use Rattle.master_core.specs.History.{AllAfter, IsPlainlyLegal, IsPlannedNow, IsRight, IsRightAnswer, next_of, placed_of, plan_of}
-use Rattle.replay_run.specs.Run.{Call, asks, looks, opens, call_of}
+use Rattle.replay_run.specs.Run.{Call, asks, call_of}
 
 -- there is one verdict
 pub record OneVerdict : Type 0 where

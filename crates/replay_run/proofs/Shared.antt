@@ -1,5 +1,5 @@
 -- What proofs of the crates above may take from here: lemmas about the definitions of this crate.
-use Rattle.std.proofs.Common.{◌≡◌, ℕ, ◌≤◌, sym, subst}
+use Rattle.std.proofs.Common.{◌≤◌, sym, subst}
 use Rattle.admission.specs.Verdict.{IsRules}
 use Rattle.input_text.specs.SystemFile.{IsSystem}
 use Rattle.input_text.specs.declared.system.System.{System}

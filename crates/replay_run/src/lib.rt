@@ -3,9 +3,11 @@
 //! Cycles are elementary cycles, counted from 0; times are bit times.
 #![tactic(auto)]
 
+mod answering;
 mod asked;
 pub mod laws;
 mod stepping;
 
+pub use answering::answer;
 pub use asked::asked_table;
 pub use stepping::{Run, replay};

@@ -1,4 +1,4 @@
-use Rattle.std.proofs.Common.{◌≡◌, sym, ap, ◌∙◌, subst, ◌++◌}
+use Rattle.std.proofs.Common.{ap, ◌∙◌, subst, ◌++◌}
 use Rattle.master_core.specs.Orders.{IsOrder}
 use Rattle.replay_run.proofs.Ways.{ran}
 use Rattle.replay_run.proofs.stepping.open_cycle.Goals as goal

@@ -1,4 +1,4 @@
-use Rattle.std.proofs.Common.{refl, ap, ◌∙◌}
+use Rattle.std.proofs.Common.{refl}
 use Rattle.master_core.specs.declared.event.Event.TheVariants.{Submit}
 use Rattle.master_core.specs.History.{next_of}
 use Rattle.replay_run.proofs.Ways.{answered}
