@@ -16,7 +16,11 @@ const TWO_NODES: &str = "[bus]\ncycle = 1000\nwindow = 135\nnodes = 2\n";
 
 const ONE_TRIGGER: &str = "open,0,0000000000,0\nframe,0,127,000,0000000000000000\nend,1\n";
 
-const USAGE: &str = "usage: fttcan replay SYSTEM STEPS [REQUESTS] [--tail N] [--report]\n";
+const USAGE: &str = "\
+usage: fttcan replay SYSTEM STEPS [REQUESTS] [--tail N] [--report]
+usage: fttcan admit SYSTEM STEPS
+usage: fttcan check SYSTEM STEPS PLAN
+";
 
 /// Two nodes with an asynchronous identifier each, and no entry.
 const TWO_OWNERS: &str =
@@ -127,6 +131,21 @@ submit,1,0,accepted,100,2
 submit,2,0,accepted,100,6
 submit,8,0,malformed,0,10,100
 end,0
+";
+
+/// Three entries of period 2, two of which fit a cycle.
+const THREE: &str = "add,1,0,0,0,8,0,2,2,0\nand,add,1,0,8,0,2,2,0\nand,add,2,0,8,0,2,2,0\n";
+
+/// The plan of the three entries.
+const THREE_PLAN: &str = "\
+fttcan plan 1
+from 0
+pending 0000000000
+first 0
+length 2
+0000000003
+0000000004
+end
 ";
 
 /// The words of a replay of two files.
@@ -350,11 +369,122 @@ fn a_replay_with_requests_writes_its_log(rt: HostRuntime) -> Result<(), Fail> {
     Ok(())
 }
 
+/// The plan of a change in its place is asked for behind the cycles that were run.
+#[test]
+fn admit_writes_the_plan_of_the_table(rt: HostRuntime) -> Result<(), Fail> {
+    let alloc = rt.alloc();
+    let sixteen =
+        "fttcan plan 1\nfrom 0\npending 0000000000\nfirst 12\nlength 4\n0000000001\n0000000000\n0000000000\n0000000000\n0000000001\n0000000000\n0000000000\n0000000000\n0000000001\n0000000000\n0000000000\n0000000000\n0000000001\n0000000000\n0000000000\n0000000000\nend\n";
+    for (system, steps, status, plan) in [
+        (WIDE_WINDOW, THREE, Status::Done, THREE_PLAN),
+        (
+            ONE_NODE,
+            "add,1,0,0,0,8,0,4,3,0\nchange,1,10,0,0,8,0,4,3,0\ncycle,9\n",
+            Status::Done,
+            sixteen,
+        ),
+        (
+            ONE_NODE,
+            OVERLOAD,
+            Status::Refused,
+            "fttcan plan 1\nfrom 0\npending 0000000000\nfirst 0\nlength 1\n0000000000\nend\n",
+        ),
+    ] {
+        let shelf = shelf(alloc, system, steps, Vec::new(alloc))?;
+        let answer = call(alloc, &["admit", "system", "steps"], shelf, sink(alloc)?)?;
+        assert_eq!(rt; answer.status, status, "{steps:?}");
+        assert_eq!(rt; str::from_utf8(answer.out.bytes()), Ok(plan), "{steps:?}");
+        assert!(rt; answer.err.bytes().is_empty(), "{steps:?}");
+    }
+    Ok(())
+}
+
+/// Each case: the plan's masks in place of those of the three entries, the status, and what is written to the output and to the error sink.
+#[test]
+fn check_answers_yes_or_the_first_breach(rt: HostRuntime) -> Result<(), Fail> {
+    let alloc = rt.alloc();
+    for (plan, status, answered, said) in [
+        (
+            "from 0\npending 0000000000\nfirst 0\nlength 2\n0000000003\n0000000004\nend\n",
+            Status::Done,
+            "yes\n",
+            "",
+        ),
+        (
+            "from 0\npending 0000000000\nfirst 0\nlength 2\n0000000003\n0000000000\nend\n",
+            Status::No,
+            "no,missed,2,0,1\n",
+            "",
+        ),
+        (
+            "from 0\npending 0000000000\nfirst 0\nlength 2\n0000000007\n0000000004\nend\n",
+            Status::No,
+            "no,toowide,0,405\n",
+            "",
+        ),
+        (
+            "from 0\npending 0000000000\nfirst 0\nlength 2\n0000000003\n0000000005\nend\n",
+            Status::No,
+            "no,notreleased,1,0\n",
+            "",
+        ),
+        (
+            "from 0\npending 0000000000\nfirst 0\nlength 1\n0000000003\nend\n",
+            Status::No,
+            "no,badloop,0\n",
+            "",
+        ),
+        (
+            "from 1\npending 0000000000\nfirst 1\nlength 1\n0000000003\nend\n",
+            Status::Input,
+            "",
+            "plan: start\n",
+        ),
+        (
+            "from 0\npending 0000000001\nfirst 0\nlength 1\n0000000003\nend\n",
+            Status::Input,
+            "",
+            "plan: start\n",
+        ),
+        (
+            "from 00\npending 0000000000\nfirst 0\nlength 1\n0000000003\nend\n",
+            Status::Input,
+            "",
+            "plan: line 2\n",
+        ),
+        (
+            "from 0\npending 0000000000\nfirst 0\nlength 1\n0000000003\nend",
+            Status::Input,
+            "",
+            "plan: line 7\n",
+        ),
+    ] {
+        let text = format!(in alloc; "fttcan plan 1\n{plan}")?;
+        let shelf = shelf_of(alloc, [WIDE_WINDOW, THREE, text.as_str()], Vec::new(alloc))?;
+        let answer = call(
+            alloc,
+            &["check", "system", "steps", "requests"],
+            shelf,
+            sink(alloc)?,
+        )?;
+        assert_eq!(rt; answer.status, status, "{plan:?}");
+        assert_eq!(rt;
+            str::from_utf8(answer.out.bytes()),
+            Ok(answered),
+            "{plan:?}"
+        );
+        assert_eq!(rt; str::from_utf8(answer.err.bytes()), Ok(said), "{plan:?}");
+    }
+    Ok(())
+}
+
 #[test]
 fn words_of_no_command_are_refused(rt: HostRuntime) -> Result<(), Fail> {
     let alloc = rt.alloc();
-    let cases: [&[&str]; 4] = [
+    let cases: [&[&str]; 6] = [
         &["replay", "a"],
+        &["admit", "system", "steps", "requests"],
+        &["check", "system", "steps"],
         &[],
         &["replay", "system", "steps", "requests", "more"],
         &["replay", "system", "steps", "-s"],

@@ -1,8 +1,7 @@
 //! What is done of what was asked: the answer to a task as a text, before it is written.
 
-ghost use Rattle.std.specs.Prelude.{◌≡◌, ◌++◌, ◌×◌, List, ℕ, IfOk, OnOk, string_bytes};
-ghost use Rattle.plan_check.specs.declared.breach.Breach.{Breach};
-ghost use Rattle.master_core.specs.declared.event.Event.{Event};
+ghost use Rattle.std.specs.Prelude.{◌≡◌, IfOk};
+ghost use Rattle.replay_run.specs.Run.{IsRun};
 ghost use Rattle.fttcan_top.specs.Loads.{IsJob, IsTask, IsToCheck, asked_of, job_of};
 ghost use Rattle.fttcan_top.specs.Output.{IsCheckText, IsDone, IsLog, IsOutput, IsPlanText, breach_line, refuses_nothing, status_of};
 
@@ -11,7 +10,7 @@ use crate::status::Status;
 use bus_trace::log_text;
 use master_core::Event;
 use plan_check::{Breach, Certificate, check, write_plan};
-use replay_run::{asked_table, replay};
+use replay_run::{Run, asked_table, replay};
 use std::alloc::{AllocError, Global};
 
 /// The answer to a task.
@@ -45,18 +44,27 @@ fn status_of(history: &[Event]) -> Status
     Status::Done
 }
 
+/// Runs the steps.
+fn run_of(alloc: Global, job: &Job) -> Result<Run, AllocError>
+    requires job { IsJob job.now }
+    ensures run { IfOk result (λ run. IsRun job.now.system job.now.steps.items job.now.requests.items run.master.history run.trace.items) }
+    ensures rules { IfOk result (λ run. run.master.rules ≡ job.now.system.rules) }
+{
+    replay(
+        alloc,
+        &job.system,
+        job.steps.as_slice(),
+        job.requests.as_slice(),
+    )
+}
+
 /// Runs the steps, and answers with the log.
 fn log_of(alloc: Global, job: &Job) -> Result<Outcome, AllocError>
     requires job { IsJob job.now }
     ensures log { IfOk result (λ outcome. IsLog (job_of job.now) outcome.status outcome.text.items) }
     ensures done { IfOk result (λ outcome. IsDone outcome.status) }
 {
-    let run = replay(
-        alloc,
-        &job.system,
-        job.steps.as_slice(),
-        job.requests.as_slice(),
-    )?;
+    let run = run_of(alloc, job)?;
     let history = run.master.history();
     let text = log_text(alloc, history, run.trace.as_slice())?;
     Ok(Outcome {
@@ -71,12 +79,7 @@ fn plan_of(alloc: Global, job: &Job) -> Result<Outcome, AllocError>
     ensures plan { IfOk result (λ outcome. IsPlanText (job_of job.now) outcome.status outcome.text.items) }
     ensures done { IfOk result (λ outcome. IsDone outcome.status) }
 {
-    let run = replay(
-        alloc,
-        &job.system,
-        job.steps.as_slice(),
-        job.requests.as_slice(),
-    )?;
+    let run = run_of(alloc, job)?;
     let certificate = run.master.certificate(alloc)?;
     let text = write_plan(alloc, &certificate)?;
     Ok(Outcome {

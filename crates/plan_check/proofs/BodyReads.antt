@@ -158,9 +158,10 @@ module _ (bytes : List ℕ) (from pending first size : ℕ) (rest : List ℕ) (h
 
   padded-begins : (k : ℕ) → k ≡ 5 + length masks → length masks ≤ first - from + size → BeginsAsPlan bytes k
   padded-begins k at few =
-      let zeros = replicate (first - from + size - length masks) 0 in
       let lines = count-lines padded in
       let count = padded-count few in
+      let inside : k ≤ length (plan_lines padded) = omega arith in
+      let zeros : List ℕ = replicate (first - from + size - length masks) 0 in
       let front : take (length masks) (mask_lines padded.masks) ≡ map mask_digits masks
       = ap (λ l. take (length masks) (l ++ codes "end" ∷ [])) (map-append mask_digits masks zeros)
       ∙ ap (take (length masks)) (append_assoc (map mask_digits masks) (map mask_digits zeros) (codes "end" ∷ []))
@@ -169,7 +170,7 @@ module _ (bytes : List ℕ) (from pending first size : ℕ) (rest : List ℕ) (h
       record {
         certificate = padded;
         readable = padded-readable few;
-        within = omega arith;
+        within = inside;
         rest = after;
         split = is
             ∙ ap (λ n. text_of (lines_of_head from pending first n) ++ rest) (sym (padded-length few))

@@ -1,0 +1,74 @@
+-- What a call of the shared master does to the pass that makes it.
+use Rattle.std.specs.Prelude.{◌≡◌, ◌≢◌, ℕ, ◌+◌, ◌*◌, ◌%◌, ◌≤◌, List, [], ◌∷◌, ◌++◌, length, None}
+use Rattle.turn_lock.specs.Passes.{Known, knowing, refused}
+use Rattle.requirement_table.specs.declared.entries.Order.{Order}
+use Rattle.change_protocol.specs.declared.operations.Change.{Change}
+use Rattle.admission_rules.specs.declared.Rules.{Rules}
+use Rattle.admission.specs.declared.verdict.Verdict.{Verdict}
+use Rattle.master_core.specs.declared.event.Event.{Event}
+use Rattle.master_core.specs.declared.event.Event.TheVariants.{Submit, Look, Open}
+use Rattle.master_core.specs.History.{next_of}
+use Rattle.master_core.specs.Orders.{IsOrder}
+use Rattle.live_master.specs.declared.fault.TryFault.{TryFault}
+use Rattle.live_master.specs.declared.fault.TryFault.TheVariants.{Busy, Memory}
+
+-- another pass held the turn, and this word was found: twice the length of the history then, and one. So it is no less than twice the
+-- length of what was seen, and one. The dispatcher finds the turn held only while an operator is out. Nothing else changed
+pub record IsRefused (old new : Known Event Rules) (word : ℕ) : Type 0 where
+  pub is : new ≡ knowing old (refused word old.view)
+  pub odd : word % 2 ≡ 1
+  pub least : 2 * length old.view.seen + 1 ≤ word
+  pub others : old.view.number ≡ 0 → old.view.out ≢ 0
+
+-- the turn was got, behind what was seen and these events, and let go with no event added. Nothing else changed
+pub record GaveBack (old new : Known Event Rules) : Type 0 where
+  pub between : List Event
+  pub is : new ≡ knowing old (record old.view {
+    found = None;
+    seen = old.view.seen ++ between;
+    taken = old.view.taken ++ (old.view.number, length (old.view.seen ++ between)) ∷ [];
+  })
+
+-- the call was answered: the turn was got, behind what was seen and these events, and let go with this event added. Nothing else changed
+pub record Answered (old new : Known Event Rules) (event : Event) : Type 0 where
+  pub between : List Event
+  pub is : new ≡ knowing old (record old.view {
+    found = None;
+    seen = (old.view.seen ++ between) ++ event ∷ [];
+    mine = old.view.mine ++ event ∷ [];
+    taken = old.view.taken ++ (old.view.number, length (old.view.seen ++ between)) ∷ [];
+  })
+
+-- a change was answered by this verdict: it was planned from some cycle, and left some trail
+pub record Submitted (old new : Known Event Rules) (change : Change) (verdict : Verdict) : Type 0 where
+  pub from : ℕ
+  pub trail : List ℕ
+  pub answered : Answered old new (Submit old.view.number change from verdict trail)
+
+-- a look was answered
+abbrev pub LookedAt : Known Event Rules → Known Event Rules → ℕ → Type 0
+LookedAt old new next = Answered old new (Look old.view.number next)
+
+-- a cycle was opened by this order, which is that of the history before the opening. No other cycle was opened in between
+pub record Opened (rules : Rules) (old new : Known Event Rules) (order : Order) : Type 0 where
+  pub answered : Answered old new (Open order.cycle order.mask)
+  pub is_order : IsOrder rules (old.view.seen ++ answered.between) order
+  pub alone : next_of answered.between ≡ 0
+
+-- a call that tries once was not answered: another pass held the turn, or memory ran out once it was got
+abbrev pub Faulted : Known Event Rules → Known Event Rules → TryFault → Type 0
+Faulted old new (Busy word) = IsRefused old new word
+Faulted old new Memory = GaveBack old new
+
+-- the turn was refused so many times. Nothing else changed
+pub record Waited (old new : Known Event Rules) : Type 0 where
+  pub times : ℕ
+  pub last : ℕ
+  pub is : new ≡ knowing old (record old.view { refused = old.view.refused + times; last = last })
+  pub never : times ≡ 0 → last ≡ old.view.last
+
+-- the turn was refused so many times, and then the call was made in this way
+pub record AfterWaiting (call : Known Event Rules → Known Event Rules → Type 0) (old new : Known Event Rules) : Type 0 where
+  pub till : Known Event Rules
+  pub waited : Waited old till
+  pub made : call till new
