@@ -1,5 +1,5 @@
 -- What the loading of files says to the calls above it.
-use Rattle.std.specs.Prelude.{◌≡◌, ⊤, ⊥, ◌⊎◌, ◌≤◌, ◌^◌, [], length, Option, Result, Err}
+use Rattle.std.specs.Prelude.{◌≡◌, ⊤, ◌⊎◌, Result, Err}
 use Rattle.input_text.specs.SystemFile.{IsSystem}
 use Rattle.input_text.specs.RequestsFile.{AreLegal}
 use Rattle.input_text.specs.StepsFile.{AreLegalSteps}

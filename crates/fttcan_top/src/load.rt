@@ -284,7 +284,7 @@ fn load_check<S: Shelf>(
 
 /// The task that names ask for; those of a check have a plan.
 pub fn load<S: Shelf>(alloc: Global, shelf: &mut S, names: Names<'_>) -> Result<Task, Stop>
-    requires plan { names.entry.word ≡ Word.Check → IsSome (option_map (λ word. word.now) names.entry.third) }
+    requires plan { names.word ≡ Word.Check → IsSome (option_map (λ word. word.now) names.third) }
     ensures files_stay { S.told_files shelf.new ≡ S.told_files shelf.old }
     ensures counted { S.fetches shelf.new ≤ S.fetches shelf.old + (2 + named (option_map (λ word. word.now) names.entry.third)) }
     ensures fetches_never_fall { S.fetches shelf.old ≤ S.fetches shelf.new }
