@@ -5,6 +5,9 @@
 #![tactic(auto)]
 
 mod dispatching;
+mod operating;
 mod points;
+mod script;
 
 pub use points::{Gate, OpenGate, Point};
+pub use script::{ActList, Script};
