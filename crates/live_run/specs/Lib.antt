@@ -1,2 +1,4 @@
 pub mod Answers
+pub mod Crew
+pub mod Retiring
 pub mod Running

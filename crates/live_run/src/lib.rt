@@ -4,10 +4,12 @@
 //! Cycles are elementary cycles, counted from 0; times are bit times.
 #![tactic(auto)]
 
+mod crew;
 mod dispatching;
 mod operating;
 mod points;
 mod script;
+mod sharing;
 
 pub use points::{Gate, OpenGate, Point};
 pub use script::{ActList, Script};
