@@ -26,9 +26,9 @@ pub record IsDone (shared : Lock Rules) (number : ℕ) (script : Script) (operat
   pub answers : operator.answered ≡ true → AnswersActs number script.acts operator.pass.view.mine
 
 -- the operators 1, 2 and so on, each done with the script of its place
-abbrev pub AreDone : Lock Rules → List Script → List Operator → Type 0
-AreDone shared scripts operators = (k : ℕ) (d : Operator) (s : Script) → k < length operators
-    → IsDone shared (k + 1) (slice_index_or scripts k s) (slice_index_or operators k d)
+pub record AreDone (shared : Lock Rules) (scripts : List Script) (operators : List Operator) : Type 0 where
+  pub each : (k : ℕ) (d : Operator) (s : Script) → k < length operators
+      → IsDone shared (k + 1) (slice_index_or scripts k s) (slice_index_or operators k d)
 
 -- a pass made so many operators, and is as before otherwise
 pub record HasLent (old new : View Event Rules) (count : ℕ) : Type 0 where

@@ -6,10 +6,14 @@
 
 mod crew;
 mod dispatching;
+mod frames;
 mod operating;
 mod points;
+mod running;
 mod script;
 mod sharing;
 
+pub use frames::{FrameList, Run};
 pub use points::{Gate, OpenGate, Point};
+pub use running::run_live;
 pub use script::{ActList, Script};

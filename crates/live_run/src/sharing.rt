@@ -1,10 +1,10 @@
 //! The threads of a run.
 
-ghost use Rattle.std.specs.Prelude.{◌≡◌, ◌<◌, ◌^◌, length, OnOk};
+ghost use Rattle.std.specs.Prelude.{◌≡◌, ◌+◌, ◌<◌, ◌^◌, length, OnOk};
 ghost use Rattle.master_core.specs.History.{next_of};
 ghost use Rattle.kept_run.specs.Progress.{Setting};
 ghost use Rattle.live_master.specs.Passes.{IsPassOf};
-ghost use Rattle.live_run.specs.Crew.{AreDone, AreHired};
+ghost use Rattle.live_run.specs.Crew.{AreDone, AreHired, IsHired};
 ghost use Rattle.live_run.specs.Running.{CanRun, IsRunning, Stays};
 
 use crate::crew::{Operator, take_part};
@@ -38,7 +38,9 @@ fn operate_all<T: Threads + Wait + Sync, G: Gate>(
         rt,
         operators,
         OPERATORS,
-        &|place, operator| take_part(rt, alloc, shared, operator, &scripts[place], gate),
+        &|place: usize, operator: &mut Operator| -> ()
+            requires { (place < length scripts.now) × IsHired shared.now (place + 1) operator.now }
+        { take_part(rt, alloc, shared, operator, &scripts[place], gate) },
     );
 }
 
@@ -71,7 +73,10 @@ pub fn share<T: Threads + Wait + Sync, G: Gate>(
 {
     let (ran, ()) = thread::join_mut(
         rt,
-        &mut || dispatch(rt, alloc, shared, pass, bus, cycles, gate),
+        &mut || -> Result<(), AllocError>
+            requires { IsPassOf shared.now pass.now × (pass.now.view.number ≡ 0) × (next_of pass.now.view.mine ≡ 0) × (cycles < 2 ^ 41)
+                × CanRun shared.now pass.now.view.seen bus.now }
+        { dispatch(rt, alloc, shared, pass, bus, cycles, gate) },
         &mut || -> ()
             requires { (AreHired shared.now operators.now) × (length scripts.now ≡ length operators.now) }
         { operate_all(rt, alloc, shared, operators, scripts, gate) },
