@@ -12,8 +12,8 @@ pub share-ran-requires-clause-running : goal.share-ran-requires-clause-running
 share-ran-requires-clause-running g c =
     let (of_t, (of_g, (sync_t, (sync_g, (known, (rules, (first, (fresh, (few, eight))))))))) = c.requires in
     λ lifetimes bounds. can_begin (record { under_way = c.beginning.ensures.under_way; ready = c.beginning.ensures.ready })
-          g.setting c.args.shared.now c.hire.new.pass.view.seen (record { nodes = c.args.nodes; trace = c.new.result })
-          known rules (c.in_ok-operators.ensures.lent.seen ∙ ap (λ (k : Known Event Rules). k.view.seen) first.is) fresh c.new.ensures.items
+    g.setting c.args.shared.now c.hire.new.pass.view.seen (record { nodes = c.args.nodes; trace = c.new.result })
+    known rules (c.in_ok-operators.ensures.lent.seen ∙ ap (λ (k : Known Event Rules). k.view.seen) first.is) fresh c.new.ensures.items
 
 pub retire_all-answered-requires-clause-operators : goal.retire_all-answered-requires-clause-operators
 retire_all-answered-requires-clause-operators g c =
@@ -42,8 +42,8 @@ returns-clause-run g c =
     let lent = c.in_ok-operators.ensures.lent in
     let stays = c.share-ran.ensures.stays in
     let running = begun (record { under_way = c.beginning.ensures.under_way; ready = c.beginning.ensures.ready })
-        g.setting c.args.shared.now c.hire.new.pass.view.seen (record { nodes = c.args.nodes; trace = c.new.result })
-        known rules (lent.seen ∙ ap (λ (k : Known Event Rules). k.view.seen) first.is) fresh c.new.ensures.items in
+    g.setting c.args.shared.now c.hire.new.pass.view.seen (record { nodes = c.args.nodes; trace = c.new.result })
+    known rules (lent.seen ∙ ap (λ (k : Known Event Rules). k.view.seen) first.is) fresh c.new.ensures.items in
     let all_made : c.retire_all-answered.new.pass.view.made ≡ length c.args.scripts.items =
     c.retire_all-answered.ensures.made ∙ (stays.made ∙ (let m = lent.made in let f = ap (λ (k : Known Event Rules). k.view.made) first.is in
     omega (arith, c.len.ensures, c.args.scripts.ok.0))) in
