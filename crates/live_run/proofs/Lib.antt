@@ -1,0 +1,3 @@
+mod Crews
+mod Cycles
+mod Runs

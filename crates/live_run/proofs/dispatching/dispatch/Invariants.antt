@@ -1,0 +1,15 @@
+use Rattle.std.proofs.Common.{◌≡◌}
+use Rattle.master_core.specs.History.{next_of}
+use Rattle.kept_run.specs.Progress.{Setting}
+use Rattle.live_master.specs.Passes.{IsPassOf}
+use Rattle.live_run.specs.Running.{CanRun, IsRunning, Stays}
+use Rattle.live_run.proofs.dispatching.dispatch.Given as goal
+
+abbrev pub invariant-loop : goal.invariant-loop
+invariant-loop g l = record {
+  can_run : CanRun l.shared l.pass.view.seen l.bus;
+  running : (setting : Setting) → IsRunning setting l.shared l.initial.pass.view.seen l.initial.bus → IsRunning setting l.shared l.pass.view.seen l.bus;
+  next : next_of l.pass.view.mine ≡ l.counter;
+  stays : Stays l.initial.pass.view l.pass.view;
+  standing : IsPassOf l.shared l.pass;
+}

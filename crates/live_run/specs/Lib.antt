@@ -1,0 +1,5 @@
+pub mod Answers
+pub mod Crew
+pub mod Live
+pub mod Retiring
+pub mod Running

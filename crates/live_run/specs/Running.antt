@@ -1,0 +1,47 @@
+-- The dispatcher and its bus between two cycles.
+use Rattle.std.specs.Prelude.{◌≡◌, ◌++◌, ◌∷◌, [], false, List, All}
+use Rattle.requirement_table.specs.declared.entries.Order.{Order}
+use Rattle.admission_rules.specs.declared.Rules.{Rules}
+use Rattle.turn_lock.specs.declared.view.View.{View}
+use Rattle.turn_lock.specs.Passes.{Lock}
+use Rattle.master_core.specs.declared.event.Event.{Event}
+use Rattle.master_core.specs.declared.event.Event.TheVariants.{Open}
+use Rattle.master_core.specs.History.{IsLegal, is_open}
+use Rattle.master_core.specs.Orders.{IsOrder}
+use Rattle.kept_run.specs.Progress.{AreReady, IsSetting, IsUnderWay, Setting}
+use Rattle.live_run.specs.declared.dispatching.Bus.{Bus}
+
+-- the history and the bus's trace are under way in this setting, and the nodes are ready for the next cycle
+pub record IsOnTheWay (setting : Setting) (history : List Event) (bus : Bus) : Type 0 where
+  pub known : IsSetting setting
+  pub under_way : IsUnderWay setting history bus.trace.items
+  pub ready : AreReady setting history bus.trace.items bus.nodes
+
+-- the same before a cycle is run by this order, which is that of the history
+pub record IsBeforeOrder (setting : Setting) (history : List Event) (order : Order) (bus : Bus) : Type 0 where
+  pub way : IsOnTheWay setting history bus
+  pub ordered : IsOrder setting.rules history order
+
+-- the same of what a dispatcher has seen, where the shared master has the rules of the setting
+pub record IsRunning (setting : Setting) (shared : Lock Rules) (seen : List Event) (bus : Bus) : Type 0 where
+  pub same_rules : shared.fixed ≡ setting.rules
+  pub way : IsOnTheWay setting seen bus
+
+-- in some setting it is so
+abbrev pub CanRun : Lock Rules → List Event → Bus → Type 0
+CanRun shared seen bus = (setting : Setting) × IsRunning setting shared seen bus
+
+-- behind what a dispatcher had seen, others made calls that open no cycle, and then it opened one, by the order of the history so far
+pub record HasOpened (rules : Rules) (old new : List Event) (order : Order) : Type 0 where
+  pub calls : List Event
+  pub closed : All (λ call. is_open call ≡ false) calls
+  pub seen : new ≡ (old ++ calls) ++ Open order.cycle order.mask ∷ []
+  pub ordered : IsOrder rules (old ++ calls) order
+  pub legal : IsLegal rules (old ++ calls)
+
+-- a pass has the same number as before, and made and retired no other
+pub record Stays (old new : View Event Rules) : Type 0 where
+  pub number : new.number ≡ old.number
+  pub made : new.made ≡ old.made
+  pub out : new.out ≡ old.out
+  pub ended : new.ended ≡ old.ended

@@ -1,0 +1,96 @@
+//! The operators' part of a run.
+
+ghost use Rattle.std.specs.Prelude.{◌≡◌, ◌++◌, ◌∷◌, [], OnOk, map};
+ghost use Rattle.change_protocol.specs.declared.operations.Act.TheVariants as act_of;
+ghost use Rattle.turn_lock.specs.Passes.{IsOf};
+ghost use Rattle.live_master.specs.Passes.{IsPassOf};
+ghost use Rattle.live_run.specs.Answers.{asked, call_of};
+
+use crate::points::{Gate, Point};
+use change_protocol::{Act, Change};
+use live_master::{LiveMaster, OperatorPass};
+use std::alloc::{AllocError, Global};
+use std::sync::Wait;
+
+/// Has a change answered.
+fn ask<R: Wait>(
+    rt: &R,
+    alloc: Global,
+    shared: &LiveMaster,
+    pass: &mut OperatorPass,
+    change: &Change,
+) -> Result<(), AllocError>
+    requires of { IsOf shared.now pass.old }
+    ensures answered { OnOk result (map call_of pass.new.view.mine
+        ≡ map call_of pass.old.view.mine ++ asked pass.old.view.number (act_of.Ask change.now) ∷ []) }
+    ensures number { pass.new.view.number ≡ pass.old.view.number }
+    ensures standing { IsPassOf shared.now pass.new }
+{
+    shared.submit(rt, alloc, pass, change)?;
+    Ok(())
+}
+
+/// Has a look answered.
+fn look<R: Wait>(
+    rt: &R,
+    alloc: Global,
+    shared: &LiveMaster,
+    pass: &mut OperatorPass,
+) -> Result<(), AllocError>
+    requires of { IsOf shared.now pass.old }
+    ensures answered { OnOk result (map call_of pass.new.view.mine
+        ≡ map call_of pass.old.view.mine ++ asked pass.old.view.number act_of.Look ∷ []) }
+    ensures number { pass.new.view.number ≡ pass.old.view.number }
+    ensures standing { IsPassOf shared.now pass.new }
+{
+    shared.look(rt, alloc, pass)?;
+    Ok(())
+}
+
+/// Has an act answered.
+fn answer<R: Wait>(
+    rt: &R,
+    alloc: Global,
+    shared: &LiveMaster,
+    pass: &mut OperatorPass,
+    act: &Act,
+) -> Result<(), AllocError>
+    requires of { IsOf shared.now pass.old }
+    ensures answered { OnOk result (map call_of pass.new.view.mine
+        ≡ map call_of pass.old.view.mine ++ asked pass.old.view.number act.now ∷ []) }
+    ensures number { pass.new.view.number ≡ pass.old.view.number }
+    ensures standing { IsPassOf shared.now pass.new }
+{
+    match act {
+        Act::Ask { change } => ask(rt, alloc, shared, pass, change),
+        Act::Look => look(rt, alloc, shared, pass),
+    }
+}
+
+/// Has the acts answered, in their order.
+///
+/// # Errors
+///
+/// Only where memory runs out.
+pub fn operate<R: Wait, G: Gate>(
+    rt: &R,
+    alloc: Global,
+    shared: &LiveMaster,
+    pass: &mut OperatorPass,
+    acts: &[Act],
+    gate: &G,
+) -> Result<(), AllocError>
+    requires of { IsPassOf shared.now pass.old }
+    ensures answered { OnOk result (map call_of pass.new.view.mine
+        ≡ map call_of pass.old.view.mine ++ map (asked pass.old.view.number) acts.now) }
+    ensures number { pass.new.view.number ≡ pass.old.view.number }
+    ensures standing { IsPassOf shared.now pass.new }
+{
+    for act in acts {
+        answer(rt, alloc, shared, pass, act)?;
+        gate.pass(Point::Answered {
+            caller: pass.caller(),
+        });
+    }
+    Ok(())
+}

@@ -1,0 +1,44 @@
+//! Scripts of operators.
+
+ghost use Rattle.std.specs.Prelude.{◌≡◌};
+
+use change_protocol::Act;
+use std::marker::Model;
+
+/// A list of acts that a value holds. Contracts see the list.
+#[derive(Drop, Debug)]
+pub struct ActList {
+    acts: Vec<Act>,
+}
+
+impl Model for ActList {
+    ghost use Rattle.std.specs.Prelude.{List};
+    ghost use Rattle.change_protocol.specs.declared.operations.Act.{Act};
+
+    ghost Value = { List Act };
+
+    ghost view = { λ l. l.acts.items };
+}
+
+impl ActList {
+    /// The list of the vector's items.
+    pub fn of(acts: Vec<Act>) -> ActList
+        ensures list { result ≡ acts.items }
+    {
+        ActList { acts }
+    }
+
+    /// The list as a slice.
+    pub fn as_slice(&self) -> &[Act]
+        ensures list { result.now ≡ self.now }
+    {
+        self.acts.as_slice()
+    }
+}
+
+/// What one operator asks for, act by act.
+#[derive(Drop, Debug)]
+pub struct Script {
+    /// The acts, in their order.
+    pub acts: ActList,
+}
