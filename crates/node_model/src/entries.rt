@@ -3,12 +3,12 @@
 ghost use Rattle.std.specs.Prelude.{◌≡◌, ◌≤◌, ℕ, ◌+◌, Bool, is_some, length, option_map, vec_capacity, IfSome, IfOk};
 ghost use Rattle.requirement_table.specs.Slots.{contains_slot};
 ghost use Rattle.requirement_table.specs.Instance.{bytes_of};
-ghost use Rattle.requirement_table.specs.Table.{IsWellPlaced, instance_in};
+ghost use Rattle.requirement_table.specs.Table.{IsWellPlaced, instance_in, not_over};
 ghost use Rattle.node_model.specs.Node.{entries_of, identifiers_of};
-ghost use Rattle.node_model.specs.Kept.{AreSlotsOf};
+ghost use Rattle.node_model.specs.Kept.{AreSlotsOf, HaveInstances};
 
 use async_window::Owner;
-use requirement_table::{Mask, Payload, Placed, current};
+use requirement_table::{Mask, Payload, Placed, current, drop_over, first_over, is_over};
 use std::alloc::{AllocError, Global};
 
 /// The identifiers that `owners` gives to a node.
@@ -30,12 +30,63 @@ pub fn keep_own(number: u8, placed: &[Placed], entries: &mut Vec<Placed>)
     requires room { length placed.now ≤ vec_capacity entries.old }
     ensures own { entries.new.items ≡ entries_of number placed.now }
     ensures well_placed { IsWellPlaced entries.new.items }
+    ensures few { length entries.new.items ≤ length placed.now }
     ensures capacity { vec_capacity entries.old ≤ vec_capacity entries.new }
 {
     entries.clear();
     for p in placed {
         if p.entry.node == number {
             entries.push(*p).unwrap();
+        }
+    }
+}
+
+/// The entries of a node that are not over.
+#[derive(Drop)]
+pub struct Remaining {
+    /// These entries, in their order.
+    pub entries: Vec<Placed>,
+    /// A cycle before which none of them is over.
+    pub until: u64,
+}
+
+impl Remaining {
+    /// Keeps those of a node's entries that are not over by a cycle, without memory.
+    pub fn keep(&mut self, entries: &[Placed], cycle: u64)
+        requires well_placed { IsWellPlaced entries.now }
+        requires room { length entries.now ≤ vec_capacity self.old.entries }
+        ensures well_placed { IsWellPlaced self.new.entries.items }
+        ensures instances { HaveInstances entries.now cycle self.new.entries.items }
+        ensures capacity { vec_capacity self.old.entries ≤ vec_capacity self.new.entries }
+    {
+        keep_not_over(entries, cycle, &mut self.entries);
+        self.until = first_over(self.entries.as_slice());
+    }
+
+    /// Drops those that are over by a cycle, in place, where one of them is.
+    pub fn pass(&mut self, cycle: u64)
+        requires well_placed { IsWellPlaced self.old.entries.items }
+        ensures well_placed { IsWellPlaced self.new.entries.items }
+        ensures instances { HaveInstances self.old.entries.items cycle self.new.entries.items }
+        ensures capacity { vec_capacity self.new.entries ≡ vec_capacity self.old.entries }
+    {
+        if self.until <= cycle {
+            drop_over(&mut self.entries, cycle);
+            self.until = first_over(self.entries.as_slice());
+        }
+    }
+}
+
+/// Replaces a list by those of some entries that are not over by a cycle, without memory.
+fn keep_not_over(entries: &[Placed], cycle: u64, left: &mut Vec<Placed>)
+    requires room { length entries.now ≤ vec_capacity left.old }
+    ensures left { left.new.items ≡ not_over cycle entries.now }
+    ensures capacity { vec_capacity left.old ≤ vec_capacity left.new }
+{
+    left.clear();
+    for p in entries {
+        if !is_over(p, cycle) {
+            left.push(*p).unwrap();
         }
     }
 }
