@@ -11,7 +11,7 @@ ghost use Rattle.node_model.specs.Node.{IsNextOffer, IsNode, after_hearing, afte
 ghost use Rattle.node_model.specs.Kept.{IsClosedAt, IsOpenAt, sends_from};
 
 use crate::cycle::{self, FIRST_IDENTIFIER, Open};
-use crate::entries::{self, Remaining, payload_in};
+use crate::entries::{self, Remaining};
 use async_window::{Mailboxes, Owner, Request};
 use can_frame::{Frame, TimedFrame};
 use cycle_layout::Layout;
@@ -95,10 +95,7 @@ impl Node {
             number,
             layout,
             entries: Vec::new(alloc),
-            remaining: Remaining {
-                entries: Vec::new(alloc),
-                until: u64::MAX,
-            },
+            remaining: Remaining::new(alloc),
             own: Mask::empty(),
             mailboxes,
             opened: None,
@@ -171,11 +168,7 @@ impl Node {
     {
         let trigger = self.next_trigger(frame);
         self.remaining.pass(self.next);
-        self.opened = Some(cycle::opened_by(
-            self.next,
-            trigger,
-            self.remaining.entries.as_slice(),
-        ));
+        self.opened = Some(cycle::opened_by(self.next, trigger, self.remaining.entries.as_slice()));
         self.next += 1;
     }
 
@@ -320,7 +313,7 @@ impl Node {
         ensures bytes { result ≡ option_map bytes_of (instance_in self.now.state.entries slot cycle) }
         ensures few { IfSome result (λ bytes. length bytes ≤ 8) }
     {
-        payload_in(self.remaining.entries.as_slice(), slot, cycle)
+        self.remaining.payload(slot, cycle)
     }
 
     /// The number of frames that the node heard; it stands still at the greatest u64.
