@@ -6,7 +6,7 @@ ghost use Rattle.requirement_table.specs.Slots.{contains_slot, slots};
 ghost use Rattle.requirement_table.specs.Table.{IsWellPlaced};
 ghost use Rattle.node_model.specs.Opening.{first_identifier};
 ghost use Rattle.node_model.specs.Node.{least_where, opened_by, with_heard};
-ghost use Rattle.node_model.specs.Kept.{KnowsDue, opened_of};
+ghost use Rattle.node_model.specs.Kept.{KnowsDue, opened_of, sends_from};
 
 use crate::entries::sendable_slots;
 use requirement_table::{Mask, Placed, SLOTS};
@@ -47,6 +47,16 @@ pub fn opened_by(cycle: u64, trigger: Option<Trigger>, entries: &[Placed]) -> Op
         flags,
         heard,
         due: unheard(flags, sendable_slots(entries, cycle), heard),
+    }
+}
+
+/// The cycle from which on a node may have to send: the open one, or `next` where none is open.
+pub fn sends_from(opened: &Option<Open>, next: u64) -> u64
+    ensures from { result ≡ sends_from (option_map opened_of opened.now) next }
+{
+    match opened {
+        Some(open_cycle) => open_cycle.cycle,
+        None => next,
     }
 }
 
