@@ -11,3 +11,7 @@ pub mod Shared
 mod Known
 mod Mail
 mod Offers
+mod WindowSets
+mod HeardSlots
+mod DueRow
+mod InWindow

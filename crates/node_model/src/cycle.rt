@@ -122,7 +122,7 @@ pub fn slot_among(among: Mask, id: u16) -> Option<u8>
 }
 
 /// The least slot of a set.
-fn least_slot(among: Mask) -> Option<u8>
+pub fn least_slot(among: Mask) -> Option<u8>
     ensures least { result ≡ least_where slots (contains_slot among) }
 {
     let bits = among.bits();

@@ -4,6 +4,7 @@
 #![tactic(auto)]
 
 mod cycle;
+mod due;
 mod entries;
 pub mod laws;
 mod node;

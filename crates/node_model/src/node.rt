@@ -28,13 +28,13 @@ pub struct Node {
     number: u8,
     layout: Layout,
     /// The node's entries; the vector's capacity is the length of a list that can be learnt without memory.
-    entries: Vec<Placed>,
+    pub(crate) entries: Vec<Placed>,
     /// The slots in which the node has an entry.
-    own: Mask,
+    pub(crate) own: Mask,
     mailboxes: Mailboxes,
-    opened: Option<Open>,
+    pub(crate) opened: Option<Open>,
     next: u64,
-    frames: u64,
+    pub(crate) frames: u64,
 }
 
 impl Model for Node {
