@@ -15,3 +15,4 @@ mod WindowSets
 mod HeardSlots
 mod DueRow
 mod InWindow
+mod InCycle

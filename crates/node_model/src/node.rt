@@ -218,9 +218,9 @@ impl Node {
         ensures open_cycle { MatchOption result (IsClosedAt self.now.state at) (IsOpenAt self.now.state at) }
         ensures known { IsNode self.now.state }
     {
-        let cycle = at / u64::from(self.layout.cycle());
         let open_cycle = self.opened?;
-        (cycle == open_cycle.cycle).then_some(open_cycle)
+        let length = u64::from(self.layout.cycle());
+        cycle::is_in(at, open_cycle.cycle, length).then_some(open_cycle)
     }
 
     /// The least time behind `at`, in the cycle of `at`, at which `offer` is something while nothing is heard.
