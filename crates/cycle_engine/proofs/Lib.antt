@@ -15,3 +15,4 @@ mod Pending
 mod SlotSums
 mod Waking
 mod Window
+mod BackToBack

@@ -1,5 +1,5 @@
 -- A node in the synchronous window of its open cycle: what it offers, with which frames, and how it goes on as it hears those of slots.
-use Rattle.std.proofs.Common.{◌≡◌, ◌≢◌, ℕ, ◌+◌, ◌-◌, ◌*◌, ◌^◌, ◌/◌, ◌%◌, ◌<◌, ◌≤◌, Bool, true, false, ◌&&◌, ◌||◌, ◌==◌, not, cond, eqb, leb, is_some, Option, Some, None, IfSome, List, [], ◌∷◌, All, option_map, slice_get, inl, inr, refl, sym, ap, ◌∙◌, subst, arith}
+use Rattle.std.proofs.Common.{◌≡◌, ◌≢◌, ℕ, ◌+◌, ◌-◌, ◌*◌, ◌^◌, ◌/◌, ◌%◌, ◌<◌, ◌≤◌, Bool, true, false, ◌&&◌, ◌||◌, ◌==◌, not, cond, eqb, leb, is_some, Option, Some, None, IfSome, MatchOption, List, [], ◌∷◌, All, option_map, slice_get, inl, inr, refl, sym, ap, ◌∙◌, subst, arith}
 use Rattle.std.specs.Option.{option_map_or}
 use Rattle.std.specs.List.{cons_option, filter_map, list_any}
 use Rattle.std.proofs.Math.Nat.{div-eq_of_lt-le}
@@ -21,6 +21,7 @@ use Rattle.node_model.proofs.Hearing.{next_trigger-fits, trigger_of-frame}
 use Rattle.node_model.proofs.HeardSlots.{hear-one, marked}
 use Rattle.node_model.proofs.Known.{own-slot}
 use Rattle.node_model.proofs.Least.{least_where-same}
+use Rattle.node_model.proofs.LeastSlot.{IsLeastBelow, least_where-least}
 use Rattle.node_model.proofs.Offers.{offer-late}
 
 -- a time of the window lies in the open cycle
@@ -32,9 +33,9 @@ time-in node from until at is known begun early =
     let start : o.cycle * node.layout.cycle ≤ at = omega (arith, is.begun, begun, range, known.layout.room) in
     div-eq_of_lt-le node.layout.cycle start (omega (arith, early, is.ends))
 
-pub offers-due : (node : NodeState) (from until at : ℕ) → IsNode node → IsInWindow from until node → from ≤ at → at < until
+offers-least : (node : NodeState) (from until at : ℕ) → IsNode node → IsInWindow from until node → from ≤ at → at < until
     → node_offer node at ≡ option_map (λ slot. first_identifier + slot) (least_where slots (is_due_slot node))
-offers-due node from until at known is begun early =
+offers-least node from until at known is begun early =
     let o = is.opened in
     let offered : node_offer node at ≡ offer_in node at o = rw is.is_open refl in
     offered
@@ -43,6 +44,25 @@ offers-due node from until at known is begun early =
     ∙ ap (option_map (λ slot. first_identifier + slot))
     (least_where-same slots (is_due node.entries o) (is_due_slot node)
     (λ slot _. ap (λ opened. option_map_or (λ x. is_due node.entries x slot) opened false) (sym is.is_open)))
+
+-- what is offered, as it is found
+found-due : (node : NodeState) (found offered : Option ℕ) → IsLeastBelow slots (is_due_slot node) found
+    → offered ≡ option_map (λ slot. first_identifier + slot) found
+    → MatchOption offered ((slot : ℕ) → slot < slots → is_due_slot node slot ≡ false)
+    (λ id. (slot : ℕ) × (slot < slots) × (id ≡ first_identifier + slot) × (is_due_slot node slot ≡ true)
+    × ((other : ℕ) → other < slot → is_due_slot node other ≡ false))
+found-due node None None is same = is
+found-due node None (Some id) is same = absurd (none-some id (sym same))
+found-due node (Some slot) None is same = absurd (none-some (first_identifier + slot) same)
+found-due node (Some slot) (Some id) is same = (slot, is.0, same_Some id (first_identifier + slot) same, is.1, is.2)
+
+pub offers-due : (node : NodeState) (from until at : ℕ) → IsNode node → IsInWindow from until node → from ≤ at → at < until
+    → MatchOption (node_offer node at) ((slot : ℕ) → slot < slots → is_due_slot node slot ≡ false)
+    (λ id. (slot : ℕ) × (slot < slots) × (id ≡ first_identifier + slot) × (is_due_slot node slot ≡ true)
+    × ((other : ℕ) → other < slot → is_due_slot node other ≡ false))
+offers-due node from until at known is begun early =
+    found-due node (least_where slots (is_due_slot node)) (node_offer node at) (least_where-least slots (is_due_slot node))
+    (offers-least node from until at known is begun early)
 
 pub frames-due : (node : NodeState) (from until at slot : ℕ) → IsNode node → IsInWindow from until node → from ≤ at → at < until → slot < slots
     → node_frame node at (first_identifier + slot) ≡ due_frame node slot

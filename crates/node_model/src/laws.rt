@@ -1,6 +1,6 @@
 //! Laws about the definitions of this crate. Each function has an empty body or calls other laws, and its contract is the law.
 
-ghost use Rattle.std.specs.Prelude.{◌≡◌, ◌≢◌, ℕ, ◌+◌, ◌/◌, ◌^◌, ◌<◌, ◌≤◌, ◌==◌, ◌&&◌, ◌⊎◌, not, List, [], ◌∷◌, ◌++◌, All, Some, option_map};
+ghost use Rattle.std.specs.Prelude.{◌≡◌, ◌≢◌, ℕ, ◌+◌, ◌/◌, ◌^◌, ◌<◌, ◌≤◌, ◌==◌, ◌&&◌, ◌⊎◌, not, List, [], ◌∷◌, ◌++◌, All, MatchOption, Some, false, true};
 ghost use Rattle.can_frame.specs.declared.data_frame.TimedFrame.{TimedFrame};
 ghost use Rattle.cycle_layout.specs.Layout.{CycleLayout};
 ghost use Rattle.requirement_table.specs.declared.entries.Placed.{Placed};
@@ -12,7 +12,7 @@ ghost use Rattle.async_window.specs.declared.request.Request.{Request};
 ghost use Rattle.requirement_table.specs.Opening.{Opening, width_of};
 ghost use Rattle.node_model.specs.Opening.{start_of};
 ghost use Rattle.node_model.specs.Opening.{first_identifier};
-ghost use Rattle.node_model.specs.Node.{IsNode, NodeState, after_hearing, learnt, least_where, node_frame, node_offer};
+ghost use Rattle.node_model.specs.Node.{IsNode, NodeState, after_hearing, learnt, node_frame, node_offer};
 ghost use Rattle.node_model.specs.Window.{IsInWindow, due_frame, is_due_slot};
 ghost use Rattle.async_window.specs.Owners.{AreOwners};
 ghost use Rattle.node_model.specs.Own.{AreApart, OffersLeastOwn, Stands, StandsIn};
@@ -88,7 +88,9 @@ pub fn stays_a_node()
 /// takes that slot away and no other one. A trigger opens the cycle.
 pub fn sends_its_slots()
     ensures offers { (node : NodeState) (from until at : ℕ) → IsNode node → IsInWindow from until node → from ≤ at → at < until
-        → node_offer node at ≡ option_map (λ slot. first_identifier + slot) (least_where slots (is_due_slot node)) }
+        → MatchOption (node_offer node at) ((slot : ℕ) → slot < slots → is_due_slot node slot ≡ false)
+        (λ id. (slot : ℕ) × (slot < slots) × (id ≡ first_identifier + slot) × (is_due_slot node slot ≡ true)
+        × ((other : ℕ) → other < slot → is_due_slot node other ≡ false)) }
     ensures frames { (node : NodeState) (from until at slot : ℕ) → IsNode node → IsInWindow from until node → from ≤ at → at < until
         → slot < slots → node_frame node at (first_identifier + slot) ≡ due_frame node slot }
     ensures stays { (node : NodeState) (from until slot : ℕ) (sent : TimedFrame) → IsNode node

@@ -9,6 +9,7 @@ mod entries;
 pub mod laws;
 mod node;
 
+pub use cycle::FIRST_IDENTIFIER;
 pub use node::Node;
 
 #[cfg(test)]
