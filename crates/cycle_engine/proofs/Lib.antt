@@ -16,3 +16,4 @@ mod SlotSums
 mod Waking
 mod Window
 mod BackToBack
+mod TwoParts

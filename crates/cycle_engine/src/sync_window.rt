@@ -25,7 +25,7 @@ pub fn run_window(nodes: &mut [Node], from: u64, until: u64, out: &mut Vec<Timed
     requires time { until < 2 ^ 60 }
     requires nodes { All IsNode (states_of nodes.old) }
     requires window { All (IsInWindow from until) (states_of nodes.old) }
-    requires room { from < until → vec_len out.old + ((until - from) / 47 + 1) ≤ vec_capacity out.old }
+    requires room { from < until → length out.old.items + ((until - from) / 47 + 1) ≤ vec_capacity out.old }
     ensures sent { IsSentBy (states_of nodes.old) (states_of nodes.new) from until out.old.items out.new.items }
 {
     wire_lengths();

@@ -86,25 +86,36 @@ kept_cycle false k o = (o, refl, refl, refl)
 abbrev IsOfSlot : TimedFrame → Type 0
 IsOfSlot one = (first_identifier ≤ one.frame.identifier) × (one.frame.identifier < first_identifier + slots)
 
-abbrev hearing : NodeState → TimedFrame → NodeState
-hearing node one = record node { frames = counted node.frames; opened = marked node.entries node.opened one }
+heard_opened : (trigger own : Bool) (first second third : NodeState) (was marked_one : Option Opened) → trigger ≡ false
+    → second.opened ≡ marked_one → third.opened ≡ was → (cond trigger first (cond own second third)).opened ≡ cond own marked_one was
+heard_opened true own first second third was marked_one no_trigger here same = absurd (false≢true (sym no_trigger))
+heard_opened false true first second third was marked_one no_trigger here same = here
+heard_opened false false first second third was marked_one no_trigger here same = same
 
-stays-heard : (node : NodeState) (from until : ℕ) (one : TimedFrame) → IsInWindow from until node → IsInWindow from until (hearing node one)
-stays-heard node from until one is =
+heard_layout : (trigger own : Bool) (first second third node : NodeState) → first.layout ≡ node.layout → second.layout ≡ node.layout
+    → third.layout ≡ node.layout → (cond trigger first (cond own second third)).layout ≡ node.layout
+heard_layout true own first second third node a b c = a
+heard_layout false true first second third node a b c = b
+heard_layout false false first second third node a b c = c
+
+pub stays-in_window : (node : NodeState) (from until : ℕ) (one : TimedFrame) → one.frame.identifier ≢ 0 → IsInWindow from until node
+    → IsInWindow from until (after_hearing node one)
+stays-in_window node from until one other is =
     let o = is.opened in
-    let kept = kept_cycle (is_own_slot node.entries one.frame.identifier) (one.frame.identifier - first_identifier) o in
+    let own = is_own_slot node.entries one.frame.identifier in
+    let kept = kept_cycle own (one.frame.identifier - first_identifier) o in
+    let layout : (after_hearing node one).layout ≡ node.layout = heard_layout (one.frame.identifier == 0) own _ _ _ node refl refl refl in
+    let opened : (after_hearing node one).opened ≡ marked node.entries node.opened one =
+    heard_opened (one.frame.identifier == 0) own _ _ _ node.opened _ (ne_eqb one.frame.identifier 0 other) refl refl in
     record {
       opened = kept.0;
-      is_open = ap (λ opened. marked node.entries opened one) is.is_open ∙ kept.1;
-      begun = subst (λ c. sync_start node.layout c kept.0.width ≤ from) (sym kept.2)
-          (subst (λ w. sync_start node.layout o.cycle w ≤ from) (sym kept.3) is.begun);
-      ends = subst (λ c. until ≤ (c + 1) * node.layout.cycle) (sym kept.2) is.ends;
+      is_open = opened ∙ ap (λ x. marked node.entries x one) is.is_open ∙ kept.1;
+      begun = subst (λ l. sync_start l kept.0.cycle kept.0.width ≤ from) (sym layout)
+          (subst (λ c. sync_start node.layout c kept.0.width ≤ from) (sym kept.2)
+          (subst (λ w. sync_start node.layout o.cycle w ≤ from) (sym kept.3) is.begun));
+      ends = subst (λ l. until ≤ (kept.0.cycle + 1) * l.cycle) (sym layout)
+          (subst (λ c. until ≤ (c + 1) * node.layout.cycle) (sym kept.2) is.ends);
     }
-
-pub stays-in_window : (node : NodeState) (from until : ℕ) (one : TimedFrame) → IsNode node → IsOfSlot one → IsInWindow from until node
-    → IsInWindow from until (after_hearing node one)
-stays-in_window node from until one known of_slot is =
-    subst (IsInWindow from until) (sym (hear-one node one known.mail.least of_slot)) (stays-heard node from until one is)
 
 bytes_kept : (entries : List Placed) (slot : ℕ) (own : Bool) (k : ℕ) (opened : Option Opened)
     → option_map_or (λ x. option_map_or bytes_of (instance_in entries slot x.cycle) []) (cond own (option_map (with_heard k) opened) opened) []

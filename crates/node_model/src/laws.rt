@@ -93,8 +93,7 @@ pub fn sends_its_slots()
         × ((other : ℕ) → other < slot → is_due_slot node other ≡ false)) }
     ensures frames { (node : NodeState) (from until at slot : ℕ) → IsNode node → IsInWindow from until node → from ≤ at → at < until
         → slot < slots → node_frame node at (first_identifier + slot) ≡ due_frame node slot }
-    ensures stays { (node : NodeState) (from until slot : ℕ) (sent : TimedFrame) → IsNode node
-        → sent.frame.identifier ≡ first_identifier + slot → slot < slots
+    ensures stays { (node : NodeState) (from until : ℕ) (sent : TimedFrame) → sent.frame.identifier ≢ 0
         → IsInWindow from until node → IsInWindow from until (after_hearing node sent) }
     ensures same_frames { (node : NodeState) (slot other : ℕ) (sent : TimedFrame) → IsNode node
         → sent.frame.identifier ≡ first_identifier + slot → slot < slots → due_frame (after_hearing node sent) other ≡ due_frame node other }

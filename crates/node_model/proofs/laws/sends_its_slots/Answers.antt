@@ -9,8 +9,7 @@ pub returns-clause-frames : goal.returns-clause-frames
 returns-clause-frames c = frames-due
 
 pub returns-clause-stays : goal.returns-clause-stays
-returns-clause-stays c = λ node from until slot sent known is within.
-    stays-in_window node from until sent known (omega (arith, is), omega (arith, is, within))
+returns-clause-stays c = stays-in_window
 
 pub returns-clause-same_frames : goal.returns-clause-same_frames
 returns-clause-same_frames c = λ node slot other sent known is within. frame-kept node sent other known (omega (arith, is), omega (arith, is, within))
