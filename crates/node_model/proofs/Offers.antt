@@ -29,7 +29,7 @@ IsOpenAt-later node at later o is same = record { opened = is.opened; cycle = sa
 in_cycle : (node : NodeState) (at : ℕ) (o : Open) → IsOpenAt node at o → node_offer node at ≡ offer_in node at (opened_of o)
 in_cycle node at o is = rw is.opened refl
 
-offer-late : (same late : Bool) (one other : Option ℕ) → same ≡ true → late ≡ true → (if same then (if late then one else other) else None) ≡ one
+pub offer-late : (same late : Bool) (one other : Option ℕ) → same ≡ true → late ≡ true → (if same then (if late then one else other) else None) ≡ one
 offer-late true true one other is_same is_late = refl
 offer-late true false one other is_same is_late = absurd (false≢true is_late)
 offer-late false late one other is_same is_late = absurd (false≢true is_same)

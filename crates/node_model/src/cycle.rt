@@ -1,6 +1,6 @@
 //! A cycle that is open for a node, and which slot the node sends next in it.
 
-ghost use Rattle.std.specs.Prelude.{◌≡◌, ℕ, ◌+◌, ◌^◌, ◌<◌, ◌&&◌, not, nat_lt, max, if◌then◌else◌, is_some, false, true, List, Some, None, IfSome, MatchOption, option_map};
+ghost use Rattle.std.specs.Prelude.{◌≡◌, ℕ, ◌+◌, ◌*◌, ◌/◌, ◌^◌, ◌<◌, ◌&&◌, not, nat_eq, nat_lt, max, if◌then◌else◌, is_some, false, true, List, Some, None, IfSome, MatchOption, option_map};
 ghost use Rattle.requirement_table.specs.declared.entries.Placed.{Placed};
 ghost use Rattle.requirement_table.specs.Slots.{contains_slot, slots};
 ghost use Rattle.requirement_table.specs.Table.{IsWellPlaced};
@@ -28,6 +28,16 @@ pub struct Open {
     pub heard: Mask,
     /// The flagged slots of which the node has an instance that may be sent in this cycle, and heard no frame.
     pub due: Mask,
+}
+
+/// Whether a time lies in a cycle, where cycles have this length. No division is made.
+pub fn is_in(at: u64, cycle: u64, length: u64) -> bool
+    requires some { 0 < length }
+    requires few { cycle * length < 2 ^ 64 }
+    ensures test { result ≡ nat_eq (at / length) cycle }
+{
+    let start = cycle * length;
+    start <= at && at - start < length
 }
 
 /// The cycle as its trigger opens it for a node with these entries; without one it has nothing synchronous.
@@ -132,7 +142,7 @@ pub fn slot_among(among: Mask, id: u16) -> Option<u8>
 }
 
 /// The least slot of a set.
-fn least_slot(among: Mask) -> Option<u8>
+pub fn least_slot(among: Mask) -> Option<u8>
     ensures least { result ≡ least_where slots (contains_slot among) }
 {
     let bits = among.bits();

@@ -34,11 +34,11 @@ pub struct Node {
     /// Those of them that are not over, from which the node sends.
     remaining: Remaining,
     /// The slots in which the node has an entry.
-    own: Mask,
+    pub(crate) own: Mask,
     mailboxes: Mailboxes,
-    opened: Option<Open>,
+    pub(crate) opened: Option<Open>,
     next: u64,
-    frames: u64,
+    pub(crate) frames: u64,
 }
 
 impl Model for Node {
@@ -229,9 +229,9 @@ impl Node {
         ensures open_cycle { MatchOption result (IsClosedAt self.now.state at) (IsOpenAt self.now.state at) }
         ensures known { IsNode self.now.state }
     {
-        let cycle = at / u64::from(self.layout.cycle());
         let open_cycle = self.opened?;
-        (cycle == open_cycle.cycle).then_some(open_cycle)
+        let length = u64::from(self.layout.cycle());
+        cycle::is_in(at, open_cycle.cycle, length).then_some(open_cycle)
     }
 
     /// The least time behind `at`, in the cycle of `at`, at which `offer` is something while nothing is heard.
@@ -308,7 +308,7 @@ impl Node {
     }
 
     /// The bytes of the instance of a slot that may be sent in a cycle, from the open one on.
-    fn payload(&self, slot: u8, cycle: u64) -> Option<Payload>
+    pub(crate) fn payload(&self, slot: u8, cycle: u64) -> Option<Payload>
         requires from { sends_from self.now.state.opened self.now.state.next ≤ cycle }
         ensures bytes { result ≡ option_map bytes_of (instance_in self.now.state.entries slot cycle) }
         ensures few { IfSome result (λ bytes. length bytes ≤ 8) }
