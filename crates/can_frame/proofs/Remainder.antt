@@ -1,7 +1,6 @@
 -- Division by the generator: what it leaves, and that it leaves one thing.
-use Rattle.std.proofs.Common.{◌≡◌, ℕ, zero, suc, ◌+◌, ◌-◌, ◌*◌, ◌/◌, ◌^◌, ◌<◌, ◌≤◌, ◌⊎◌, Bool, true, false, not, cond, ltb, List, [], ◌∷◌, ◌++◌, length, fold, bit_xor, zero-add, refl, subst, sym, ap, ◌∙◌, inl, inr, arith, lit<}
+use Rattle.std.proofs.Common.{◌≡◌, ℕ, zero, suc, ◌+◌, ◌-◌, ◌*◌, ◌/◌, ◌^◌, ◌<◌, ◌≤◌, ◌⊎◌, Bool, true, false, not, cond, ltb, List, [], ◌∷◌, length, fold, bit_xor, zero-add, refl, subst, sym, ap, ◌∙◌, inl, inr, arith, lit<}
 use Rattle.std.proofs.Math.Nat.{mul_comm, pow-suc}
-use Rattle.std.proofs.lemmas.List.Sums.{fold_push}
 use Rattle.std.proofs.lemmas.Bool.{ltb-true, ltb-false}
 use Rattle.std.proofs.lemmas.Nat.{pow-add, xor_comm, xor_lt, xor_block}
 use lib.Bits.{xor_assoc, xor_self, xor_zero_l, xor_zero_r, xor_shifted, xor_shr}

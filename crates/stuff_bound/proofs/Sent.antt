@@ -1,16 +1,15 @@
 -- What a sender is given and what it has sent, bit by bit and eight at once.
-use Rattle.std.proofs.Common.{◌≡◌, ℕ, zero, suc, ◌+◌, ◌-◌, ◌*◌, ◌/◌, ◌%◌, ◌^◌, ◌<◌, ◌≤◌, ◌==◌, Bool, true, false, not, cond, List, [], ◌∷◌, ◌++◌, length, reverse, take, append_assoc, refl, sym, ap, subst, ◌∙◌, inl, inr, arith, lit<}
-use Rattle.std.specs.Prelude.{nat_le, nat_lt}
-use Rattle.std.specs.Bool.{beq}
+use Rattle.std.proofs.Common.{◌≡◌, ℕ, zero, suc, ◌+◌, ◌*◌, ◌/◌, ◌%◌, ◌^◌, ◌<◌, ◌≤◌, ◌==◌, Bool, true, false, not, cond, List, [], ◌∷◌, ◌++◌, length, reverse, refl, sym, ap, subst, ◌∙◌, inl, inr, arith, lit<}
+use Rattle.std.specs.Prelude.{nat_le}
 use Rattle.std.proofs.Math.Nat.{pow-suc}
 use Rattle.std.proofs.lemmas.Bool.{cases_lt}
 use Rattle.std.proofs.lemmas.Bool.Decides.{nat_tests}
 use Rattle.std.proofs.lemmas.Nat.{pow_pos}
 use Rattle.std.proofs.lemmas.List.{reverse-append, length-reverse}
-use Rattle.stuff_bound.specs.Stuffing.{run, last_bit, with_opposite, with_stuff, stuffed}
+use Rattle.stuff_bound.specs.Stuffing.{run, last_bit, with_stuff, stuffed}
 use Rattle.stuff_bound.specs.Fields.{bits}
 use Rattle.stuff_bound.specs.Sending.{sender_state, HasSent, behind_run, bit_step, one_more, steps, step_at}
-use Rattle.stuff_bound.proofs.Stuffs.{run-not, with_opposite-below, with_opposite-full, run-with_stuff-below, run_positive, length-with_stuff-most}
+use Rattle.stuff_bound.proofs.Stuffs.{run-not, with_opposite-below, with_opposite-full, run-with_stuff-below, length-with_stuff-most}
 
 -- what stands behind one more bit: its state, and a stuff bit where it is the fifth equal one
 behind-below : (count : ℕ) (bit : Bool) → count < 5 → behind_run count bit ≡ count + cond bit 5 0

@@ -1,7 +1,6 @@
 -- Three bytes stand behind the whole ones: the bits that were held back, the CRC sequence and zeros.
-use Rattle.std.proofs.Common.{◌≡◌, ℕ, ◌+◌, ◌*◌, ◌/◌, ◌%◌, ◌<◌, List, [], ◌∷◌, ◌++◌, length, take, sym, ap, ◌∙◌, arith}
-use Rattle.stuff_bound.specs.Fields.{bits, bits_of}
-use Rattle.can_frame.specs.Crc.{sequence_of}
+use Rattle.std.proofs.Common.{◌≡◌, ◌+◌, ◌*◌, ◌/◌, ◌%◌, [], ◌∷◌, ◌++◌, length, take, ap, ◌∙◌, arith}
+use Rattle.stuff_bound.specs.Fields.{bits}
 use Rattle.can_frame.specs.Wire.{covered, with_sequence, plain}
 use Rattle.can_frame.proofs.Plain.{length-with_sequence}
 use Rattle.can_frame.proofs.PlainBytes.{with-last}

@@ -1,6 +1,6 @@
 -- Each byte adds its share, and division leaves one remainder.
-use Rattle.std.proofs.Common.{◌≡◌, ◌+◌, ◌-◌, ◌*◌, ◌^◌, ◌<◌, ◌≤◌, length, take, ap, sym, ◌∙◌, arith}
-use Rattle.can_frame.specs.Crc.{IsRemainder, IsSequence}
+use Rattle.std.proofs.Common.{◌≡◌, ◌+◌, ◌-◌, ◌*◌, length, take, sym, ◌∙◌, arith}
+use Rattle.can_frame.specs.Crc.{IsSequence}
 use Rattle.can_frame.specs.Wire.{covered}
 use Rattle.can_frame.proofs.Remainder.{IsRemainder-one, IsSequence-sequence_of}
 use Rattle.can_frame.proofs.ByteSums.{so_far, so_far-none, next-share, whole-sum}

@@ -1,8 +1,6 @@
 -- Three bytes, one behind the other, behind nothing.
 use Rattle.std.proofs.Common.{◌≡◌, ◌+◌, ◌*◌, ◌/◌, ◌%◌, ◌^◌, ◌<◌, ℕ, bit_xor, arith}
-use lib.Bits.{xor_zero_l}
 use Rattle.can_frame.specs.Crc.{IsRemainder}
-use Rattle.can_frame.proofs.Remainder.{IsRemainder-zero}
 use Rattle.can_frame.proofs.ByteSums.{more-share}
 use Rattle.can_frame.proofs.sequence.header_share.Goals as goal
 

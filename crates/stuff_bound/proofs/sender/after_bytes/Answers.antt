@@ -1,4 +1,4 @@
-use Rattle.std.proofs.Common.{◌≡◌, ◌+◌, ◌*◌, ◌<◌, ◌≤◌, length, reverse, take, arith}
+use Rattle.std.proofs.Common.{take, arith}
 use Rattle.std.proofs.lemmas.List.{length-reverse, length-take}
 use Rattle.stuff_bound.specs.Fields.{bits_of}
 use Rattle.stuff_bound.proofs.Fields.{length-bits_of}

@@ -1,8 +1,6 @@
-use Rattle.std.proofs.Common.{◌≡◌, ℕ, ◌+◌, ◌*◌, ◌<◌, ◌≤◌, List, Bool, length, reverse, take, arith, ap, sym, ◌∙◌}
+use Rattle.std.proofs.Common.{◌≡◌, ℕ, ◌*◌, ◌≤◌, List, length, take, arith}
 use Rattle.std.proofs.lemmas.List.{length-reverse, length-take-le}
-use Rattle.stuff_bound.specs.Stuffing.{stuffed, with_stuff}
 use Rattle.stuff_bound.specs.Fields.{bits_of}
-use Rattle.stuff_bound.specs.Sending.{HasSent}
 use Rattle.stuff_bound.proofs.Fields.{length-bits_of}
 use Rattle.stuff_bound.proofs.Sent.{HasSent-few, HasSent-length}
 use Rattle.stuff_bound.proofs.Stuffs.{length-stuffed-most}

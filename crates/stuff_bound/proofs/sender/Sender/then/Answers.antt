@@ -1,4 +1,4 @@
-use Rattle.std.proofs.Common.{◌≡◌, ◌+◌, ◌*◌, ◌%◌, ◌^◌, ap, arith}
+use Rattle.std.proofs.Common.{arith}
 use Rattle.std.proofs.lemmas.Nat.{one_shl}
 use Rattle.stuff_bound.proofs.Sent.{entry-sent}
 use Rattle.stuff_bound.proofs.sender.Sender.then.Goals as goal
