@@ -2,3 +2,4 @@ pub mod Waiting
 pub mod Mailbox
 pub mod Adding
 pub mod Owners
+pub mod Tournament

@@ -10,6 +10,7 @@ mod places;
 mod request;
 #[cfg(test)]
 mod tests;
+mod tournament;
 
 pub use mailboxes::Mailboxes;
 pub use request::{Owner, Request};

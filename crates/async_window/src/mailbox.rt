@@ -2,12 +2,16 @@
 
 ghost use Rattle.std.specs.Prelude.{◌≡◌, ◌/◌, ◌^◌, ◌<◌, ◌≤◌, [], ◌∷◌, ◌++◌, IfOk, IsTrue, drop, slice_get};
 ghost use Rattle.async_window.specs.Mailbox.{IsNextInCycle, may_start};
+ghost use Rattle.async_window.specs.Tournament.{arrival_within};
 
 use crate::request::Request;
 use cycle_layout::Layout;
 use std::alloc::{AllocError, Global};
 use std::marker::Model;
 use stuff_bound::bound;
+
+/// An arrival that never comes: it is above all times, which are below 2^60 bit times.
+pub const NEVER: u64 = u64::MAX;
 
 /// The requests of one identifier, in their order, of which the first ones are sent.
 #[derive(Drop)]
@@ -61,6 +65,23 @@ impl Mailbox {
         ensures first { result ≡ slice_get self.now.unsent 0 }
     {
         self.requests.get(self.sent).copied()
+    }
+
+    /// The arrival of the first request that is not sent, in bit times, where there is one and it has at most so many data bytes;
+    /// otherwise `NEVER`.
+    pub fn arrival(&self, bytes: usize) -> u64
+        ensures value { result ≡ arrival_within bytes self.now.unsent }
+    {
+        match self.first() {
+            Some(request) => {
+                if usize::from(request.frame.dlc()) <= bytes {
+                    request.at
+                } else {
+                    NEVER
+                }
+            }
+            None => NEVER,
+        }
     }
 
     /// Takes away the first request that is not sent, where there is one.
