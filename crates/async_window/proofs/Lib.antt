@@ -1,7 +1,10 @@
+mod Kept
 mod Levels
 mod Literals
 mod Offered
+mod Order
 pub mod Shared
+mod Soonest
 mod Steps
 mod Table
 mod Trees

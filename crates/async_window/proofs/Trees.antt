@@ -176,7 +176,7 @@ module _ (bytes levels : ℕ) (nodes : List (List ℕ)) (mail : List Mail) (few 
       subst (λ n. node_value bytes nodes mail 1 ≤ n) (at_leaf place d within) low
 
   -- a leaf with a value that comes is that of a mailbox
-  leaf_within : (place at : ℕ) → at < 2 ^ 60 → node_value bytes nodes mail (2 ^ levels + place) ≤ at → place < length mail
+  leaf_within : (place at : ℕ) → at < never → node_value bytes nodes mail (2 ^ levels + place) ≤ at → place < length mail
   leaf_within place at time here =
       elim (cases_lt place (length mail)) [
         | inl within ↦ within
@@ -186,7 +186,7 @@ module _ (bytes levels : ℕ) (nodes : List (List ℕ)) (mail : List Mail) (few 
             absurd (omega arith)
       ]
 
-  pub top-some : (at : ℕ) → at < 2 ^ 60 → node_value bytes nodes mail 1 ≤ at
+  pub top-some : (at : ℕ) → at < never → node_value bytes nodes mail 1 ≤ at
       → (place : ℕ) × (place < length mail) × ((d : Mail) → arrival_within bytes (get_or mail place d).unsent ≤ at)
   top-some at time here =
       let found = least-top_some (node_value bytes nodes mail) levels tree-lesser at here in
@@ -202,7 +202,7 @@ module _ (bytes levels : ℕ) (nodes : List (List ℕ)) (mail : List Mail) (few 
     pub here : (d : Mail) → arrival_within bytes (get_or mail first d).unsent ≤ at
     pub before : (place : ℕ) (d : Mail) → place < first → at < arrival_within bytes (get_or mail place d).unsent
 
-  pub first-found : (at node : ℕ) → at < 2 ^ 60 → IsOnTheWay (node_value bytes nodes mail) levels at 0 node → IsFirst at (node - 2 ^ levels)
+  pub first-found : (at node : ℕ) → at < never → IsOnTheWay (node_value bytes nodes mail) levels at 0 node → IsFirst at (node - 2 ^ levels)
   first-found at node time way =
       let from : 2 ^ levels ≤ node * 2 ^ zero = way.above.starts in
       let first : ℕ = node - 2 ^ levels in

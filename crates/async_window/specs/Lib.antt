@@ -3,3 +3,4 @@ pub mod Mailbox
 pub mod Adding
 pub mod Owners
 pub mod Tournament
+pub mod Sorted

@@ -1,7 +1,8 @@
 -- The least arrivals of first requests, as a tournament over mailboxes: words for contracts inside the crate. Times are bit times.
-use Rattle.std.specs.Prelude.{◌≡◌, ◌≢◌, ℕ, ◌+◌, ◌*◌, ◌-◌, ◌^◌, ◌<◌, ◌≤◌, nat_le, if◌then◌else◌, List, [], ◌∷◌, ◌++◌, length, map, min, slice_index_or}
+use Rattle.std.specs.Prelude.{◌≡◌, ◌≢◌, ℕ, ◌+◌, ◌*◌, ◌-◌, ◌^◌, ◌<◌, ◌≤◌, nat_le, if◌then◌else◌, List, [], ◌∷◌, ◌++◌, length, map, min, slice_index_or, Option}
 use Rattle.async_window.specs.declared.request.Request.{Request}
-use Rattle.async_window.specs.Mailbox.{Mail}
+use Rattle.stuff_bound.specs.Stuffing.{worst}
+use Rattle.async_window.specs.Mailbox.{Mail, IsLeastWith}
 
 -- an arrival that never comes
 abbrev pub never : ℕ
@@ -43,3 +44,10 @@ pub record IsTournamentBut (gap levels : ℕ) (nodes : List (List ℕ)) (mail : 
 -- the same without such a gap: node 0 is no node of the tree
 abbrev pub IsTournament : ℕ → List (List ℕ) → List Mail → Type 0
 IsTournament levels nodes mail = IsTournamentBut 0 levels nodes mail
+
+-- the least time behind `at` at which some first request has arrived and may start, which has less than `count` data bytes, in a window
+-- that has opened at `opened` and in which the longest frame of so many bytes ends before `closed`
+abbrev pub IsSoonest : List (List ℕ) → List Mail → ℕ → ℕ → ℕ → ℕ → Option ℕ → Type 0
+IsSoonest nodes mail opened closed at count least =
+    IsLeastWith (λ later. (bytes : ℕ) × (bytes < count) × (at < later) × (node_value bytes nodes mail 1 ≤ later) × (opened ≤ later)
+    × (later + worst bytes ≤ closed)) least

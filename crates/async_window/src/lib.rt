@@ -11,6 +11,7 @@ mod request;
 #[cfg(test)]
 mod tests;
 mod tournament;
+mod window;
 
 pub use mailboxes::Mailboxes;
 pub use request::{Owner, Request};

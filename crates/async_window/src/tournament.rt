@@ -1,11 +1,13 @@
 //! The least arrivals of the mailboxes' first requests, as a tournament: which is the first mailbox whose request has arrived and is
 //! short enough is found in as many steps as the tree has levels.
 
-ghost use Rattle.std.specs.Prelude.{◌≡◌, ◌≢◌, ℕ, ◌+◌, ◌*◌, ◌/◌, ◌^◌, ◌<◌, ◌≤◌, IfOk, MatchOption, length, min, set, slice_index_or};
-ghost use Rattle.async_window.specs.Mailbox.{Mail};
-ghost use Rattle.async_window.specs.Tournament.{IsTournament, IsTournamentBut, Renews, arrival_within, never, node_value};
+ghost use Rattle.std.specs.Prelude.{◌≡◌, ℕ, ◌+◌, ◌*◌, ◌/◌, ◌^◌, ◌<◌, ◌≤◌, ◌++◌, IfOk, MatchOption, length, min, slice_index_or};
+ghost use Rattle.std.specs.Option.{option_to_list};
+ghost use Rattle.async_window.specs.Mailbox.{Mail, least_of};
+ghost use Rattle.async_window.specs.Tournament.{IsSoonest, IsTournament, IsTournamentBut, Renews, arrival_within, never, node_value};
 
 use crate::mailbox::{Mailbox, NEVER};
+use crate::window::Window;
 use std::alloc::{AllocError, Global};
 
 /// How many numbers of data bytes a frame may have: 0 to 8.
@@ -78,7 +80,7 @@ impl Tournament {
     }
 
     /// The value of the top: the least arrival of a first request that has at most so many data bytes, in bit times.
-    pub fn soonest(&self, boxes: &[Mailbox], bytes: usize) -> u64
+    fn soonest(&self, boxes: &[Mailbox], bytes: usize) -> u64
         requires bytes { bytes ≤ 8 }
         ensures value { result ≡ node_value bytes self.now.nodes.items boxes.now 1 }
     {
@@ -117,6 +119,19 @@ impl Tournament {
             node = self.below(boxes, node, bytes, at);
         }
         Some(node - self.nodes.len())
+    }
+
+    /// The least time behind `at` at which a first request has arrived and may start in the window.
+    pub fn next(&self, boxes: &[Mailbox], window: &Window, at: u64) -> Option<u64>
+        requires time { at < 2 ^ 60 }
+        ensures next { IsSoonest self.now.nodes.items boxes.now window.now.opened window.now.closed at 9 result }
+    {
+        let mut least = None;
+        for bytes in 0..LENGTHS as u8 {
+            let arrival = self.soonest(boxes, usize::from(bytes));
+            least = sooner(least, window.earliest(at, arrival, bytes));
+        }
+        least
     }
 
     /// The first of the two nodes below one whose value is at most `at`, where one of them is.
@@ -166,5 +181,15 @@ fn leaf_value(boxes: &[Mailbox], place: usize, bytes: usize) -> u64
     match boxes.get(place) {
         Some(mailbox) => mailbox.arrival(bytes),
         None => NEVER,
+    }
+}
+
+/// The lesser of two times, either of which may be none.
+fn sooner(one: Option<u64>, other: Option<u64>) -> Option<u64>
+    ensures sooner { result ≡ least_of (option_to_list one ++ option_to_list other) }
+{
+    match one {
+        Some(first) => Some(first.min(other.unwrap_or(first))),
+        None => other,
     }
 }

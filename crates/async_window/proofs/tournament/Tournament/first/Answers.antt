@@ -30,7 +30,7 @@ found : (c : goal.After-len) → IsFirst c.args.bytes c.args.self.now.levels c.a
     c.requires.tournament c.args.at (c.loop.node - 2 ^ c.args.self.now.levels)
 found c =
     first-found c.args.bytes c.args.self.now.levels c.args.self.now.nodes.items c.args.boxes.now c.requires.bytes c.requires.tournament
-    c.args.at c.loop.node c.requires.time (c.loop.invariant 0 (omega (arith, c.loop-test.false, c.loop.auto)))
+    c.args.at c.loop.node (omega (arith, c.requires.time)) (c.loop.invariant 0 (omega (arith, c.loop-test.false, c.loop.auto)))
 
 leaves : (c : goal.After-len) → c.len.result ≡ 2 ^ c.args.self.now.levels
 leaves c =
