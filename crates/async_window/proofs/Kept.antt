@@ -1,21 +1,21 @@
 -- What holds of kept mailboxes: when they are made, and when a request is taken away.
-use Rattle.std.proofs.Common.{◌≡◌, ◌≢◌, ℕ, zero, suc, ◌+◌, ◌-◌, ◌/◌, ◌^◌, ◌<◌, ◌≤◌, cond, eqb, List, [], ◌∷◌, length, get_or, set, take, drop, map, All, AllPairs, Contains, IsPermutation, ◌⊎◌, ◌↔◌, Some, inl, inr, refl, sym, ap, ◌∙◌, subst, arith}
+use Rattle.std.proofs.Common.{◌≡◌, ◌≢◌, ℕ, suc, ◌+◌, ◌-◌, ◌/◌, ◌^◌, ◌<◌, ◌≤◌, cond, eqb, List, [], ◌∷◌, length, get_or, set, drop, map, All, AllPairs, Contains, IsPermutation, ◌⊎◌, ◌↔◌, Some, inl, inr, refl, sym, ap, ◌∙◌, subst, arith}
 use Rattle.std.specs.List.{slice_get}
 use Rattle.std.specs.Option.{IsSome}
 use Rattle.std.proofs.lemmas.Bool.{cases_lt, false≢true}
 use Rattle.std.proofs.lemmas.Bool.Decides.{eqb_tells}
-use Rattle.std.proofs.lemmas.List.{take_all, length-map}
+use Rattle.std.proofs.lemmas.List.{take_all}
 use Rattle.std.proofs.lemmas.List.Elements.{All-map, All-filter, All-drop, Contains-get_or}
 use Rattle.std.proofs.lemmas.List.Sorted.{All-permutation, Contains-permutation, IsPermutation-map, IsPermutation-sym, sum_by-IsPermutation}
 use Rattle.async_window.specs.declared.request.Request.{Request}
-use Rattle.async_window.specs.Waiting.{requests_of, frames_with, unsent_after}
+use Rattle.async_window.specs.Waiting.{requests_of, unsent_after}
 use Rattle.async_window.specs.Mailbox.{Mail, IsMail, mail_after, unsent_of, taken_from, without_first, left}
 use Rattle.async_window.specs.Tournament.{IsTournament, IsTournamentBut}
-use Rattle.async_window.specs.Sorted.{AreKept, AreShort, IsPlaceOf, IsPlaceTable, mail_of, nowhere}
+use Rattle.async_window.specs.Sorted.{AreKept, AreShort, IsPlaceOf, mail_of, nowhere}
 use Rattle.async_window.proofs.Unsent.{AllPairs-map, Contains-later, IsMail-after, IsMail-without, taken_from-identifier, taken_from-keeps, unsent_of-among, unsent_of-elsewhere, unsent_of-without, without_first-identifiers, without_head}
 use Rattle.async_window.proofs.Order.{distinct-permutation}
 use Rattle.async_window.proofs.Table.{few-rising, no_place, place-identifier, unsent_of-at, unsent_of-nowhere}
-use Rattle.async_window.proofs.Steps.{HasPut, IsMail-put, SetsFirst, IsPlaceTable-put, left-without, rising-put, set-without_first, identifiers-after}
+use Rattle.async_window.proofs.Steps.{HasPut, IsMail-put, IsPlaceTable-put, left-without, rising-put, set-without_first}
 use Rattle.async_window.proofs.Trees.{IsTournamentBut-leaf}
 
 contains_or : (ids : List ℕ) (id : ℕ) → Contains ids id ⊎ (Contains ids id → ⊥)
@@ -24,9 +24,9 @@ contains_or (first ∷ ids) id =
     elim (eqb_tells first id) [
       | inl here ↦ inl (0, omega arith, here.1)
       | inr later ↦ elim (contains_or ids id) [
-          | inl among ↦ inl (suc among.0, omega (arith, among.1), among.2)
-          | inr none ↦ inr (λ among. none (Contains-later first ids id later.1 among))
-        ]
+        | inl among ↦ inl (suc among.0, omega (arith, among.1), among.2)
+        | inr none ↦ inr (λ among. none (Contains-later first ids id later.1 among))
+      ]
     ]
 
 -- the same requests under the same identifiers in another order
@@ -102,7 +102,7 @@ module _ (ids sorted : List ℕ) (requests : List Request) (made : IsMade ids so
         tournament = tournament;
         counted = has.counted ∙ ap left whole
             ∙ sum_by-IsPermutation (λ (box : Mail). length box.unsent) (mail_after ids requests []) (mail_after sorted requests [])
-              (IsPermutation-map (λ id. record { identifier = id; unsent = unsent_after requests [] id }) ids sorted made.moved)
+            (IsPermutation-map (λ id. record { identifier = id; unsent = unsent_after requests [] id }) ids sorted made.moved)
             ∙ ap left (sym view);
       }
 

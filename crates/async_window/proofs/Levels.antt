@@ -1,5 +1,5 @@
 -- A tree whose inner nodes have the lesser value of the two nodes below them, by the values of its nodes.
-use Rattle.std.proofs.Common.{◌≡◌, ◌≢◌, ℕ, zero, suc, ◌+◌, ◌*◌, ◌/◌, ◌^◌, ◌<◌, ◌≤◌, min, ◌⊎◌, inl, inr, refl, sym, ap, ◌∙◌, subst, arith}
+use Rattle.std.proofs.Common.{◌≡◌, ℕ, zero, suc, ◌+◌, ◌*◌, ◌^◌, ◌<◌, ◌≤◌, min, inl, inr, sym, subst, arith}
 use Rattle.std.proofs.Math.Nat.{one-le-pow, pow-suc, pow-le-pow_right}
 use Rattle.std.proofs.lemmas.Bool.{cases_lt}
 
@@ -114,22 +114,22 @@ module _ (value : ℕ → ℕ) (levels : ℕ) (lesser : IsLesser value levels) w
       let here : value node ≤ at = way.here in
       elim (cases_lt at (value (2 * node))) [
         | inl greater ↦ subst (λ n. IsOnTheWay value levels at rest n) (sym (right greater)) (record {
-            above = IsAbove-right levels rest node way.above;
-            here = omega arith;
-            before = λ leaf from to. elim (cases_lt leaf (node * 2 ^ suc rest)) [
-              | inl old ↦ way.before leaf from old
-              | inr new ↦
-                  let after : node * (2 ^ rest * 2) ≤ leaf = subst (λ n. node * n ≤ leaf) twice new in
-                  let below : value (2 * node) ≤ value leaf
-                  = least-below rest (2 * node) leaf (IsAbove-left levels rest node way.above) (omega arith) to in
-                  omega arith
-            ];
-          })
+          above = IsAbove-right levels rest node way.above;
+          here = omega arith;
+          before = λ leaf from to. elim (cases_lt leaf (node * 2 ^ suc rest)) [
+            | inl old ↦ way.before leaf from old
+            | inr new ↦
+                let after : node * (2 ^ rest * 2) ≤ leaf = subst (λ n. node * n ≤ leaf) twice new in
+                let below : value (2 * node) ≤ value leaf
+                = least-below rest (2 * node) leaf (IsAbove-left levels rest node way.above) (omega arith) to in
+                omega arith
+          ];
+        })
         | inr passes ↦ subst (λ n. IsOnTheWay value levels at rest n) (sym (left passes)) (record {
-            above = IsAbove-left levels rest node way.above;
-            here = passes;
-            before = λ leaf from to.
-                let same : 2 * node * 2 ^ rest ≡ node * (2 ^ rest * 2) = omega arith in
-                way.before leaf from (subst (λ n. leaf < node * n) (sym twice) (omega arith));
-          })
+          above = IsAbove-left levels rest node way.above;
+          here = passes;
+          before = λ leaf from to.
+              let same : 2 * node * 2 ^ rest ≡ node * (2 ^ rest * 2) = omega arith in
+              way.before leaf from (subst (λ n. leaf < node * n) (sym twice) (omega arith));
+        })
       ]

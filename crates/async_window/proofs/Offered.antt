@@ -1,17 +1,15 @@
 -- Which identifiers mail offers: the least of those whose first unsent request may start.
-use Rattle.std.proofs.Common.{◌≡◌, ◌≢◌, ◌↔◌, ℕ, suc, ◌+◌, ◌/◌, ◌<◌, ◌≤◌, Bool, true, false, cond, leb, ◌&&◌, Option, Some, None, List, [], ◌∷◌, ◌++◌, length, get_or, take, map, filter, min, AllPairs, Contains, IsTrue, ◌⊎◌, inl, inr, refl, sym, ap, ◌∙◌, subst, arith}
+use Rattle.std.proofs.Common.{◌≡◌, ◌≢◌, ◌↔◌, ℕ, suc, ◌+◌, ◌/◌, ◌<◌, ◌≤◌, Bool, cond, leb, ◌&&◌, Option, Some, None, List, [], ◌∷◌, ◌++◌, length, map, filter, min, AllPairs, Contains, IsTrue, ◌⊎◌, inl, inr, refl, sym, ap, ◌∙◌, subst, arith}
 use Rattle.std.specs.List.{fold}
 use Rattle.std.specs.Option.{option_map_or, option_to_list, IsSome}
 use Rattle.std.proofs.lemmas.Bool.{leb-true, le-leb, leb-false, and_parts, and_from, both_ways, cases_Bool, false≢true}
-use Rattle.std.proofs.lemmas.List.{append-nil, map-append, get_or-map, length-map, take_more}
-use Rattle.std.proofs.lemmas.List.Elements.{filter-append}
-use Rattle.std.proofs.lemmas.List.Sums.{fold-append}
+use Rattle.std.proofs.lemmas.List.{get_or-map, length-map}
 use Rattle.std.proofs.lemmas.Bool.Decides.{eqb_tells}
 use Rattle.stuff_bound.specs.Stuffing.{worst}
 use Rattle.cycle_layout.specs.Layout.{CycleLayout, async_open, sync_start}
 use Rattle.async_window.specs.declared.request.Request.{Request}
 use Rattle.async_window.specs.Waiting.{MayStart}
-use Rattle.async_window.specs.Mailbox.{Mail, IsMail, Offers, IsLeastWith, IsNextInCycle, unsent_of, may_start, least_of, mail_offer}
+use Rattle.async_window.specs.Mailbox.{Mail, IsMail, Offers, IsLeastWith, unsent_of, may_start, least_of, mail_offer}
 use Rattle.async_window.proofs.Unsent.{unsent_of-here, unsent_of-later}
 
 -- the test and the relation

@@ -1,5 +1,5 @@
 -- What mailboxes offer, by the arrivals of their first requests.
-use Rattle.std.proofs.Common.{◌≡◌, ◌≢◌, ℕ, zero, suc, ◌+◌, ◌*◌, ◌-◌, ◌/◌, ◌^◌, ◌<◌, ◌≤◌, cond, leb, Option, Some, None, List, [], ◌∷◌, ◌++◌, length, get_or, map, ◌⊎◌, inl, inr, refl, sym, ap, ◌∙◌, subst, arith}
+use Rattle.std.proofs.Common.{◌≡◌, ℕ, ◌+◌, ◌*◌, ◌/◌, ◌^◌, ◌<◌, ◌≤◌, cond, leb, Option, Some, None, List, [], ◌∷◌, ◌++◌, length, get_or, inl, inr, refl, sym, ap, ◌∙◌, subst, arith}
 use Rattle.std.specs.List.{slice_get}
 use Rattle.std.specs.Option.{IsSome, option_to_list}
 use Rattle.std.proofs.Math.Nat.{div-eq_of_lt-le, div-mul-le_self}
@@ -9,7 +9,6 @@ use Rattle.std.proofs.lemmas.Option.{get_or_from_slice_get, slice_get_within}
 use Rattle.stuff_bound.specs.Stuffing.{worst}
 use Rattle.cycle_layout.specs.Layout.{CycleLayout, IsLayout, async_open, sync_start}
 use Rattle.async_window.specs.declared.request.Request.{Request}
-use Rattle.async_window.specs.Waiting.{MayStart}
 use Rattle.async_window.specs.Mailbox.{Mail, Offers, IsLeastWith, IsNextInCycle, least_of, mail_offer, unsent_of}
 use Rattle.async_window.specs.Tournament.{IsSoonest, never, arrival_within, node_value}
 use Rattle.async_window.specs.Sorted.{AreKept, AreShort, mail_of}
@@ -45,11 +44,13 @@ module _ (layout : CycleLayout) (l : ℕ) (ids : List ℕ) (boxes : List Mail) (
       let id : ℕ = (get_or boxes place d).identifier in
       let unsent : unsent_of (mail_of ids boxes) id ≡ (get_or boxes place d).unsent
       = kept.same id ∙ unsent_of-at boxes place d id kept.known.distinct within refl in
-      let first = arrival-from bytes at (get_or boxes place d).unsent time low in
-      (first.0, record {
-        waiting = record { first = ap (λ xs. slice_get xs 0) unsent ∙ first.1; arrived = first.2 };
-        allowed = record { opened = opened; whole = omega (arith, first.3) };
-      })
+      let first = arrival-from bytes at (get_or boxes place d).unsent time low in (
+        first.0,
+        record {
+          waiting = record { first = ap (λ xs. slice_get xs 0) unsent ∙ first.1; arrived = first.2 };
+          allowed = record { opened = opened; whole = omega (arith, first.3) };
+        },
+      )
 
   -- what is offered is the first request of a mailbox
   pub record IsOfferOf (at id place : ℕ) (request : Request) : Type 0 where
@@ -74,17 +75,20 @@ module _ (layout : CycleLayout) (l : ℕ) (ids : List ℕ) (boxes : List Mail) (
       = λ d. ap (λ xs. slice_get xs 0) (sym (unsent_of-at boxes place d id kept.known.distinct within (same d))) ∙ first in
       let box : Mail = record { identifier = id; unsent = [] } in
       let some : 0 < length (get_or boxes place box).unsent = slice_get_within (get_or boxes place box).unsent 0 may.0 (here box) in
-      let short : AreShort (get_or boxes place box).unsent = kept.short place box within in
-      (place, may.0, record {
-        within = within;
-        same = same;
-        first = here;
-        arrived = may.1.waiting.arrived;
-        short = subst (λ (x : Request). length x.frame.bytes ≤ 8) (get_or_from_slice_get (get_or boxes place box).unsent 0 may.0 may.0 (here box))
-            (short 0 may.0 some);
-        opened = may.1.allowed.opened;
-        whole = may.1.allowed.whole;
-      })
+      let short : AreShort (get_or boxes place box).unsent = kept.short place box within in (
+        place,
+        may.0,
+        record {
+          within = within;
+          same = same;
+          first = here;
+          arrived = may.1.waiting.arrived;
+          short = subst (λ (x : Request). length x.frame.bytes ≤ 8) (get_or_from_slice_get (get_or boxes place box).unsent 0 may.0 may.0 (here box))
+              (short 0 may.0 some);
+          opened = may.1.allowed.opened;
+          whole = may.1.allowed.whole;
+        },
+      )
 
   -- the least identifier that is offered, by what the window and the tournament say
   pub none-fits : (at : ℕ) → ((bytes : ℕ) → bytes ≤ 8 → async_open layout (at / layout.cycle) ≤ at
@@ -122,15 +126,15 @@ module _ (layout : CycleLayout) (l : ℕ) (ids : List ℕ) (boxes : List Mail) (
         elim (cases_lt found.0 first) [
           | inl earlier ↦ let high : at < arrival_within room (get_or boxes found.0 d).unsent = before found.0 d earlier in absurd (omega arith)
           | inr later ↦ elim (cases_eq found.0 first) [
-              | inl at_first ↦
-                  let equal : (get_or boxes first d).identifier ≡ id = ap (λ n. (get_or boxes n d).identifier) (sym at_first) ∙ same in
-                  omega arith
-              | inr apart ↦
-                  let behind : first < found.0 = elim (cases_lt first found.0) [ inl less ↦ less | inr more ↦ absurd (apart (omega arith)) ] in
-                  let less : (get_or boxes first d).identifier < (get_or boxes found.0 d).identifier
-                  = kept.rising first found.0 d behind found.2.within in
-                  omega arith
-            ]
+            | inl at_first ↦
+                let equal : (get_or boxes first d).identifier ≡ id = ap (λ n. (get_or boxes n d).identifier) (sym at_first) ∙ same in
+                omega arith
+            | inr apart ↦
+                let behind : first < found.0 = elim (cases_lt first found.0) [ inl less ↦ less | inr more ↦ absurd (apart (omega arith)) ] in
+                let less : (get_or boxes first d).identifier < (get_or boxes found.0 d).identifier
+                = kept.rising first found.0 d behind found.2.within in
+                omega arith
+          ]
         ],
   )
 
@@ -165,8 +169,12 @@ IsSoonest-more nodes boxes opened closed at count arrival one other next first i
       | inr more ↦
           let same : h.0 ≡ count = omega arith in
           let high : later + worst h.0 ≤ closed = h.5 in
-          inr (h.2, subst (λ n. n ≤ later) (ap (λ n. node_value n nodes boxes 1) same ∙ sym is) h.3, h.4,
-          subst (λ n. later + worst n ≤ closed) same high)
+          inr (
+            h.2,
+            subst (λ n. n ≤ later) (ap (λ n. node_value n nodes boxes 1) same ∙ sym is) h.3,
+            h.4,
+            subst (λ n. later + worst n ≤ closed) same high,
+          )
     ])
     first second)
 
@@ -192,13 +200,17 @@ module _ (layout : CycleLayout) (l at : ℕ) (ids : List ℕ) (boxes : List Mail
       let same : later / layout.cycle ≡ at / layout.cycle = div-eq_of_lt-le layout.cycle (omega arith) end in
       let high : later < never = omega arith in
       let place = top-some bytes levels nodes boxes (omega arith) kept.tournament later high found.3 in
-      let box : Mail = record { identifier = 0; unsent = [] } in
-      (found.2, same, (IsLeastWith-some (Offers layout l (mail_of ids boxes) later) (mail_offer layout l (mail_of ids boxes) later)
-      (Offers-least layout l later (mail_of ids boxes) kept.mail)).1
-      ((get_or boxes place.0 box).identifier,
-      offers-at layout l ids boxes table levels nodes remaining kept later bytes place.0 box high place.1 (place.2 box)
-      (subst (λ c. async_open layout c ≤ later) (sym same) (subst (λ n. n ≤ later) is_opened from))
-      (subst (λ c. later + worst bytes ≤ sync_start layout c l) (sym same) (subst (λ n. later + worst bytes ≤ n) is_closed to)))))
+      let box : Mail = record { identifier = 0; unsent = [] } in (
+        found.2,
+        same,
+        (IsLeastWith-some (Offers layout l (mail_of ids boxes) later) (mail_offer layout l (mail_of ids boxes) later)
+            (Offers-least layout l later (mail_of ids boxes) kept.mail)).1 (
+              (get_or boxes place.0 box).identifier,
+              offers-at layout l ids boxes table levels nodes remaining kept later bytes place.0 box high place.1 (place.2 box)
+                  (subst (λ c. async_open layout c ≤ later) (sym same) (subst (λ n. n ≤ later) is_opened from))
+                  (subst (λ c. later + worst bytes ≤ sync_start layout c l) (sym same) (subst (λ n. later + worst bytes ≤ n) is_closed to)),
+            ),
+      ))
       (λ later found.
       let offer = (IsLeastWith-some (Offers layout l (mail_of ids boxes) later) (mail_offer layout l (mail_of ids boxes) later)
       (Offers-least layout l later (mail_of ids boxes) kept.mail)).0 found.2 in
@@ -209,8 +221,12 @@ module _ (layout : CycleLayout) (l at : ℕ) (ids : List ℕ) (boxes : List Mail
       let arrived : arrival_within bytes (get_or boxes by.0 box).unsent ≤ later
       = arrival-some bytes later (get_or boxes by.0 box).unsent by.1 (by.2.first box) by.2.arrived (omega arith) in
       let low : node_value bytes nodes boxes 1 ≤ arrival_within bytes (get_or boxes by.0 box).unsent
-      = top-all bytes levels nodes boxes few kept.tournament by.0 box by.2.within in
-      (bytes, omega arith, found.0, omega arith,
-      subst (λ n. n ≤ later) (sym is_opened) (subst (λ c. async_open layout c ≤ later) found.1 by.2.opened),
-      subst (λ n. later + worst bytes ≤ n) (sym is_closed) (subst (λ c. later + worst bytes ≤ sync_start layout c l) found.1 by.2.whole)))
+      = top-all bytes levels nodes boxes few kept.tournament by.0 box by.2.within in (
+        bytes,
+        omega arith,
+        found.0,
+        omega arith,
+        subst (λ n. n ≤ later) (sym is_opened) (subst (λ c. async_open layout c ≤ later) found.1 by.2.opened),
+        subst (λ n. later + worst bytes ≤ n) (sym is_closed) (subst (λ c. later + worst bytes ≤ sync_start layout c l) found.1 by.2.whole),
+      ))
       is

@@ -71,7 +71,7 @@ HasLessers-more nodes mail node count row value within is has = record {
 -- a row is written over an inner node
 pub Renews-set : (nodes : List (List ℕ)) (mail : List Mail) (node : ℕ) (row : List ℕ) → node < length nodes
     → ((bytes : ℕ) → bytes ≤ 8
-      → get_or row bytes never ≡ min (node_value bytes nodes mail (2 * node)) (node_value bytes nodes mail (2 * node + 1)))
+    → get_or row bytes never ≡ min (node_value bytes nodes mail (2 * node)) (node_value bytes nodes mail (2 * node + 1)))
     → Renews nodes (set nodes node row) mail node
 Renews-set nodes mail node row within lesser = record {
   length = length-set nodes node row;
@@ -83,7 +83,7 @@ Renews-set nodes mail node row within lesser = record {
       let whole : tree bytes (set nodes node row) mail ≡ set (tree bytes nodes mail) node (get_or row bytes never)
       = ap (λ xs. xs ++ leaves bytes nodes mail) (map-set (λ x. get_or x bytes never) nodes node row)
       ∙ sym (set-append_left (inner bytes nodes mail) (leaves bytes nodes mail) node (get_or row bytes never)
-        (omega (arith, length-map nodes (λ (x : List ℕ). get_or x bytes never)))) in
+      (omega (arith, length-map nodes (λ (x : List ℕ). get_or x bytes never)))) in
       ap (λ xs. get_or xs other never) whole
       ∙ get_or-set_other (tree bytes nodes mail) node other (get_or row bytes never) never apart;
 }
@@ -145,7 +145,7 @@ IsTournamentBut-leaf levels place nodes mail box within has =
     = ap (λ xs. inner bytes nodes mail ++ xs) (map-set f mail place box)
     ∙ ap (λ n. inner bytes nodes mail ++ set (leaves bytes nodes mail) n (f box)) (sym at)
     ∙ sym (set-append_right (inner bytes nodes mail) (leaves bytes nodes mail) (length nodes) (length nodes + place) (f box)
-      (length-map nodes (λ (x : List ℕ). get_or x bytes never)) (omega arith)) in
+    (length-map nodes (λ (x : List ℕ). get_or x bytes never)) (omega arith)) in
     ap (λ xs. get_or xs node never) whole
     ∙ get_or-set_other (tree bytes nodes mail) (length nodes + place) node (f box) never (λ same. absurd (apart (same ∙ ap (λ n. n + place) size))) in
     record {
@@ -157,7 +157,7 @@ IsTournamentBut-leaf levels place nodes mail box within has =
           ∙ has.lesser node from to (λ same. absurd (omega arith)) bytes few
           ∙ ap (λ n. min n (node_value bytes nodes mail (2 * node + 1))) (sym (kept bytes (2 * node) (λ same. absurd (apart (omega arith)))))
           ∙ ap (λ n. min (node_value bytes nodes (set mail place box) (2 * node)) n)
-            (sym (kept bytes (2 * node + 1) (λ same. absurd (apart (omega arith)))));
+          (sym (kept bytes (2 * node + 1) (λ same. absurd (apart (omega arith)))));
     }
 
 -- what the tree says of its mailboxes

@@ -1,5 +1,5 @@
 -- Mailboxes in the order of their identifiers, which stand for mail in another order: words for contracts inside the crate.
-use Rattle.std.specs.Prelude.{◌≡◌, ◌↔◌, ℕ, ◌<◌, ◌≤◌, Option, Some, List, length, map, slice_get, All, AllPairs}
+use Rattle.std.specs.Prelude.{◌≡◌, ◌↔◌, ℕ, ◌<◌, ◌≤◌, Some, List, length, map, slice_get, All, AllPairs}
 use Rattle.async_window.specs.declared.request.Request.{Request}
 use Rattle.async_window.specs.Mailbox.{Mail, IsMail, unsent_of, left}
 use Rattle.async_window.specs.Tournament.{IsTournament}

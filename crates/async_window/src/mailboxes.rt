@@ -142,11 +142,7 @@ impl Mailboxes {
 }
 
 /// How many requests each mailbox gets, by its place.
-fn rooms(
-    alloc: Global,
-    places: &[u16],
-    requests: &[Request],
-) -> Result<Vec<u32>, AllocError>
+fn rooms(alloc: Global, places: &[u16], requests: &[Request]) -> Result<Vec<u32>, AllocError>
     requires length { length places.now ≡ 2048 }
 {
     let mut rooms = vec![in alloc; 0u32; IDENTIFIERS]?;

@@ -74,7 +74,9 @@ impl Tournament {
     {
         let mut least = [NEVER; LENGTHS];
         for bytes in 0..LENGTHS {
-            least[bytes] = self.value(boxes, node, bytes).min(self.value(boxes, node + 1, bytes));
+            least[bytes] = self
+                .value(boxes, node, bytes)
+                .min(self.value(boxes, node + 1, bytes));
         }
         least
     }

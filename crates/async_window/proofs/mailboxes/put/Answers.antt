@@ -1,4 +1,4 @@
-use Rattle.std.proofs.Common.{◌≡◌, ◌≢◌, ◌≤◌, ◌<◌, [], ◌∷◌, ◌++◌, length, set, AllPairs, sym, ap, ◌∙◌, arith}
+use Rattle.std.proofs.Common.{◌≢◌, ◌≤◌, length, set, AllPairs, sym, ap, ◌∙◌, arith}
 use Rattle.async_window.specs.Mailbox.{Mail}
 use Rattle.async_window.proofs.Table.{few-rising, no_place, place-identifier}
 use Rattle.async_window.proofs.Steps.{with_request-at, with_request-elsewhere}

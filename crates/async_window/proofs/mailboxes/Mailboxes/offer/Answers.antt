@@ -1,4 +1,4 @@
-use Rattle.std.proofs.Common.{◌≡◌, ℕ, ◌+◌, ◌/◌, ◌<◌, ◌≤◌, Option, Some, None, List, length, get_or, sym, ap, ◌∙◌, subst, arith}
+use Rattle.std.proofs.Common.{◌≡◌, ℕ, ◌+◌, ◌/◌, ◌<◌, ◌≤◌, Some, None, List, length, get_or, sym, ap, ◌∙◌, subst, arith}
 use Rattle.stuff_bound.specs.Stuffing.{worst}
 use Rattle.cycle_layout.specs.Layout.{sync_start}
 use Rattle.async_window.specs.Mailbox.{IsLeastWith, Mail, Offers, mail_offer}
@@ -10,7 +10,7 @@ use Rattle.async_window.proofs.mailboxes.Mailboxes.offer.Goals as goal
 pub returns-in-Some-first-clause-least : goal.returns-in-Some-first-clause-least
 returns-in-Some-first-clause-least c =
     let fits : (bytes : ℕ) → bytes ≤ 8 → c.args.at + worst bytes ≤ sync_start c.args.layout.now (c.args.at / c.args.layout.now.cycle) c.args.l
-        → bytes ≤ c.in-Some.bytes
+    → bytes ≤ c.in-Some.bytes
     = λ bytes few whole. c.in-Some.ensures.room.3 bytes few (subst (λ n. c.args.at + worst bytes ≤ n) (sym c.window_at.ensures.closed) whole) in
     let place : ℕ = c.in-Some-first.place in
     let box : Mail = c.index-boxes-place.result in
@@ -19,7 +19,7 @@ returns-in-Some-first-clause-least c =
     = sym (c.id.ensures.value ∙ ap (λ (x : Mail). x.identifier) c.index-boxes-place.is
     ∙ ap (λ (mail : List Mail). (get_or mail place box).identifier) slice) in
     let least : IsLeastWith (Offers c.args.layout.now c.args.l (mail_of c.self.inside.ids.items c.self.inside.boxes.items) c.args.at)
-        (Some (get_or c.self.inside.boxes.items place box).identifier)
+    (Some (get_or c.self.inside.boxes.items place box).identifier)
     = first-offers c.args.layout.now c.args.l c.self.inside.ids.items c.self.inside.boxes.items c.self.inside.places.items c.self.inside.firsts.levels
     c.self.inside.firsts.nodes.items c.self.inside.remaining c.self.invariant
     c.args.at c.in-Some.bytes place box (omega (arith, c.requires.time)) fits
@@ -39,7 +39,7 @@ returns-in-Some-first-clause-least c =
 pub returns-in-Some-first-clause-value : goal.returns-in-Some-first-clause-value
 returns-in-Some-first-clause-value c =
     let fits : (bytes : ℕ) → bytes ≤ 8 → c.args.at + worst bytes ≤ sync_start c.args.layout.now (c.args.at / c.args.layout.now.cycle) c.args.l
-        → bytes ≤ c.in-Some.bytes
+    → bytes ≤ c.in-Some.bytes
     = λ bytes few whole. c.in-Some.ensures.room.3 bytes few (subst (λ n. c.args.at + worst bytes ≤ n) (sym c.window_at.ensures.closed) whole) in
     let place : ℕ = c.in-Some-first.place in
     let box : Mail = c.index-boxes-place.result in
@@ -48,7 +48,7 @@ returns-in-Some-first-clause-value c =
     = sym (c.id.ensures.value ∙ ap (λ (x : Mail). x.identifier) c.index-boxes-place.is
     ∙ ap (λ (mail : List Mail). (get_or mail place box).identifier) slice) in
     let least : IsLeastWith (Offers c.args.layout.now c.args.l (mail_of c.self.inside.ids.items c.self.inside.boxes.items) c.args.at)
-        (Some (get_or c.self.inside.boxes.items place box).identifier)
+    (Some (get_or c.self.inside.boxes.items place box).identifier)
     = first-offers c.args.layout.now c.args.l c.self.inside.ids.items c.self.inside.boxes.items c.self.inside.places.items c.self.inside.firsts.levels
     c.self.inside.firsts.nodes.items c.self.inside.remaining c.self.invariant
     c.args.at c.in-Some.bytes place box (omega (arith, c.requires.time)) fits
@@ -70,7 +70,7 @@ returns-in-Some-first-clause-value c =
 pub returns-in-None-first-clause-least : goal.returns-in-None-first-clause-least
 returns-in-None-first-clause-least c =
     let fits : (bytes : ℕ) → bytes ≤ 8 → c.args.at + worst bytes ≤ sync_start c.args.layout.now (c.args.at / c.args.layout.now.cycle) c.args.l
-        → bytes ≤ c.in-Some.bytes
+    → bytes ≤ c.in-Some.bytes
     = λ bytes few whole. c.in-Some.ensures.room.3 bytes few (subst (λ n. c.args.at + worst bytes ≤ n) (sym c.window_at.ensures.closed) whole) in
     let slice : c.as_slice-boxes.result.now ≡ c.self.inside.boxes.items = c.as_slice-boxes.ensures.value in
     let least : IsLeastWith (Offers c.args.layout.now c.args.l (mail_of c.self.inside.ids.items c.self.inside.boxes.items) c.args.at) None
@@ -86,7 +86,7 @@ returns-in-None-first-clause-least c =
 pub returns-in-None-first-clause-value : goal.returns-in-None-first-clause-value
 returns-in-None-first-clause-value c =
     let fits : (bytes : ℕ) → bytes ≤ 8 → c.args.at + worst bytes ≤ sync_start c.args.layout.now (c.args.at / c.args.layout.now.cycle) c.args.l
-        → bytes ≤ c.in-Some.bytes
+    → bytes ≤ c.in-Some.bytes
     = λ bytes few whole. c.in-Some.ensures.room.3 bytes few (subst (λ n. c.args.at + worst bytes ≤ n) (sym c.window_at.ensures.closed) whole) in
     let slice : c.as_slice-boxes.result.now ≡ c.self.inside.boxes.items = c.as_slice-boxes.ensures.value in
     let least : IsLeastWith (Offers c.args.layout.now c.args.l (mail_of c.self.inside.ids.items c.self.inside.boxes.items) c.args.at) None

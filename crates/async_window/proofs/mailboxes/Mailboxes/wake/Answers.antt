@@ -1,4 +1,4 @@
-use Rattle.std.proofs.Common.{◌≡◌, ap, ◌∙◌, subst, sym, IsSome, ◌/◌}
+use Rattle.std.proofs.Common.{subst, IsSome}
 use Rattle.async_window.specs.Mailbox.{IsNextInCycle, mail_offer}
 use Rattle.async_window.specs.Tournament.{IsSoonest}
 use Rattle.async_window.proofs.Soonest.{next-offer}

@@ -1,4 +1,4 @@
-use Rattle.std.proofs.Common.{◌≡◌, ℕ, suc, ◌+◌, ◌-◌, ◌^◌, ◌<◌, ◌≤◌, length, get_or, ap, sym, ◌∙◌, subst, arith, rules}
+use Rattle.std.proofs.Common.{◌≡◌, ℕ, suc, ◌-◌, ◌^◌, ◌<◌, ◌≤◌, length, get_or, sym, ◌∙◌, subst, arith, rules}
 use Rattle.async_window.specs.Mailbox.{Mail}
 use Rattle.async_window.specs.Tournament.{arrival_within, node_value}
 use Rattle.async_window.proofs.Levels.{IsAbove-low, IsOnTheWay-below}

@@ -1,4 +1,4 @@
-use Rattle.std.proofs.Common.{◌≡◌, ℕ, suc, ◌+◌, ◌-◌, ◌/◌, ◌^◌, ◌<◌, ◌≤◌, length, sym, subst, arith}
+use Rattle.std.proofs.Common.{ℕ, suc, ◌-◌, ◌≤◌, sym, subst, arith}
 use Rattle.async_window.proofs.Levels.{levels-low}
 use Rattle.async_window.proofs.Trees.{IsMendedTo-above, IsMendedTo-top, IsMendedTo-inner}
 use Rattle.async_window.proofs.tournament.Tournament.mend.Goals as goal

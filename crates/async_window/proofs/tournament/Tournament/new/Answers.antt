@@ -1,8 +1,8 @@
-use Rattle.std.proofs.Common.{◌≡◌, ℕ, suc, ◌+◌, ◌-◌, ◌^◌, ◌<◌, ◌≤◌, length, ap, sym, ◌∙◌, subst, arith, rules}
+use Rattle.std.proofs.Common.{◌≡◌, ◌+◌, ◌-◌, ◌^◌, ◌≤◌, sym, ◌∙◌, subst, arith, rules}
 use Rattle.std.proofs.Math.Nat.{one-le-pow}
 use Rattle.async_window.specs.Tournament.{IsTournament, Renews}
 use Rattle.async_window.proofs.Levels.{levels-low}
-use Rattle.async_window.proofs.Trees.{IsRenewedFrom, IsRenewedFrom-more, IsTournament-renewed}
+use Rattle.async_window.proofs.Trees.{IsRenewedFrom-more, IsTournament-renewed}
 use Rattle.async_window.proofs.tournament.Tournament.new.Goals as goal
 
 pub renew-requires-clause-few : goal.renew-requires-clause-few
@@ -24,9 +24,9 @@ pub returns : goal.returns
 returns c =
     let some : 1 ≤ 2 ^ c.levels_for-levels.result = one-le-pow c.levels_for-levels.result 2 (omega arith) in
     record {
-  tournament =
-      subst (λ n. IsTournament n c.loop-done.made.nodes.items c.args.boxes.now) (sym c.loop-done.invariant.levels)
-      (IsTournament-renewed c.levels_for-levels.result c.loop-done.made.nodes.items c.args.boxes.now c.levels_for-levels.ensures.low
-      (search rules)
-      (c.loop-done.invariant.renewed 1 (omega (arith, c.loop-done-test.false, c.loop-done.auto, c.leaves_of-inner.ensures, some))));
-}
+      tournament =
+          subst (λ n. IsTournament n c.loop-done.made.nodes.items c.args.boxes.now) (sym c.loop-done.invariant.levels)
+          (IsTournament-renewed c.levels_for-levels.result c.loop-done.made.nodes.items c.args.boxes.now c.levels_for-levels.ensures.low
+          (search rules)
+          (c.loop-done.invariant.renewed 1 (omega (arith, c.loop-done-test.false, c.loop-done.auto, c.leaves_of-inner.ensures, some))));
+    }

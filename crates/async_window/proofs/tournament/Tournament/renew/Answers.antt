@@ -1,4 +1,3 @@
-use Rattle.std.proofs.Common.{length}
 use Rattle.async_window.proofs.Trees.{Renews-set}
 use Rattle.async_window.proofs.tournament.Tournament.renew.Goals as goal
 

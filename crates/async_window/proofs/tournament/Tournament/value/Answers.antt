@@ -1,4 +1,4 @@
-use Rattle.std.proofs.Common.{◌≡◌, length, arith, rules, ◌∙◌}
+use Rattle.std.proofs.Common.{◌≡◌, length, rules}
 use Rattle.async_window.proofs.Trees.{value-behind}
 use Rattle.async_window.proofs.tournament.Tournament.value.Goals as goal
 
