@@ -109,11 +109,10 @@ module _ (laws : WindowLaws) (from until : ℕ) where
           let is = All-head (IsAt k) node later all in
           let offered = offers-at node is its in
           let same : due_frame node k ≡ frame = same_Some (due_frame node k) frame (due-cases node later k true (Some frame) its due) in
-          let first = ap (offers_this (first_identifier + k)) offered ∙ eq-eqb (first_identifier + k) (first_identifier + k) refl in
-          (
+          let first = ap (offers_this (first_identifier + k)) offered ∙ eq-eqb (first_identifier + k) (first_identifier + k) refl in (
             ap (λ b. option_map_or (λ n. node_frame n at (first_identifier + k))
-            (cond b (Some node) (find (λ n. offers_this (first_identifier + k) (node_offer n at)) later)) (record { identifier = first_identifier + k; bytes = [] })) first
-            ∙ laws.frames node from until at k is.known is.in_window begun early within ∙ same,
+                (cond b (Some node) (find (λ n. offers_this (first_identifier + k) (node_offer n at)) later)) (record { identifier = first_identifier + k; bytes = [] })) first
+                ∙ laws.frames node from until at k is.known is.in_window begun early within ∙ same,
             Contains-filter_map (λ n. node_offer n at) (node ∷ later) node (first_identifier + k) (Contains-here node later) offered,
           )
       | inr other ↦
@@ -123,11 +122,10 @@ module _ (laws : WindowLaws) (from until : ℕ) where
           let slot : its.0 ≡ k = omega (arith, its.2) in
           false≢true (sym other ∙ ap (is_due_slot node) (sym slot) ∙ its.3) in
           let rest = frame-first later frame (All-tail (IsAt k) node later all) (due-cases node later k false (Some frame) other due) in
-          let passes = offers_none (node_offer node at) (first_identifier + k) never in
-          (
+          let passes = offers_none (node_offer node at) (first_identifier + k) never in (
             ap (λ b. option_map_or (λ n. node_frame n at (first_identifier + k))
-            (cond b (Some node) (find (λ n. offers_this (first_identifier + k) (node_offer n at)) later)) (record { identifier = first_identifier + k; bytes = [] })) passes
-            ∙ rest.0,
+                (cond b (Some node) (find (λ n. offers_this (first_identifier + k) (node_offer n at)) later)) (record { identifier = first_identifier + k; bytes = [] })) passes
+                ∙ rest.0,
             offered-later node (node_offer node at) later rest.1,
           )
     ]
@@ -246,17 +244,16 @@ module _ (laws : WindowLaws) (layout : CycleLayout) (from until : ℕ) (before :
       let rest = goes next (sofar ++ sent ∷ []) (at + wire_length frame) told_more (IsAt-heard laws from until k sent nodes identifier within all) (omega (arith, begun)) in
       let same : due_from next (k + 1) n ≡ due_from nodes (k + 1) n =
       due_from-same next nodes n (k + 1) (λ slot low high.
-      due_by-heard laws from until k sent slot nodes identifier within (omega (arith, high, sum)) (λ here. omega (arith, here, low)) all) in
-      (
+      due_by-heard laws from until k sent slot nodes identifier within (omega (arith, high, sum)) (λ here. omega (arith, here, low)) all) in (
         record {
           when_free = omega arith;
           within = early;
           first = λ t other low high _. omega (arith, low, high);
           least = record {
             offered = subst (λ s. IsOffered cycle_line s at frame) (sym now) (record {
-                contends = subst (Contains (offered_by_nodes nodes at)) (sym identifier) first.1;
-                framed = sym first.0 ∙ ap (frame_by_nodes nodes at) (sym identifier);
-              });
+              contends = subst (Contains (offered_by_nodes nodes at)) (sym identifier) first.1;
+              framed = sym first.0 ∙ ap (frame_by_nodes nodes at) (sym identifier);
+            });
             least = λ other offered.
                 let its = subst (λ s. IsOffered cycle_line s at other) now offered in
                 omega (arith, identifier, offers-more laws from until at k begun early within nodes other.identifier all its.contends);

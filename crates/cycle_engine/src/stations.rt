@@ -10,8 +10,7 @@ ghost use Rattle.bus_line.specs.Stations.{IsWake};
 ghost use Rattle.cycle_engine.specs.Stations.{AreNodes, offered_trigger};
 ghost use Rattle.cycle_engine.specs.SyncWindow.{IsSentBy};
 
-use crate::each;
-use crate::sync_window;
+use crate::{each, sync_window};
 use arbitration::Contenders;
 use bus_line::Stations;
 use bus_line::laws::sooner_wake;
