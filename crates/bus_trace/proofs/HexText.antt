@@ -8,11 +8,11 @@ use Rattle.std.proofs.DigitsParse.{digits_onto-nil, digits_onto_last, digits_ont
 use Rattle.std.specs.Fmt.{digits, digits_onto, digit_glyph, padded_integral, format_spec}
 use Rattle.bus_trace.specs.Log.{hex_digits}
 
-hex_digits-zero : (n : ℕ) → hex_digits 0 n ≡ []
+pub hex_digits-zero : (n : ℕ) → hex_digits 0 n ≡ []
 unfolding hex_digits
 hex_digits-zero n = refl
 
-hex_digits-suc : (k n : ℕ) → hex_digits (suc k) n ≡ hex_digits k (n / 16) ++ digit_glyph false (n % 16) ∷ []
+pub hex_digits-suc : (k n : ℕ) → hex_digits (suc k) n ≡ hex_digits k (n / 16) ++ digit_glyph false (n % 16) ∷ []
 unfolding hex_digits
 hex_digits-suc k n = refl
 

@@ -1,5 +1,10 @@
+mod FieldNumbers
+mod HexFields
 mod HexText
 mod LogTrace
 mod LogHistory
 mod Plans
+mod Readings
+mod RowForms
+mod RowLines
 mod Width

@@ -2,3 +2,4 @@ pub mod Log
 pub mod Logged
 pub mod Recent
 pub mod Row
+pub mod RowFields

@@ -6,11 +6,17 @@
 mod entries;
 mod frames;
 mod log;
+mod log_fault;
+mod log_reading;
 mod recent;
 mod row;
+mod row_fields;
+mod row_reading;
 mod rows;
 
 pub use log::log_text;
+pub use log_fault::LogFault;
+pub use log_reading::read_log;
 pub use recent::Recent;
 pub use row::{LogRow, LogVerdict};
 
