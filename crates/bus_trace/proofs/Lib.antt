@@ -1,3 +1,4 @@
+mod EventByEvent
 mod FieldNumbers
 mod HexFields
 mod HexText
@@ -5,6 +6,7 @@ mod LogTrace
 mod LogHistory
 mod Plans
 mod Readings
+mod RowDigits
 mod RowForms
 mod RowLines
 mod Width

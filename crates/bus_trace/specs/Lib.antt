@@ -1,3 +1,4 @@
+pub mod EventRows
 pub mod Log
 pub mod Logged
 pub mod Recent
