@@ -3,7 +3,7 @@
 ghost use Rattle.std.specs.Prelude.{◌≡◌, ◌≤◌, IfOk};
 ghost use Rattle.admission.specs.Verdict.{IsRules};
 
-use crate::{LogFault, LogRow, LogVerdict, Recent, log_text, read_log};
+use crate::{LogFault, LogRow, LogVerdict, Recent, event_rows, log_text, read_log};
 use admission::Rules;
 use can_frame::{Frame, TimedFrame};
 use change_protocol::{Change, Op, Ops};
