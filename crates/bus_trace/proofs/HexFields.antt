@@ -13,7 +13,14 @@ use Rattle.std.specs.List.{flat_map, list_all}
 use Rattle.std.specs.Str.Parse.{AllDigits, digits_value, digits_value_after}
 use Rattle.bus_trace.specs.Log.{hex_digits}
 use Rattle.bus_trace.specs.RowFields.{bytes_of, bytes_written, hex_of, is_hex_digit}
-use Rattle.bus_trace.proofs.HexText.{hex_digits-suc, hex_digits-zero}
+
+pub hex_digits-zero : (n : ℕ) → hex_digits 0 n ≡ []
+unfolding hex_digits
+hex_digits-zero n = refl
+
+pub hex_digits-suc : (k n : ℕ) → hex_digits (suc k) n ≡ hex_digits k (n / 16) ++ digit_glyph false (n % 16) ∷ []
+unfolding hex_digits
+hex_digits-suc k n = refl
 
 -- Digits
 
@@ -44,12 +51,13 @@ digit-value b is =
 -- a digit is the one that is written of its value
 pub digit-is : (b : ℕ) → is_hex_digit b ≡ true → (digit_glyph false (digit_value b) ≡ b) × (digit_value b < 16)
 digit-is b is =
-    let (low, high, small, below, above) = digit-value b is in
-    (⊎_elim
-    (λ (under : b < 58). glyph-low (digit_value b) (below under) ∙ sym (low under))
-    (λ (over : 58 ≤ b). glyph-high (digit_value b) (above over) ∙ sym (high over))
-    (cases_lt b 58),
-    small)
+    let (low, high, small, below, above) = digit-value b is in (
+      ⊎_elim
+          (λ (under : b < 58). glyph-low (digit_value b) (below under) ∙ sym (low under))
+          (λ (over : 58 ≤ b). glyph-high (digit_value b) (above over) ∙ sym (high over))
+          (cases_lt b 58),
+      small,
+    )
 
 -- Numbers
 
@@ -131,9 +139,10 @@ digits-of_hex k field n read =
     let value : digits_value 16 field ≡ n = same_Some _ _ parts.1 in
     let written : hex_digits (0 + length field) (digits_value 16 field) ≡ field =
     hex-after 0 0 field all ∙ ap (λ l. l ++ field) (hex_digits-zero 0) in
-    let none : 0 + length field ≡ k = omega arith in
-    (sym written ∙ ap (λ j. hex_digits j (digits_value 16 field)) none ∙ ap (hex_digits k) value,
-    subst (λ v. v < 16 ^ k) value (subst (λ j. digits_value 16 field < 16 ^ j) size (digits_value-lt 16 field (digits_are field all))))
+    let none : 0 + length field ≡ k = omega arith in (
+      sym written ∙ ap (λ j. hex_digits j (digits_value 16 field)) none ∙ ap (hex_digits k) value,
+      subst (λ v. v < 16 ^ k) value (subst (λ j. digits_value 16 field < 16 ^ j) size (digits_value-lt 16 field (digits_are field all))),
+    )
 
 -- Bytes
 
@@ -231,7 +240,8 @@ data-of_bytes field bytes read =
     let is : bytes_written field ≡ bytes = same_Some _ _ parts.1 in
     let written = are-written field (eqb-true _ _ even) all in
     let most : length field ≤ 16 = grind (arith, nat_tests) in
-    let size = written.size in
-    (sym written.digits ∙ ap (flat_map (hex_digits 2)) is,
-    subst (λ (l : List ℕ). length l ≤ 8) is (omega arith),
-    subst AllBytes is written.small)
+    let size = written.size in (
+      sym written.digits ∙ ap (flat_map (hex_digits 2)) is,
+      subst (λ (l : List ℕ). length l ≤ 8) is (omega arith),
+      subst AllBytes is written.small,
+    )

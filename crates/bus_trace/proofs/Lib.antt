@@ -1,7 +1,6 @@
 mod EventByEvent
 mod FieldNumbers
 mod HexFields
-mod HexText
 mod LogTrace
 mod LogHistory
 mod Plans
@@ -9,4 +8,5 @@ mod Readings
 mod RowDigits
 mod RowForms
 mod RowLines
+mod RowsTold
 mod Width

@@ -5,8 +5,7 @@ use Rattle.std.proofs.lemmas.List.{length-append, length-drop}
 use Rattle.std.specs.Fmt.{decimal, digit_glyph}
 use Rattle.std.specs.List.{flat_map}
 use Rattle.bus_trace.specs.Log.{hex_digits}
-use Rattle.bus_trace.proofs.HexText.{hex_digits-suc}
-use Rattle.bus_trace.proofs.HexFields.{length-data}
+use Rattle.bus_trace.proofs.HexFields.{hex_digits-suc, length-data}
 
 -- Hexadecimal
 

@@ -1,5 +1,6 @@
 pub mod EventRows
 pub mod Log
+pub mod LogRows
 pub mod Logged
 pub mod Recent
 pub mod Row

@@ -101,7 +101,11 @@ fn digit(byte: u8) -> u8
     ensures value { result ≡ digit_value byte }
     ensures small { result < 16 }
 {
-    if byte <= b'9' { byte - b'0' } else { byte - b'a' + 10 }
+    if byte <= b'9' {
+        byte - b'0'
+    } else {
+        byte - b'a' + 10
+    }
 }
 
 /// The number that so many hexadecimal digits in lower case write.

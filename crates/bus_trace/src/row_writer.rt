@@ -123,5 +123,9 @@ fn hex_digit(value: u8) -> u8
     requires small { value < 16 }
     ensures digit { result ≡ digit_glyph false value }
 {
-    if value < 10 { b'0' + value } else { b'a' + (value - 10) }
+    if value < 10 {
+        b'0' + value
+    } else {
+        b'a' + (value - 10)
+    }
 }

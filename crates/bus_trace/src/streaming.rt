@@ -6,9 +6,7 @@ ghost use Rattle.trigger_codec.specs.Bytes.{window_in};
 ghost use Rattle.bus_trace.specs.EventRows.{HasItsFrames, HasWindow, HasWindowIn, rows_of_event, window_of};
 ghost use Rattle.bus_trace.specs.Logged.{IsNear};
 
-use crate::rows::{
-    push_frame_rows, push_look_row, push_open_row, push_plan_rows, push_submit_row,
-};
+use crate::rows::{push_frame_rows, push_look_row, push_open_row, push_plan_rows, push_submit_row};
 use can_frame::{Frame, TimedFrame};
 use master_core::Event;
 use std::alloc::{AllocError, Global};

@@ -1,6 +1,6 @@
 use Rattle.std.proofs.Common.{◌≡◌, ◌+◌, ◌-◌, ◌/◌, ◌++◌, suc, length, ap, sym, ◌∙◌, arith}
 use Rattle.bus_trace.specs.Log.{hex_digits}
-use Rattle.bus_trace.proofs.HexText.{hex_digits-zero}
+use Rattle.bus_trace.proofs.HexFields.{hex_digits-zero}
 use Rattle.bus_trace.proofs.RowDigits.{hex-put}
 use Rattle.bus_trace.proofs.row_writer.RowWriter.hex.Goals as goal
 
