@@ -1,0 +1,6 @@
+//! The report of a run: what was sent of each entry and of each owner's requests, and how wide the synchronous windows were.
+//!
+//! Cycles are elementary cycles, counted from 0; widths are bit times.
+#![tactic(auto)]
+
+mod current;
