@@ -1,2 +1,3 @@
 pub mod Current
 pub mod Report
+pub mod Tally

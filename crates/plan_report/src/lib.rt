@@ -4,3 +4,5 @@
 #![tactic(auto)]
 
 mod current;
+mod sent;
+mod tally;
