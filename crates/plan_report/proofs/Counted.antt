@@ -1,6 +1,6 @@
 -- One frame more: what it changes of what is counted of an entry, and of all of them.
-use Rattle.std.proofs.Common.{◌≡◌, ℕ, zero, suc, ◌+◌, ◌-◌, ◌*◌, ◌/◌, ◌<◌, ◌≤◌, ◌||◌, Bool, true, false, cond, eqb, min, max, Option, Some, None, List, [], ◌∷◌, ◌++◌, length, map, get_or, slice_get, slice_set, refl, sym, ap, subst, ◌∙◌, arith, append_assoc, inl, inr}
-use Rattle.std.specs.List.{fold, reduce, list_any, All}
+use Rattle.std.proofs.Common.{◌≡◌, ℕ, zero, suc, ◌+◌, ◌-◌, ◌<◌, ◌≤◌, ◌||◌, Bool, true, false, cond, eqb, min, max, Option, Some, None, List, [], ◌∷◌, ◌++◌, length, map, get_or, slice_get, slice_set, refl, sym, ap, subst, ◌∙◌, arith, append_assoc, inl, inr}
+use Rattle.std.specs.List.{fold, reduce, All}
 use Rattle.std.specs.Option.{option_map_or}
 use Rattle.std.proofs.lemmas.Bool.{cases_eq, cases_Bool, cond-true, cond-false, eqb-true, eq-eqb, ne_eqb}
 use Rattle.std.proofs.lemmas.List.{append-nil, get_or-set_same, get_or-set_other, length-append, map-append, length-set}
@@ -89,12 +89,14 @@ last-next p seen cycle xs last some on is = (tells, λ later above. latest-mono 
   where
     number : ℕ
     number = latest p cycle
+
     earlier : (last : Option ℕ) → IsLast p seen xs last → (k : ℕ) → number ≤ k → is_sent xs k ≡ true → eqb number k ≡ true
     earlier None is k above sent = absurd (let no = is k in let none : ⊥ = cc in none)
     earlier (Some n) is k above sent =
         let before : n ≤ number = is.1 cycle on in
         let same : n ≡ k = eqb-true n k (sym (is.0 k (omega arith)) ∙ sent) in
         eq-eqb number k (omega arith)
+
     tells : (k : ℕ) → number ≤ k → is_sent (xs ++ record { number = number; cycle = cycle } ∷ []) k ≡ eqb number k
     tells k above =
         list_any-append (λ s. eqb s.number k) xs (record { number = number; cycle = cycle } ∷ [])
@@ -304,8 +306,8 @@ pub tallies-strange : (frames : List TimedFrame) (placed : List Placed) (sent : 
     → AreTallies frames placed tallies → AreTallies (frames ++ sent ∷ []) placed tallies
 tallies-strange frames placed sent tallies well strange are =
     tallies-same frames placed sent tallies (λ place p here.
-      let range = in-range placed well place p here in
-      other-slot p (triggers_with (triggers_in frames) sent) sent (strange p.entry.slot range.entry.slot)) are
+    let range = in-range placed well place p here in
+    other-slot p (triggers_with (triggers_in frames) sent) sent (strange p.entry.slot range.entry.slot)) are
 
 -- a frame of a slot, in a cycle
 module _ (frames : List TimedFrame) (placed : List Placed) (sent : TimedFrame) (tallies : List Tally) (slot cycle : ℕ) (well : IsWellPlaced placed)
@@ -340,13 +342,13 @@ module _ (frames : List TimedFrame) (placed : List Placed) (sent : TimedFrame) (
       tallies-next frames placed sent tallies found.place d tally next (omega arith) refl
       (λ place p here elsewhere. nothing p (λ same. one.alone place p here same elsewhere))
       (λ p here counted.
-        let pair : Some found.placed ≡ Some p = sym one.here ∙ here in
-        let same : found.placed ≡ p = cc in
-        subst (λ q. IsTally (frames ++ sent ∷ []) q next) same
-        (subst (λ t. IsTally (frames ++ sent ∷ []) found.placed t) value
-        (subst (λ k. IsTally (frames ++ sent ∷ []) found.placed (tally_with tally k (cycle - release_of found.placed k))) number
-        (tally-next frames found.placed sent tally cycle (omega arith) now
-        (subst (λ k. sent_by found.placed (suc cycle) sent ≡ record { number = k; cycle = cycle } ∷ []) (sym number)
-        (one-instance found.placed cycle found.number sent (of_slot ∙ ap (λ s. first_identifier + s) (sym one.of_slot)) one.instance))
-        (subst (λ q. IsTally frames q tally) (sym same) counted)))))
+      let pair : Some found.placed ≡ Some p = sym one.here ∙ here in
+      let same : found.placed ≡ p = cc in
+      subst (λ q. IsTally (frames ++ sent ∷ []) q next) same
+      (subst (λ t. IsTally (frames ++ sent ∷ []) found.placed t) value
+      (subst (λ k. IsTally (frames ++ sent ∷ []) found.placed (tally_with tally k (cycle - release_of found.placed k))) number
+      (tally-next frames found.placed sent tally cycle (omega arith) now
+      (subst (λ k. sent_by found.placed (suc cycle) sent ≡ record { number = k; cycle = cycle } ∷ []) (sym number)
+      (one-instance found.placed cycle found.number sent (of_slot ∙ ap (λ s. first_identifier + s) (sym one.of_slot)) one.instance))
+      (subst (λ q. IsTally frames q tally) (sym same) counted)))))
       are

@@ -86,17 +86,24 @@ entry_row trace p = delays_row p (map (delay_of p) (sent_of trace p))
 abbrev pub identifiers : ℕ
 identifiers = 2048
 
+-- whether the identifier has an owner
+abbrev pub is_owned : List Owner → ℕ → Bool
+is_owned owners id = list_any (λ owner. owner.id == id) owners
+
 -- the identifiers below `n` that have an owner, the least one first
 unfoldable pub owned_below : List Owner → ℕ → List ℕ
 owned_below owners zero = []
-owned_below owners (suc n) = owned_below owners n ++ (if list_any (λ owner. owner.id == n) owners then n ∷ [] else [])
+owned_below owners (suc n) = owned_below owners n ++ (if is_owned owners n then n ∷ [] else [])
 
--- the row of an identifier: `async,ID,SENT,LEFT`, the frames of it that were sent, and its requests that were not sent by the end of the
--- trace, with ID as three hexadecimal digits
+-- the row of an identifier with its frames that were sent and its requests that were not: `async,ID,SENT,LEFT`, with ID as three
+-- hexadecimal digits
+abbrev pub requests_row : ℕ → ℕ → ℕ → List ℕ
+requests_row id sent left =
+    codes "async," ++ hex_digits 3 id ++ codes "," ++ decimal sent ++ codes "," ++ decimal left ++ codes "\n"
+
+-- the row of an identifier in a trace, whose end is that of the run
 abbrev pub async_row : List TimedFrame → List Request → ℕ → List ℕ
-async_row trace requests id =
-    codes "async," ++ hex_digits 3 id ++ codes "," ++ decimal (frames_with trace id) ++ codes ","
-    ++ decimal (length (unsent_after requests trace id)) ++ codes "\n"
+async_row trace requests id = requests_row id (frames_with trace id) (length (unsent_after requests trace id))
 
 -- the row of the widths of synchronous windows: `load,LEAST,GREATEST,SUM`
 abbrev pub load_row : List ℕ → List ℕ

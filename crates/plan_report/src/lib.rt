@@ -3,6 +3,15 @@
 //! Cycles are elementary cycles, counted from 0; widths are bit times.
 #![tactic(auto)]
 
+mod counts;
 mod current;
+mod load;
+mod rows;
 mod sent;
 mod tally;
+mod text;
+
+pub use text::report;
+
+#[cfg(test)]
+mod tests;

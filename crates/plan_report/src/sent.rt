@@ -93,7 +93,9 @@ fn count(
     }
     let Some(slot) = slot_of(sent) else { return };
     let cycle = seen - 1;
-    let Some(found) = places.find(placed, slot, cycle) else { return };
+    let Some(found) = places.find(placed, slot, cycle) else {
+        return
+    };
     let delay = delay_of(&found.placed, found.number, cycle);
     tallies[found.place] = tallies[found.place].with(found.number, delay);
 }

@@ -1,4 +1,4 @@
-use Rattle.std.proofs.Common.{◌≡◌, suc, ◌+◌, ◌-◌, sym, ◌∙◌, arith}
+use Rattle.std.proofs.Common.{◌≡◌, suc, ◌-◌, sym, ◌∙◌, arith}
 use Rattle.bus_trace.specs.Log.{triggers_with}
 use Rattle.plan_report.specs.Tally.{triggers_in}
 use Rattle.plan_report.proofs.Counted.{tallies-before, tallies-strange, tallies-none, tallies-one}

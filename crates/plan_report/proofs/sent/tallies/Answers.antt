@@ -1,4 +1,4 @@
-use Rattle.std.proofs.Common.{take, length, ◌≡◌, ◌<◌, ◌^◌, arith, subst, sym}
+use Rattle.std.proofs.Common.{take, length, ◌<◌, ◌^◌, arith, subst, sym}
 use Rattle.std.specs.List.{All}
 use Rattle.std.proofs.lemmas.List.{length-take-le}
 use Rattle.plan_report.proofs.Counted.{few-counted}
