@@ -83,6 +83,7 @@ impl Draws {
     }
 
     // The next draw.
+    #[tactic(auto, using(crate::proofs::GeneratorDraws::one_after, crate::proofs::GeneratorDraws::one_drawn))]
     fn next(&mut self) -> u64
         ensures value { result ≡ draw self.old.state 1 }
         ensures state { self.new.state ≡ state_after self.old.state 1 }
@@ -102,6 +103,7 @@ impl Draws {
     }
 
     // An entry of this slot, of six draws.
+    #[tactic(auto, unfolding(crate::specs::Generator::entry_made), using(crate::proofs::GeneratorDraws::draw_again, crate::proofs::GeneratorDraws::after_again))]
     fn entry(&mut self, slot: u8) -> Entry
         ensures value { result ≡ entry_made self.old.state 0 slot }
         ensures state { self.new.state ≡ state_after self.old.state 6 }
@@ -143,6 +145,7 @@ impl Draws {
     // A request that arrives this long after another or later, of three draws and one for each byte.
     fn request(&mut self, last: u64) -> Request
         requires early { last < 2 ^ 40 }
+        ensures early { result.at < last + 1000 }
         ensures at { result.at ≡ last + gap_made self.old.state 0 }
         ensures identifier { result.frame.identifier ≡ identifier_made self.old.state 0 }
         ensures bytes { result.frame.bytes ≡ bytes_made self.old.state 0 }
