@@ -66,8 +66,8 @@ system_is number =
 period_in_range : (drawn : ℕ) → (2 ≤ period_of drawn) × (period_of drawn ≤ 12)
 period_in_range drawn =
     All-from_recursion (λ period. (2 ≤ period) × (period ≤ 12)) (2 ∷ 3 ∷ 4 ∷ 5 ∷ 6 ∷ 8 ∷ 10 ∷ 12 ∷ [])
-      ((lit≤ tt, lit≤ tt), ((lit≤ tt, lit≤ tt), ((lit≤ tt, lit≤ tt), ((lit≤ tt, lit≤ tt), ((lit≤ tt, lit≤ tt), ((lit≤ tt, lit≤ tt), ((lit≤ tt, lit≤ tt), ((lit≤ tt, lit≤ tt), tt))))))))
-      (drawn % 8) 0 (mod_below drawn 8 (lit≤ tt))
+    ((lit≤ tt, lit≤ tt), ((lit≤ tt, lit≤ tt), ((lit≤ tt, lit≤ tt), ((lit≤ tt, lit≤ tt), ((lit≤ tt, lit≤ tt), ((lit≤ tt, lit≤ tt), ((lit≤ tt, lit≤ tt), ((lit≤ tt, lit≤ tt), tt))))))))
+    (drawn % 8) 0 (mod_below drawn 8 (lit≤ tt))
 
 entry_fits : (number before slot : ℕ) → slot < 256 → FitsEntry (entry_made number before slot)
 unfolding entry_made
@@ -86,14 +86,14 @@ entry_fits number before slot inside =
 
 change_fits : (number slot : ℕ) → slot < 40 → IsStep (change_made number slot)
 change_fits number slot inside = (
-    lit≤ tt,
-    lit≤ tt,
-    record {
-      early = lit≤ tt;
-      some = lit≤ tt;
-      each = All-push FitsOperation [] _ (All-nil FitsOperation) (entry_fits number (6 * slot) slot (omega (arith, inside)));
-    },
-  )
+  lit≤ tt,
+  lit≤ tt,
+  record {
+    early = lit≤ tt;
+    some = lit≤ tt;
+    each = All-push FitsOperation [] _ (All-nil FitsOperation) (entry_fits number (6 * slot) slot (omega (arith, inside)));
+  },
+)
 
 few_steps : (number : ℕ) → length (each_below 40 (change_made number) ++ Cycle 5000 ∷ []) ≡ 41
 few_steps number = length-append (each_below 40 (change_made number)) (Cycle 5000 ∷ []) ∙ ap (λ n. n + 1) (length-each_below 40 (change_made number))
@@ -128,7 +128,7 @@ is_owned_identifier number before =
     let place : ℕ = draw number (before + 2) % 32 in
     let inside : place < 32 = mod_below (draw number (before + 2)) 32 (lit≤ tt) in
     list_any_at (λ owner. nat_eq owner.id (512 + place)) (each_below 32 owner_made) place (owner_made place) (omega (arith, inside, length-each_below 32 owner_made))
-      (rw (get_or-each_below 32 owner_made place (owner_made place) inside) (search rules))
+    (rw (get_or-each_below 32 owner_made place (owner_made place) inside) (search rules))
 
 frame_is : (number before : ℕ) → IsFrame (record { identifier = identifier_made number before; bytes = bytes_made number before })
 unfolding bytes_made

@@ -52,6 +52,7 @@ const WINDOW: u32 = 810;
 
 // The asynchronous identifiers: the first, and how many.
 const FIRST_ID: u16 = 512;
+
 const IDS: u8 = 32;
 
 // The slots that are asked for.
@@ -142,7 +143,7 @@ impl Draws {
         }
     }
 
-    // A request that arrives this long after another or later, of three draws and one for each byte.
+    // The request behind one that arrives at this time, of three draws and one for each byte.
     fn request(&mut self, last: u64) -> Request
         requires early { last < 2 ^ 40 }
         ensures early { result.at < last + 1000 }
@@ -274,3 +275,6 @@ pub fn generate(alloc: Global, number: u32) -> Result<Generated, AllocError>
         requests,
     })
 }
+
+#[cfg(test)]
+mod tests;
