@@ -1,16 +1,12 @@
 -- The input that a number makes has each number in its range.
-use Rattle.std.proofs.Common.{◌≡◌, ◌∙◌, ap, refl, sym, ℕ, zero, suc, ◌+◌, ◌*◌, ◌%◌, ◌^◌, ◌<◌, ◌≤◌, List, [], ◌∷◌, ◌++◌, All, AllPairs, arith, length, length-append, get_or, count_by, sum_by, true, nat_eq, lit≤, rules, subst, ◌-◌}
+use Rattle.std.proofs.Common.{◌≡◌, ◌∙◌, ap, refl, ℕ, zero, suc, ◌+◌, ◌*◌, ◌%◌, ◌<◌, ◌≤◌, List, [], ◌∷◌, ◌++◌, All, AllPairs, arith, length, length-append, sum_by, true, nat_eq, lit≤, rules, subst, ◌-◌}
 use Rattle.std.specs.List.{list_any}
 use Rattle.std.proofs.lemmas.Nat.{mod_below}
 use Rattle.std.proofs.lemmas.List.Elements.{All-from_recursion, All-nil, All-push}
 use Rattle.std.proofs.lemmas.List.Folds.{list_any_at}
 use Rattle.std.proofs.lemmas.List.Sums.{count_by-le-length, sum_by-le, sum_by_push}
-use Rattle.requirement_table.specs.declared.entries.Entry.{Entry}
 use Rattle.can_frame.specs.DataFrame.{IsFrame}
-use Rattle.async_window.specs.declared.request.Owner.{Owner}
-use Rattle.async_window.specs.declared.request.Request.{Request}
 use Rattle.async_window.specs.Owners.{AreOwners}
-use Rattle.cycle_layout.specs.Layout.{IsLayout}
 use Rattle.input_text.specs.Generator.{arrival_made, byte_made, bytes_made, change_made, draw, draws_before, each_below, entry_made, identifier_made, owner_made, period_of, request_made, requests_made, size_made, steps_made, system_made}
 use Rattle.input_text.specs.RequestRow.{IsRequest}
 use Rattle.input_text.specs.RequestsFile.{AreLegal}
@@ -18,7 +14,7 @@ use Rattle.input_text.specs.StepsFile.{AreLegalSteps, FitsEntry, FitsOperation, 
 use Rattle.input_text.specs.SystemFile.{IsSystem}
 use Rattle.input_text.specs.declared.steps.Step.{Step}
 use Rattle.input_text.specs.declared.steps.Step.TheVariants.{Cycle}
-use Rattle.input_text.proofs.GeneratorDraws.{each_more, each_none, get_or-each_below, length-each_below}
+use Rattle.input_text.proofs.GeneratorDraws.{get_or-each_below, length-each_below}
 use Rattle.input_text.proofs.GeneratorRequests.{gap_at, gaps_more}
 
 -- what holds of each of the items that are made

@@ -3,7 +3,7 @@ use Rattle.std.proofs.Common.{◌≡◌, ◌∙◌, ap, refl, sym, ℕ, suc, ◌
 use Rattle.std.proofs.lemmas.List.Sums.{sum_by_push}
 use Rattle.async_window.specs.declared.request.Request.{Request}
 use Rattle.input_text.specs.Generator.{arrival_made, bytes_made, draws_before, each_below, gap_made, identifier_made, request_made, size_made, state_after}
-use Rattle.input_text.proofs.GeneratorDraws.{after_again, bytes_behind, draw_again, each_more, each_none}
+use Rattle.input_text.proofs.GeneratorDraws.{after_again, bytes_behind, draw_again, each_more}
 
 -- the bit times before the arrival of the request of a place
 abbrev pub gap_at : ℕ → ℕ → ℕ

@@ -1,4 +1,4 @@
-use Rattle.std.proofs.Common.{◌≡◌, ◌∙◌, ◌≤◌, ℕ, arith, lit≤, ap}
+use Rattle.std.proofs.Common.{◌≡◌, ◌∙◌, arith, lit≤, ap}
 use Rattle.input_text.specs.Generator.{each_below, request_made, requests_made}
 use Rattle.input_text.proofs.GeneratorRequests.{none_made, one_made}
 use Rattle.input_text.proofs.generating.requests.Goals as goal

@@ -1,5 +1,5 @@
 use Rattle.std.proofs.Common.{◌≡◌, ◌∙◌, ◌+◌, ◌%◌, ap}
-use Rattle.input_text.specs.Generator.{bytes_made, draw, each_below, size_made, state_after}
+use Rattle.input_text.specs.Generator.{draw, each_below, state_after}
 use Rattle.input_text.proofs.GeneratorDraws.{after_again, bytes_framed, draw_again, state_framed}
 use Rattle.input_text.proofs.generating.Draws.request.Goals as goal
 
