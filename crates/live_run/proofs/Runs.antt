@@ -77,6 +77,12 @@ append-cancel (x ∷ xs) ys is = append-cancel xs ys (cc)
 pub whole : (long : ℕ) (xs rest : List Operator) → long ≡ length xs → take long (xs ++ rest) ≡ xs
 whole long xs rest same = take-append-le long xs rest (omega arith) ∙ take_all long xs (omega arith)
 
+-- the numbers of operators that are done are at most that of the scripts
+pub done-few : (shared : Lock Rules) (scripts : List Script) (operators : List Operator) → length scripts ≡ length operators → AreDone shared scripts operators
+    → All (λ (o : Operator). o.pass.view.number ≤ length scripts) operators
+done-few shared (s ∷ scripts) operators same done k d within = let is = (done.each k d s within).number_is in omega arith
+done-few shared [] operators same done k d within = absurd (omega arith)
+
 -- between what the dispatcher saw last and the history, nothing was opened
 closed-behind : (seen later whole_history mine : List Event) → seen ++ later ≡ whole_history → filter is_open seen ≡ mine
     → filter is_open whole_history ≡ mine → All (λ call. is_open call ≡ false) later
@@ -120,9 +126,10 @@ pub left-behind : Laws → (setting : Setting) (shared : Lock Rules) (cycles : �
     → All (λ (o : Operator). Contains after.view.ended (o.pass.view.number, o.pass.view.mine)) operators
     → All (λ (o : Operator). o.answered ≡ true) operators
     → after.view.made ≡ length scripts → after.view.out ≡ 0
+    → All (λ (entry : ℕ × List Event). entry.0 ≤ length scripts) after.view.ended
     → run.trace ≡ bus.trace.items → run.left ≡ left_in (states_of bus.nodes.nodes)
     → IsLiveRun setting cycles scripts after.view run
-left-behind laws setting shared cycles scripts operators before after bus run known rules running stands retired zeroth number mine begins count same done ended answered made out trace left =
+left-behind laws setting shared cycles scripts operators before after bus run known rules running stands retired zeroth number mine begins count same done ended answered made out few trace left =
     let last = number ∙ zeroth in
     let later = begins.0 in
     let seen = before.view.seen in
@@ -144,5 +151,6 @@ left-behind laws setting shared cycles scripts operators before after bus run kn
       openings = openings;
       answered = answered-all after.view shared scripts operators same done ended answered retired.facts;
       others = omega arith;
+      numbers = few;
       left = record { nodes = bus.nodes; ready = ready; left = left };
     }

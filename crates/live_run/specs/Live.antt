@@ -1,5 +1,5 @@
 -- What a run of a shared master leaves.
-use Rattle.std.specs.Prelude.{◌≡◌, ℕ, ◌+◌, ◌<◌, List, [], length, filter, slice_index_or, Contains}
+use Rattle.std.specs.Prelude.{◌≡◌, ℕ, ◌+◌, ◌<◌, ◌≤◌, List, [], All, length, filter, slice_index_or, Contains}
 use Rattle.admission_rules.specs.declared.Rules.{Rules}
 use Rattle.turn_lock.specs.declared.view.View.{View}
 use Rattle.turn_lock.specs.History.{own}
@@ -51,4 +51,5 @@ pub record IsLiveRun (setting : Setting) (cycles : ℕ) (scripts : List Script) 
   pub openings : filter is_open v.seen ≡ v.mine
   pub answered : (k : ℕ) (d : Script) → k < length scripts → HasAnswered v (k + 1) (slice_index_or scripts k d).acts
   pub others : length v.ended ≡ length scripts
+  pub numbers : All (λ entry. entry.0 ≤ length scripts) v.ended
   pub left : IsLeft setting v.seen run

@@ -1,0 +1,1 @@
+use Rattle.live_run.proofs.closing.run_whole.Goals as goal
