@@ -148,6 +148,7 @@ left-behind laws setting shared cycles scripts operators before after bus run kn
       plain = plain;
       kept = laws.kept setting after.view.seen run.trace known under_way;
       opened = laws.cycles after.view retired.facts last ∙ (ap (λ (l : List Event). next_of l) mine ∙ count);
+      dispatcher = last;
       openings = openings;
       answered = answered-all after.view shared scripts operators same done ended answered retired.facts;
       others = omega arith;

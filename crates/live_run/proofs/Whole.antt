@@ -20,7 +20,7 @@ few-case : (most : ℕ) (history : List Event) (v : View Event Rules) (event : E
     → Contains v.mine event ⊎ ((n : ℕ) × (calls : List Event) × Contains v.ended (n, calls) × Contains calls event) → number_of event ≤ most
 few-case most history v event zeroth calls few (inl own_one) =
     let is = of-number v.number history v.mine event calls.mine own_one in omega arith
-few-case most history v event zeroth calls few (inr (n, (others, (under, among)))) =
+few-case most history v event zeroth calls few (inr (n, others, under, among)) =
     let is = of-number n history others event (calls.ended n others under) among in
     let small = All-contains (λ (entry : ℕ × List Event). entry.0 ≤ most) v.ended (n, others) few under in
     omega arith

@@ -48,6 +48,7 @@ pub record IsLiveRun (setting : Setting) (cycles : ℕ) (scripts : List Script) 
   pub plain : IsPlainlyLegal setting.rules v.seen
   pub kept : Kept setting.rules setting.layout setting.requests v.seen run.trace
   pub opened : next_of v.seen ≡ cycles
+  pub dispatcher : v.number ≡ 0
   pub openings : filter is_open v.seen ≡ v.mine
   pub answered : (k : ℕ) (d : Script) → k < length scripts → HasAnswered v (k + 1) (slice_index_or scripts k d).acts
   pub others : length v.ended ≡ length scripts

@@ -3,6 +3,7 @@
 ghost use Rattle.std.specs.Prelude.{◌≡◌, ◌≢◌, ◌<◌, ◌≤◌, ◌^◌, All, AllPairs, Any, IfOk, length};
 ghost use Rattle.admission.specs.Verdict.{IsRules};
 ghost use Rattle.async_window.specs.Owners.{AreOwners};
+ghost use Rattle.kept_run.specs.Progress.{Setting};
 ghost use Rattle.live_run.specs.Whole.{IsWholeRun};
 
 use crate::frames::Run;
@@ -49,6 +50,8 @@ pub fn run_whole<T: Threads + Wait + Sync, G: Gate>(
     scripts: Vec<Script>,
     gate: &G,
 ) -> Result<Ended, AllocError>
+    ghost setting: { Setting }
+    requires given { setting ≡ record { rules = rules; layout = layout; owners = owners.now; requests = requests.now } }
     requires rules { IsRules rules }
     requires window { rules.window ≡ layout.window }
     requires owners { AreOwners owners.now }
@@ -58,8 +61,7 @@ pub fn run_whole<T: Threads + Wait + Sync, G: Gate>(
     requires early { All (λ request. request.at < 2 ^ 40) requests.now }
     requires cycles { cycles < 2 ^ 41 }
     requires scripts { length scripts.items ≤ 8 }
-    ensures run { IfOk result (λ ended. IsWholeRun (record { rules = rules; layout = layout; owners = owners.now; requests = requests.now })
-        cycles scripts.items ended) }
+    ensures run { IfOk result (λ ended. IsWholeRun setting cycles scripts.items ended) }
 {
     requests_of_owners();
     let _ = layout.cycle();
