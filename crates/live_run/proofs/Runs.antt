@@ -1,6 +1,5 @@
 -- A whole run: its beginning, and what is left behind its end.
-use Rattle.std.proofs.Common.{◌≡◌, ℕ, zero, suc, ◌+◌, ◌<◌, ◌≤◌, ◌++◌, ◌∷◌, [], List, true, false, Bool, cond, length, slice_index_or, All, Contains, refl, sym, ap, ◌∙◌, subst, arith, append-nil, take, filter}
-use Rattle.std.specs.Prelude.{count_by}
+use Rattle.std.proofs.Common.{◌≡◌, ℕ, ◌+◌, ◌<◌, ◌≤◌, ◌++◌, ◌∷◌, [], List, true, false, Bool, cond, length, slice_index_or, All, Contains, refl, sym, ap, ◌∙◌, subst, arith, take, filter}
 use mathlib.Core.List.{IsPrefix}
 use Rattle.std.proofs.lemmas.List.Elements.{All-cons, All-nil, filter-append}
 use Rattle.std.proofs.lemmas.List.{take_all, take-append-le}
@@ -8,7 +7,7 @@ use Rattle.turn_lock.specs.History.{own}
 use Rattle.can_frame.specs.declared.data_frame.TimedFrame.{TimedFrame}
 use Rattle.admission_rules.specs.declared.Rules.{Rules}
 use Rattle.turn_lock.specs.declared.view.View.{View}
-use Rattle.turn_lock.specs.Passes.{Facts, Known, Lock, first_view}
+use Rattle.turn_lock.specs.Passes.{Facts, Known, Lock}
 use Rattle.cycle_engine.specs.Nodes.{IsBus, IsNumber, NodesView, left_in, states_of}
 use Rattle.master_core.specs.declared.event.Event.{Event}
 use Rattle.master_core.specs.History.{IsLegal, IsPlainlyLegal, is_open, next_of}
@@ -20,10 +19,9 @@ use Rattle.live_run.specs.declared.crew.Operator.{Operator}
 use Rattle.live_run.specs.declared.dispatching.Bus.{Bus}
 use Rattle.live_run.specs.declared.frames.Run.{Run}
 use Rattle.live_run.specs.declared.script.Script.{Script}
-use Rattle.live_run.specs.Answers.{AnswersActs}
-use Rattle.live_run.specs.Crew.{AreDone, HasLent, IsDone}
-use Rattle.live_run.specs.Live.{AreFresh, HasAnswered, IsFirst, IsLeft, IsLiveRun}
-use Rattle.live_run.specs.Running.{CanRun, IsOnTheWay, IsRunning, Stays}
+use Rattle.live_run.specs.Crew.{AreDone}
+use Rattle.live_run.specs.Live.{AreFresh, HasAnswered, IsLiveRun}
+use Rattle.live_run.specs.Running.{CanRun, IsRunning}
 use Rattle.live_run.proofs.Cycles.{CallsBetween}
 
 -- a run begins with no calls, no frames, and nodes as they were made

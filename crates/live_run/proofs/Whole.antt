@@ -1,5 +1,5 @@
 -- A whole run, by its history alone.
-use Rattle.std.proofs.Common.{◌≡◌, ◌⊎◌, inl, inr, ℕ, ◌+◌, ◌≤◌, ◌==◌, List, true, length, slice_index_or, All, Contains, refl, sym, ap, ◌∙◌, subst, arith, filter}
+use Rattle.std.proofs.Common.{◌≡◌, ◌⊎◌, inl, inr, ℕ, ◌≤◌, ◌==◌, List, true, slice_index_or, All, Contains, sym, subst, arith}
 use Rattle.std.proofs.lemmas.List.Elements.{All-contains, Contains-get_or, filter_passes}
 use Rattle.turn_lock.specs.History.{own}
 use Rattle.turn_lock.specs.declared.view.View.{View}

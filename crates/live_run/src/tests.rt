@@ -21,6 +21,7 @@ use std::test::Fail;
 const TURNS: u64 = 200_000_000;
 
 /// A gate that holds the first answer until cycle 3 was opened, and that cycle before it is run until the second answer.
+#[derive(Drop)]
 struct HeldCycle {
     opened: AtomicU64,
     first: AtomicU64,
@@ -101,9 +102,7 @@ fn change_while_cycle_open(rt: HostRuntime) -> Result<(), Fail> {
         second: AtomicU64::new(0),
         given_up: AtomicU64::new(0),
     };
-    let Ok(layout) = Layout::new(1_000, 0, 135) else {
-        return Err(Fail);
-    };
+    let layout = Layout::new(1_000, 0, 135)?;
     let scripts = vec![in alloc; script(alloc)?]?;
     let Ended { master, run } =
         run_whole(&rt, alloc, rules(), layout, &[], &[], 4, scripts, &gate)?;
@@ -120,7 +119,7 @@ fn change_while_cycle_open(rt: HostRuntime) -> Result<(), Fail> {
             assert_eq!(rt; (*caller, *from), (1, 4));
             assert!(rt; *verdict == Verdict::Accepted { first: 100, length: 1 });
         }
-        _ => return Err(Fail),
+        _ => return Err(Fail::new("the last call is no change")),
     }
     Ok(())
 }

@@ -1,6 +1,6 @@
 //! The steps of a file by who has them answered.
 
-ghost use Rattle.std.specs.Prelude.{◌≡◌, ℕ, ◌+◌, ◌<◌, ◌≤◌, ◌==◌, [], ◌∷◌, ◌++◌, if◌then◌else◌, length, slice_index_or, sum_by, IfOk, OnOk};
+ghost use Rattle.std.specs.Prelude.{◌≡◌, ℕ, ◌+◌, ◌<◌, ◌≤◌, ◌==◌, [], ◌∷◌, ◌++◌, if◌then◌else◌, All, length, slice_index_or, sum_by, IfOk, OnOk};
 ghost use Rattle.input_text.specs.StepsFile.{AreLegalSteps, IsStep, count_of};
 ghost use Rattle.live_run.specs.declared.script.Script.{Script};
 ghost use Rattle.live_steps.specs.Live.{act_of, acts_of};
@@ -26,7 +26,7 @@ pub struct Parts {
 /// Scripts of all operators, without an act.
 fn empty_scripts(alloc: Global) -> Result<Vec<Script>, AllocError>
     ensures count { IfOk result (λ scripts. length scripts.items ≡ 8) }
-    ensures empty { IfOk result (λ scripts. (k : ℕ) (d : Script) → k < 8 → (slice_index_or scripts.items k d).acts ≡ []) }
+    ensures empty { IfOk result (λ scripts. All (λ script. script.acts ≡ []) scripts.items) }
 {
     let mut scripts = Vec::new(alloc);
     for _ in 0..OPERATORS {

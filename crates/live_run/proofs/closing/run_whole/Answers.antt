@@ -1,7 +1,6 @@
-use Rattle.std.proofs.Common.{◌≡◌, ◌∙◌, ℕ, ◌+◌, List, length, slice_index_or, sym, ap, subst}
+use Rattle.std.proofs.Common.{◌≡◌, ◌∙◌, ◌+◌, List, length, slice_index_or, sym, ap, subst}
 use Rattle.turn_lock.specs.History.{own}
 use Rattle.turn_lock.specs.Passes.{first_view}
-use Rattle.can_frame.specs.declared.data_frame.TimedFrame.{TimedFrame}
 use Rattle.master_core.specs.declared.event.Event.{Event}
 use Rattle.master_core.specs.History.{IsPlainlyLegal, next_of}
 use Rattle.kept_run.specs.Kept.{Kept}

@@ -1,4 +1,4 @@
-use Rattle.std.proofs.Common.{◌≡◌, ◌++◌, [], List, sym, ap, ◌∙◌, subst, append-nil, All, Contains, arith}
+use Rattle.std.proofs.Common.{◌≡◌, ◌++◌, [], List, sym, ap, ◌∙◌, subst, All, Contains, arith}
 use Rattle.turn_lock.specs.Passes.{Known}
 use Rattle.turn_lock.proofs.Shared.{prefix_trans}
 use Rattle.admission_rules.specs.declared.Rules.{Rules}

@@ -1,4 +1,4 @@
-use Rattle.std.proofs.Common.{◌≡◌, ◌≤◌, ◌++◌, ℕ, List, true, All, vec_len}
+use Rattle.std.proofs.Common.{◌≡◌, ◌≤◌, ℕ, List, All, vec_len}
 use mathlib.Core.List.{IsPrefix}
 use Rattle.live_master.specs.Passes.{IsPassOf}
 use Rattle.live_run.specs.declared.crew.Operator.{Operator}
