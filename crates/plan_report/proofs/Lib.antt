@@ -1,5 +1,7 @@
 mod Counted
+mod Instances
 mod OneOfSlot
 mod Openings
+mod OwnedIds
 mod RowByRow
 mod Widths

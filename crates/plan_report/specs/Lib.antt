@@ -1,5 +1,6 @@
 pub mod Current
 pub mod Opened
 pub mod Report
+pub mod Sent
 pub mod Tally
 pub mod Written

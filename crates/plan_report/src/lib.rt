@@ -5,6 +5,7 @@
 
 mod counts;
 mod current;
+pub mod laws;
 mod load;
 mod rows;
 mod sent;
