@@ -14,7 +14,8 @@ pub const IDENTIFIERS: u16 = 2_048;
 /// Whether each identifier has an owner.
 pub fn owned(alloc: Global, owners: &[Owner]) -> Result<Vec<bool>, AllocError>
     ensures length { IfOk result (λ owned. length owned.items ≡ identifiers) }
-    ensures owned { IfOk result (λ owned. (id : ℕ) → id < identifiers → slice_index_or owned.items id false ≡ is_owned owners.now id) }
+    ensures owned { IfOk result (λ owned. (id : ℕ) → id < identifiers
+        → slice_index_or owned.items id false ≡ is_owned owners.now id) }
 {
     let mut owned = vec![in alloc; false; usize::from(IDENTIFIERS)]?;
     for owner in owners {
@@ -27,7 +28,8 @@ pub fn owned(alloc: Global, owners: &[Owner]) -> Result<Vec<bool>, AllocError>
 fn mark(marks: &mut [bool], id: u16)
     requires length { length marks.old ≡ identifiers }
     ensures length { length marks.new ≡ identifiers }
-    ensures marks { (other : ℕ) → other < identifiers → slice_index_or marks.new other false ≡ (slice_index_or marks.old other false || (id == other)) }
+    ensures marks { (other : ℕ) → other < identifiers
+        → slice_index_or marks.new other false ≡ (slice_index_or marks.old other false || (id == other)) }
 {
     if id >= IDENTIFIERS {
         return;
@@ -38,7 +40,8 @@ fn mark(marks: &mut [bool], id: u16)
 /// How many frames of each identifier a trace has.
 pub fn sent(alloc: Global, trace: &[TimedFrame]) -> Result<Vec<usize>, AllocError>
     ensures length { IfOk result (λ sent. length sent.items ≡ identifiers) }
-    ensures sent { IfOk result (λ sent. (id : ℕ) → id < identifiers → slice_index sent.items id ≡ frames_with trace.now id) }
+    ensures sent { IfOk result (λ sent. (id : ℕ) → id < identifiers
+        → slice_index sent.items id ≡ frames_with trace.now id) }
 {
     let mut sent = vec![in alloc; 0; usize::from(IDENTIFIERS)]?;
     for frame in trace {
@@ -50,7 +53,8 @@ pub fn sent(alloc: Global, trace: &[TimedFrame]) -> Result<Vec<usize>, AllocErro
 /// How many requests of each identifier there are.
 pub fn asked(alloc: Global, requests: &[Request]) -> Result<Vec<usize>, AllocError>
     ensures length { IfOk result (λ asked. length asked.items ≡ identifiers) }
-    ensures asked { IfOk result (λ asked. (id : ℕ) → id < identifiers → slice_index asked.items id ≡ length (requests_of requests.now id)) }
+    ensures asked { IfOk result (λ asked. (id : ℕ) → id < identifiers
+        → slice_index asked.items id ≡ length (requests_of requests.now id)) }
 {
     let mut asked = vec![in alloc; 0; usize::from(IDENTIFIERS)]?;
     for request in requests {

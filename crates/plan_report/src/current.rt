@@ -1,4 +1,5 @@
-//! The entry of a slot whose instance may be sent in a cycle. Cycles are asked in their order, so each list is walked forwards only.
+//! The entry of a slot whose instance may be sent in a cycle. Cycles are asked in their order, so each list is walked
+//! forwards only.
 
 ghost use Rattle.std.specs.Prelude.{◌≡◌, ℕ, ◌<◌, ◌≤◌, ◌==◌, ◌&&◌, not, List, Some, false, true, slice_get};
 ghost use Rattle.requirement_table.specs.declared.entries.Placed.{Placed};
@@ -36,7 +37,8 @@ impl Places {
         }
     }
 
-    /// The entry of a slot whose instance may be sent in a cycle, where there is one. No cycle below one that was asked is asked later.
+    /// The entry of a slot whose instance may be sent in a cycle, where there is one. No cycle below one that was
+    /// asked is asked later.
     pub fn find(&mut self, placed: &[Placed], slot: u8, cycle: u64) -> Option<Current>
         requires well_placed { IsWellPlaced placed.now }
         requires slot { slot < slots }
@@ -78,10 +80,12 @@ fn is_left(p: &Placed, slot: u8, cycle: u64) -> bool
     p.entry.slot == slot && !free_after(p).is_some_and(|from| from <= cycle)
 }
 
-/// The first place, not before `from`, of an entry of the slot that is not over by the cycle; the length of the list where there is none.
+/// The first place, not before `from`, of an entry of the slot that is not over by the cycle; the length of the list
+/// where there is none.
 fn first_left(placed: &[Placed], from: usize, slot: u8, cycle: u64) -> usize
     requires well_placed { IsWellPlaced placed.now }
-    ensures over { (place : ℕ) (p : Placed) → from ≤ place → place < result → slice_get placed.now place ≡ Some p → p.entry.slot ≡ slot
+    ensures over { (place : ℕ) (p : Placed) → from ≤ place → place < result → slice_get placed.now place ≡ Some p
+        → p.entry.slot ≡ slot
         → is_over cycle p ≡ true }
     ensures left { (p : Placed) → slice_get placed.now result ≡ Some p → (p.entry.slot ≡ slot) × (is_over cycle p ≡ false) }
 {

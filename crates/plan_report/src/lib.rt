@@ -1,4 +1,5 @@
-//! The report of a run: what was sent of each entry and of each owner's requests, and how wide the synchronous windows were.
+//! The report of a run: what was sent of each entry and of each owner's requests, and how wide the synchronous
+//! windows were.
 //!
 //! Cycles are elementary cycles, counted from 0; widths are bit times.
 #![tactic(auto)]

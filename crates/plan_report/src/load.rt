@@ -1,4 +1,5 @@
-//! The widths of the synchronous windows of all opened cycles: the worst lengths of the flagged slots together, in bit times.
+//! The widths of the synchronous windows of all opened cycles: the worst lengths of the flagged slots together, in
+//! bit times.
 
 ghost use Rattle.std.specs.Prelude.{◌≡◌, ℕ, ◌+◌, ◌*◌, ◌^◌, ◌<◌, ◌≤◌, ◌++◌, ◌∷◌, [], List, if◌then◌else◌};
 ghost use Rattle.requirement_table.specs.Slots.{contains_slot, slots};
@@ -47,7 +48,8 @@ impl Load {
     }
 }
 
-/// The widths of the cycles that a history opens, where these entries are placed in the end. The cycles are opened from 0 on.
+/// The widths of the cycles that a history opens, where these entries are placed in the end. The cycles are opened
+/// from 0 on.
 pub fn opened_load(placed: &[Placed], history: &[Event]) -> Load
     requires well_placed { IsWellPlaced placed.now }
     ensures load { result ≡ load_of (opened_widths placed.now 0 history.now) }
@@ -75,7 +77,8 @@ fn with_event(load: &Load, places: &mut Places, placed: &[Placed], next: u64, ev
     requires passed { ArePassed placed.now places.old.first next }
     requires few { load.now.sum < 2 ^ 127 }
     ensures passed { ArePassed placed.now places.new.first next }
-    ensures load { (widths : List ℕ) → load.now ≡ load_of widths → result ≡ load_of (widths ++ opened_width placed.now next event.now) }
+    ensures load { (widths : List ℕ) → load.now ≡ load_of widths
+        → result ≡ load_of (widths ++ opened_width placed.now next event.now) }
     ensures sum { result.sum ≤ load.now.sum + 5400 }
 {
     match event {

@@ -85,7 +85,8 @@ fn count(
     requires few { All (λ tally. tally.instances < 2 ^ 63) tallies.old }
     requires passed { ArePassed placed.now places.old.first (seen - 1) }
     ensures passed { ArePassed placed.now places.new.first (seen - 1) }
-    ensures tallies { (frames : List TimedFrame) → AreTallies frames placed.now tallies.old → seen ≡ triggers_with (triggers_in frames) sent.now
+    ensures tallies { (frames : List TimedFrame) → AreTallies frames placed.now tallies.old
+        → seen ≡ triggers_with (triggers_in frames) sent.now
         → AreTallies (frames ++ sent.now ∷ []) placed.now tallies.new }
 {
     if seen == 0 {

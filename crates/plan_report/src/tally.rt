@@ -26,8 +26,8 @@ pub const NOTHING: Tally = Tally {
 };
 
 impl Tally {
-    /// What was sent once an instance is sent with a delay in cycles. Only the first sending of an instance counts, and instances are sent
-    /// in their order.
+    /// What was sent once an instance is sent with a delay in cycles. Only the first sending of an instance counts,
+    /// and instances are sent in their order.
     pub fn with(&self, number: u64, delay: u64) -> Tally
         requires few { self.now.instances < 2 ^ 63 }
         ensures tally { result ≡ tally_with self.now number delay }

@@ -17,12 +17,13 @@ use master_core::laws::{legal_histories, opened_cycles};
 use requirement_table::Placed;
 use std::alloc::{AllocError, Global};
 
-/// The report of a master's history and a trace: a row of each placed entry with the instances of it that were sent and their delays in
-/// cycles, a row of each owned identifier with its frames that were sent and its requests that were not, and a row of the widths of the
-/// synchronous windows in bit times.
+/// The report of a master's history and a trace: a row of each placed entry with the instances of it that were sent
+/// and their delays in cycles, a row of each owned identifier with its frames that were sent and its requests that
+/// were not, and a row of the widths of the synchronous windows in bit times.
 ///
-/// The trace is that of the cycles that the master opened. It takes time for the frames, the entries, the requests and the events
-/// together, and for 40 walks over the entries; and memory for a row of numbers for each entry and each identifier, and for the text.
+/// The trace is that of the cycles that the master opened. It takes time for the frames, the entries, the requests
+/// and the events together, and for 40 walks over the entries; and memory for a row of numbers for each entry and
+/// each identifier, and for the text.
 ///
 /// # Errors
 ///
