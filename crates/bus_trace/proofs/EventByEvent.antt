@@ -5,8 +5,7 @@ use Rattle.can_frame.specs.declared.data_frame.TimedFrame.{TimedFrame}
 use Rattle.master_core.specs.declared.event.Event.{Event}
 use Rattle.master_core.specs.declared.event.Event.TheVariants.{Submit, Look, Open}
 use Rattle.master_core.specs.History.{AllAfter}
-use Rattle.trigger_codec.specs.Bytes.{trigger_bytes}
-use Rattle.bus_trace.specs.EventRows.{BeginsCycle, HasItsFrames, HasWindow, HasWindowIn, SaysWidth, rows_of_event}
+use Rattle.bus_trace.specs.EventRows.{SaysWidth, rows_of_event}
 use Rattle.bus_trace.specs.Log.{event_rows, events_rows, frame_row, started_in}
 use Rattle.bus_trace.specs.Logged.{frames_of_event, opened_row}
 
@@ -22,15 +21,6 @@ all-events trace before [] says = refl
 all-events trace before (event ∷ later) says =
     ap (λ l. l ++ flat_map (λ e. rows_of_event e (frames_of_event trace e)) later) (one-event trace before event says.0)
     ∙ ap (λ l. event_rows trace before event ++ l) (all-events trace (before ++ event ∷ []) later says.1)
-
--- a trigger has the bytes that say the length of its window
-pub has-window : (event : Event) (frames : List TimedFrame) → HasItsFrames event frames → HasWindowIn event frames
-has-window (Submit caller change from verdict trail) frames is = tt
-has-window (Look caller next) frames is = tt
-has-window (Open cycle mask) frames is =
-    let bytes : length is.trigger.frame.bytes ≡ 8 = ap (λ f. length f.bytes) is.says in
-    let some : 3 ≤ length is.trigger.frame.bytes = omega arith in
-    subst HasWindow (sym is.frames_are) some
 
 front-of : (xs ys zs : List ℕ) → take (length (xs ++ ys)) zs ≡ xs ++ ys → take (length xs) zs ≡ xs
 front-of [] ys zs begins = refl

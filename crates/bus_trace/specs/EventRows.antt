@@ -10,8 +10,8 @@ use Rattle.master_core.specs.History.{placed_of}
 use Rattle.bus_trace.specs.Log.{frame_row, look_row, plan_rows, started_in, submit_row}
 use Rattle.bus_trace.specs.Logged.{opened_row}
 
--- the frames of an opened cycle: first its trigger, which says some length of the synchronous window, and then no other frame with
--- identifier 0
+-- the frames of an opened cycle: first its trigger, which says some length of the synchronous window, and then no other
+-- frame with identifier 0
 pub record BeginsCycle (cycle mask : ℕ) (frames : List TimedFrame) : Type 0 where
   pub trigger : TimedFrame
   pub later : List TimedFrame
@@ -32,13 +32,15 @@ abbrev pub window_of : List TimedFrame → ℕ
 window_of [] = 0
 window_of (trigger ∷ later) = window_in trigger.frame.bytes
 
--- the rows of an event and of the frames that follow it: a change that is refused for a miss is followed by its plan up to the miss
+-- the rows of an event and of the frames that follow it: a change that is refused for a miss is followed by its plan up
+-- to the miss
 abbrev pub rows_of_event : Event → List TimedFrame → List ℕ
 rows_of_event (Submit caller change from verdict trail) frames = submit_row caller from verdict ++ plan_rows from trail
 rows_of_event (Look caller next) frames = look_row caller next
 rows_of_event (Open cycle mask) frames = opened_row cycle mask (window_of frames) ++ flat_map frame_row frames
 
--- after the events before it, the trigger of the cycle that the event opens says the length of the cycle's synchronous window
+-- after the events before it, the trigger of the cycle that the event opens says the length of the cycle's synchronous
+-- window
 abbrev pub SaysWidth : List TimedFrame → List Event → Event → Type 0
 SaysWidth trace before (Submit caller change from verdict trail) = Unit {0}
 SaysWidth trace before (Look caller next) = Unit {0}

@@ -29,15 +29,18 @@ plan_told cycle (mask ∷ later) = row.Plan cycle mask ∷ plan_told (cycle + 1)
 
 -- the rows of an event, after the events before it
 abbrev pub event_told : List TimedFrame → List Event → Event → List LogRow
-event_told trace before (Submit caller change from verdict trail) = row.Submit caller from (verdict_told verdict) ∷ plan_told from trail
+event_told trace before (Submit caller change from verdict trail) =
+    row.Submit caller from (verdict_told verdict) ∷ plan_told from trail
 event_told trace before (Look caller next) = row.Look caller next ∷ []
 event_told trace before (Open cycle mask) =
-    row.Open cycle mask (width_of (record { cycle = cycle; mask = mask; placed = placed_of before })) ∷ map row.Frame (started_in cycle 0 trace)
+    row.Open cycle mask (width_of (record { cycle = cycle; mask = mask; placed = placed_of before }))
+    ∷ map row.Frame (started_in cycle 0 trace)
 
 -- the rows of events, after the events before them
 abbrev pub events_told : List TimedFrame → List Event → List Event → List LogRow
 events_told trace before [] = []
-events_told trace before (event ∷ later) = event_told trace before event ++ events_told trace (before ++ event ∷ []) later
+events_told trace before (event ∷ later) =
+    event_told trace before event ++ events_told trace (before ++ event ∷ []) later
 
 -- *Rows of a log*: those of the history's events in their order, and the last row
 abbrev pub log_rows : List Event → List TimedFrame → List LogRow

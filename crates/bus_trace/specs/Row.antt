@@ -52,11 +52,12 @@ row_text row = row_line row ++ 10 ∷ []
 abbrev pub text_of_rows : List LogRow → List ℕ
 text_of_rows rows = flat_map row_text rows
 
--- the numbers of a verdict are in the ranges of their types, the rules are 1 to 11, and a cycle up to which a slot is in use stands behind
--- rule 10 alone
+-- the numbers of a verdict are in the ranges of their types, the rules are 1 to 11, and a cycle up to which a slot is
+-- in use stands behind rule 10 alone
 abbrev pub IsLogVerdict : LogVerdict → Type 0
 IsLogVerdict (Accepted first length) = (first < 2 ^ 64) × (length < 2 ^ 64)
-IsLogVerdict (Malformed op why until) = (op < 2 ^ 8) × (1 ≤ why) × (why ≤ 11) × IfSome until (λ cycle. (cycle < 2 ^ 64) × (why ≡ 10))
+IsLogVerdict (Malformed op why until) =
+    (op < 2 ^ 8) × (1 ≤ why) × (why ≤ 11) × IfSome until (λ cycle. (cycle < 2 ^ 64) × (why ≡ 10))
 IsLogVerdict (Passed start next) = (start < 2 ^ 64) × (next < 2 ^ 64)
 IsLogVerdict (Miss slot release cycle) = (slot < 2 ^ 8) × (release < 2 ^ 64) × (cycle < 2 ^ 64)
 IsLogVerdict (Horizon from walked) = (from < 2 ^ 64) × (walked < 2 ^ 64)
@@ -70,8 +71,8 @@ IsLogRow (Open cycle mask l) = (cycle < 2 ^ 64) × (mask < 2 ^ slots) × (l < 2 
 IsLogRow (Frame timed) = (timed.start < 2 ^ 64) × (timed.len < 2 ^ 32) × IsFrame timed.frame
 IsLogRow (End next) = next < 2 ^ 64
 
--- the text is not that of rows, and the row of this number, counted from 1, is the first one that has none of the forms: before it stands
--- the text of rows, and what follows that is not empty and begins with the text of no row
+-- the text is not that of rows, and the row of this number, counted from 1, is the first one that has none of the
+-- forms: before it stands the text of rows, and what follows that is not empty and begins with the text of no row
 pub record IsFirstFaultyRow (bytes : List ℕ) (number : ℕ) : Type 0 where
   pub before : List LogRow
   pub rows : All IsLogRow before

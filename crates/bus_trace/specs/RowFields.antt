@@ -31,7 +31,8 @@ has_leading_zero digits = nat_lt 1 (length digits) && (slice_index digits 0 == 4
 -- the number that decimal digits without leading zeros write
 abbrev pub number_of : List ℕ → Option ℕ
 number_of field =
-    if not (length field == 0) && list_all is_ascii_digit field && not (has_leading_zero field) then Some (digits_value 10 field) else None
+    if not (length field == 0) && list_all is_ascii_digit field && not (has_leading_zero field)
+    then Some (digits_value 10 field) else None
 
 -- a number, where it is not above the greatest one
 abbrev pub up_to : ℕ → ℕ → Option ℕ
@@ -47,7 +48,8 @@ is_hex_digit byte = (nat_le 48 byte && nat_le byte 57) || (nat_le 97 byte && nat
 
 -- the number that so many hexadecimal digits in lower case write
 abbrev pub hex_of : ℕ → List ℕ → Option ℕ
-hex_of count field = if (length field == count) && list_all is_hex_digit field then Some (digits_value 16 field) else None
+hex_of count field =
+    if (length field == count) && list_all is_hex_digit field then Some (digits_value 16 field) else None
 
 abbrev pub hex_at : List (List ℕ) → ℕ → ℕ → Option ℕ
 hex_at fields place count = slice_get fields place >>= hex_of count
@@ -61,7 +63,8 @@ bytes_written (high ∷ low ∷ rest) = (16 * digit_value high + digit_value low
 -- the bytes that a field writes: an even number of 0 to 16 hexadecimal digits in lower case
 abbrev pub bytes_of : List ℕ → Option (List ℕ)
 bytes_of field =
-    if nat_le (length field) 16 && (length field % 2 == 0) && list_all is_hex_digit field then Some (bytes_written field) else None
+    if nat_le (length field) 16 && (length field % 2 == 0) && list_all is_hex_digit field
+    then Some (bytes_written field) else None
 
 -- the frame of an identifier and its bytes
 abbrev pub frame_with : ℕ → List ℕ → DataFrame

@@ -11,8 +11,8 @@ ghost use Rattle.bus_trace.specs.LogRows.{log_rows};
 ghost use Rattle.bus_trace.specs.Row.{text_of_rows};
 ghost use Rattle.bus_trace.specs.Logged.{frames_of_event};
 
-/// Where each trigger says the length of its cycle's synchronous window, the rows of the events of a history, each with the frames that
-/// start in the cycle that it opens, and then the last row, are the log.
+/// Where each trigger says the length of its cycle's synchronous window, the rows of the events of a history, each with
+/// the frames that start in the cycle that it opens, and then the last row, are the log.
 pub fn events_make_the_log()
     ensures rows { (trace : List TimedFrame) (history : List Event) → AllAfter (SaysWidth trace) [] history
         → flat_map (λ event. rows_of_event event (frames_of_event trace event)) history ++ end_row (next_of history) ≡ log_text history trace }

@@ -1,8 +1,8 @@
 //! The log, read back.
 //!
-//! The text is rows, each ended by one line feed. A row is its fields with a comma between each two of them, each in the one form that the
-//! writer gives it: no blanks, no quotes, no carriage return, no leading zeros, hexadecimal digits in lower case. Each row is tested by
-//! itself: whether rows follow each other rightly is not asked.
+//! The text is rows, each ended by one line feed. A row is its fields with a comma between each two of them, each in
+//! the one form that the writer gives it: no blanks, no quotes, no carriage return, no leading zeros, hexadecimal
+//! digits in lower case. Each row is tested by itself: whether rows follow each other rightly is not asked.
 
 ghost use Rattle.std.specs.Prelude.{◌≡◌, ◌⊎◌, ℕ, ◌++◌, ◌∷◌, List, All, IfOk, IfErr, IfSome, IfNone, MatchResult};
 ghost use Rattle.plan_check.specs.PlanText.{HasNoFeed};

@@ -1,7 +1,7 @@
 //! The fields of a row of a log, each in the one form that the writer gives it.
 //!
-//! A number has decimal digits without leading zeros; a mask has ten hexadecimal digits in lower case, an identifier three, and data bytes
-//! two each. Nothing is trimmed.
+//! A number has decimal digits without leading zeros; a mask has ten hexadecimal digits in lower case, an identifier
+//! three, and data bytes two each. Nothing is trimmed.
 
 ghost use Rattle.std.specs.Prelude.{◌≡◌, ◌-◌, ◌^◌, ◌<◌, ◌≤◌, ◌%◌, map, length, true, IfSome, IfOk, option_and_then, option_map, slice_get};
 ghost use Rattle.std.specs.Char.{digit_value, is_ascii_digit};

@@ -217,11 +217,14 @@ fn faulty_row(alloc: Global, text: &str) -> Result<u64, AllocError> {
 
 // Texts behind a first row that has a form, each up to a bar: the second row has none.
 const FAULTY: &str =
-    "look,1,|look,1,2|\n|look,1,2,\n|look,1,2,3\n|look,01,2\n|look,1,18446744073709551616\n|look,+1,2\n|\"look\",1,2\n| look,1,2\n|\
-look,1,2 \n|look,1,2\r\n|look,256,2\n|look,,2\n|Look,1,2\n|look\n|look,1\n2,3\n|open,0,000000000A,0\n|open,0,00000000000,0\n|\
-open,0,10000000000,0\n|open,0,0000000000,4294967296\n|frame,0,51,7f0,\n|frame,0,51,100,0\n|frame,0,51,100,0g\n|frame,0,51,0100,\n|\
-frame,0,51,100,000000000000000000\n|frame,0,51,100\n|plan,0,0000000000,0\n|end,\n|end,1,\n|submit,1,0\n|submit,1,0,malformed,0,0\n|\
-submit,1,0,malformed,0,12\n|submit,1,0,malformed,0,11,5\n|submit,1,0,malformed,0,10,\n|submit,1,0,passed,1\n|submit,1,0,missed,1,2,3\n";
+    "look,1,|look,1,2|\n|look,1,2,\n|look,1,2,3\n|look,01,2\n|look,1,18446744073709551616\n|look,+1,2\n|\
+\"look\",1,2\n| look,1,2\n|look,1,2 \n|look,1,2\r\n|look,256,2\n|look,,2\n|Look,1,2\n|look\n|\
+look,1\n2,3\n|open,0,000000000A,0\n|open,0,00000000000,0\n|open,0,10000000000,0\n|\
+open,0,0000000000,4294967296\n|frame,0,51,7f0,\n|frame,0,51,100,0\n|frame,0,51,100,0g\n|\
+frame,0,51,0100,\n|frame,0,51,100,000000000000000000\n|frame,0,51,100\n|plan,0,0000000000,0\n|end,\n|\
+end,1,\n|submit,1,0\n|submit,1,0,malformed,0,0\n|submit,1,0,malformed,0,12\n|\
+submit,1,0,malformed,0,11,5\n|submit,1,0,malformed,0,10,\n|submit,1,0,passed,1\n|\
+submit,1,0,missed,1,2,3\n";
 
 #[test]
 fn rows_of_no_form(rt: HostRuntime) -> Result<(), Fail> {
