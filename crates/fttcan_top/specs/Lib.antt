@@ -1,4 +1,6 @@
 pub mod Words
+pub mod WordsRead
+pub mod LastRows
 pub mod Status
 pub mod Output
 pub mod Loads

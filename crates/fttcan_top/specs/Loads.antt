@@ -37,7 +37,7 @@ job_of job = record { system = job.system; steps = job.steps.items; requests = j
 
 -- a task as what was asked
 abbrev pub asked_of : Task → Asked
-asked_of (Log job) = log_of (job_of job)
+asked_of (Log job tail) = log_of (job_of job) tail
 asked_of (Table job) = plan_of (job_of job)
 asked_of (Check job certificate) = check_of (job_of job) certificate
 
@@ -54,6 +54,6 @@ pub record IsToCheck (certificate : CertificateView) : Type 0 where
 
 -- what holds of each task
 abbrev pub IsTask : Task → Type 0
-IsTask (Log job) = IsJob job
+IsTask (Log job tail) = IsJob job
 IsTask (Table job) = IsJob job
 IsTask (Check job certificate) = IsJob job × IsToCheck certificate

@@ -1,10 +1,12 @@
 //! What is done of what was asked: the answer to a task as a text, before it is written.
 
 ghost use Rattle.std.specs.Prelude.{◌≡◌, IfOk};
+ghost use Rattle.fttcan_top.specs.LastRows.{last_rows};
 ghost use Rattle.fttcan_top.specs.Loads.{IsJob, IsTask, IsToCheck, asked_of, job_of};
 ghost use Rattle.fttcan_top.specs.Output.{IsCheckText, IsDone, IsLog, IsOutput, IsPlanText, breach_line, refuses_nothing, status_of};
 
 use crate::load::{Job, Task};
+use crate::rows::last_rows;
 use crate::status::Status;
 use bus_trace::log_text;
 use master_core::Event;
@@ -43,10 +45,20 @@ fn status_of(history: &[Event]) -> Status
     Status::Done
 }
 
-/// Runs the steps, and answers with the log.
-fn log_of(alloc: Global, job: &Job) -> Result<Outcome, AllocError>
+/// The text, or so many of its last rows.
+fn tail_of(alloc: Global, text: Vec<u8>, tail: Option<u16>) -> Result<Vec<u8>, AllocError>
+    ensures rows { IfOk result (λ kept. kept.items ≡ last_rows tail text.items) }
+{
+    match tail {
+        Some(count) => last_rows(alloc, text.as_slice(), usize::from(count)),
+        None => Ok(text),
+    }
+}
+
+/// Runs the steps, and answers with the log, or with so many of its last rows.
+fn log_of(alloc: Global, job: &Job, tail: Option<u16>) -> Result<Outcome, AllocError>
     requires job { IsJob job.now }
-    ensures log { IfOk result (λ outcome. IsLog (job_of job.now) outcome.status outcome.text.items) }
+    ensures log { IfOk result (λ outcome. IsLog (job_of job.now) tail outcome.status outcome.text.items) }
     ensures done { IfOk result (λ outcome. IsDone outcome.status) }
 {
     let run = replay(
@@ -59,7 +71,7 @@ fn log_of(alloc: Global, job: &Job) -> Result<Outcome, AllocError>
     let text = log_text(alloc, history, run.trace.as_slice())?;
     Ok(Outcome {
         status: status_of(history),
-        text,
+        text: tail_of(alloc, text, tail)?,
     })
 }
 
@@ -125,7 +137,7 @@ pub fn work_out(alloc: Global, task: &Task) -> Result<Outcome, AllocError>
     ensures done { IfOk result (λ outcome. IsDone outcome.status) }
 {
     match task {
-        Task::Log(job) => log_of(alloc, job),
+        Task::Log(job, tail) => log_of(alloc, job, *tail),
         Task::Table(job) => plan_of(alloc, job),
         Task::Check(job, certificate) => check_of(alloc, job, certificate),
     }
