@@ -18,3 +18,6 @@ mod SystemFirst
 mod SystemKeys
 mod SystemOwners
 mod SystemPaths
+mod GeneratorDraws
+mod GeneratorRequests
+mod GeneratorLegal

@@ -14,3 +14,4 @@ pub mod StepsReading
 pub mod SystemFile
 pub mod SystemParts
 pub mod SystemText
+pub mod Generator

@@ -3,6 +3,8 @@
 #![tactic(auto)]
 
 mod csv_rows;
+mod generating;
+mod lists;
 mod owners;
 mod request_fault;
 pub mod request_laws;
@@ -15,6 +17,8 @@ mod system;
 mod system_fault;
 mod system_sections;
 
+pub use generating::{Generated, generate};
+pub use lists::{RequestList, StepList};
 pub use owners::OwnerList;
 pub use request_fault::{RequestFault, RequestWhy};
 pub use requests::read_requests;
@@ -22,3 +26,6 @@ pub use step_fault::{StepFault, StepWhy};
 pub use steps::{Step, read_steps};
 pub use system::{System, read_system};
 pub use system_fault::{PathText, SystemFault};
+
+#[cfg(test)]
+mod tests;

@@ -1,0 +1,13 @@
+use Rattle.input_text.specs.Generator.{system_made}
+use Rattle.input_text.proofs.generating.system.Goals as goal
+
+pub returns : goal.returns
+unfolding system_made
+returns c =
+    record {
+      value = λ i. record {
+        layout = c.layout.ensures.value i;
+        rules = record { nodes = 8; policy = c.policy.ensures.value i; window = 810; horizon = 10000 };
+        owners = c.in_ok-owners.ensures.value i;
+      };
+    }
