@@ -1,0 +1,354 @@
+-- One frame more: what it changes of what is counted of an entry, and of all of them.
+use Rattle.std.proofs.Common.{◌≡◌, ℕ, zero, suc, ◌+◌, ◌-◌, ◌<◌, ◌≤◌, ◌||◌, Bool, true, false, cond, eqb, min, max, Option, Some, None, List, [], ◌∷◌, ◌++◌, length, map, get_or, slice_get, slice_set, refl, sym, ap, subst, ◌∙◌, arith, append_assoc, inl, inr}
+use Rattle.std.specs.List.{fold, reduce, All}
+use Rattle.std.specs.Option.{option_map_or}
+use Rattle.std.proofs.lemmas.Bool.{cases_eq, cases_Bool, cond-true, cond-false, eqb-true, eq-eqb, ne_eqb}
+use Rattle.std.proofs.lemmas.List.{append-nil, get_or-set_same, get_or-set_other, length-append, map-append, length-set}
+use Rattle.std.proofs.lemmas.List.Folds.{list_any-append}
+use Rattle.std.proofs.lemmas.List.Sums.{fold-append}
+use Rattle.std.proofs.lemmas.Nat.{le-div}
+use Rattle.std.proofs.Math.Nat.{div-mul-le_self}
+use Rattle.std.proofs.lemmas.Option.{slice_get_within, get_or_from_slice_get, slice_get-get_or}
+use Rattle.can_frame.specs.declared.data_frame.TimedFrame.{TimedFrame}
+use Rattle.requirement_table.specs.declared.entries.Placed.{Placed}
+use Rattle.requirement_table.specs.Instance.{latest, instance_of, release_of}
+use Rattle.requirement_table.specs.Slots.{slots}
+use Rattle.requirement_table.specs.Table.{IsInRange, IsWellPlaced}
+use Rattle.requirement_table.proofs.Shared.{MaySend-from_instance, latest-of_sent}
+use Rattle.node_model.specs.Opening.{first_identifier}
+use Rattle.bus_trace.specs.Log.{triggers_with}
+use Rattle.plan_report.specs.Report.{Sending, delay_of, first_sendings, greatest_of, is_sent, least_of, sendings, sending_at, sent_by, sent_of}
+use Rattle.plan_report.specs.Current.{IsCurrent, IsTheOne}
+use Rattle.plan_report.specs.declared.current.Current.{Current}
+use Rattle.plan_report.specs.Tally.{AreTallies, IsLast, IsTally, is_last, tally_with, triggers_in}
+use Rattle.plan_report.specs.declared.tally.Tally.{Tally}
+
+-- Lists with one element more
+
+reduce-push : (f : ℕ → ℕ → ℕ) (xs : List ℕ) (x : ℕ) → reduce f (xs ++ x ∷ []) ≡ Some (option_map_or (λ y. f y x) (reduce f xs) x)
+reduce-push f [] x = refl
+reduce-push f (y ∷ ys) x = ap (λ z. Some z) (fold-append f y ys (x ∷ []))
+
+sendings-push : (p : Placed) (seen : ℕ) (frames : List TimedFrame) (sent : TimedFrame)
+    → sendings p seen (frames ++ sent ∷ []) ≡ sendings p seen frames ++ sent_by p (triggers_with (fold triggers_with seen frames) sent) sent
+sendings-push p seen [] sent = append-nil _
+sendings-push p seen (first ∷ frames) sent =
+    let now = triggers_with seen first in
+    ap (λ l. sent_by p now first ++ l) (sendings-push p now frames sent) ∙ sym (append_assoc (sent_by p now first) (sendings p now frames) _)
+
+first_sendings-push : (before xs : List Sending) (s : Sending)
+    → first_sendings before (xs ++ s ∷ []) ≡ first_sendings before xs ++ cond (is_sent (before ++ xs) s.number) [] (s ∷ [])
+first_sendings-push before [] s =
+    append-nil _ ∙ ap (λ b. cond (is_sent b s.number) [] (s ∷ [])) (sym (append-nil before))
+first_sendings-push before (x ∷ xs) s =
+    let front = cond (is_sent before x.number) [] (x ∷ []) in
+    ap (λ l. front ++ l) (first_sendings-push (before ++ x ∷ []) xs s
+    ∙ ap (λ b. first_sendings (before ++ x ∷ []) xs ++ cond (is_sent b s.number) [] (s ∷ [])) (append_assoc before (x ∷ []) xs))
+    ∙ sym (append_assoc front (first_sendings (before ++ x ∷ []) xs) _)
+
+triggers-push : (frames : List TimedFrame) (sent : TimedFrame) → triggers_in (frames ++ sent ∷ []) ≡ triggers_with (triggers_in frames) sent
+triggers-push frames sent = fold-append triggers_with 0 frames (sent ∷ [])
+
+triggers-more : (seen : ℕ) (sent : TimedFrame) → seen ≤ triggers_with seen sent
+triggers-more seen sent = by (eqb sent.frame.identifier 0)
+  where
+    by : (b : Bool) → seen ≤ cond b (seen + 1) seen
+    by true = omega arith
+    by false = omega arith
+
+-- An entry
+
+-- more triggers leave the last instance the last one
+last-later : (p : Placed) (seen now : ℕ) (xs : List Sending) (last : Option ℕ) → seen ≤ now → IsLast p seen xs last → IsLast p now xs last
+last-later p seen now xs None more is = is
+last-later p seen now xs (Some n) more is = (is.0, λ cycle above. is.1 cycle (omega arith))
+
+-- whether it was sent is known by the last one
+last-tells : (p : Placed) (seen cycle : ℕ) (xs : List Sending) (last : Option ℕ) → seen ≤ cycle + 1 → IsLast p seen xs last
+    → is_sent xs (latest p cycle) ≡ is_last last (latest p cycle)
+last-tells p seen cycle xs None on is = is (latest p cycle)
+last-tells p seen cycle xs (Some n) on is = is.0 (latest p cycle) (is.1 cycle on)
+
+or-same : (a b : Bool) → (a ≡ true → b ≡ true) → (a || b) ≡ b
+or-same true b same = sym (same refl)
+or-same false b same = refl
+
+or-false : (b : Bool) → (b || false) ≡ b
+or-false true = refl
+or-false false = refl
+
+latest-mono : (p : Placed) (c d : ℕ) → 0 < p.entry.period → c ≤ d → latest p c ≤ latest p d
+latest-mono p c d some on =
+    let parts = div-mul-le_self (c - (p.origin + p.entry.phase)) p.entry.period in
+    le-div (latest p c) (d - (p.origin + p.entry.phase)) p.entry.period some (omega arith)
+
+-- the instance that was sent now is the last one
+last-next : (p : Placed) (seen cycle : ℕ) (xs : List Sending) (last : Option ℕ) → 0 < p.entry.period → seen ≤ cycle + 1 → IsLast p seen xs last
+    → IsLast p (suc cycle) (xs ++ record { number = latest p cycle; cycle = cycle } ∷ []) (Some (latest p cycle))
+last-next p seen cycle xs last some on is = (tells, λ later above. latest-mono p cycle later some (omega arith))
+  where
+    number : ℕ
+    number = latest p cycle
+
+    earlier : (last : Option ℕ) → IsLast p seen xs last → (k : ℕ) → number ≤ k → is_sent xs k ≡ true → eqb number k ≡ true
+    earlier None is k above sent = absurd (let no = is k in let none : ⊥ = cc in none)
+    earlier (Some n) is k above sent =
+        let before : n ≤ number = is.1 cycle on in
+        let same : n ≡ k = eqb-true n k (sym (is.0 k (omega arith)) ∙ sent) in
+        eq-eqb number k (omega arith)
+
+    tells : (k : ℕ) → number ≤ k → is_sent (xs ++ record { number = number; cycle = cycle } ∷ []) k ≡ eqb number k
+    tells k above =
+        list_any-append (λ s. eqb s.number k) xs (record { number = number; cycle = cycle } ∷ [])
+        ∙ ap (λ b. is_sent xs k || b) (or-false (eqb number k))
+        ∙ or-same (is_sent xs k) (eqb number k) (earlier last is k above)
+
+-- a frame that sends nothing of the entry
+pub tally-same : (frames : List TimedFrame) (p : Placed) (sent : TimedFrame) (tally : Tally)
+    → sent_by p (triggers_with (triggers_in frames) sent) sent ≡ [] → IsTally frames p tally → IsTally (frames ++ sent ∷ []) p tally
+tally-same frames p sent tally nothing is =
+    let same : sendings p 0 (frames ++ sent ∷ []) ≡ sendings p 0 frames =
+    sendings-push p 0 frames sent ∙ ap (λ l. sendings p 0 frames ++ l) nothing ∙ append-nil _ in
+    let more = length-append frames (sent ∷ []) in
+    let few = is.few in
+    record {
+      instances = is.instances ∙ ap (λ l. length (first_sendings [] l)) (sym same);
+      least = is.least ∙ ap (λ l. least_of (map (delay_of p) (first_sendings [] l))) (sym same);
+      greatest = is.greatest ∙ ap (λ l. greatest_of (map (delay_of p) (first_sendings [] l))) (sym same);
+      last = subst (λ l. IsLast p (triggers_in (frames ++ sent ∷ [])) l tally.last) (sym same)
+          (subst (λ n. IsLast p n (sendings p 0 frames) tally.last) (sym (triggers-push frames sent))
+          (last-later p (triggers_in frames) (triggers_with (triggers_in frames) sent) (sendings p 0 frames) tally.last (triggers-more _ sent) is.last));
+      few = omega arith;
+    }
+
+is_last-some : (last : Option ℕ) (number : ℕ) → is_last last number ≡ true → last ≡ Some number
+is_last-some None number is = cc
+is_last-some (Some n) number is = ap (λ k. Some k) (eqb-true n number is)
+
+-- a frame that sends the instance of a cycle
+module _ (frames : List TimedFrame) (p : Placed) (sent : TimedFrame) (tally : Tally) (cycle : ℕ) (some : 0 < p.entry.period)
+    (now : triggers_with (triggers_in frames) sent ≡ suc cycle)
+    (sends : sent_by p (suc cycle) sent ≡ record { number = latest p cycle; cycle = cycle } ∷ [])
+    (is : IsTally frames p tally) where
+  abbrev number : ℕ
+  number = latest p cycle
+
+  abbrev this : Sending
+  this = record { number = number; cycle = cycle }
+
+  abbrev xs : List Sending
+  xs = sendings p 0 frames
+
+  on : triggers_in frames ≤ cycle + 1
+  on = let more = triggers-more (triggers_in frames) sent in omega arith
+
+  all : sendings p 0 (frames ++ sent ∷ []) ≡ xs ++ this ∷ []
+  all = sendings-push p 0 frames sent ∙ ap (λ n. xs ++ sent_by p n sent) now ∙ ap (λ l. xs ++ l) sends
+
+  firsts : sent_of (frames ++ sent ∷ []) p ≡ sent_of frames p ++ cond (is_sent xs number) [] (this ∷ [])
+  firsts = ap (first_sendings []) all ∙ first_sendings-push [] xs this
+
+  tells : is_sent xs number ≡ is_last tally.last number
+  tells = last-tells p (triggers_in frames) cycle xs tally.last on is.last
+
+  after : IsLast p (triggers_in (frames ++ sent ∷ [])) (sendings p 0 (frames ++ sent ∷ [])) (Some number)
+  after =
+      subst (λ l. IsLast p (triggers_in (frames ++ sent ∷ [])) l (Some number)) (sym all)
+      (subst (λ n. IsLast p n (xs ++ this ∷ []) (Some number)) (sym (triggers-push frames sent ∙ now))
+      (last-next p (triggers_in frames) cycle xs tally.last some on is.last))
+
+  more : length (frames ++ sent ∷ []) ≡ length frames + 1
+  more = length-append frames (sent ∷ [])
+
+  -- one that was sent before
+  again : is_last tally.last number ≡ true → IsTally (frames ++ sent ∷ []) p tally
+  again known =
+      let same : sent_of (frames ++ sent ∷ []) p ≡ sent_of frames p =
+      firsts ∙ ap (λ b. sent_of frames p ++ cond b [] (this ∷ [])) (tells ∙ known) ∙ append-nil _ in
+      let few = is.few in
+      let long = more in
+      record {
+        instances = is.instances ∙ ap length (sym same);
+        least = is.least ∙ ap (λ l. least_of (map (delay_of p) l)) (sym same);
+        greatest = is.greatest ∙ ap (λ l. greatest_of (map (delay_of p) l)) (sym same);
+        last = subst (λ o. IsLast p (triggers_in (frames ++ sent ∷ [])) (sendings p 0 (frames ++ sent ∷ [])) o) (sym (is_last-some tally.last number known)) after;
+        few = omega arith;
+      }
+
+  delays : is_last tally.last number ≡ false
+      → map (delay_of p) (sent_of (frames ++ sent ∷ []) p) ≡ map (delay_of p) (sent_of frames p) ++ delay_of p this ∷ []
+  delays fresh =
+      ap (map (delay_of p)) (firsts ∙ ap (λ b. sent_of frames p ++ cond b [] (this ∷ [])) (tells ∙ fresh))
+      ∙ map-append (delay_of p) (sent_of frames p) (this ∷ [])
+
+  -- one that was not
+  first : is_last tally.last number ≡ false
+      → IsTally (frames ++ sent ∷ []) p (record {
+        instances = tally.instances + 1;
+        last = Some number;
+        least = Some (option_map_or (λ least. min least (delay_of p this)) tally.least (delay_of p this));
+        greatest = Some (option_map_or (λ greatest. max greatest (delay_of p this)) tally.greatest (delay_of p this));
+      })
+  first fresh =
+      let one : sent_of (frames ++ sent ∷ []) p ≡ sent_of frames p ++ this ∷ [] =
+      firsts ∙ ap (λ b. sent_of frames p ++ cond b [] (this ∷ [])) (tells ∙ fresh) in
+      let few = is.few in
+      let long = more in
+      let count = length-append (sent_of frames p) (this ∷ []) in
+      let length_is : length (sent_of (frames ++ sent ∷ []) p) ≡ length (sent_of frames p) + 1 = ap length one ∙ count in
+      let before = is.instances in
+      record {
+        instances = omega arith;
+        least = ap (λ o. Some (option_map_or (λ least. min least (delay_of p this)) o (delay_of p this))) is.least
+            ∙ sym (reduce-push min (map (delay_of p) (sent_of frames p)) (delay_of p this)) ∙ ap least_of (sym (delays fresh));
+        greatest = ap (λ o. Some (option_map_or (λ greatest. max greatest (delay_of p this)) o (delay_of p this))) is.greatest
+            ∙ sym (reduce-push max (map (delay_of p) (sent_of frames p)) (delay_of p this)) ∙ ap greatest_of (sym (delays fresh));
+        last = after;
+        few = omega arith;
+      }
+
+  pub tally-next : IsTally (frames ++ sent ∷ []) p (tally_with tally number (cycle - release_of p number))
+  tally-next =
+      elim (cases_Bool (is_last tally.last number)) [
+        | inl known ↦ subst (λ t. IsTally (frames ++ sent ∷ []) p t) (sym (cond-true (is_last tally.last number) tally _ known)) (again known)
+        | inr fresh ↦ subst (λ t. IsTally (frames ++ sent ∷ []) p t) (sym (cond-false (is_last tally.last number) tally _ fresh)) (first fresh)
+      ]
+
+-- All entries
+
+-- none of them is sent by the frame
+pub tallies-same : (frames : List TimedFrame) (placed : List Placed) (sent : TimedFrame) (tallies : List Tally)
+    → ((place : ℕ) (p : Placed) → slice_get placed place ≡ Some p → sent_by p (triggers_with (triggers_in frames) sent) sent ≡ [])
+    → AreTallies frames placed tallies → AreTallies (frames ++ sent ∷ []) placed tallies
+tallies-same frames placed sent tallies nothing are = record {
+  count = are.count;
+  each = λ place p tally here counted. tally-same frames p sent tally (nothing place p here) (are.each place p tally here counted);
+}
+
+-- that at the place alone is
+pub tallies-next : (frames : List TimedFrame) (placed : List Placed) (sent : TimedFrame) (tallies : List Tally) (at : ℕ) (d tally next : Tally)
+    → at < length tallies → tally ≡ get_or tallies at d
+    → ((place : ℕ) (p : Placed) → slice_get placed place ≡ Some p → (place ≡ at → ⊥) → sent_by p (triggers_with (triggers_in frames) sent) sent ≡ [])
+    → ((p : Placed) → slice_get placed at ≡ Some p → IsTally frames p tally → IsTally (frames ++ sent ∷ []) p next)
+    → AreTallies frames placed tallies → AreTallies (frames ++ sent ∷ []) placed (slice_set tallies at next)
+tallies-next frames placed sent tallies at d tally next within this others step are = record {
+  count = length-set tallies at next ∙ are.count;
+  each = λ place p new here counted.
+      let read : get_or (slice_set tallies at next) place new ≡ new = get_or_from_slice_get (slice_set tallies at next) place new new counted in
+      let short = slice_get_within (slice_set tallies at next) place new counted in
+      let same = length-set tallies at next in
+      elim (cases_eq place at) [
+        | inl here_is ↦
+            let there : slice_get placed at ≡ Some p = ap (slice_get placed) (sym here_is) ∙ here in
+            let old : slice_get tallies at ≡ Some tally = slice_get-get_or tallies at d within ∙ ap (λ t. Some t) (sym this) in
+            let value : next ≡ new = sym (get_or-set_same tallies at next new within) ∙ ap (λ n. get_or (slice_set tallies at next) n new) (sym here_is) ∙ read in
+            subst (λ t. IsTally (frames ++ sent ∷ []) p t) value (step p there (are.each at p tally there old))
+        | inr elsewhere ↦
+            let value : get_or tallies place new ≡ new = sym (get_or-set_other tallies at place next new elsewhere) ∙ read in
+            let old : slice_get tallies place ≡ Some new = slice_get-get_or tallies place new (omega arith) ∙ ap (λ t. Some t) value in
+            tally-same frames p sent new (others place p here elsewhere) (are.each place p new here old)
+      ];
+}
+
+-- a frame of another slot, and one in a cycle in which the entry has no instance to send
+pub other-slot : (p : Placed) (seen : ℕ) (sent : TimedFrame) → (sent.frame.identifier ≡ first_identifier + p.entry.slot → ⊥) → sent_by p seen sent ≡ []
+other-slot p zero sent other = refl
+other-slot p (suc cycle) sent other = cond-false (eqb sent.frame.identifier (first_identifier + p.entry.slot)) _ [] (ne_eqb _ _ other)
+
+cond-nothing : (b : Bool) (some : List Sending) → some ≡ [] → cond b some [] ≡ []
+cond-nothing true some none = none
+cond-nothing false some none = refl
+
+pub no-instance : (p : Placed) (cycle : ℕ) (sent : TimedFrame) → instance_of p cycle ≡ None → sent_by p (suc cycle) sent ≡ []
+no-instance p cycle sent none =
+    ap (λ o. cond (eqb sent.frame.identifier (first_identifier + p.entry.slot)) (sending_at cycle o) []) none
+    ∙ cond-nothing (eqb sent.frame.identifier (first_identifier + p.entry.slot)) (sending_at cycle None) refl
+
+pub one-instance : (p : Placed) (cycle k : ℕ) (sent : TimedFrame) → sent.frame.identifier ≡ first_identifier + p.entry.slot
+    → instance_of p cycle ≡ Some k → sent_by p (suc cycle) sent ≡ record { number = k; cycle = cycle } ∷ []
+one-instance p cycle k sent of_slot some =
+    cond-true (eqb sent.frame.identifier (first_identifier + p.entry.slot)) _ [] (eq-eqb _ _ of_slot) ∙ ap (sending_at cycle) some
+
+slice_get-none : {X : Type 0} (xs : List X) (k : ℕ) → slice_get xs k ≡ None → length xs ≤ k
+slice_get-none [] k none = omega arith
+slice_get-none (x ∷ xs) zero none = absurd (cc)
+slice_get-none (x ∷ xs) (suc k) none = let past = slice_get-none xs k none in omega arith
+
+-- few are counted
+pub few-counted : (frames : List TimedFrame) (placed : List Placed) (tallies : List Tally) (most : ℕ) → AreTallies frames placed tallies
+    → length frames < most → All (λ tally. tally.instances < most) tallies
+few-counted frames placed tallies most are short = λ k d within.
+    let count = are.count in
+    by k d within (slice_get placed k) refl (omega arith)
+  where
+    by : (k : ℕ) (d : Tally) → k < length tallies → (o : Option Placed) → slice_get placed k ≡ o → k < length placed → (get_or tallies k d).instances < most
+    by k d within None none inside = absurd (let past = slice_get-none placed k none in omega arith)
+    by k d within (Some p) here inside =
+        let tally = are.each k p (get_or tallies k d) here (slice_get-get_or tallies k d within) in
+        let few = tally.few in
+        omega arith
+
+in-range : (placed : List Placed) → IsWellPlaced placed → (place : ℕ) (p : Placed) → slice_get placed place ≡ Some p → IsInRange p
+in-range placed well place p here =
+    subst IsInRange (get_or_from_slice_get placed place p p here) (well.in_range place p (slice_get_within placed place p here))
+
+-- The frames of the code
+
+-- a frame before the first trigger
+pub tallies-before : (frames : List TimedFrame) (placed : List Placed) (sent : TimedFrame) (tallies : List Tally)
+    → triggers_with (triggers_in frames) sent ≡ 0 → AreTallies frames placed tallies → AreTallies (frames ++ sent ∷ []) placed tallies
+tallies-before frames placed sent tallies none are =
+    tallies-same frames placed sent tallies (λ place p here. ap (λ n. sent_by p n sent) none) are
+
+-- a frame that is of no slot
+pub tallies-strange : (frames : List TimedFrame) (placed : List Placed) (sent : TimedFrame) (tallies : List Tally) → IsWellPlaced placed
+    → ((slot : ℕ) → slot < slots → sent.frame.identifier ≡ first_identifier + slot → ⊥)
+    → AreTallies frames placed tallies → AreTallies (frames ++ sent ∷ []) placed tallies
+tallies-strange frames placed sent tallies well strange are =
+    tallies-same frames placed sent tallies (λ place p here.
+    let range = in-range placed well place p here in
+    other-slot p (triggers_with (triggers_in frames) sent) sent (strange p.entry.slot range.entry.slot)) are
+
+-- a frame of a slot, in a cycle
+module _ (frames : List TimedFrame) (placed : List Placed) (sent : TimedFrame) (tallies : List Tally) (slot cycle : ℕ) (well : IsWellPlaced placed)
+    (of_slot : sent.frame.identifier ≡ first_identifier + slot) (now : triggers_with (triggers_in frames) sent ≡ suc cycle)
+    (are : AreTallies frames placed tallies) where
+  nothing : (p : Placed) → (p.entry.slot ≡ slot → instance_of p cycle ≡ None) → sent_by p (triggers_with (triggers_in frames) sent) sent ≡ []
+  nothing p none =
+      elim (cases_eq p.entry.slot slot) [
+        | inl same ↦ ap (λ n. sent_by p n sent) now ∙ no-instance p cycle sent (none same)
+        | inr other ↦ other-slot p (triggers_with (triggers_in frames) sent) sent (λ identifier. other (omega arith))
+      ]
+
+  -- of which no entry has an instance to send
+  pub tallies-none : IsCurrent placed slot cycle None → AreTallies (frames ++ sent ∷ []) placed tallies
+  tallies-none none = tallies-same frames placed sent tallies (λ place p here. nothing p (none place p here)) are
+
+  -- and one has
+  pub tallies-one : (found : Current) (d next : Tally) (delay : ℕ) → IsTheOne placed slot cycle found
+      → next ≡ tally_with (get_or tallies found.place d) found.number delay → delay ≡ cycle - release_of found.placed found.number
+      → AreTallies (frames ++ sent ∷ []) placed (slice_set tallies found.place next)
+  tallies-one found d next delay one is late =
+      let count = are.count in
+      let inside = one.within in
+      let range = in-range placed well found.place found.placed one.here in
+      let deadline = range.entry.some_time in
+      let period = range.entry.deadline in
+      let tally : Tally = get_or tallies found.place d in
+      let number : latest found.placed cycle ≡ found.number =
+      latest-of_sent found.placed found.number cycle period (MaySend-from_instance found.placed found.number cycle one.instance) in
+      let value : tally_with tally found.number (cycle - release_of found.placed found.number) ≡ next =
+      ap (tally_with tally found.number) (sym late) ∙ sym is in
+      tallies-next frames placed sent tallies found.place d tally next (omega arith) refl
+      (λ place p here elsewhere. nothing p (λ same. one.alone place p here same elsewhere))
+      (λ p here counted.
+      let pair : Some found.placed ≡ Some p = sym one.here ∙ here in
+      let same : found.placed ≡ p = cc in
+      subst (λ q. IsTally (frames ++ sent ∷ []) q next) same
+      (subst (λ t. IsTally (frames ++ sent ∷ []) found.placed t) value
+      (subst (λ k. IsTally (frames ++ sent ∷ []) found.placed (tally_with tally k (cycle - release_of found.placed k))) number
+      (tally-next frames found.placed sent tally cycle (omega arith) now
+      (subst (λ k. sent_by found.placed (suc cycle) sent ≡ record { number = k; cycle = cycle } ∷ []) (sym number)
+      (one-instance found.placed cycle found.number sent (of_slot ∙ ap (λ s. first_identifier + s) (sym one.of_slot)) one.instance))
+      (subst (λ q. IsTally frames q tally) (sym same) counted)))))
+      are

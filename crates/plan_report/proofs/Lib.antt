@@ -1,0 +1,5 @@
+mod Counted
+mod OneOfSlot
+mod Openings
+mod RowByRow
+mod Widths

@@ -1,0 +1,101 @@
+-- The widths of opened cycles, slot by slot and event by event.
+use Rattle.std.proofs.Common.{◌≡◌, ℕ, suc, ◌+◌, ◌<◌, ◌≤◌, Bool, true, false, cond, Option, Some, None, IfSome, List, ◌∷◌, ◌++◌, length, drop, get_or, slice_get, nat_le, refl, sym, ap, subst, ◌∙◌, arith, append_assoc, Contains}
+use Rattle.std.specs.Option.{option_map_or}
+use Rattle.std.proofs.lemmas.Bool.{leb-true, le-leb}
+use Rattle.std.proofs.lemmas.Option.{get_or_from_slice_get, slice_get-get_or, slice_get_within}
+use Rattle.std.proofs.Math.Seq.{drop-cons}
+use Rattle.requirement_table.specs.declared.entries.Placed.{Placed}
+use Rattle.requirement_table.specs.Instance.{Instance, MaySend, worst, worst_of}
+use Rattle.requirement_table.specs.Slots.{sum_where}
+use Rattle.requirement_table.specs.Table.{IsInRange, IsWellPlaced, free_from, instance_in, is_over, worst_in}
+use Rattle.requirement_table.proofs.Shared.{MaySend-from_instance, instance_in-found, instance_in-sound, instance_of-sent}
+use Rattle.plan_report.specs.Current.{ArePassed, IsCurrent, IsTheOne}
+use Rattle.plan_report.specs.declared.current.Current.{Current}
+use Rattle.master_core.specs.declared.event.Event.{Event}
+use Rattle.master_core.specs.History.{is_open}
+use Rattle.plan_report.specs.Opened.{load_of, opened_width, opened_widths}
+use Rattle.plan_report.specs.declared.load.Load.{Load}
+
+-- Slots
+
+-- what is over stays over
+pub passed-later : (placed : List Placed) (places : List ℕ) (c d : ℕ) → c ≤ d → ArePassed placed places c → ArePassed placed places d
+passed-later placed places c d on passed = λ slot place p known before there of_slot. over p (passed slot place p known before there of_slot)
+  where
+    by : (from : Option ℕ) → option_map_or (λ f. nat_le f c) from false ≡ true → option_map_or (λ f. nat_le f d) from false ≡ true
+    by None over = over
+    by (Some f) over = let past = leb-true f c over in le-leb f d (omega arith)
+
+    over : (p : Placed) → is_over c p ≡ true → is_over d p ≡ true
+    over p is = by (free_from p) is
+
+-- what the slot costs is the worst length of the entry that may send
+pub worst-found : (placed : List Placed) (slot cycle : ℕ) (found : Current) → IsWellPlaced placed → IsTheOne placed slot cycle found
+    → worst_in placed cycle slot ≡ worst found.placed.entry.length
+worst-found placed slot cycle found well one =
+    let sends : MaySend found.placed found.number cycle = MaySend-from_instance found.placed found.number cycle one.instance in
+    let is : instance_in placed slot cycle ≡ Some (record { placed = found.placed; number = found.number }) =
+    subst (λ s. instance_in placed s cycle ≡ Some (record { placed = found.placed; number = found.number })) one.of_slot
+    (instance_in-found placed well found.place found.number cycle found.placed one.here sends) in
+    ap (λ o. option_map_or worst_of o 0) is
+
+pub worst-range : (placed : List Placed) (slot cycle : ℕ) (found : Current) → IsWellPlaced placed → IsTheOne placed slot cycle found
+    → worst found.placed.entry.length ≤ 135
+worst-range placed slot cycle found well one =
+    let range : IsInRange found.placed = subst IsInRange (get_or_from_slice_get placed found.place found.placed found.placed one.here)
+    (well.in_range found.place found.placed (slice_get_within placed found.place found.placed one.here)) in
+    let few = range.entry.length in
+    omega arith
+
+-- it is nothing where no entry may
+pub worst-none : (placed : List Placed) (slot cycle : ℕ) → IsWellPlaced placed → IsCurrent placed slot cycle None → worst_in placed cycle slot ≡ 0
+worst-none placed slot cycle well none = by (instance_in placed slot cycle) (instance_in-sound placed slot cycle)
+  where
+    by : (o : Option Instance) → IfSome o (λ i. Contains placed i.placed × (i.placed.entry.slot ≡ slot) × MaySend i.placed i.number cycle)
+        → option_map_or worst_of o 0 ≡ 0
+    by None sound = refl
+    by (Some i) sound =
+        let place = sound.0.0 in
+        let there : slice_get placed place ≡ Some i.placed = slice_get-get_or placed place i.placed sound.0.1 ∙ ap (λ x. Some x) sound.0.2 in
+        let range : IsInRange i.placed = subst IsInRange sound.0.2 (well.in_range place i.placed sound.0.1) in
+        let number = instance_of-sent i.placed i.number cycle range.entry.deadline sound.2 in
+        let nothing = none place i.placed there sound.1 in
+        absurd (let no : ⊥ = cc in no)
+
+pub sum-none : (p : ℕ → Bool) (f : ℕ → ℕ) → 0 ≡ sum_where 0 p f
+unfolding sum_where
+sum-none p f = refl
+
+pub sum-next : (n : ℕ) (p : ℕ → Bool) (f : ℕ → ℕ) → sum_where (n + 1) p f ≡ sum_where n p f + cond (p n) (f n) 0
+unfolding sum_where
+sum-next n p f = let next : n + 1 ≡ suc n = omega arith in ap (λ m. sum_where m p f) next
+
+-- Events
+
+-- the load is that of the widths before cycle `next`, and those of the events that are left come behind them
+pub record IsLoaded (placed : List Placed) (history : List Event) (load : Load) (next : ℕ) (left : List Event) : Type 0 where
+  pub widths : List ℕ
+  pub load_is : load ≡ load_of widths
+  pub all : widths ++ opened_widths placed next left ≡ opened_widths placed 0 history
+
+-- one event more
+pub loaded-next : (placed : List Placed) (history : List Event) (load more : Load) (next step i : ℕ) (event : Event) → i < length history
+    → event ≡ get_or history i event → step ≡ cond (is_open event) 1 0
+    → ((widths : List ℕ) → load ≡ load_of widths → more ≡ load_of (widths ++ opened_width placed next event))
+    → IsLoaded placed history load next (drop i history) → IsLoaded placed history more (next + step) (drop (i + 1) history)
+loaded-next placed history load more next step i event within here count adds is =
+    let follows : suc i ≡ i + 1 = omega arith in
+    let rest : drop i history ≡ event ∷ drop (i + 1) history =
+    drop-cons history i event within ∙ ap (λ e. e ∷ drop (suc i) history) (sym here) ∙ ap (λ n. event ∷ drop n history) follows in
+    record {
+      widths = is.widths ++ opened_width placed next event;
+      load_is = adds is.widths is.load_is;
+      all = append_assoc is.widths (opened_width placed next event) _
+          ∙ ap (λ n. is.widths ++ (opened_width placed next event ++ opened_widths placed (next + n) (drop (i + 1) history))) count
+          ∙ ap (λ l. is.widths ++ opened_widths placed next l) (sym rest)
+          ∙ is.all;
+    }
+
+pub one_or_none : (b : Bool) → cond b 1 0 ≤ 1
+one_or_none true = omega arith
+one_or_none false = omega arith

@@ -1,0 +1,12 @@
+use Rattle.std.proofs.Common.{◌≡◌, ◌≤◌, ◌-◌, take}
+use Rattle.plan_report.specs.Current.{ArePassed}
+use Rattle.plan_report.specs.Tally.{AreTallies, triggers_in}
+use Rattle.plan_report.proofs.sent.tallies.Given as goal
+
+abbrev pub invariant-loop-sent : goal.invariant-loop-sent
+invariant-loop-sent l = record {
+  counted : AreTallies (take l.sent-index l.trace) l.placed l.tallies.items;
+  triggers : l.seen ≡ triggers_in (take l.sent-index l.trace);
+  few : l.seen ≤ l.sent-index;
+  passed : ArePassed l.placed l.places.first (l.seen - 1);
+}
