@@ -1,53 +1,163 @@
--- The words of a call, the program's name left out: which command they ask for.
-use Rattle.std.specs.Prelude.{ℕ, ◌+◌, List, [], ◌∷◌, Bool, not, ◌&&◌, ◌||◌, ◌==◌, Option, Some, None, if◌then◌else◌, codes, nat_lt, length, slice_index}
+-- The words of a call, the program's name left out: which command they ask for. The first word names the command. The words are in the
+-- table of commands exactly where clap's simple command of that row takes them, which gets the first word as its program's name.
+use Rattle.std.specs.Prelude.{ℕ, ◌+◌, ◌^◌, pos, List, [], ◌∷◌, Bool, true, false, ◌&&◌, Option, Some, None, if◌then◌else◌, codes, nat_lt, unwrap_or, option_and_then}
+use Rattle.std.specs.Option.{option_map_or}
 use Rattle.std.specs.Str.{bytes_eq}
-use Rattle.fttcan_top.specs.declared.words.Word.{Word}
-use Rattle.fttcan_top.specs.declared.words.Word.TheVariants.{Replay, Admit, Check}
+use Rattle.std.specs.Str.Parse.{digits_value, without_leading_plus}
+use Rattle.clap.specs.ValueTests.{is_numeral}
+use Rattle.clap.specs.Walk.{is_empty, one_of, first_of}
+use Rattle.clap.specs.Words.{App, Row, Rule, Text, fault_of, matches_of, new_app, new_rule, with_rule}
+use Rattle.clap.specs.declared.builder.action.ArgAction.TheVariants.{SetTrue}
+use Rattle.clap.specs.declared.builder.value_parser.ValueParser.{ValueParser}
+use Rattle.clap.specs.declared.builder.value_parser.ValueParser.TheVariants.{Signed}
 
--- a command: what is to be done, and the names of its files: the system, the steps, and a third one, which holds the requests of a replay
--- where there are some, and the plan of a check
-pub record Command : Type 0 where
-  pub word : Word
-  pub system : List ℕ
-  pub steps : List ℕ
-  pub third : Option (List ℕ)
+-- What is asked
 
--- a word that begins with `-` and goes on is no file's name
-unfoldable pub is_option : List ℕ → Bool
-is_option word = nat_lt 1 (length word) && slice_index word 0 == 45
+-- a run: the names of its files, and whether its report is asked for
+pub record RunWords : Type 0 where
+  pub system : Text
+  pub steps : Text
+  pub requests : Option Text
+  pub report : Bool
 
--- the command word of two files
-abbrev pub word_of_two : List ℕ → Option Word
-word_of_two word = if bytes_eq word (codes "replay") then Some Replay else if bytes_eq word (codes "admit") then Some Admit else None
+-- a command: a replay, of which only the last rows of the log may be asked for; the plan of the table behind steps; the check of a plan; or
+-- the run of the input that a number makes
+pub data Command : Type 0 where
+  replay : RunWords → Option ℕ → Command
+  admit : Text → Text → Command
+  check : Text → Text → Text → Command
+  generate : ℕ → Command
 
--- the command word of three files
-abbrev pub word_of_three : List ℕ → Option Word
-word_of_three word = if bytes_eq word (codes "replay") then Some Replay else if bytes_eq word (codes "check") then Some Check else None
+-- The table of commands, as clap is told it
 
--- the command of a command word, where there is one, with these files
-abbrev pub command_with : Option Word → List ℕ → List ℕ → Option (List ℕ) → Option Command
-command_with None system steps third = None
-command_with (Some word) system steps third = Some (record { word = word; system = system; steps = steps; third = third })
+-- a word that may be left out
+abbrev pub optional : Text → Rule
+optional id = new_rule id
 
--- the command that the words ask for: `replay SYSTEM STEPS`, `replay SYSTEM STEPS REQUESTS`, `admit SYSTEM STEPS` or
--- `check SYSTEM STEPS PLAN`; `None` where they are no row of the table of commands
-abbrev pub command_of : List (List ℕ) → Option Command
-command_of (word ∷ system ∷ steps ∷ []) =
-    if is_option system || is_option steps then None else command_with (word_of_two word) system steps None
-command_of (word ∷ system ∷ steps ∷ third ∷ []) =
-    if is_option system || (is_option steps || is_option third) then None else command_with (word_of_three word) system steps (Some third)
-command_of _ = None
+-- a word that has to be there
+abbrev pub needed : Text → Rule
+needed id = record (new_rule id) { required = true }
+
+-- a number that has to be there, up to a greatest one
+abbrev pub number_up_to : ℕ → Text → Rule
+number_up_to greatest id = record (needed id) { parser = Some (Signed (pos 0) (pos greatest)) }
+
+-- an option that is there or not
+abbrev pub flag : Text → Rule
+flag id = record (new_rule id) { long = Some id; action = Some SetTrue }
+
+-- an option with a number from 1 to a greatest one
+abbrev pub counted_option : ℕ → Text → Rule
+counted_option greatest id = record (new_rule id) { long = Some id; parser = Some (Signed (pos 1) (pos greatest)) }
+
+-- `SYSTEM STEPS`
+abbrev pub files_app : Text → App
+files_app name = with_rule (with_rule (new_app name) (needed (codes "system"))) (needed (codes "steps"))
+
+-- `SYSTEM STEPS [REQUESTS] [--report]`
+abbrev pub run_app : Text → App
+run_app name = with_rule (with_rule (files_app name) (optional (codes "requests"))) (flag (codes "report"))
+
+-- `replay SYSTEM STEPS [REQUESTS] [--tail N] [--report]`
+unfoldable pub replay_app : App
+replay_app = with_rule (run_app (codes "replay")) (counted_option 10000 (codes "tail"))
+
+-- `admit SYSTEM STEPS`
+unfoldable pub admit_app : App
+admit_app = files_app (codes "admit")
+
+-- `check SYSTEM STEPS PLAN`
+unfoldable pub check_app : App
+check_app = with_rule (files_app (codes "check")) (needed (codes "plan"))
+
+-- `gen NUMBER`
+unfoldable pub generate_app : App
+generate_app = with_rule (new_app (codes "gen")) (number_up_to 4294967295 (codes "number"))
+
+-- `live SYSTEM STEPS [REQUESTS] [--report]`
+unfoldable pub live_app : App
+live_app = run_app (codes "live")
+
+-- What clap makes of the words
+
+-- the word that has to be there
+abbrev pub word_of : Text → List Row → Text
+word_of id rows = unwrap_or (first_of id rows) []
+
+-- whether an option is there
+abbrev pub is_set : Text → List Row → Bool
+is_set id rows = option_map_or (λ text. bytes_eq text (codes "true")) (one_of id rows) false
+
+-- the number that decimal digits write, a plus allowed before them, where it is one of so many bits
+abbrev pub number_in : ℕ → Text → Option ℕ
+number_in bits text =
+    let digits = without_leading_plus text in
+    if is_numeral digits && nat_lt (digits_value 10 digits) (2 ^ bits) then Some (digits_value 10 digits) else None
+
+-- the number of an option or a word
+abbrev pub number_of : ℕ → Text → List Row → Option ℕ
+number_of bits id rows = option_and_then (number_in bits) (one_of id rows)
+
+abbrev pub run_meant : List Row → RunWords
+run_meant rows = record {
+  system = word_of (codes "system") rows;
+  steps = word_of (codes "steps") rows;
+  requests = first_of (codes "requests") rows;
+  report = is_set (codes "report") rows;
+}
+
+abbrev pub replay_meant : List Row → Command
+replay_meant rows = replay (run_meant rows) (number_of 16 (codes "tail") rows)
+
+abbrev pub admit_meant : List Row → Command
+admit_meant rows = admit (word_of (codes "system") rows) (word_of (codes "steps") rows)
+
+abbrev pub check_meant : List Row → Command
+check_meant rows = check (word_of (codes "system") rows) (word_of (codes "steps") rows) (word_of (codes "plan") rows)
+
+abbrev pub generate_meant : List Row → Command
+generate_meant rows = generate (unwrap_or (number_of 32 (codes "number") rows) 0)
+
+-- what the words mean, where clap's command takes them
+abbrev pub taken_by : {A : Type 0} → App → (List Row → A) → List Text → Option A
+taken_by app meaning words = if is_empty (fault_of app words) then Some (meaning (matches_of app words)) else None
+
+-- the command that words ask for whose first is this word
+abbrev pub command_named : Text → List Text → Option Command
+command_named name words =
+    if bytes_eq name (codes "replay") then taken_by replay_app replay_meant words
+    else if bytes_eq name (codes "admit") then taken_by admit_app admit_meant words
+    else if bytes_eq name (codes "check") then taken_by check_app check_meant words
+    else if bytes_eq name (codes "gen") then taken_by generate_app generate_meant words
+    else None
+
+-- the command that the words ask for; `None` where they are in no row of the table of commands
+abbrev pub command_of : List Text → Option Command
+command_of [] = None
+command_of (name ∷ rest) = command_named name (name ∷ rest)
+
+-- the run by threads that words ask for whose first is this word
+abbrev pub live_named : Text → List Text → Option RunWords
+live_named name words = if bytes_eq name (codes "live") then taken_by live_app run_meant words else None
+
+-- the run by threads that the words ask for; `None` where they are not in its row of the table
+abbrev pub live_of : List Text → Option RunWords
+live_of [] = None
+live_of (name ∷ rest) = live_named name (name ∷ rest)
 
 -- the number of files that stand under a name that may be missing
-abbrev pub named : Option (List ℕ) → ℕ
+abbrev pub named : Option Text → ℕ
 named None = 0
 named (Some name) = 1
 
 -- the number of files that a command names
 abbrev pub files_named : Option Command → ℕ
 files_named None = 0
-files_named (Some command) = 2 + named command.third
+files_named (Some (replay run tail)) = 2 + named run.requests
+files_named (Some (admit system steps)) = 2
+files_named (Some (check system steps plan)) = 3
+files_named (Some (generate number)) = 0
 
 -- the number of files that the words name
-abbrev pub file_count : List (List ℕ) → ℕ
+abbrev pub file_count : List Text → ℕ
 file_count words = files_named (command_of words)

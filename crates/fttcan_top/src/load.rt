@@ -7,12 +7,12 @@ ghost use Rattle.input_text.specs.SystemFile.{IsSystem};
 ghost use Rattle.input_text.specs.RequestsFile.{AreLegal};
 ghost use Rattle.input_text.specs.StepsFile.{AreLegalSteps};
 ghost use Rattle.fttcan_top.specs.declared.load.Refusal.{Refusal};
-ghost use Rattle.fttcan_top.specs.declared.words.Word.{Word};
 ghost use Rattle.fttcan_top.specs.Output.{IsAskedOf, IsPlanIn, IsPlanMeant, job_in, requests_in, steps_in, system_in, within_limit};
 ghost use Rattle.fttcan_top.specs.Loads.{Explains, IsJob, IsTask, IsToCheck, asked_of, job_of, stopped_by};
-ghost use Rattle.fttcan_top.specs.Words.{named};
+ghost use Rattle.fttcan_top.specs.Words.{admit, check, files_named, named, replay};
+ghost use Rattle.fttcan_top.specs.WordsRead.{command_read, run_read};
 
-use crate::words::{Names, Word};
+use crate::words::{Command, RunWords};
 use async_window::{Owner, Request};
 use ftt_io::{FetchFault, Shelf};
 use input_text::{
@@ -73,12 +73,14 @@ pub struct Job {
 /// What is to be done.
 #[derive(Debug, Drop)]
 pub enum Task {
-    /// To write the log of the run.
-    Log(Job),
+    /// To write the log of the run, or so many of its last rows, and the report behind it or not.
+    Log(Job, Option<u16>, bool),
     /// To write the plan of the table behind the run.
     Table(Job),
     /// To check the certificate against the changes of the steps.
     Check(Job, Certificate),
+    /// To write the summary of the run of the input that this number makes.
+    Summary(u32),
 }
 
 /// Fetches a file's bytes.
@@ -248,16 +250,59 @@ fn load_plan<S: Shelf>(alloc: Global, shelf: &mut S, name: &str) -> Result<Certi
     ensures fetches_never_fall { S.fetches shelf.old ≤ S.fetches shelf.new }
     ensures faults_never_fall { S.faults shelf.old ≤ S.faults shelf.new }
     ensures certificate { IfOk result IsToCheck }
-    ensures ok { IfOk result (λ certificate. ForSome (S.told_files shelf.old) (λ files. IsPlanIn files (Some name.now) (Ok certificate))) }
+    ensures ok { IfOk result (λ certificate. ForSome (S.told_files shelf.old) (λ files. IsPlanIn files name.now (Ok certificate))) }
     ensures stop { IfErr result (λ why. ForSome (S.told_files shelf.old)
-        (λ files. Explains (IsPlanIn files (Some name.now)) (Rose (S.faults shelf.old) (S.faults shelf.new)) why)) }
+        (λ files. Explains (IsPlanIn files name.now) (Rose (S.faults shelf.old) (S.faults shelf.new)) why)) }
     ensures read { IsErrOf result Stop.Read → Rose (S.faults shelf.old) (S.faults shelf.new) ⊎ IsSome (S.told_files shelf.old) }
 {
     let bytes = fetch_file(alloc, shelf, Source::Plan, name)?;
     plan_in(alloc, bytes.as_slice())
 }
 
-/// The check that names ask for.
+/// The log that `replay` asks for, or so many of its last rows, and the report behind it or not.
+fn load_replay<S: Shelf>(
+    alloc: Global,
+    shelf: &mut S,
+    run: RunWords<'_>,
+    tail: Option<u16>,
+) -> Result<Task, Stop>
+    ensures files_stay { S.told_files shelf.new ≡ S.told_files shelf.old }
+    ensures counted { S.fetches shelf.new ≤ S.fetches shelf.old + files_named (Some (replay (run_read run.entry) tail)) }
+    ensures fetches_never_fall { S.fetches shelf.old ≤ S.fetches shelf.new }
+    ensures faults_never_fall { S.faults shelf.old ≤ S.faults shelf.new }
+    ensures task { IfOk result IsTask }
+    ensures ok { IfOk result (λ task. ForSome (S.told_files shelf.old) (λ files. IsAskedOf files (replay (run_read run.entry) tail) (Ok (asked_of task)))) }
+    ensures stop { IfErr result (λ why. ForSome (S.told_files shelf.old)
+        (λ files. Explains (IsAskedOf files (replay (run_read run.entry) tail)) (Rose (S.faults shelf.old) (S.faults shelf.new)) why)) }
+    ensures read { IsErrOf result Stop.Read → Rose (S.faults shelf.old) (S.faults shelf.new) ⊎ IsSome (S.told_files shelf.old) }
+{
+    let job = load_job(alloc, shelf, run.system, run.steps, run.requests)?;
+    Ok(Task::Log(job, tail, run.report))
+}
+
+/// The plan that `admit` asks for.
+fn load_table<S: Shelf>(
+    alloc: Global,
+    shelf: &mut S,
+    system_name: &str,
+    steps_name: &str,
+) -> Result<Task, Stop>
+    ensures files_stay { S.told_files shelf.new ≡ S.told_files shelf.old }
+    ensures counted { S.fetches shelf.new ≤ S.fetches shelf.old + files_named (Some (admit system_name.now steps_name.now)) }
+    ensures fetches_never_fall { S.fetches shelf.old ≤ S.fetches shelf.new }
+    ensures faults_never_fall { S.faults shelf.old ≤ S.faults shelf.new }
+    ensures task { IfOk result IsTask }
+    ensures ok { IfOk result (λ task. ForSome (S.told_files shelf.old)
+        (λ files. IsAskedOf files (admit system_name.now steps_name.now) (Ok (asked_of task)))) }
+    ensures stop { IfErr result (λ why. ForSome (S.told_files shelf.old)
+        (λ files. Explains (IsAskedOf files (admit system_name.now steps_name.now)) (Rose (S.faults shelf.old) (S.faults shelf.new)) why)) }
+    ensures read { IsErrOf result Stop.Read → Rose (S.faults shelf.old) (S.faults shelf.new) ⊎ IsSome (S.told_files shelf.old) }
+{
+    let job = load_job(alloc, shelf, system_name, steps_name, None)?;
+    Ok(Task::Table(job))
+}
+
+/// The check that `check` asks for.
 fn load_check<S: Shelf>(
     alloc: Global,
     shelf: &mut S,
@@ -271,9 +316,9 @@ fn load_check<S: Shelf>(
     ensures faults_never_fall { S.faults shelf.old ≤ S.faults shelf.new }
     ensures task { IfOk result IsTask }
     ensures ok { IfOk result (λ task. ForSome (S.told_files shelf.old)
-        (λ files. IsAskedOf files Word.Check system_name.now steps_name.now (Some plan_name.now) (Ok (asked_of task)))) }
+        (λ files. IsAskedOf files (check system_name.now steps_name.now plan_name.now) (Ok (asked_of task)))) }
     ensures stop { IfErr result (λ why. ForSome (S.told_files shelf.old)
-        (λ files. Explains (IsAskedOf files Word.Check system_name.now steps_name.now (Some plan_name.now))
+        (λ files. Explains (IsAskedOf files (check system_name.now steps_name.now plan_name.now))
         (Rose (S.faults shelf.old) (S.faults shelf.new)) why)) }
     ensures read { IsErrOf result Stop.Read → Rose (S.faults shelf.old) (S.faults shelf.new) ⊎ IsSome (S.told_files shelf.old) }
 {
@@ -282,33 +327,26 @@ fn load_check<S: Shelf>(
     Ok(Task::Check(job, certificate))
 }
 
-/// The task that names ask for; those of a check have a plan.
-pub fn load<S: Shelf>(alloc: Global, shelf: &mut S, names: Names<'_>) -> Result<Task, Stop>
-    requires plan { names.word ≡ Word.Check → IsSome (option_map (λ word. word.now) names.third) }
+/// The task that a command asks for.
+pub fn load<S: Shelf>(alloc: Global, shelf: &mut S, command: Command<'_>) -> Result<Task, Stop>
     ensures files_stay { S.told_files shelf.new ≡ S.told_files shelf.old }
-    ensures counted { S.fetches shelf.new ≤ S.fetches shelf.old + (2 + named (option_map (λ word. word.now) names.entry.third)) }
+    ensures counted { S.fetches shelf.new ≤ S.fetches shelf.old + files_named (Some (command_read command.entry)) }
     ensures fetches_never_fall { S.fetches shelf.old ≤ S.fetches shelf.new }
     ensures faults_never_fall { S.faults shelf.old ≤ S.faults shelf.new }
     ensures task { IfOk result IsTask }
-    ensures ok { IfOk result (λ task. ForSome (S.told_files shelf.old) (λ files. IsAskedOf files names.entry.word names.entry.system.now
-        names.entry.steps.now (option_map (λ word. word.now) names.entry.third) (Ok (asked_of task)))) }
-    ensures stop { IfErr result (λ why. ForSome (S.told_files shelf.old) (λ files. Explains (IsAskedOf files names.entry.word
-        names.entry.system.now names.entry.steps.now (option_map (λ word. word.now) names.entry.third))
-        (Rose (S.faults shelf.old) (S.faults shelf.new)) why)) }
+    ensures ok { IfOk result (λ task. ForSome (S.told_files shelf.old) (λ files. IsAskedOf files (command_read command.entry) (Ok (asked_of task)))) }
+    ensures stop { IfErr result (λ why. ForSome (S.told_files shelf.old)
+        (λ files. Explains (IsAskedOf files (command_read command.entry)) (Rose (S.faults shelf.old) (S.faults shelf.new)) why)) }
     ensures read { IsErrOf result Stop.Read → Rose (S.faults shelf.old) (S.faults shelf.new) ⊎ IsSome (S.told_files shelf.old) }
 {
-    match names.word {
-        Word::Replay => {
-            let job = load_job(alloc, shelf, names.system, names.steps, names.third)?;
-            Ok(Task::Log(job))
-        }
-        Word::Admit => {
-            let job = load_job(alloc, shelf, names.system, names.steps, None)?;
-            Ok(Task::Table(job))
-        }
-        Word::Check => match names.third {
-            Some(plan) => load_check(alloc, shelf, names.system, names.steps, plan),
-            None => unreachable!(),
-        },
+    match command {
+        Command::Replay { run, tail } => load_replay(alloc, shelf, run, tail),
+        Command::Admit { system, steps } => load_table(alloc, shelf, system, steps),
+        Command::Check {
+            system,
+            steps,
+            plan,
+        } => load_check(alloc, shelf, system, steps, plan),
+        Command::Generate { number } => Ok(Task::Summary(number)),
     }
 }

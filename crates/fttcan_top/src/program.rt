@@ -1,6 +1,6 @@
 //! The top call: from the words of a call and the files that they name to the bytes that are written.
 
-ghost use Rattle.std.specs.Prelude.{◌≡◌, ◌+◌, ◌≤◌, ◌↔◌, ◌⊎◌, ◌∷◌, [], List, ℕ, map, string_bytes, IfOk, IsSome, Some, None, Ok, Err, option_map};
+ghost use Rattle.std.specs.Prelude.{◌≡◌, ◌+◌, ◌≤◌, ◌⊎◌, ◌∷◌, [], List, ℕ, map, string_bytes, IfOk, IsSome, Some, None, Ok, Err, option_map};
 ghost use Rattle.std.specs.Option.{ForSome};
 ghost use Rattle.ftt_io.specs.Counts.{Rose};
 ghost use Rattle.ftt_io.specs.Puts.{Puts, PutsPrefix};
@@ -13,14 +13,14 @@ ghost use Rattle.fttcan_top.specs.Words.{command_of, file_count, named};
 use crate::load::{Refusal, Source, Stop, Task, load};
 use crate::rows::put_rows;
 use crate::status::Status;
-use crate::words::names_of;
+use crate::words::{WordsFault, command_in};
 use crate::work::{Outcome, work_out};
 use ftt_io::{Shelf, Sink, write_all};
 use std::alloc::{AllocError, Global};
 
 /// The lines that say which words a call may have.
 const USAGE: &str =
-    "usage: fttcan replay SYSTEM STEPS [REQUESTS] [--tail N] [--report]\nusage: fttcan admit SYSTEM STEPS\nusage: fttcan check SYSTEM STEPS PLAN\n";
+    "usage: fttcan replay SYSTEM STEPS [REQUESTS] [--tail N] [--report]\nusage: fttcan admit SYSTEM STEPS\nusage: fttcan check SYSTEM STEPS PLAN\nusage: fttcan gen NUMBER\nusage: fttcan live SYSTEM STEPS [REQUESTS] [--report]\n";
 
 /// How a call ended, with the reason where a file was refused.
 #[derive(Debug, Drop)]
@@ -167,7 +167,8 @@ fn call<S: Shelf, O: Sink>(alloc: Global, words: &[String], shelf: &mut S, out: 
         (Rose (S.faults shelf.old) (S.faults shelf.new)) (Rose (O.faults out.old) (O.faults out.new)) (end_status result)) }
     ensures refusal { (refusal : Refusal) → result ≡ End.Input refusal
         → ForSome (S.told_files shelf.old) (λ files. IsAsked (map string_bytes words.now) files (Err (stopped_by refusal))) }
-    ensures command { (result ≡ End.Words) ↔ (command_of (map string_bytes words.now) ≡ None) }
+    ensures words { result ≡ End.Words → command_of (map string_bytes words.now) ≡ None }
+    ensures command { command_of (map string_bytes words.now) ≡ None → (result ≡ End.Words) ⊎ (result ≡ End.Memory) }
     ensures read { result ≡ End.Read → Rose (S.faults shelf.old) (S.faults shelf.new) ⊎ IsSome (S.told_files shelf.old) }
     ensures write { result ≡ End.Write → Rose (O.faults out.old) (O.faults out.new) }
     ensures done { IsDone (end_status result) → (asked_for : Asked)
@@ -183,10 +184,12 @@ fn call<S: Shelf, O: Sink>(alloc: Global, words: &[String], shelf: &mut S, out: 
     ensures faults_never_fall { S.faults shelf.old ≤ S.faults shelf.new }
     ensures out_faults_never_fall { O.faults out.old ≤ O.faults out.new }
 {
-    let Some(names) = names_of(words) else {
-        return End::Words;
+    let command = match command_in(alloc, words) {
+        Ok(command) => command,
+        Err(WordsFault::NoCommand) => return End::Words,
+        Err(WordsFault::Memory) => return End::Memory,
     };
-    match load(alloc, shelf, names) {
+    match load(alloc, shelf, command) {
         Ok(task) => carry_out(alloc, &task, out),
         Err(stop) => stop.end(),
     }
@@ -195,9 +198,11 @@ fn call<S: Shelf, O: Sink>(alloc: Global, words: &[String], shelf: &mut S, out: 
 /// Carries out the words of a call, the program's name left out. Lines on what went wrong go to `err`; a failure of `err` changes no status.
 ///
 /// - `replay SYSTEM STEPS` runs the steps of a file in the system of another and writes the log to `out`, and
-///   `replay SYSTEM STEPS REQUESTS` with the requests of a third.
+///   `replay SYSTEM STEPS REQUESTS` with the requests of a third; with `--tail N`, from 1 to 10,000, only the last N rows of the log, and with
+///   `--report` the report behind it.
 /// - `admit SYSTEM STEPS` runs them without requests, and writes the plan of the table that stands then, from cycle 0 on.
 /// - `check SYSTEM STEPS PLAN` checks such a plan against the changes of the steps, and writes `yes` or the first breach.
+/// - `gen NUMBER` makes an input from a number of 0 to 4,294,967,295, runs it and writes a summary; it reads no file.
 pub fn plain<S: Shelf, O: Sink, R: Sink>(
     alloc: Global,
     words: &[String],
@@ -208,7 +213,8 @@ pub fn plain<S: Shelf, O: Sink, R: Sink>(
     // How it ended: what was asked of the files, where the shelf tells them; words alone; and each fault where its count rose.
     ensures answer { ForSome (S.told_files shelf.old) (λ files. IsAnswer (IsAsked (map string_bytes words.now) files)
         (Rose (S.faults shelf.old) (S.faults shelf.new)) (Rose (O.faults out.old) (O.faults out.new)) result) }
-    ensures words { (result ≡ Status.Words) ↔ (command_of (map string_bytes words.now) ≡ None) }
+    ensures words { result ≡ Status.Words → command_of (map string_bytes words.now) ≡ None }
+    ensures command { command_of (map string_bytes words.now) ≡ None → (result ≡ Status.Words) ⊎ (result ≡ Status.Memory) }
     ensures read { result ≡ Status.Read → Rose (S.faults shelf.old) (S.faults shelf.new) ⊎ IsSome (S.told_files shelf.old) }
     ensures write { result ≡ Status.Write → Rose (O.faults out.old) (O.faults out.new) }
 

@@ -1,130 +1,234 @@
 //! The words of a call, which say what is asked.
 
-ghost use Rattle.std.specs.Prelude.{◌≡◌, ◌∷◌, [], IfSome, IsSome, Some, map, string_bytes, option_map};
-ghost use Rattle.fttcan_top.specs.declared.words.Word.{Word};
-ghost use Rattle.fttcan_top.specs.Words.{Command, command_of, command_with, is_option, word_of_three, word_of_two};
+ghost use Rattle.std.specs.Prelude.{◌≡◌, codes, unwrap_or, ℕ, [], List, Option, Some, None, true, IfOk, IsErrOf, map, option_map, string_bytes};
+ghost use Rattle.clap.specs.Words.{fault_of, app_of, first_of, found_of, is_simple_and_free, matches_of, rows_of, App, Row};
+ghost use Rattle.fttcan_top.specs.Words.{admit_app, admit_meant, check_app, check_meant, command_of, generate_app, generate_meant, is_set, live_app, live_of, number_of, replay_app, replay_meant, run_meant, taken_by, word_of};
+ghost use Rattle.fttcan_top.specs.WordsRead.{run_read, command_read};
 
-/// What is to be done.
-#[derive(Clone, Copy, PartialEq, Eq, Debug)]
-pub enum Word {
-    /// To run the steps, and to write the log.
-    Replay,
-    /// To run the steps, and to write the plan of the table that stands then.
-    Admit,
-    /// To check a plan against the changes of the steps.
-    Check,
-}
+use crate::arguments::{
+    admit_command, check_command, generate_command, live_command, replay_command,
+};
+use clap::ArgMatches;
+use clap::error::ErrorKind;
+use std::alloc::{AllocError, Global};
 
-/// What is to be done, and the names of the files.
+/// The words of a run: the names of its files, and whether its report is asked for.
 #[derive(Clone, Copy)]
-pub struct Names<'a> {
-    pub word: Word,
+pub struct RunWords<'a> {
     pub system: &'a str,
     pub steps: &'a str,
-    /// The requests of a replay, where there are some, or the plan of a check.
-    pub third: Option<&'a str>,
+    pub requests: Option<&'a str>,
+    pub report: bool,
 }
 
-/// Whether the word is an option: it begins with `-` and goes on.
-#[tactic(auto, unfolding(crate::specs::Words::is_option))]
-fn is_option(word: &str) -> bool
-    ensures first { result ≡ is_option word.now }
-{
-    word.len() > 1 && word.as_bytes()[0] == b'-'
+/// What is to be done.
+#[derive(Clone, Copy)]
+pub enum Command<'a> {
+    /// To run the steps, and to write the log, or so many of its last rows, from 1 to 10,000.
+    Replay {
+        run: RunWords<'a>,
+        tail: Option<u16>,
+    },
+    /// To run the steps, and to write the plan of the table that stands then.
+    Admit {
+        system: &'a str,
+        steps: &'a str,
+    },
+    /// To check a plan against the changes of the steps.
+    Check {
+        system: &'a str,
+        steps: &'a str,
+        plan: &'a str,
+    },
+    /// To run the input that a number makes, and to write a summary.
+    Generate {
+        number: u32,
+    },
 }
 
-/// The command word of two files.
-fn word_of_two(word: &str) -> Option<Word>
-    ensures word { result ≡ word_of_two word.now }
-{
-    if word == "replay" {
-        return Some(Word::Replay);
-    }
-    if word == "admit" {
-        return Some(Word::Admit);
-    }
-    None
+/// Why words are not taken.
+#[derive(Clone, Copy, PartialEq, Eq, Debug)]
+pub enum WordsFault {
+    /// They are in no row of the table of commands.
+    NoCommand,
+    /// Memory ran out.
+    Memory,
 }
 
-/// The command word of three files.
-fn word_of_three(word: &str) -> Option<Word>
-    ensures word { result ≡ word_of_three word.now }
-{
-    if word == "replay" {
-        return Some(Word::Replay);
-    }
-    if word == "check" {
-        return Some(Word::Check);
-    }
-    None
-}
+impl From<AllocError> for WordsFault {
+    ghost use Rattle.fttcan_top.specs.declared.words.WordsFault.{WordsFault};
 
-/// What the words ask for and the files that they name, where they are those of a command.
-pub fn names_of(words: &[String]) -> Option<Names<'_>>
-    ensures command { option_map (λ names. record {
-      word = names.word;
-      system = names.system.now;
-      steps = names.steps.now;
-      third = option_map (λ word. word.now) names.third;
-    }) result ≡ command_of (map string_bytes words.now) }
-    ensures plan { IfSome result (λ names. names.word ≡ Word.Check → IsSome (option_map (λ word. word.now) names.third)) }
-{
-    match words {
-        [word, system, steps] => two_files(word.as_str(), system.as_str(), steps.as_str()),
-        [word, system, steps, third] => three_files(
-            word.as_str(),
-            system.as_str(),
-            steps.as_str(),
-            third.as_str(),
-        ),
-        _ => None,
+    ghost from_gives = { λ _ fault. fault ≡ WordsFault.Memory };
+
+    fn from(_error: AllocError) -> WordsFault {
+        WordsFault::Memory
     }
 }
 
-/// The names of a command of two files.
-fn two_files<'a>(word: &str, system: &'a str, steps: &'a str) -> Option<Names<'a>>
-    ensures command { option_map (λ names. record {
-      word = names.word;
-      system = names.system.now;
-      steps = names.steps.now;
-      third = option_map (λ word. word.now) names.third;
-    }) result ≡ command_of (word.now ∷ system.now ∷ steps.now ∷ []) }
-    ensures plan { IfSome result (λ names. names.word ≡ Word.Check → IsSome (option_map (λ word. word.now) names.third)) }
+/// What clap's command makes of the words.
+fn parsed<'a>(command: clap::Command<'a>, words: &'a [String]) -> Result<ArgMatches<'a>, WordsFault>
+    requires simple { is_simple_and_free (app_of command) ≡ true }
+    ensures taken { IfOk result (λ matches. fault_of (app_of command.entry) (map string_bytes words.entry.now) ≡ []) }
+    ensures rows { IfOk result (λ matches. rows_of (found_of matches) ≡ matches_of (app_of command.entry) (map string_bytes words.entry.now)) }
+    ensures words { IsErrOf result WordsFault.NoCommand → fault_of (app_of command.entry) (map string_bytes words.entry.now) ≡ [] → ⊥ }
 {
-    if is_option(system) || is_option(steps) {
-        return None;
-    }
-    match word_of_two(word) {
-        Some(word) => Some(Names {
-            word,
-            system,
-            steps,
-            third: None,
-        }),
-        None => None,
+    match command.try_get_matches_from(words) {
+        Ok(matches) => Ok(matches),
+        Err(error) => {
+            if error.kind() == ErrorKind::OutOfMemory {
+                Err(WordsFault::Memory)
+            } else {
+                Err(WordsFault::NoCommand)
+            }
+        }
     }
 }
 
-/// The names of a command of three files.
-fn three_files<'a>(word: &str, system: &'a str, steps: &'a str, third: &'a str) -> Option<Names<'a>>
-    ensures command { option_map (λ names. record {
-      word = names.word;
-      system = names.system.now;
-      steps = names.steps.now;
-      third = option_map (λ word. word.now) names.third;
-    }) result ≡ command_of (word.now ∷ system.now ∷ steps.now ∷ third.now ∷ []) }
-    ensures plan { IfSome result (λ names. names.word ≡ Word.Check → IsSome (option_map (λ word. word.now) names.third)) }
+/// The word of an argument, where it is there.
+fn word<'a>(matches: &ArgMatches<'a>, id: &str) -> Option<&'a str>
+    ensures word { option_map (λ word. word.now) result ≡ first_of id.now (rows_of (found_of matches.now)) }
 {
-    if is_option(system) || is_option(steps) || is_option(third) {
-        return None;
+    matches.get_str(id)
+}
+
+/// The word of an argument that has to be there.
+fn needed_word<'a>(matches: &ArgMatches<'a>, id: &str) -> &'a str
+    ensures word { result.now ≡ word_of id.now (rows_of (found_of matches.now)) }
+{
+    match word(matches, id) {
+        Some(word) => word,
+        None => "",
     }
-    match word_of_three(word) {
-        Some(word) => Some(Names {
-            word,
-            system,
-            steps,
-            third: Some(third),
-        }),
-        None => None,
+}
+
+/// Whether an option is there.
+fn is_set(matches: &ArgMatches<'_>, id: &str) -> bool
+    ensures set { result ≡ is_set id.now (rows_of (found_of matches.now)) }
+{
+    matches.get_one::<bool>(id).unwrap_or(false)
+}
+
+/// The number of `--tail`, where it is there.
+fn tail(matches: &ArgMatches<'_>) -> Option<u16>
+    ensures tail { result ≡ number_of 16 (codes "tail") (rows_of (found_of matches.now)) }
+{
+    matches.get_one::<u16>("tail")
+}
+
+/// The number of an input.
+fn number(matches: &ArgMatches<'_>) -> u32
+    ensures number { result ≡ unwrap_or (number_of 32 (codes "number") (rows_of (found_of matches.now))) 0 }
+{
+    matches.get_one::<u32>("number").unwrap_or(0)
+}
+
+/// The words of a run.
+fn run_words<'a>(matches: &ArgMatches<'a>) -> RunWords<'a>
+    ensures run { run_read result ≡ run_meant (rows_of (found_of matches.now)) }
+{
+    RunWords {
+        system: needed_word(matches, "system"),
+        steps: needed_word(matches, "steps"),
+        requests: word(matches, "requests"),
+        report: is_set(matches, "report"),
     }
+}
+
+/// What the words of `replay` ask for.
+fn replay_in(alloc: Global, words: &[String]) -> Result<Command<'_>, WordsFault>
+    ensures ok { IfOk result (λ command. Some (command_read command) ≡ taken_by replay_app replay_meant (map string_bytes words.now)) }
+    ensures words { IsErrOf result WordsFault.NoCommand → taken_by replay_app replay_meant (map string_bytes words.now) ≡ None }
+{
+    let command = replay_command(alloc)?;
+    let matches = parsed(command, words)?;
+    Ok(Command::Replay {
+        run: run_words(&matches),
+        tail: tail(&matches),
+    })
+}
+
+/// What the words of `admit` ask for.
+fn admit_in(alloc: Global, words: &[String]) -> Result<Command<'_>, WordsFault>
+    ensures ok { IfOk result (λ command. Some (command_read command) ≡ taken_by admit_app admit_meant (map string_bytes words.now)) }
+    ensures words { IsErrOf result WordsFault.NoCommand → taken_by admit_app admit_meant (map string_bytes words.now) ≡ None }
+{
+    let command = admit_command(alloc)?;
+    let matches = parsed(command, words)?;
+    Ok(Command::Admit {
+        system: needed_word(&matches, "system"),
+        steps: needed_word(&matches, "steps"),
+    })
+}
+
+/// What the words of `check` ask for.
+fn check_in(alloc: Global, words: &[String]) -> Result<Command<'_>, WordsFault>
+    ensures ok { IfOk result (λ command. Some (command_read command) ≡ taken_by check_app check_meant (map string_bytes words.now)) }
+    ensures words { IsErrOf result WordsFault.NoCommand → taken_by check_app check_meant (map string_bytes words.now) ≡ None }
+{
+    let command = check_command(alloc)?;
+    let matches = parsed(command, words)?;
+    Ok(Command::Check {
+        system: needed_word(&matches, "system"),
+        steps: needed_word(&matches, "steps"),
+        plan: needed_word(&matches, "plan"),
+    })
+}
+
+/// What the words of `gen` ask for.
+fn generate_in(alloc: Global, words: &[String]) -> Result<Command<'_>, WordsFault>
+    ensures ok { IfOk result (λ command. Some (command_read command) ≡ taken_by generate_app generate_meant (map string_bytes words.now)) }
+    ensures words { IsErrOf result WordsFault.NoCommand → taken_by generate_app generate_meant (map string_bytes words.now) ≡ None }
+{
+    let command = generate_command(alloc)?;
+    let matches = parsed(command, words)?;
+    Ok(Command::Generate {
+        number: number(&matches),
+    })
+}
+
+/// What the words ask for.
+pub fn command_in(alloc: Global, words: &[String]) -> Result<Command<'_>, WordsFault>
+    ensures ok { IfOk result (λ command. Some (command_read command) ≡ command_of (map string_bytes words.now)) }
+    ensures words { IsErrOf result WordsFault.NoCommand → command_of (map string_bytes words.now) ≡ None }
+{
+    let Some(name) = words.first() else {
+        return Err(WordsFault::NoCommand);
+    };
+    if name.as_str() == "replay" {
+        return replay_in(alloc, words);
+    }
+    if name.as_str() == "admit" {
+        return admit_in(alloc, words);
+    }
+    if name.as_str() == "check" {
+        return check_in(alloc, words);
+    }
+    if name.as_str() == "gen" {
+        return generate_in(alloc, words);
+    }
+    Err(WordsFault::NoCommand)
+}
+
+/// The run by threads that the words of `live` ask for, where they are in its row of the table.
+fn live_words(alloc: Global, words: &[String]) -> Result<RunWords<'_>, WordsFault>
+    ensures ok { IfOk result (λ run. Some (run_read run) ≡ taken_by live_app run_meant (map string_bytes words.now)) }
+    ensures words { IsErrOf result WordsFault.NoCommand → taken_by live_app run_meant (map string_bytes words.now) ≡ None }
+{
+    let command = live_command(alloc)?;
+    let matches = parsed(command, words)?;
+    Ok(run_words(&matches))
+}
+
+/// The run by threads that the words of `live` ask for.
+pub fn live_in(alloc: Global, words: &[String]) -> Result<RunWords<'_>, WordsFault>
+    ensures ok { IfOk result (λ run. Some (run_read run) ≡ live_of (map string_bytes words.now)) }
+    ensures words { IsErrOf result WordsFault.NoCommand → live_of (map string_bytes words.now) ≡ None }
+{
+    let Some(name) = words.first() else {
+        return Err(WordsFault::NoCommand);
+    };
+    if name.as_str() == "live" {
+        return live_words(alloc, words);
+    }
+    Err(WordsFault::NoCommand)
 }

@@ -1,9 +1,9 @@
-use Rattle.std.proofs.Common.{◌≡◌, sym, subst, Err}
+use Rattle.std.proofs.Common.{◌≡◌, sym, subst, Ok, Err}
 use Rattle.std.specs.Option.{ForSome}
 use Rattle.std.specs.Prelude.{map, string_bytes}
 use Rattle.fttcan_top.specs.declared.status.Status.TheVariants.{Input}
 use Rattle.fttcan_top.specs.Ends.{end_reason}
-use Rattle.fttcan_top.specs.Output.{IsAsked, IsRefusal}
+use Rattle.fttcan_top.specs.Output.{Asked, IsAsked, IsDone, IsRefusal, Tells}
 use Rattle.fttcan_top.proofs.EndLemmas.{at_status, end-input, is_refusal}
 use Rattle.fttcan_top.proofs.program.plain.Goals as goal
 
@@ -20,3 +20,10 @@ returns-clause-message g c = (
       (λ input is. absurd (cc)),
   c.tell.ensures.message,
 )
+
+pub returns-clause-done : goal.returns-clause-done
+returns-clause-done g c =
+    at_status (λ status. IsDone status → (asked_for : Asked)
+    × ForSome (g.S.Shelf.told_files c.args.shelf.now) (λ files. IsAsked (map string_bytes c.args.words.now) files (Ok asked_for))
+    × Tells asked_for status (g.O.Sink.told_bytes c.args.out.now) (g.O.Sink.told_bytes c.call-end.new.out))
+    c.call-end.result c.tell.result c.tell.ensures.status c.call-end.ensures.done (λ input done. absurd done)

@@ -1,0 +1,31 @@
+use Rattle.std.proofs.Common.{◌≡◌, ◌∙◌, ◌++◌, ◌∷◌, [], ap, ap₂, length, rules, sym}
+use Rattle.std.proofs.lemmas.Result.{IfOk-weaker}
+use Rattle.std.specs.List.{concat}
+use Rattle.circular_buffer.specs.Buffer.{keep_last}
+use Rattle.fttcan_top.specs.LastRows.{rows_in}
+use Rattle.fttcan_top.proofs.RowLemmas.{all_kept, kept_again, next_kept}
+use Rattle.fttcan_top.proofs.rows.last_rows.Goals as goal
+
+pub loop-rest-preserved : goal.loop-rest-preserved
+loop-rest-preserved c =
+    let count = c.args.count in
+    let kept = c.loop-rest.recent.rows in
+    let row = c.split_at.result.0.now in
+    let later = c.split_at.result.1.now in
+    let items : c.in_ok-to_vec.field-0.items ≡ row = search rules in
+    let first : rows_in c.loop-rest.rest.now ≡ row ∷ rows_in later =
+    c.row_len.ensures.first ∙ ap₂ (λ front back. front ∷ rows_in back) (sym c.split_at.ensures.front) (sym c.split_at.ensures.back) in
+    let now : c.push.new.self.rows ≡ keep_last count (kept ++ row ∷ []) =
+    c.push.ensures.rows ∙ ap₂ (λ most bytes. keep_last most (kept ++ bytes ∷ [])) c.loop-rest.invariant.most items in
+    record {
+      most = c.push.ensures.most ∙ c.loop-rest.invariant.most;
+      whole = ap (keep_last count) now ∙ kept_again count (kept ++ row ∷ []) ∙ sym now;
+      rows = ap (λ rows. keep_last count (rows ++ rows_in later)) now
+          ∙ next_kept count kept c.args.text.now c.loop-rest.rest.now row later c.loop-rest.invariant.rows first;
+    }
+
+pub returns : goal.returns
+returns c =
+    let none : length c.loop-rest.rest.now ≡ 0 = search rules in
+    let all = all_kept c.args.count c.loop-rest.recent.rows c.args.text.now c.loop-rest.rest.now c.loop-rest.invariant.rows c.loop-rest.invariant.whole none in
+    record { rows = IfOk-weaker c.text.result _ _ (λ text is. is ∙ ap concat all) c.text.ensures.text }
