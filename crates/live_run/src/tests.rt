@@ -104,11 +104,23 @@ fn change_while_cycle_open(rt: HostRuntime) -> Result<(), Fail> {
     };
     let layout = Layout::new(1_000, 0, 135)?;
     let scripts = vec![in alloc; script(alloc)?]?;
-    let Ended { master, run } =
-        run_whole(&rt, alloc, rules(), layout, &[], &[], 4, scripts, &gate)?;
+    let Ended { master, run } = run_whole(
+        &rt,
+        alloc,
+        rules(),
+        layout,
+        &[],
+        &[],
+        4,
+        scripts,
+        &gate,
+    )?;
     assert_eq!(rt; gate.given_up.load(SeqCst), 0);
     let history = master.history();
-    assert_eq!(rt; (history.len(), run.trace.as_slice().len(), run.left), (6, 4, 0));
+    assert_eq!(rt;
+        (history.len(), run.trace.as_slice().len(), run.left),
+        (6, 4, 0)
+    );
     match &history[5] {
         Event::Submit {
             caller,
@@ -117,7 +129,13 @@ fn change_while_cycle_open(rt: HostRuntime) -> Result<(), Fail> {
             ..
         } => {
             assert_eq!(rt; (*caller, *from), (1, 4));
-            assert!(rt; *verdict == Verdict::Accepted { first: 100, length: 1 });
+            assert!(rt;
+                *verdict
+                    == Verdict::Accepted {
+                        first: 100,
+                        length: 1
+                    }
+            );
         }
         _ => return Err(Fail::new("the last call is no change")),
     }

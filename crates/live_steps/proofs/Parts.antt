@@ -54,7 +54,7 @@ by-case k ys s a false before after is new old = new ∙ (old ∙ sym (acts-none
 pub scripts-more : (ys : List Step) (s : Step) (caller : ℕ) (a : Act) (old new : List Script) → s ≡ step.Act caller a → AreScripts ys old
     → length new ≡ length old
     → ((k : ℕ) (d : Script) → k < 8 → (slice_index_or new k d).acts
-      ≡ (if caller == k + 1 then (slice_index_or old k d).acts ++ a ∷ [] else (slice_index_or old k d).acts))
+    ≡ (if caller == k + 1 then (slice_index_or old k d).acts ++ a ∷ [] else (slice_index_or old k d).acts))
     → AreScripts (ys ++ s ∷ []) new
 scripts-more ys s caller a old new is are same added = record {
   count = same ∙ are.count;

@@ -33,26 +33,27 @@ run_live-requires g c κs within =
     (within.0, (within.1, (sync_t, (sync_g, (setting, (rules, (pass, (nodes, (few, eight)))))))))
 
 pub returns : goal.returns
-returns g c = record { run =
-    let (of_t, (of_g, (sync_t, (sync_g, (given, (of_rules, (window, (of_owners, (numbers, (owned, (arrivals, (early, (few, eight))))))))))))) = c.requires in
-    let run = c.in_ok-run.ensures.run in
-    let v = c.run_live.new.pass.view in
-    let closed = c.close-master.result in
-    let same : closed.history ≡ v.seen = c.close-master.ensures.history in
-    let scripts = c.args.scripts.items in
-    record {
-      rules = c.close-master.ensures.rules ∙ (c.in_ok-shared.ensures.rules ∙ ap (λ (s : Setting). s.rules) (sym given));
-      plain = subst (λ (h : List Event). IsPlainlyLegal g.setting.rules h) (sym same) run.plain;
-      kept = subst (λ (h : List Event). Kept g.setting.rules g.setting.layout g.setting.requests h c.in_ok-run.run'.trace) (sym same) run.kept;
-      answers = record {
-        opened = ap next_of same ∙ run.opened;
-        answered = λ k d within.
-            let one = run.answered k d within in
-            let acts = (slice_index_or scripts k d).acts in
-            subst (λ (h : List Event). AnswersActs (k + 1) acts (own number_of (k + 1) h)) (sym same)
-            (subst (λ (calls : List Event). AnswersActs (k + 1) acts calls) (sym one.all) one.answers);
-        others = calls-of-few (length scripts) closed.history v run.dispatcher c.close-master.ensures.calls run.numbers;
+returns g c = record {
+  run =
+      let (of_t, (of_g, (sync_t, (sync_g, (given, (of_rules, (window, (of_owners, (numbers, (owned, (arrivals, (early, (few, eight))))))))))))) = c.requires in
+      let run = c.in_ok-run.ensures.run in
+      let v = c.run_live.new.pass.view in
+      let closed = c.close-master.result in
+      let same : closed.history ≡ v.seen = c.close-master.ensures.history in
+      let scripts = c.args.scripts.items in
+      record {
+        rules = c.close-master.ensures.rules ∙ (c.in_ok-shared.ensures.rules ∙ ap (λ (s : Setting). s.rules) (sym given));
+        plain = subst (λ (h : List Event). IsPlainlyLegal g.setting.rules h) (sym same) run.plain;
+        kept = subst (λ (h : List Event). Kept g.setting.rules g.setting.layout g.setting.requests h c.in_ok-run.run'.trace) (sym same) run.kept;
+        answers = record {
+          opened = ap next_of same ∙ run.opened;
+          answered = λ k d within.
+              let one = run.answered k d within in
+              let acts = (slice_index_or scripts k d).acts in
+              subst (λ (h : List Event). AnswersActs (k + 1) acts (own number_of (k + 1) h)) (sym same)
+              (subst (λ (calls : List Event). AnswersActs (k + 1) acts calls) (sym one.all) one.answers);
+          others = calls-of-few (length scripts) closed.history v run.dispatcher c.close-master.ensures.calls run.numbers;
+        };
+        left = subst (λ (h : List Event). IsLeft g.setting h c.in_ok-run.run') (sym same) run.left;
       };
-      left = subst (λ (h : List Event). IsLeft g.setting h c.in_ok-run.run') (sym same) run.left;
-    }
-    }
+}

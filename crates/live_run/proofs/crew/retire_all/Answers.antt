@@ -17,9 +17,11 @@ loop-operator-preserved c =
           c.in-Some.ensures.items (ap (λ (k : Known Event Rules). k.view.ended) is) (λ is. grind arith) (λ is. grind arith) before.retired;
       few = λ most ended operators.
           let so_far = before.few most ended operators in
-          let parts = few-left most c.loop-operator.operators.items c.pop.new.self.items c.in-Some.operator c.in-Some.ensures.items so_far.1 in
-          (few-joined most c.loop-operator.pass.view c.retire.new.pass.view c.in-Some.operator
-          (ap (λ (k : Known Event Rules). k.view.ended) is) so_far.0 parts.1, parts.0);
+          let parts = few-left most c.loop-operator.operators.items c.pop.new.self.items c.in-Some.operator c.in-Some.ensures.items so_far.1 in (
+            few-joined most c.loop-operator.pass.view c.retire.new.pass.view c.in-Some.operator
+                (ap (λ (k : Known Event Rules). k.view.ended) is) so_far.0 parts.1,
+            parts.0,
+          );
       out = omega (arith, c.retire.ensures.out, before.out, c.in-Some.ensures.cases);
       begins = prefix_trans _ _ _ before.begins c.retire.ensures.this;
       mine = ap (λ (k : Known Event Rules). k.view.mine) is ∙ before.mine;

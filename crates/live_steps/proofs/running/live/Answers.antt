@@ -12,15 +12,44 @@ run_whole-requires g c κs within =
     let requests = c.requires.requests in
     let parted = c.in_ok-parts.ensures.parted in
     let owners = c.args.system.now.owners in
-    let same = sym c.as_slice.ensures.list in
-    (within.0, (within.1, (c.type_bounds.sync-T, (c.type_bounds.sync-G, (refl, (is_rules c.args.system.now system, (system.same_window,
-    (subst (λ l. AreOwners l) same system.are_owners,
-    (subst (λ l. All (λ owner. owner.node < c.args.system.now.rules.nodes) l) same system.known_nodes,
-    (subst (λ l. All (λ request. Any (λ owner. owner.id ≡ request.frame.identifier) l) c.args.requests.now) same
-      (λ k d less. owner-of owners _ (requests.each k d less).owned),
-    (requests.in_order,
-    (λ k d less. (requests.each k d less).early,
-    (omega (arith, parted.cycles, c.requires.steps.cycles), omega (arith, parted.scripts.count))))))))))))))
+    let same = sym c.as_slice.ensures.list in (
+      within.0,
+      (
+        within.1,
+        (
+          c.type_bounds.sync-T,
+          (
+            c.type_bounds.sync-G,
+            (
+              refl,
+              (
+                is_rules c.args.system.now system,
+                (
+                  system.same_window,
+                  (
+                    subst (λ l. AreOwners l) same system.are_owners,
+                    (
+                      subst (λ l. All (λ owner. owner.node < c.args.system.now.rules.nodes) l) same system.known_nodes,
+                      (
+                        subst (λ l. All (λ request. Any (λ owner. owner.id ≡ request.frame.identifier) l) c.args.requests.now) same
+                            (λ k d less. owner-of owners _ (requests.each k d less).owned),
+                        (
+                          requests.in_order,
+                          (
+                            λ k d less. (requests.each k d less).early,
+                            (omega (arith, parted.cycles, c.requires.steps.cycles), omega (arith, parted.scripts.count)),
+                          ),
+                        ),
+                      ),
+                    ),
+                  ),
+                ),
+              ),
+            ),
+          ),
+        ),
+      ),
+    )
 
 pub returns-clause-run : goal.returns-clause-run
 returns-clause-run g c =
