@@ -1,20 +1,18 @@
 //! Arbitration on a CAN bus (CAN 2.0 Part A, arbitration): the senders that begin together send
-//! their identifiers bit by bit, and the bus is the wired AND of what they send.
+//! their identifiers bit by bit, and the bus is the wired AND of what they send. So the one with
+//! the least identifier is left.
 #![tactic(auto)]
 
-ghost use Rattle.std.specs.Prelude.{◌≡◌, ◌≢◌, ◌+◌, ◌*◌, ◌/◌, ◌%◌, ◌^◌, ◌<◌, ◌≤◌, ◌↔◌, [], All, Any, IfSome, IsNone, IsTrue, MatchBool, MatchOption, length, slice_index};
-ghost use Rattle.arbitration.specs.Arbitration.{AreDistinct, IsLeast, SendsDominant};
+ghost use Rattle.std.specs.Prelude.{◌≡◌, ◌<◌, ◌≤◌, ◌↔◌, [], All, IfSome, IsNone, length, slice_index};
+ghost use Rattle.arbitration.specs.Arbitration.{AreDistinct, IsLeast};
 
 mod contender_list;
 
 pub use contender_list::Contenders;
 
-/// The number of bits of an identifier, which are sent most significant first.
-const IDENTIFIER_BITS: u32 = 11;
-
-/// Runs the identifier bits of all contenders over the bus, most significant first, and gives the
-/// place of the one that is left, whose identifier is the least. `None` is the answer where nobody
-/// contends.
+/// Decides between the contenders, whose identifiers are sent most significant bit first, and gives
+/// the place of the one that is left, whose identifier is the least. `None` is the answer where
+/// nobody contends.
 ///
 /// Identifiers are below 0x800, and no two senders share one: they would both go on into the data
 /// field.
@@ -25,41 +23,25 @@ pub fn arbitrate(ids: &[u16]) -> Option<usize>
     ensures within { IfSome result (λ place. place < length ids.now) }
     ensures least { IfSome result (λ place. IsLeast ids.now (slice_index ids.now place)) }
 {
-    let mut bus = 0u16;
-    for place in (0..IDENTIFIER_BITS).rev() {
-        let level = bus_level(ids, place, bus);
-        bus = bus * 2 + u16::from(level);
+    if ids.is_empty() {
+        return None;
     }
-    place_of(ids, bus)
+    let mut winner = 0;
+    for place in 1..ids.len() {
+        winner = lesser(ids, winner, place);
+    }
+    Some(winner)
 }
 
-/// The first place at which the identifier stands.
-fn place_of(ids: &[u16], id: u16) -> Option<usize>
-    ensures place { MatchOption result (All (λ other. other ≢ id) ids.now)
-        (λ place. (place < length ids.now) × (slice_index ids.now place ≡ id)) }
+/// Which of two places has the lesser identifier.
+fn lesser(ids: &[u16], one: usize, other: usize) -> usize
+    requires one { one < length ids.now }
+    requires other { other < length ids.now }
+    ensures within { result < length ids.now }
+    ensures one { slice_index ids.now result ≤ slice_index ids.now one }
+    ensures other { slice_index ids.now result ≤ slice_index ids.now other }
 {
-    ids.iter().position(|other| *other == id)
-}
-
-/// The level of the bus at the bit `place`, where 0 is the least significant one: recessive
-/// (`true`) unless somebody sends dominant. `bus` has the levels of the more significant bits.
-fn bus_level(ids: &[u16], place: u32, bus: u16) -> bool
-    requires place { place < 11 }
-    ensures level { MatchBool result
-        (All (λ id. ¬ SendsDominant place bus id) ids.now)
-        (Any (SendsDominant place bus) ids.now) }
-{
-    !ids.iter().any(|id| sends_dominant(*id, place, bus))
-}
-
-/// Whether the sender of `id` still sends at the bit `place`, and sends dominant (0) there. It
-/// still sends where the bus had its own levels at the more significant bits: one that sent
-/// recessive and saw dominant has withdrawn.
-fn sends_dominant(id: u16, place: u32, bus: u16) -> bool
-    requires place { place < 11 }
-    ensures dominant { IsTrue result ↔ SendsDominant place bus id }
-{
-    id >> (place + 1) == bus && (id >> place) & 1 == 0
+    if ids[other] < ids[one] { other } else { one }
 }
 
 #[cfg(test)]

@@ -1,6 +1,11 @@
+mod Kept
+mod Levels
 mod Literals
 mod Offered
+mod Order
 pub mod Shared
+mod Soonest
 mod Steps
 mod Table
+mod Trees
 mod Unsent

@@ -1,17 +1,15 @@
 -- Which identifiers mail offers: the least of those whose first unsent request may start.
-use Rattle.std.proofs.Common.{◌≡◌, ◌≢◌, ◌↔◌, ℕ, suc, ◌+◌, ◌/◌, ◌<◌, ◌≤◌, Bool, true, false, cond, leb, ◌&&◌, Option, Some, None, List, [], ◌∷◌, ◌++◌, length, get_or, take, map, filter, min, AllPairs, Contains, IsTrue, ◌⊎◌, inl, inr, refl, sym, ap, ◌∙◌, subst, arith}
+use Rattle.std.proofs.Common.{◌≡◌, ◌≢◌, ◌↔◌, ℕ, suc, ◌+◌, ◌/◌, ◌<◌, ◌≤◌, Bool, cond, leb, ◌&&◌, Option, Some, None, List, [], ◌∷◌, ◌++◌, length, map, filter, min, AllPairs, Contains, IsTrue, ◌⊎◌, inl, inr, refl, sym, ap, ◌∙◌, subst, arith}
 use Rattle.std.specs.List.{fold}
 use Rattle.std.specs.Option.{option_map_or, option_to_list, IsSome}
 use Rattle.std.proofs.lemmas.Bool.{leb-true, le-leb, leb-false, and_parts, and_from, both_ways, cases_Bool, false≢true}
-use Rattle.std.proofs.lemmas.List.{append-nil, map-append, get_or-map, length-map, take_more}
-use Rattle.std.proofs.lemmas.List.Elements.{filter-append}
-use Rattle.std.proofs.lemmas.List.Sums.{fold-append}
+use Rattle.std.proofs.lemmas.List.{get_or-map, length-map}
 use Rattle.std.proofs.lemmas.Bool.Decides.{eqb_tells}
 use Rattle.stuff_bound.specs.Stuffing.{worst}
 use Rattle.cycle_layout.specs.Layout.{CycleLayout, async_open, sync_start}
 use Rattle.async_window.specs.declared.request.Request.{Request}
 use Rattle.async_window.specs.Waiting.{MayStart}
-use Rattle.async_window.specs.Mailbox.{Mail, IsMail, Offers, IsLeastWith, IsNextInCycle, unsent_of, may_start, least_of, mail_offer}
+use Rattle.async_window.specs.Mailbox.{Mail, IsMail, Offers, IsLeastWith, unsent_of, may_start, least_of, mail_offer}
 use Rattle.async_window.proofs.Unsent.{unsent_of-here, unsent_of-later}
 
 -- the test and the relation
@@ -157,43 +155,16 @@ pub IsLeastWith-some : (Has : ℕ → Type 0) (least : Option ℕ) → IsLeastWi
 IsLeastWith-some Has None none = (λ some. absurd (false≢true some), λ has. absurd (none has.0 has.1))
 IsLeastWith-some Has (Some least) is = (λ some. (least, is.0), λ has. refl)
 
--- one mailbox more
-least_of-push : (xs : List ℕ) (x : ℕ) → least_of (xs ++ x ∷ []) ≡ Some (option_map_or (λ least. min least x) (least_of xs) x)
-least_of-push [] x = refl
-least_of-push (y ∷ ys) x = ap (λ n. Some n) (fold-append min y ys (x ∷ []))
-
-pub mail_offer-push : (layout : CycleLayout) (l at : ℕ) (mail : List Mail) (box : Mail)
-    → mail_offer layout l (mail ++ box ∷ []) at
-    ≡ cond (may_start layout (at / layout.cycle) l at box.unsent)
-    (Some (option_map_or (λ least. min least box.identifier) (mail_offer layout l mail at) box.identifier)) (mail_offer layout l mail at)
-mail_offer-push layout l at mail box =
-    let passing : List Mail = filter (λ x. may_start layout (at / layout.cycle) l at x.unsent) mail in
-    let identifiers : List ℕ = map (λ x. x.identifier) passing in
-    ap (λ boxes. least_of (map (λ x. x.identifier) boxes)) (filter-append (λ x. may_start layout (at / layout.cycle) l at x.unsent) mail (box ∷ []))
-    ∙ elim (may_start layout (at / layout.cycle) l at box.unsent)
-    as (λ b. least_of (map (λ x. x.identifier) (passing ++ cond b (box ∷ []) []))
-    ≡ cond b (Some (option_map_or (λ least. min least box.identifier) (least_of identifiers) box.identifier)) (least_of identifiers)) [
-      | true ↦ ap least_of (map-append (λ x. x.identifier) passing (box ∷ [])) ∙ least_of-push identifiers box.identifier
-      | false ↦ ap (λ boxes. least_of (map (λ x. x.identifier) boxes)) (append-nil passing)
-    ]
-
-pub IsSome-offer_push : (layout : CycleLayout) (l at : ℕ) (mail : List Mail) (box : Mail)
-    → IsSome (mail_offer layout l (mail ++ box ∷ []) at)
-    ↔ (IsSome (mail_offer layout l mail at) ⊎ IsTrue (may_start layout (at / layout.cycle) l at box.unsent))
-IsSome-offer_push layout l at mail box =
-    subst (λ offer. IsSome offer ↔ (IsSome (mail_offer layout l mail at) ⊎ IsTrue (may_start layout (at / layout.cycle) l at box.unsent)))
-    (sym (mail_offer-push layout l at mail box))
-    (elim (may_start layout (at / layout.cycle) l at box.unsent)
-    as (λ b. IsSome (cond b (Some (option_map_or (λ least. min least box.identifier) (mail_offer layout l mail at) box.identifier)) (mail_offer layout l mail at))
-    ↔ (IsSome (mail_offer layout l mail at) ⊎ IsTrue b)) [
-      | true ↦ (λ some. inr refl, λ either. refl)
-      | false ↦ (λ some. inl some, λ either. elim either [ inl some ↦ some | inr failed ↦ absurd (false≢true failed) ])
-    ])
-
-pub Offers-least_at : (layout : CycleLayout) (l at : ℕ) (mail : List Mail) (least : Option ℕ) → IsMail mail
-    → least ≡ mail_offer layout l mail at → IsLeastWith (Offers layout l mail at) least
-Offers-least_at layout l at mail least known is =
-    subst (λ x. IsLeastWith (Offers layout l mail at) x) (sym is) (Offers-least layout l at mail known)
+-- there is one such answer at most
+pub IsLeastWith-one : (Has : ℕ → Type 0) (one other : Option ℕ) → IsLeastWith Has one → IsLeastWith Has other → one ≡ other
+IsLeastWith-one Has None None is is_other = refl
+IsLeastWith-one Has None (Some y) is is_other = absurd (is y is_other.0)
+IsLeastWith-one Has (Some x) None is is_other = absurd (is_other x is.0)
+IsLeastWith-one Has (Some x) (Some y) is is_other =
+    let below : x ≤ y = is.1 y is_other.0 in
+    let above : y ≤ x = is_other.1 x is.0 in
+    let same : x ≡ y = omega arith in
+    ap (λ n. Some n) same
 
 -- the least number with one property or another
 pub IsLeastWith-either : (One Other Has : ℕ → Type 0) (one other : Option ℕ) → ((n : ℕ) → One n → Has n) → ((n : ℕ) → Other n → Has n)
@@ -215,31 +186,3 @@ IsLeastWith-either One Other Has (Some x) (Some y) first second cases is is_othe
       | inl passed ↦ let is_x : x ≡ min x y = omega (arith, leb-true x y passed) in (subst Has is_x (first x is.0), below)
       | inr failed ↦ let is_y : y ≡ min x y = omega (arith, leb-false x y failed) in (subst Has is_y (second y is_other.0), below)
     ]
-
--- the next time at which mail offers something, with one mailbox more
-pub IsNextInCycle-push : (layout : CycleLayout) (l at : ℕ) (mail : List Mail) (box : Mail) (one other : Option ℕ)
-    → IsNextInCycle layout.cycle at (λ later. IsSome (mail_offer layout l mail later)) one
-    → IsNextInCycle layout.cycle at (λ later. IsTrue (may_start layout (later / layout.cycle) l later box.unsent)) other
-    → IsNextInCycle layout.cycle at (λ later. IsSome (mail_offer layout l (mail ++ box ∷ []) later)) (least_of (option_to_list one ++ option_to_list other))
-IsNextInCycle-push layout l at mail box one other =
-    IsLeastWith-either
-    (λ later. (at < later) × (later / layout.cycle ≡ at / layout.cycle) × IsSome (mail_offer layout l mail later))
-    (λ later. (at < later) × (later / layout.cycle ≡ at / layout.cycle) × IsTrue (may_start layout (later / layout.cycle) l later box.unsent))
-    (λ later. (at < later) × (later / layout.cycle ≡ at / layout.cycle) × IsSome (mail_offer layout l (mail ++ box ∷ []) later))
-    one other
-    (λ later h. (h.0, h.1, (IsSome-offer_push layout l later mail box).1 (inl h.2)))
-    (λ later h. (h.0, h.1, (IsSome-offer_push layout l later mail box).1 (inr h.2)))
-    (λ later h. elim ((IsSome-offer_push layout l later mail box).0 h.2) [ inl some ↦ inl (h.0, h.1, some) | inr test ↦ inr (h.0, h.1, test) ])
-
-pub IsNextInCycle-more : (layout : CycleLayout) (l at : ℕ) (mail : List Mail) (i : ℕ) (box : Mail) (one other next : Option ℕ)
-    → i < length mail → box ≡ get_or mail i box
-    → IsNextInCycle layout.cycle at (λ later. IsSome (mail_offer layout l (take i mail) later)) one
-    → IsNextInCycle layout.cycle at (λ later. IsTrue (may_start layout (later / layout.cycle) l later box.unsent)) other
-    → next ≡ least_of (option_to_list one ++ option_to_list other)
-    → IsNextInCycle layout.cycle at (λ later. IsSome (mail_offer layout l (take (i + 1) mail) later)) next
-IsNextInCycle-more layout l at mail i box one other next within is first second is_next =
-    let more : take (i + 1) mail ≡ take i mail ++ box ∷ []
-    = take_more mail i box within ∙ ap (λ b. take i mail ++ b ∷ []) (sym is) in
-    subst (λ x. IsNextInCycle layout.cycle at (λ later. IsSome (mail_offer layout l (take (i + 1) mail) later)) x) (sym is_next)
-    (subst (λ xs. IsNextInCycle layout.cycle at (λ later. IsSome (mail_offer layout l xs later)) (least_of (option_to_list one ++ option_to_list other)))
-    (sym more) (IsNextInCycle-push layout l at (take i mail) box one other first second))

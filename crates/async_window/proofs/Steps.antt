@@ -1,19 +1,19 @@
 -- A step that changes the mailbox of one identifier, and the mail after it.
-use Rattle.std.proofs.Common.{◌≡◌, ◌≢◌, ◌↔◌, ℕ, zero, suc, ◌+◌, ◌-◌, ◌^◌, ◌<◌, ◌≤◌, cond, eqb, Option, Some, List, [], ◌∷◌, ◌++◌, length, get_or, set, take, drop, map, All, AllPairs, inl, inr, refl, sym, ap, ◌∙◌, subst, arith}
+use Rattle.std.proofs.Common.{◌≡◌, ◌≢◌, ◌↔◌, ℕ, zero, suc, ◌+◌, ◌^◌, ◌<◌, ◌≤◌, cond, eqb, Some, List, [], ◌∷◌, ◌++◌, length, get_or, set, take, drop, map, All, AllPairs, inl, inr, refl, sym, ap, ◌∙◌, subst, arith}
 use Rattle.std.specs.List.{slice_get}
 use Rattle.std.specs.Option.{IsSome}
 use Rattle.std.proofs.lemmas.Bool.{eq-eqb, ne_eqb, false≢true}
 use Rattle.std.proofs.lemmas.Bool.Decides.{eqb_tells}
 use Rattle.std.proofs.lemmas.List.{append-nil, length_push, length-drop, take_more}
-use Rattle.std.proofs.lemmas.List.Elements.{filter-append, All-take}
+use Rattle.std.proofs.lemmas.List.Elements.{filter-append, All-take, All-push}
 use Rattle.std.proofs.lemmas.List.Sums.{sum_by-set, sum_by-cons}
 use Rattle.can_frame.specs.declared.data_frame.TimedFrame.{TimedFrame}
 use Rattle.async_window.specs.declared.request.Request.{Request}
-use Rattle.async_window.specs.Waiting.{requests_of}
+use Rattle.async_window.specs.Waiting.{requests_of, unsent_after}
 use Rattle.async_window.specs.Mailbox.{Mail, IsMail, mail_after, unsent_of, without_first, left}
 use Rattle.async_window.specs.Adding.{with_request}
-use Rattle.async_window.proofs.Unsent.{IsMail-after, unsent_of-here, unsent_of-later}
-use Rattle.async_window.proofs.Table.{IsPlaceTable}
+use Rattle.async_window.specs.Sorted.{nowhere, AreShort, IsPlaceTable}
+use Rattle.async_window.proofs.Unsent.{AllPairs-map, IsMail-after, unsent_of-here, unsent_of-later}
 
 -- a change of the mailbox of an identifier
 abbrev changed : (Mail → Mail) → ℕ → Mail → Mail
@@ -65,12 +65,39 @@ left-push mail place d box request within is =
     let sums = sum_by-set (λ (x : Mail). length x.unsent) mail place box d within in
     omega arith
 
-pub left-drop : (mail : List Mail) (place : ℕ) (d box : Mail) → place < length mail → 0 < length (get_or mail place d).unsent
-    → box.unsent ≡ drop 1 (get_or mail place d).unsent → left (set mail place box) + 1 ≡ left mail
-left-drop mail place d box within some is =
-    let lengths : length box.unsent ≡ length (get_or mail place d).unsent - 1 = ap (λ xs. length xs) is ∙ length-drop 1 (get_or mail place d).unsent in
-    let sums = sum_by-set (λ (x : Mail). length x.unsent) mail place box d within in
-    omega arith
+some-not_empty : (requests : List Request) → IsSome (slice_get requests 0) → 0 < length requests
+some-not_empty [] some = absurd (false≢true some)
+some-not_empty (request ∷ later) some = omega arith
+
+pub left-without : (id : ℕ) (mail : List Mail) → AllPairs (λ one other. one.identifier ≢ other.identifier) mail
+    → IsSome (slice_get (unsent_of mail id) 0) → left (without_first id mail) + 1 ≡ left mail
+left-without id [] distinct some = absurd (false≢true some)
+left-without id (box ∷ mail) distinct some =
+    let whole : left (box ∷ mail) ≡ length box.unsent + left mail = sum_by-cons (λ (x : Mail). length x.unsent) box mail in
+    elim (eqb_tells box.identifier id) [
+      | inl here ↦
+          let taken : Mail = record box { unsent = drop 1 box.unsent } in
+          let not_empty : 0 < length box.unsent
+          = some-not_empty box.unsent (subst (λ xs. IsSome (slice_get xs 0)) (unsent_of-here box mail id here.1) some) in
+          let first : without_first id (box ∷ mail) ≡ taken ∷ mail
+          = ap (λ b. cond b taken box ∷ without_first id mail) here.0
+          ∙ ap (λ later. taken ∷ later)
+          (map-elsewhere (λ x. record x { unsent = drop 1 x.unsent }) id mail
+          (λ k e inside is. distinct 0 (suc k) e (omega arith) (omega arith) (here.1 ∙ sym is))) in
+          let fewer : left (taken ∷ mail) ≡ length (drop 1 box.unsent) + left mail = sum_by-cons (λ (x : Mail). length x.unsent) taken mail in
+          let count : left (without_first id (box ∷ mail)) ≡ length (drop 1 box.unsent) + left mail = ap left first ∙ fewer in
+          omega (arith, length-drop 1 box.unsent)
+      | inr later ↦
+          let first : without_first id (box ∷ mail) ≡ box ∷ without_first id mail
+          = ap (λ b. cond b (record box { unsent = drop 1 box.unsent }) box ∷ without_first id mail) later.0 in
+          let rest : left (box ∷ without_first id mail) ≡ length box.unsent + left (without_first id mail)
+          = sum_by-cons (λ (x : Mail). length x.unsent) box (without_first id mail) in
+          let count : left (without_first id (box ∷ mail)) ≡ length box.unsent + left (without_first id mail) = ap left first ∙ rest in
+          let fewer : left (without_first id mail) + 1 ≡ left mail
+          = left-without id mail (λ i j e before inside. distinct (suc i) (suc j) e (omega arith) (omega arith))
+          (subst (λ xs. IsSome (slice_get xs 0)) (unsent_of-later box mail id later.1) some) in
+          omega arith
+    ]
 
 -- one request more
 mail_at-push : (requests : List Request) (request : Request) (id : ℕ)
@@ -114,24 +141,12 @@ set-without_first id mail place box new sets =
     ∙ ap (λ (x : Mail). set mail place (record { identifier = x.identifier; unsent = drop 1 x.unsent })) sets.read
     ∙ sym (without_first-at id mail place box sets.known.distinct sets.within (sets.same box))
 
-some-not_empty : (requests : List Request) → IsSome (slice_get requests 0) → 0 < length requests
-some-not_empty [] some = absurd (false≢true some)
-some-not_empty (request ∷ later) some = omega arith
-
-pub left-without_first : (id : ℕ) (mail : List Mail) (place : ℕ) (box new : Mail) (remaining : ℕ) → SetsFirst id mail place box new
-    → unsent_of mail id ≡ (get_or mail place box).unsent → IsSome (slice_get (unsent_of mail id) 0) → remaining ≡ left mail
-    → remaining - 1 ≡ left (set mail place new)
-left-without_first id mail place box new remaining sets unsent some is =
-    let not_empty : 0 < length (get_or mail place box).unsent
-    = some-not_empty (get_or mail place box).unsent (subst (λ xs. IsSome (slice_get xs 0)) unsent some) in
-    let fewer = left-drop mail place box new sets.within not_empty (ap (λ (x : Mail). x.unsent) sets.written ∙ ap (λ (x : Mail). drop 1 x.unsent) sets.read) in
-    omega arith
-
 -- the mailboxes hold the requests so far
 pub record HasPut (ids : List ℕ) (requests : List Request) (place : ℕ) (mail : List Mail) (remaining : ℕ) : Type 0 where
   pub put : mail ≡ mail_after ids (take place requests) []
   pub counted : remaining ≡ left mail
   pub few : remaining ≤ place
+  pub short : AreShort (take place requests)
 
 left-none : (ids : List ℕ) → left (mail_after ids [] []) ≡ 0
 left-none [] = refl
@@ -145,12 +160,14 @@ HasPut-none ids requests mail is = record {
   put = is;
   counted = sym (ap left is ∙ left-none ids);
   few = omega arith;
+  short = λ k d within. absurd (omega arith);
 }
 
 pub HasPut-more : (ids : List ℕ) (requests : List Request) (i : ℕ) (request : Request) (old new : List Mail) (remaining count : ℕ)
     → i < length requests → request ≡ get_or requests i request → HasPut ids requests i old remaining
-    → new ≡ map (with_request request) old → left new ≡ left old + count → count ≤ 1 → HasPut ids requests (i + 1) new (remaining + count)
-HasPut-more ids requests i request old new remaining count within is has put counted few =
+    → new ≡ map (with_request request) old → left new ≡ left old + count → count ≤ 1 → length request.frame.bytes ≤ 8
+    → HasPut ids requests (i + 1) new (remaining + count)
+HasPut-more ids requests i request old new remaining count within is has put counted few short =
     let more : take (i + 1) requests ≡ take i requests ++ request ∷ []
     = take_more requests i request within ∙ ap (λ x. take i requests ++ x ∷ []) (sym is) in
     record {
@@ -158,6 +175,7 @@ HasPut-more ids requests i request old new remaining count within is has put cou
           ∙ ap (λ xs. mail_after ids xs []) (sym more);
       counted = omega (arith, has.counted);
       few = omega (arith, has.few);
+      short = subst AreShort (sym more) (All-push (λ (x : Request). length x.frame.bytes ≤ 8) (take i requests) request has.short short);
     }
 
 pub identifiers-after : (ids : List ℕ) (requests : List Request) (past : List TimedFrame) → map (λ box. box.identifier) (mail_after ids requests past) ≡ ids
@@ -171,13 +189,21 @@ IsMail-put ids requests i mail remaining distinct least greatest early has =
     subst IsMail (sym has.put)
     (IsMail-after ids (take i requests) [] distinct least greatest (All-take (λ request. request.at < 2 ^ 40) i requests early))
 
-pub IsPlaceTable-put : (ids : List ℕ) (requests : List Request) (i : ℕ) (mail : List Mail) (remaining : ℕ) (table : List (Option ℕ))
+pub IsPlaceTable-put : (ids : List ℕ) (requests : List Request) (i : ℕ) (mail : List Mail) (remaining : ℕ) (table : List ℕ)
     → HasPut ids requests i mail remaining
-    → ((id place : ℕ) → id < 2048 → (slice_get table id ≡ Some (Some place)) ↔ (slice_get ids place ≡ Some id)) → IsPlaceTable mail table
-IsPlaceTable-put ids requests i mail remaining table has places id place below =
+    → ((id place : ℕ) → id < 2048 → place < nowhere → (slice_get table id ≡ Some place) ↔ (slice_get ids place ≡ Some id))
+    → IsPlaceTable mail table
+IsPlaceTable-put ids requests i mail remaining table has places id place below under =
     let identifiers : map (λ box. box.identifier) mail ≡ ids
     = ap (λ xs. map (λ (box : Mail). box.identifier) xs) has.put ∙ identifiers-after ids (take i requests) [] in
-    subst (λ xs. (slice_get table id ≡ Some (Some place)) ↔ (slice_get xs place ≡ Some id)) (sym identifiers) (places id place below)
+    subst (λ xs. (slice_get table id ≡ Some place) ↔ (slice_get xs place ≡ Some id)) (sym identifiers) (places id place below under)
+
+pub rising-put : (ids : List ℕ) (requests : List Request) (i : ℕ) (mail : List Mail) (remaining : ℕ) → AllPairs (λ one other. one < other) ids
+    → HasPut ids requests i mail remaining → AllPairs (λ one other. one.identifier < other.identifier) mail
+rising-put ids requests i mail remaining rising has =
+    subst (λ xs. AllPairs (λ (one other : Mail). one.identifier < other.identifier) xs) (sym has.put)
+    (AllPairs-map (λ (one other : Mail). one.identifier < other.identifier)
+    (λ id. record { identifier = id; unsent = unsent_after (take i requests) [] id }) ids (λ box. box.identifier) rising)
 
 without_first-none : (id : ℕ) (mail : List Mail) → AllPairs (λ one other. one.identifier ≢ other.identifier) mail → unsent_of mail id ≡ []
     → without_first id mail ≡ mail

@@ -26,10 +26,10 @@ pub unsent_of-later : (box : Mail) (mail : List Mail) (id : ℕ) → box.identif
 unsent_of-later box mail id other = unsent_of-cons box mail id ∙ ap (λ b. cond b box.unsent (unsent_of mail id)) (ne_eqb box.identifier id other)
 
 -- a first request that is taken away: the identifier stays
-abbrev without_head : Mail → Mail
+abbrev pub without_head : Mail → Mail
 without_head box = record box { unsent = drop 1 box.unsent }
 
-taken_from-keeps : (P : Mail → Type 0) (id : ℕ) (box : Mail) → P (without_head box) → P box → P (taken_from id box)
+pub taken_from-keeps : (P : Mail → Type 0) (id : ℕ) (box : Mail) → P (without_head box) → P box → P (taken_from id box)
 taken_from-keeps P id box taken kept = elim (eqb box.identifier id) as (λ b. P (cond b (without_head box) box)) [ true ↦ taken | false ↦ kept ]
 
 pub taken_from-identifier : (id : ℕ) (box : Mail) → (taken_from id box).identifier ≡ box.identifier
@@ -76,7 +76,7 @@ unsent_of-without id mail other =
           ∙ ap (λ b. cond b (drop 1 (unsent_of mail id)) (unsent_of mail other)) (sym apart.0)
     ]
 
-AllPairs-map : {X Y : Type 0} (R : X → X → Type 0) (f : Y → X) (ys : List Y) → (X → Y)
+pub AllPairs-map : {X Y : Type 0} (R : X → X → Type 0) (f : Y → X) (ys : List Y) → (X → Y)
     → AllPairs (λ one other. R (f one) (f other)) ys → AllPairs R (map f ys)
 AllPairs-map R f ys back pairs i j d before within =
     let inside : j < length ys = omega (arith, length-map ys f) in
@@ -124,7 +124,7 @@ IsMail-after ids requests past distinct least greatest early = record {
       (All-filter (λ request. eqb request.frame.identifier id) (λ request. request.at < 2 ^ 40) requests early));
 }
 
-Contains-later : (first : ℕ) (ids : List ℕ) (id : ℕ) → first ≢ id → Contains (first ∷ ids) id → Contains ids id
+pub Contains-later : (first : ℕ) (ids : List ℕ) (id : ℕ) → first ≢ id → Contains (first ∷ ids) id → Contains ids id
 Contains-later first ids id apart (zero, within, same) = absurd (apart same)
 Contains-later first ids id apart (suc k, within, same) = (k, omega arith, same)
 

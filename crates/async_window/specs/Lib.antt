@@ -2,3 +2,5 @@ pub mod Waiting
 pub mod Mailbox
 pub mod Adding
 pub mod Owners
+pub mod Tournament
+pub mod Sorted

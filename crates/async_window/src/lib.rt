@@ -10,6 +10,8 @@ mod places;
 mod request;
 #[cfg(test)]
 mod tests;
+mod tournament;
+mod window;
 
 pub use mailboxes::Mailboxes;
 pub use request::{Owner, Request};

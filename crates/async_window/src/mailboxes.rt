@@ -4,31 +4,46 @@ ghost use Rattle.std.specs.Prelude.{◌≡◌, ◌≢◌, ◌↔◌, ℕ, ◌+�
 ghost use Rattle.std.specs.Option.{option_map_or, option_to_list};
 ghost use Rattle.async_window.specs.Mailbox.{IsLeastWith, IsMail, IsNextInCycle, Mail, Offers, least_of, left, mail_after, mail_offer, unsent_of, without_first};
 ghost use Rattle.async_window.specs.Adding.{with_request};
+ghost use Rattle.async_window.specs.Sorted.{IsPlaceTable};
 
 use crate::mailbox::Mailbox;
-use crate::places::places;
+use crate::places::{in_order, place_of, places};
 use crate::request::Request;
+use crate::tournament::Tournament;
+use crate::window::window_at;
 use can_frame::Frame;
 use cycle_layout::Layout;
 use std::alloc::{AllocError, Global};
 use std::marker::Model;
 
+/// How many identifiers there may be: those of 11 bits.
+const IDENTIFIERS: usize = 2_048;
+
 /// The unsent requests of some identifiers. Contracts see a list of identifiers, each with its unsent requests in their order.
 #[derive(Drop)]
 pub struct Mailboxes {
+    /// The identifiers in the order in which they were given, which is that of the list.
+    ids: Vec<u16>,
+    /// The mailboxes in the order of their identifiers.
     boxes: Vec<Mailbox>,
+    /// The places of the mailboxes by identifier.
+    places: Vec<u16>,
+    /// The arrivals of the first requests.
+    firsts: Tournament,
+    /// The number of requests that are not sent.
     remaining: usize,
 }
 
 impl Model for Mailboxes {
-    ghost use Rattle.std.specs.Prelude.{◌≡◌, List};
-    ghost use Rattle.async_window.specs.Mailbox.{IsMail, Mail, left};
+    ghost use Rattle.std.specs.Prelude.{List};
+    ghost use Rattle.async_window.specs.Mailbox.{Mail};
+    ghost use Rattle.async_window.specs.Sorted.{AreKept, mail_of};
 
     ghost Value = { List Mail };
 
-    ghost view = { λ m. m.boxes.items };
+    ghost view = { λ m. mail_of m.ids.items m.boxes.items };
 
-    ghost invariant = { λ m. IsMail m.boxes.items × (m.remaining ≡ left m.boxes.items) };
+    ghost invariant = { λ m. AreKept m.ids.items m.boxes.items m.places.items m.firsts.levels m.firsts.nodes.items m.remaining };
 }
 
 impl Mailboxes {
@@ -43,13 +58,22 @@ impl Mailboxes {
         requires early { All (λ request. request.at < 2 ^ 40) requests.now }
         ensures mail { IfOk result (λ boxes. boxes ≡ mail_after ids.now requests.now []) }
     {
-        let mut boxes = empty_boxes(alloc, ids)?;
-        let places = places(alloc, ids)?;
+        let sorted = in_order(alloc, ids)?;
+        let places = places(alloc, sorted.as_slice())?;
+        let rooms = rooms(alloc, places.as_slice(), requests)?;
+        let mut boxes = empty_boxes(alloc, sorted.as_slice(), rooms.as_slice())?;
         let mut remaining = 0;
         for request in requests {
             remaining += put(&mut boxes, &places, request)?;
         }
-        Ok(Mailboxes { boxes, remaining })
+        let firsts = Tournament::new(alloc, boxes.as_slice())?;
+        Ok(Mailboxes {
+            ids: ids.to_vec(alloc)?,
+            boxes,
+            places,
+            firsts,
+            remaining,
+        })
     }
 
     /// The least identifier whose first unsent request waits at `at` and may start then, in the cycle of `at`, whose synchronous
@@ -61,13 +85,14 @@ impl Mailboxes {
         ensures value { result ≡ mail_offer layout.now l self.now at }
         ensures known { IsMail self.now }
     {
-        let mut least = None;
-        for mailbox in &self.boxes {
-            if mailbox.may_start(layout, at, l) {
-                least = Some(lesser(least, mailbox.id()));
-            }
+        let boxes = self.boxes.as_slice();
+        match window_at(layout, at, l).room(at) {
+            Some(bytes) => match self.firsts.first(boxes, usize::from(bytes), at) {
+                Some(place) => Some(boxes[place].id()),
+                None => None,
+            },
+            None => None,
         }
-        least
     }
 
     /// The frame of the first unsent request of an identifier, where there is one.
@@ -75,12 +100,13 @@ impl Mailboxes {
         ensures head { result ≡ option_map (λ request. request.frame) (slice_get (unsent_of self.now id) 0) }
         ensures known { IsMail self.now }
     {
-        for mailbox in &self.boxes {
-            if mailbox.id() == id {
-                return mailbox.first().map(|request| request.frame);
-            }
+        let place = place_of(self.places.as_slice(), id);
+        let boxes = self.boxes.as_slice();
+        if place < boxes.len() {
+            boxes[place].frame()
+        } else {
+            None
         }
-        None
     }
 
     /// Takes away the first unsent request of an identifier.
@@ -90,11 +116,10 @@ impl Mailboxes {
         ensures unsent { (other : ℕ) → unsent_of self.new other
             ≡ (if other == id then drop 1 (unsent_of self.old id) else unsent_of self.old other) }
     {
-        if let Some(place) = place_of(&self.boxes, id) {
-            let mailbox = &mut self.boxes[place];
-            mailbox.take_first();
-            self.remaining -= 1;
-        }
+        let place = place_of(self.places.as_slice(), id);
+        self.boxes[place].take_first();
+        self.firsts.mend(self.boxes.as_slice(), place);
+        self.remaining -= 1;
     }
 
     /// The least time behind `at`, in the cycle of `at`, at which `offer` is something while nothing is taken away; `None` exactly
@@ -104,11 +129,8 @@ impl Mailboxes {
         requires time { at < 2 ^ 60 }
         ensures next { IsNextInCycle layout.now.cycle at (λ later. IsSome (mail_offer layout.now l self.now later)) result }
     {
-        let mut least = None;
-        for mailbox in &self.boxes {
-            least = sooner(least, mailbox.earliest(layout, at, l));
-        }
-        least
+        let window = window_at(layout, at, l);
+        self.firsts.next(self.boxes.as_slice(), &window, at)
     }
 
     /// The number of requests that are not sent.
@@ -119,72 +141,48 @@ impl Mailboxes {
     }
 }
 
-/// A mailbox without a request for each identifier.
-fn empty_boxes(alloc: Global, ids: &[u16]) -> Result<Vec<Mailbox>, AllocError>
+/// How many requests each mailbox gets, by its place.
+fn rooms(alloc: Global, places: &[u16], requests: &[Request]) -> Result<Vec<u32>, AllocError>
+    requires length { length places.now ≡ 2048 }
+{
+    let mut rooms = vec![in alloc; 0u32; IDENTIFIERS]?;
+    for request in requests {
+        if let Some(room) = rooms.get_mut(place_of(places, request.frame.id())) {
+            *room = room.saturating_add(1);
+        }
+    }
+    Ok(rooms)
+}
+
+/// A mailbox without a request for each identifier, with room for some.
+fn empty_boxes(alloc: Global, ids: &[u16], rooms: &[u32]) -> Result<Vec<Mailbox>, AllocError>
     ensures empty { IfOk result (λ boxes. boxes.items ≡ mail_after ids.now [] []) }
 {
-    let mut boxes = Vec::new(alloc);
-    for id in ids {
-        boxes.push(Mailbox::new(alloc, *id))?;
+    let mut boxes = Vec::with_capacity(alloc, ids.len())?;
+    for (place, id) in ids.iter().enumerate() {
+        let room = rooms.get(place).copied().unwrap_or(0);
+        boxes.push(Mailbox::new(alloc, *id, room as usize)?)?;
     }
     Ok(boxes)
 }
 
 /// Puts a request into the mailbox of its identifier, where there is one, and answers how many mailboxes it was put in. `places`
 /// has the place of each identifier's mailbox.
-fn put(
-    boxes: &mut [Mailbox],
-    places: &[Option<usize>],
-    request: &Request,
-) -> Result<usize, AllocError>
+fn put(boxes: &mut [Mailbox], places: &[u16], request: &Request) -> Result<usize, AllocError>
     requires length { length places.now ≡ 2048 }
-    requires places { (id place : ℕ) → id < 2048 → (slice_get places.now id ≡ Some (Some place))
-        ↔ (slice_get (map (λ box. box.identifier) boxes.old) place ≡ Some id) }
-    requires distinct { AllPairs (λ one other. one.identifier ≢ other.identifier) boxes.old }
+    requires places { IsPlaceTable boxes.old places.now }
+    requires rising { AllPairs (λ one other. one.identifier < other.identifier) boxes.old }
+    requires greatest { All (λ box. box.identifier ≤ 0x7EF) boxes.old }
     ensures put { IfOk result (λ _. boxes.new ≡ map (with_request request.now) boxes.old) }
     ensures counted { IfOk result (λ count. left boxes.new ≡ left boxes.old + count) }
     ensures one { IfOk result (λ count. count ≤ 1) }
+    ensures short { length request.now.frame.bytes ≤ 8 }
 {
-    match places[usize::from(request.frame.id())] {
-        Some(place) => {
-            let mailbox = &mut boxes[place];
-            mailbox.push(request)?;
-            Ok(1)
-        }
-        None => Ok(0),
+    let place = place_of(places, request.frame.id());
+    if place < boxes.len() {
+        boxes[place].push(request)?;
+        Ok(1)
+    } else {
+        Ok(0)
     }
-}
-
-/// The lesser of an identifier and perhaps another one.
-fn lesser(least: Option<u16>, id: u16) -> u16
-    ensures lesser { result ≡ option_map_or (λ other. min other id) least id }
-{
-    match least {
-        Some(other) => other.min(id),
-        None => id,
-    }
-}
-
-/// The lesser of two times, either of which may be none.
-fn sooner(one: Option<u64>, other: Option<u64>) -> Option<u64>
-    ensures sooner { result ≡ least_of (option_to_list one ++ option_to_list other) }
-{
-    match one {
-        Some(first) => Some(first.min(other.unwrap_or(first))),
-        None => other,
-    }
-}
-
-/// The place of the mailbox of an identifier.
-fn place_of(boxes: &[Mailbox], id: u16) -> Option<usize>
-    ensures place { MatchOption result (unsent_of boxes.now id ≡ [])
-        (λ place. (place < length boxes.now) × ((d : Mail) → (slice_index_or boxes.now place d).identifier ≡ id)
-        × ((d : Mail) → unsent_of boxes.now id ≡ (slice_index_or boxes.now place d).unsent)) }
-{
-    for (place, mailbox) in boxes.iter().enumerate() {
-        if mailbox.id() == id {
-            return Some(place);
-        }
-    }
-    None
 }

@@ -1,5 +1,12 @@
-mod HexText
+mod EventByEvent
+mod FieldNumbers
+mod HexFields
 mod LogTrace
 mod LogHistory
 mod Plans
+mod Readings
+mod RowDigits
+mod RowForms
+mod RowLines
+mod RowsTold
 mod Width

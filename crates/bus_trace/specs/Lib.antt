@@ -1,4 +1,7 @@
+pub mod EventRows
 pub mod Log
+pub mod LogRows
 pub mod Logged
 pub mod Recent
 pub mod Row
+pub mod RowFields

@@ -1,7 +1,7 @@
 -- *Log text*: the text of a history and a trace. Each row ends with one line feed; numbers are decimal without leading zeros.
-use Rattle.std.specs.Prelude.{ℕ, zero, suc, ◌+◌, ◌/◌, ◌%◌, ◌==◌, List, [], ◌∷◌, ◌++◌, Option, Some, None, if◌then◌else◌, codes, false}
+use Rattle.std.specs.Prelude.{ℕ, ◌+◌, ◌==◌, List, [], ◌∷◌, ◌++◌, Option, Some, None, if◌then◌else◌, codes}
 use Rattle.std.specs.List.{flat_map}
-use Rattle.std.specs.Fmt.{decimal, digit_glyph}
+use Rattle.std.specs.Fmt.{decimal}
 use Rattle.can_frame.specs.declared.data_frame.TimedFrame.{TimedFrame}
 use Rattle.change_protocol.specs.Code.{code_of}
 use Rattle.change_protocol.specs.declared.malformed.Why.{Why}
@@ -12,11 +12,7 @@ use Rattle.master_core.specs.declared.event.Event.{Event}
 use Rattle.master_core.specs.declared.event.Event.TheVariants.{Submit, Look, Open}
 use Rattle.master_core.specs.History.{next_of, placed_of}
 use Rattle.requirement_table.specs.Opening.{Opening, width_of}
-
--- the last `count` hexadecimal digits of a number, lower case, the most significant one first
-unfoldable pub hex_digits : ℕ → ℕ → List ℕ
-hex_digits zero number = []
-hex_digits (suc count) number = hex_digits count (number / 16) ++ digit_glyph false (number % 16) ∷ []
+unfoldable pub use Rattle.plan_check.specs.PlanText.{hex_digits}
 
 -- the cycle up to which a slot is in use, or in which its entry begins, where the reason of a refusal names one
 abbrev pub until_of : Why → Option ℕ

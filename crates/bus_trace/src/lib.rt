@@ -5,14 +5,24 @@
 
 mod entries;
 mod frames;
+pub mod laws;
 mod log;
+mod log_fault;
+mod log_reading;
 mod recent;
 mod row;
+mod row_fields;
+mod row_reading;
+mod row_writer;
 mod rows;
+mod streaming;
 
 pub use log::log_text;
+pub use log_fault::LogFault;
+pub use log_reading::read_log;
 pub use recent::Recent;
 pub use row::{LogRow, LogVerdict};
+pub use streaming::event_rows;
 
 #[cfg(test)]
 mod tests;

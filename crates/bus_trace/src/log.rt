@@ -1,7 +1,6 @@
 //! The log as one text.
 
 ghost use Rattle.std.specs.Prelude.{if◌then◌else◌, ◌≡◌, ℕ, ◌+◌, ◌^◌, ◌<◌, ◌≤◌, ◌++◌, List, IfOk, OnOk, length, take, drop};
-ghost use Rattle.std.specs.String.{string_bytes};
 ghost use Rattle.can_frame.specs.declared.data_frame.TimedFrame.{TimedFrame};
 ghost use Rattle.requirement_table.specs.declared.entries.Placed.{Placed};
 ghost use Rattle.requirement_table.specs.Table.{IsWellPlaced};
@@ -45,14 +44,14 @@ fn frame_count(event: &Event, left: &[TimedFrame]) -> usize
 
 /// Appends the rows of an event, and the rows of the frames that follow it.
 fn push_event(
-    text: &mut String,
+    text: &mut Vec<u8>,
     entries: &Entries,
     event: &Event,
     frames: &[TimedFrame],
 ) -> Result<(), AllocError>
     requires near { IsNear event.now }
     requires left { IsWellPlaced entries.now.left.items }
-    ensures ok { OnOk result (string_bytes text.new ≡ string_bytes text.old ++ rows_with entries.now.left.items frames.now event.now) }
+    ensures ok { OnOk result (text.new.items ≡ text.old.items ++ rows_with entries.now.left.items frames.now event.now) }
 {
     match event {
         Event::Submit {
@@ -110,7 +109,7 @@ pub fn log_text(
     requires legal { (rules : Rules) × IsRules rules × IsLegal rules history.now }
     ensures text { IfOk result (λ text. text.items ≡ log_text history.now trace.now) }
 {
-    let mut text = String::new(alloc);
+    let mut text = Vec::new(alloc);
     let mut entries = Entries::new(alloc);
     let mut next = 0u64;
     let mut left = &trace[until_trigger(trace)..];
@@ -122,5 +121,5 @@ pub fn log_text(
         left = later;
     }
     push_end_row(&mut text, next)?;
-    Ok(text.into_bytes())
+    Ok(text)
 }

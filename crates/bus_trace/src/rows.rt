@@ -1,17 +1,23 @@
-//! The rows of the log, each appended to its text.
+//! The rows of the log. Each is made from its end to its start.
 
-ghost use Rattle.std.specs.Prelude.{◌≡◌, ◌<◌, ◌^◌, ◌++◌, OnOk};
+ghost use Rattle.std.specs.Prelude.{◌≡◌, ◌+◌, ◌^◌, ◌<◌, ◌≤◌, ◌++◌, codes, length, take, OnOk, OnErr};
+ghost use Rattle.std.specs.Fmt.{decimal};
 ghost use Rattle.std.specs.List.{flat_map};
-ghost use Rattle.std.specs.String.{string_bytes};
-ghost use Rattle.change_protocol.specs.Code.{code_of};
-ghost use Rattle.bus_trace.specs.Log.{end_row, frame_row, hex_digits, last_field, look_row, plan_row, plan_rows, submit_row, until_of, verdict_fields};
+ghost use Rattle.bus_trace.specs.Log.{end_row, frame_row, last_field, look_row, plan_row, plan_rows, submit_row, until_of, verdict_fields};
 ghost use Rattle.bus_trace.specs.Logged.{opened_row};
 
+use crate::row_writer::RowWriter;
 use admission::Verdict;
-use can_frame::{Frame, TimedFrame};
+use can_frame::TimedFrame;
 use change_protocol::Why;
 use requirement_table::Mask;
 use std::alloc::AllocError;
+
+/// The number of digits of a mask.
+const MASK_DIGITS: u8 = 10;
+
+/// The number of digits of an identifier.
+const IDENTIFIER_DIGITS: u8 = 3;
 
 /// The cycle that the reason of a refusal names, where it names one.
 fn until_of(why: &Why) -> Option<u64>
@@ -23,151 +29,210 @@ fn until_of(why: &Why) -> Option<u64>
     }
 }
 
-/// Appends a last field, where there is one.
-fn push_last_field(text: &mut String, field: Option<u64>) -> Result<(), AllocError>
-    ensures ok { OnOk result (string_bytes text.new ≡ string_bytes text.old ++ last_field field) }
+/// A row of its line feed alone.
+fn ended() -> RowWriter
+    ensures row { result ≡ codes "\n" }
 {
-    match field {
-        Some(number) => write!(text, ",{number}"),
-        None => Ok(()),
+    let mut row = RowWriter::new();
+    row.byte(b'\n');
+    row
+}
+
+/// Puts a number with a comma before it.
+fn put_field(row: &mut RowWriter, number: u64)
+    requires room { length row.old + 21 ≤ 128 }
+    ensures row { row.new ≡ codes "," ++ (decimal number ++ row.old) }
+    ensures few { length row.new ≤ length row.old + 21 }
+{
+    row.decimal(number);
+    row.byte(b',');
+}
+
+/// Puts a last field, where there is one.
+fn put_last_field(row: &mut RowWriter, field: Option<u64>)
+    requires room { length row.old + 21 ≤ 128 }
+    ensures row { row.new ≡ last_field field ++ row.old }
+    ensures few { length row.new ≤ length row.old + 21 }
+{
+    if let Some(number) = field {
+        put_field(row, number);
     }
 }
 
-/// Appends the fields of a verdict.
-fn push_verdict(text: &mut String, verdict: &Verdict) -> Result<(), AllocError>
-    ensures ok { OnOk result (string_bytes text.new ≡ string_bytes text.old ++ verdict_fields verdict.now) }
+/// Puts a word and the number behind it.
+fn put_first(row: &mut RowWriter, word: &[u8], number: u64)
+    requires room { length row.old + 20 + length word.now ≤ 128 }
+    ensures row { row.new ≡ word.now ++ (decimal number ++ row.old) }
+    ensures few { length row.new ≤ length row.old + 20 + length word.now }
+{
+    row.decimal(number);
+    row.word(word);
+}
+
+/// Puts the fields of a verdict.
+fn put_verdict(row: &mut RowWriter, verdict: &Verdict)
+    requires room { length row.old ≤ 1 }
+    ensures row { row.new ≡ verdict_fields verdict.now ++ row.old }
+    ensures few { length row.new ≤ 73 }
 {
     match verdict {
         Verdict::Malformed { op, why } => {
-            let code = why.code();
-            write!(text, "malformed,{op},{code}")?;
-            push_last_field(text, until_of(why))
+            put_last_field(row, until_of(why));
+            put_field(row, u64::from(why.code()));
+            put_first(row, b"malformed,", u64::from(*op));
         }
-        Verdict::Passed { start, next } => write!(text, "passed,{start},{next}"),
+        Verdict::Passed { start, next } => {
+            put_field(row, *next);
+            put_first(row, b"passed,", *start);
+        }
         Verdict::Miss {
             slot,
             release,
             cycle,
-        } => write!(text, "miss,{slot},{release},{cycle}"),
-        Verdict::Horizon { from, walked } => write!(text, "horizon,{from},{walked}"),
-        Verdict::Accepted { first, length } => write!(text, "accepted,{first},{length}"),
+        } => {
+            put_field(row, *cycle);
+            put_field(row, *release);
+            put_first(row, b"miss,", u64::from(*slot));
+        }
+        Verdict::Horizon { from, walked } => {
+            put_field(row, *walked);
+            put_first(row, b"horizon,", *from);
+        }
+        Verdict::Accepted { first, length } => {
+            put_field(row, *length);
+            put_first(row, b"accepted,", *first);
+        }
     }
 }
 
-/// Appends the row of a change that operator `caller` asked for, planned from the cycle `from` on.
+/// The row of a change that operator `caller` asked for, planned from the cycle `from` on.
+fn submit_row(caller: u8, from: u64, verdict: &Verdict) -> RowWriter
+    ensures row { result ≡ submit_row caller from verdict.now }
+{
+    let mut row = ended();
+    put_verdict(&mut row, verdict);
+    row.byte(b',');
+    put_field(&mut row, from);
+    put_first(&mut row, b"submit,", u64::from(caller));
+    row
+}
+
+/// The row of a cycle that was planned and not opened, with the slots that are flagged in it.
+fn plan_row(cycle: u64, mask: Mask) -> RowWriter
+    ensures row { result ≡ plan_row cycle mask }
+{
+    let mut row = ended();
+    row.hex(MASK_DIGITS, mask.bits() as u64);
+    row.byte(b',');
+    put_first(&mut row, b"plan,", cycle);
+    row
+}
+
+/// The row of a look of operator `caller`, with the cycle that was to be opened next.
+fn look_row(caller: u8, next: u64) -> RowWriter
+    ensures row { result ≡ look_row caller next }
+{
+    let mut row = ended();
+    put_field(&mut row, next);
+    put_first(&mut row, b"look,", u64::from(caller));
+    row
+}
+
+/// The row of an opened cycle, with its flagged slots and the length of its synchronous window in bit times.
+fn open_row(cycle: u64, mask: Mask, width: u32) -> RowWriter
+    ensures row { result ≡ opened_row cycle mask width }
+{
+    let mut row = ended();
+    put_field(&mut row, u64::from(width));
+    row.hex(MASK_DIGITS, mask.bits() as u64);
+    row.byte(b',');
+    put_first(&mut row, b"open,", cycle);
+    row
+}
+
+/// The row of a frame.
+fn frame_row(sent: &TimedFrame) -> RowWriter
+    ensures row { result ≡ frame_row sent.now }
+{
+    let mut row = ended();
+    row.data_bytes(&sent.frame);
+    row.byte(b',');
+    row.hex(IDENTIFIER_DIGITS, u64::from(sent.frame.id()));
+    row.byte(b',');
+    put_field(&mut row, u64::from(sent.len));
+    put_first(&mut row, b"frame,", sent.start);
+    row
+}
+
+/// The last row, with the number of opened cycles.
+fn end_row(next: u64) -> RowWriter
+    ensures row { result ≡ end_row next }
+{
+    let mut row = ended();
+    put_first(&mut row, b"end,", next);
+    row
+}
+
+/// Appends the row of a change.
 pub fn push_submit_row(
-    text: &mut String,
+    text: &mut Vec<u8>,
     caller: u8,
     from: u64,
     verdict: &Verdict,
 ) -> Result<(), AllocError>
-    ensures ok { OnOk result (string_bytes text.new ≡ string_bytes text.old ++ submit_row caller from verdict.now) }
+    ensures ok { OnOk result (text.new.items ≡ text.old.items ++ submit_row caller from verdict.now) }
+    ensures err { OnErr result (text.new.items ≡ text.old.items) }
 {
-    write!(text, "submit,{caller},{from},")?;
-    push_verdict(text, verdict)?;
-    writeln!(text)
-}
-
-/// Appends a set of slots as ten hexadecimal digits.
-fn push_mask(text: &mut String, mask: Mask) -> Result<(), AllocError>
-    ensures ok { OnOk result (string_bytes text.new ≡ string_bytes text.old ++ hex_digits 10 mask) }
-{
-    let bits = mask.bits() as u64;
-    write!(text, "{bits:010x}")
-}
-
-/// Appends the row of a cycle that was planned and not opened, with the slots that are flagged in it.
-fn push_plan_row(text: &mut String, cycle: u64, mask: Mask) -> Result<(), AllocError>
-    ensures ok { OnOk result (string_bytes text.new ≡ string_bytes text.old ++ plan_row cycle mask) }
-{
-    write!(text, "plan,{cycle},")?;
-    push_mask(text, mask)?;
-    writeln!(text)
+    text.extend_from_slice(submit_row(caller, from, verdict).as_slice())
 }
 
 /// Appends the rows of a plan, one for each cycle from `from` on, below 2^63.
-pub fn push_plan_rows(text: &mut String, from: u64, masks: &[Mask]) -> Result<(), AllocError>
+pub fn push_plan_rows(text: &mut Vec<u8>, from: u64, masks: &[Mask]) -> Result<(), AllocError>
     requires from { from < 2 ^ 63 }
-    ensures ok { OnOk result (string_bytes text.new ≡ string_bytes text.old ++ plan_rows from masks.now) }
+    ensures ok { OnOk result (text.new.items ≡ text.old.items ++ plan_rows from masks.now) }
+    ensures err { OnErr result (take (length text.old.items) text.new.items ≡ text.old.items) }
 {
     for (number, mask) in masks.iter().enumerate() {
-        push_plan_row(text, from + number as u64, *mask)?;
+        text.extend_from_slice(plan_row(from + number as u64, *mask).as_slice())?;
     }
     Ok(())
 }
 
-/// Appends the row of a look of operator `caller`, with the cycle that was to be opened next.
-pub fn push_look_row(text: &mut String, caller: u8, next: u64) -> Result<(), AllocError>
-    ensures ok { OnOk result (string_bytes text.new ≡ string_bytes text.old ++ look_row caller next) }
+/// Appends the row of a look.
+pub fn push_look_row(text: &mut Vec<u8>, caller: u8, next: u64) -> Result<(), AllocError>
+    ensures ok { OnOk result (text.new.items ≡ text.old.items ++ look_row caller next) }
+    ensures err { OnErr result (text.new.items ≡ text.old.items) }
 {
-    writeln!(text, "look,{caller},{next}")
+    text.extend_from_slice(look_row(caller, next).as_slice())
 }
 
-/// Appends the row of an opened cycle, with its flagged slots and the length of its synchronous window in bit times.
+/// Appends the row of an opened cycle.
 pub fn push_open_row(
-    text: &mut String,
+    text: &mut Vec<u8>,
     cycle: u64,
     mask: Mask,
     width: u32,
 ) -> Result<(), AllocError>
-    ensures ok { OnOk result (string_bytes text.new ≡ string_bytes text.old ++ opened_row cycle mask width) }
+    ensures ok { OnOk result (text.new.items ≡ text.old.items ++ opened_row cycle mask width) }
+    ensures err { OnErr result (text.new.items ≡ text.old.items) }
 {
-    write!(text, "open,{cycle},")?;
-    push_mask(text, mask)?;
-    writeln!(text, ",{width}")
-}
-
-/// Appends the identifier of a frame as three hexadecimal digits.
-fn push_identifier(text: &mut String, frame: &Frame) -> Result<(), AllocError>
-    ensures ok { OnOk result (string_bytes text.new ≡ string_bytes text.old ++ hex_digits 3 frame.now.identifier) }
-{
-    let identifier = frame.id();
-    write!(text, "{identifier:03x}")
-}
-
-/// Appends a byte as two hexadecimal digits.
-fn push_byte(text: &mut String, byte: u8) -> Result<(), AllocError>
-    ensures ok { OnOk result (string_bytes text.new ≡ string_bytes text.old ++ hex_digits 2 byte) }
-{
-    write!(text, "{byte:02x}")
-}
-
-/// Appends the data bytes of a frame, each as two hexadecimal digits.
-fn push_bytes(text: &mut String, frame: &Frame) -> Result<(), AllocError>
-    ensures ok { OnOk result (string_bytes text.new ≡ string_bytes text.old ++ flat_map (hex_digits 2) frame.now.bytes) }
-{
-    for place in 0..frame.dlc() {
-        push_byte(text, frame.byte(place))?;
-    }
-    Ok(())
-}
-
-/// Appends the row of a frame.
-fn push_frame_row(text: &mut String, sent: &TimedFrame) -> Result<(), AllocError>
-    ensures ok { OnOk result (string_bytes text.new ≡ string_bytes text.old ++ frame_row sent.now) }
-{
-    let start = sent.start;
-    let len = sent.len;
-    write!(text, "frame,{start},{len},")?;
-    push_identifier(text, &sent.frame)?;
-    write!(text, ",")?;
-    push_bytes(text, &sent.frame)?;
-    writeln!(text)
+    text.extend_from_slice(open_row(cycle, mask, width).as_slice())
 }
 
 /// Appends the rows of frames.
-pub fn push_frame_rows(text: &mut String, frames: &[TimedFrame]) -> Result<(), AllocError>
-    ensures ok { OnOk result (string_bytes text.new ≡ string_bytes text.old ++ flat_map frame_row frames.now) }
+pub fn push_frame_rows(text: &mut Vec<u8>, frames: &[TimedFrame]) -> Result<(), AllocError>
+    ensures ok { OnOk result (text.new.items ≡ text.old.items ++ flat_map frame_row frames.now) }
+    ensures err { OnErr result (take (length text.old.items) text.new.items ≡ text.old.items) }
 {
     for sent in frames {
-        push_frame_row(text, sent)?;
+        text.extend_from_slice(frame_row(sent).as_slice())?;
     }
     Ok(())
 }
 
-/// Appends the last row, with the number of opened cycles.
-pub fn push_end_row(text: &mut String, next: u64) -> Result<(), AllocError>
-    ensures ok { OnOk result (string_bytes text.new ≡ string_bytes text.old ++ end_row next) }
+/// Appends the last row.
+pub fn push_end_row(text: &mut Vec<u8>, next: u64) -> Result<(), AllocError>
+    ensures ok { OnOk result (text.new.items ≡ text.old.items ++ end_row next) }
 {
-    writeln!(text, "end,{next}")
+    text.extend_from_slice(end_row(next).as_slice())
 }

@@ -3,15 +3,16 @@
 ghost use Rattle.std.specs.Prelude.{◌≡◌, ◌≤◌, IfOk};
 ghost use Rattle.admission.specs.Verdict.{IsRules};
 
-use crate::{Recent, log_text};
+use crate::{LogFault, LogRow, LogVerdict, Recent, event_rows, log_text, read_log};
 use admission::Rules;
 use can_frame::{Frame, TimedFrame};
 use change_protocol::{Change, Op, Ops};
-use master_core::Master;
+use master_core::{Event, Master};
 use planner_policies::Policy;
-use requirement_table::Entry;
+use requirement_table::{Entry, Mask};
 use std::alloc::{AllocError, Global};
 use std::test::Fail;
+use trigger_codec::encode;
 
 /// A master of one node, with windows of so many bit times and a horizon of so many cycles.
 fn master(alloc: Global, window: u32, horizon: u64) -> Result<Master, AllocError>
@@ -166,6 +167,33 @@ fn opened_cycles(rt: HostRuntime) -> Result<(), Fail> {
     Ok(())
 }
 
+const LATER: &str = "look,2,1
+open,1,0000000001,55
+frame,1000,126,000,0100370100000000
+";
+
+#[test]
+fn one_event_at_a_time(rt: HostRuntime) -> Result<(), Fail> {
+    let alloc = rt.alloc();
+    let mask = Mask::from_bits(1);
+    let frame = encode(1, 55, mask);
+    let trigger = TimedFrame {
+        start: 1000,
+        len: 126,
+        frame,
+    };
+    let mut text = Vec::new(alloc);
+    event_rows(alloc, &Event::Look { caller: 2, next: 1 }, &[], &mut text)?;
+    event_rows(
+        alloc,
+        &Event::Open { cycle: 1, mask },
+        &[trigger],
+        &mut text,
+    )?;
+    assert!(rt; text.as_slice() == LATER.as_bytes());
+    Ok(())
+}
+
 #[test]
 fn last_rows(rt: HostRuntime) -> Result<(), Fail> {
     let alloc = rt.alloc();
@@ -175,5 +203,67 @@ fn last_rows(rt: HostRuntime) -> Result<(), Fail> {
     recent.push(Vec::from_slice(alloc, b"look,2,1\n")?);
     recent.push(Vec::from_slice(alloc, b"end,1\n")?);
     assert!(rt; recent.text(alloc)?.as_slice() == b"look,2,1\nend,1\n".as_slice());
+    Ok(())
+}
+
+/// The row that is named as the first one of no form, or 0 where each row has one.
+fn faulty_row(alloc: Global, text: &str) -> Result<u64, AllocError> {
+    match read_log(alloc, text.as_bytes()) {
+        Ok(_) => Ok(0),
+        Err(LogFault::Row { number }) => Ok(number),
+        Err(LogFault::Memory) => Err(AllocError),
+    }
+}
+
+// Texts behind a first row that has a form, each up to a bar: the second row has none.
+const FAULTY: &str =
+    "look,1,|look,1,2|\n|look,1,2,\n|look,1,2,3\n|look,01,2\n|look,1,18446744073709551616\n|look,+1,2\n|\"look\",1,2\n| look,1,2\n|\
+look,1,2 \n|look,1,2\r\n|look,256,2\n|look,,2\n|Look,1,2\n|look\n|look,1\n2,3\n|open,0,000000000A,0\n|open,0,00000000000,0\n|\
+open,0,10000000000,0\n|open,0,0000000000,4294967296\n|frame,0,51,7f0,\n|frame,0,51,100,0\n|frame,0,51,100,0g\n|frame,0,51,0100,\n|\
+frame,0,51,100,000000000000000000\n|frame,0,51,100\n|plan,0,0000000000,0\n|end,\n|end,1,\n|submit,1,0\n|submit,1,0,malformed,0,0\n|\
+submit,1,0,malformed,0,12\n|submit,1,0,malformed,0,11,5\n|submit,1,0,malformed,0,10,\n|submit,1,0,passed,1\n|submit,1,0,missed,1,2,3\n";
+
+#[test]
+fn rows_of_no_form(rt: HostRuntime) -> Result<(), Fail> {
+    let alloc = rt.alloc();
+    for row in FAULTY.split('|') {
+        let mut text = String::new(alloc);
+        text.push_str("end,5\n")?;
+        text.push_str(row)?;
+        assert!(rt; faulty_row(alloc, text.as_str())? == 2);
+    }
+    Ok(())
+}
+
+#[test]
+fn rows_read_back(rt: HostRuntime) -> Result<(), Fail> {
+    let alloc = rt.alloc();
+    assert!(rt; faulty_row(alloc, "")? == 0);
+    assert!(rt; faulty_row(alloc, REFUSED)? == 0);
+    assert!(rt; faulty_row(alloc, AHEAD)? == 0);
+    let Ok(rows) = read_log(alloc, CYCLES.as_bytes()) else {
+        return Err(Fail::from(AllocError));
+    };
+    let timed = sent(1000, 126, 0, &[1, 0, 0x37, 1, 0, 0, 0, 0])?;
+    let verdict = LogVerdict::Passed { start: 0, next: 1 };
+    let mask = Mask::from_bits(1);
+    assert!(rt; rows.len() == 10);
+    assert!(rt;
+        rows[3]
+            == LogRow::Submit {
+                caller: 1,
+                from: 1,
+                verdict
+            }
+    );
+    assert!(rt;
+        rows[6]
+            == LogRow::Open {
+                cycle: 1,
+                mask,
+                l: 55
+            }
+    );
+    assert!(rt; rows[7] == LogRow::Frame { timed });
     Ok(())
 }

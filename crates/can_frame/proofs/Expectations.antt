@@ -6,12 +6,14 @@ use Rattle.stuff_bound.specs.Stuffing.{run, HasNoSix, stuffed}
 use Rattle.stuff_bound.proofs.Shared.{stuffed_only}
 use Rattle.can_frame.specs.declared.wire_fault.WireFault.TheVariants.{Form}
 use Rattle.can_frame.specs.DataFrame.{DataFrame}
-use Rattle.can_frame.specs.Number.{bits, number}
+use Rattle.stuff_bound.specs.Fields.{bits}
+use Rattle.can_frame.specs.Number.{number}
 use Rattle.can_frame.specs.Wire.{header, covered, with_sequence}
 use Rattle.can_frame.specs.Reading.{carried, IsMisplaced, IsPlaced, IsBegun, Reads}
 use Rattle.can_frame.specs.Reading.IsMisplaced.{start, identifier, reserved, code}
 use Rattle.can_frame.specs.Progress.{Progress, all_bits, Expects, Went, EndsPlain}
-use Rattle.can_frame.proofs.Fields.{length-bits, number-bits, bits-append}
+use Rattle.stuff_bound.proofs.Shared.{length-bits, bits-append}
+use Rattle.can_frame.proofs.Fields.{number-bits}
 use Rattle.can_frame.proofs.Plain.{before_code, placed_header, plain_length-code, plain_length-least, length-header, length-data}
 use Rattle.can_frame.proofs.OneAnswer.{Cut, cut}
 use Rattle.can_frame.proofs.OneAnswer.Cut.{same, earlier, later}

@@ -1,11 +1,12 @@
 -- The bits of a number in a field, and the number of a field's bits.
-use Rattle.std.proofs.Common.{◌≡◌, ℕ, zero, suc, ◌+◌, ◌-◌, ◌*◌, ◌/◌, ◌%◌, ◌^◌, ◌<◌, ◌≤◌, ◌==◌, Bool, true, false, cond, List, [], ◌∷◌, ◌++◌, length, bit_and, nat_eq, append_assoc, refl, sym, ap, ◌∙◌, inl, inr, arith}
-use Rattle.std.proofs.Math.Nat.{div-div-eq-div-mul, mul_assoc, pow-suc, sub_self}
-use Rattle.std.proofs.lemmas.List.{append-nil, length-append}
+use Rattle.std.proofs.Common.{◌≡◌, ℕ, zero, suc, ◌+◌, ◌-◌, ◌*◌, ◌/◌, ◌%◌, ◌^◌, ◌<◌, ◌≤◌, ◌==◌, Bool, true, false, cond, List, [], ◌∷◌, ◌++◌, bit_and, nat_eq, append_assoc, refl, sym, ap, ◌∙◌, inl, inr, arith}
+use Rattle.std.proofs.Math.Nat.{div-div-eq-div-mul, pow-suc, sub_self}
+use Rattle.std.proofs.lemmas.List.{append-nil}
 use Rattle.std.proofs.lemmas.List.Sums.{fold_push}
 use Rattle.std.proofs.lemmas.Bool.{cases_eq}
 use Rattle.std.proofs.lemmas.Nat.{and_mask}
-use Rattle.can_frame.specs.Number.{bits, number}
+use Rattle.stuff_bound.specs.Fields.{bits}
+use Rattle.can_frame.specs.Number.{number}
 
 -- before the first bit of a field was put behind a list
 pub bits-none : (sent : List Bool) (width value : ℕ) → sent ≡ sent ++ bits (width - width) value
@@ -30,12 +31,6 @@ bits-next start old new width (suc place) value h k before pushed =
     let back : suc place - 1 ≡ place = omega arith in
     let here = bits-place width place value (omega arith) in
     rw back (rw back at pushed ∙ ap (λ sent. sent ++ nat_eq (bit_and (value / 2 ^ place) 1) 1 ∷ []) before ∙ append_assoc start _ _ ∙ ap (λ field. start ++ field) here)
-
--- a field has as many bits as it is wide
-pub length-bits : (width value : ℕ) → length (bits width value) ≡ width
-unfolding bits
-length-bits zero value = refl
-length-bits (suc width) value = length-append (bits width (value / 2)) _ ∙ ap (λ n. n + 1) (length-bits width (value / 2)) ∙ omega arith
 
 -- the number of a bit, and the bit of that number
 abbrev pub bit_number : Bool → ℕ
@@ -70,18 +65,3 @@ bits_more width value false =
     let half : (2 * value + 0) / 2 ≡ value = omega arith in
     let even : (2 * value + 0) % 2 ≡ 0 = omega arith in
     rw (next, half, even) refl
-
--- a field in two parts
-pub bits-append : (high low x y : ℕ) → y < 2 ^ low → bits (high + low) (x * 2 ^ low + y) ≡ bits high x ++ bits low y
-unfolding bits
-bits-append high zero x y h =
-    let width : high + 0 ≡ high = omega arith in
-    let value : x * 2 ^ 0 + y ≡ x = omega arith in
-    rw (width, value) (sym (append-nil (bits high x)))
-bits-append high (suc low) x y h =
-    let twice : 2 ^ suc low ≡ 2 ^ low * 2 = pow-suc 2 low in
-    let width : high + suc low ≡ suc (high + low) = omega arith in
-    let product_is : x * 2 ^ suc low ≡ x * 2 ^ low * 2 = ap (λ n. x * n) twice ∙ sym (mul_assoc x (2 ^ low) 2) in
-    let half : (x * 2 ^ suc low + y) / 2 ≡ x * 2 ^ low + y / 2 = omega arith in
-    let odd : (x * 2 ^ suc low + y) % 2 ≡ y % 2 = omega arith in
-    rw (width, half, odd) (ap (λ field. field ++ (y % 2 == 1) ∷ []) (bits-append high low x (y / 2) (omega arith)) ∙ append_assoc (bits high x) (bits low (y / 2)) _)

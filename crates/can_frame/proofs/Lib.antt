@@ -1,8 +1,10 @@
+mod ByteSums
 mod Carried
 mod Expectations
 mod Fields
 mod Finish
 mod OneAnswer
 mod Plain
+mod PlainBytes
 mod Remainder
 mod Steps

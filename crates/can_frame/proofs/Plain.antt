@@ -1,14 +1,17 @@
 -- The plain part of a frame: its length, its fields at their places, and that it is of one frame.
-use Rattle.std.proofs.Common.{◌≡◌, ℕ, ◌+◌, ◌*◌, ◌/◌, ◌%◌, ◌^◌, ◌<◌, ◌≤◌, Bool, true, false, List, [], ◌∷◌, ◌++◌, length, take, drop, append_assoc, refl, sym, ap, ap₂, ◌∙◌, arith}
+use Rattle.std.proofs.Common.{◌≡◌, ℕ, ◌+◌, ◌*◌, ◌/◌, ◌%◌, ◌^◌, ◌<◌, ◌≤◌, Bool, true, false, List, [], ◌∷◌, ◌++◌, length, take, drop, append_assoc, refl, sym, ap, ap₂, ◌∙◌, arith, lit<}
 use Rattle.std.specs.List.{flat_map, All}
-use Rattle.std.proofs.lemmas.List.{append_cancel_left, append_cancel_right, length-append, length-drop, take_at, drop_at}
+use Rattle.std.proofs.lemmas.Grind.{flat_map-append}
+use Rattle.std.proofs.lemmas.List.{append-nil, append_cancel_left, append_cancel_right, length-append, length-drop, take_at, drop_at}
 use Rattle.std.proofs.lemmas.List.Elements.{All-head, All-tail}
 use Rattle.can_frame.specs.DataFrame.{DataFrame, IsFrame}
-use Rattle.can_frame.specs.Number.{bits, number}
+use Rattle.stuff_bound.specs.Fields.{bits}
+use Rattle.can_frame.specs.Number.{number}
 use Rattle.can_frame.specs.Wire.{header, covered, with_sequence}
 use Rattle.can_frame.specs.Reading.{plain_length, IsMisplaced, IsPlaced}
 use Rattle.can_frame.specs.Reading.IsMisplaced.{start, identifier, reserved, code}
-use Rattle.can_frame.proofs.Fields.{length-bits, number-bits, bits-append}
+use Rattle.stuff_bound.proofs.Shared.{length-bits, length-bits_of, bits-append}
+use Rattle.can_frame.proofs.Fields.{number-bits}
 
 -- two lists that begin with parts of one length begin with one part
 pub same_parts : (xs ys vs ws : List Bool) → length xs ≡ length ys → xs ++ vs ≡ ys ++ ws → (xs ≡ ys) × (vs ≡ ws)
@@ -35,9 +38,27 @@ length-before_code id = simp (length-append, length-bits 11 id) (omega arith)
 pub length-header : (id n : ℕ) → length (header id n) ≡ 19
 length-header id n = ap length (header_is id n) ∙ length-append (before_code id) (bits 4 n) ∙ omega (arith, length-before_code id, length-bits 4 n)
 
+-- they are the bits of one number
+pub header-bits : (id n : ℕ) → id < 2 ^ 11 → n < 2 ^ 4 → header id n ≡ bits 19 (128 * id + n)
+unfolding bits
+header-bits id n small few =
+    let value : 128 * id + n ≡ id * 8 * 2 ^ 4 + n = omega arith in
+    let shifted : id * 8 ≡ id * 2 ^ 3 + 0 = omega arith in
+    let alone : id ≡ 0 * 2 ^ 11 + id = omega arith in
+    let dominant : List Bool = false ∷ [] in
+    let start : bits 12 id ≡ dominant ++ bits 11 id = ap (bits 12) alone ∙ bits-append 1 11 0 id small in
+    let fixed : bits 15 (id * 8) ≡ bits 12 id ++ (false ∷ false ∷ false ∷ []) = ap (bits 15) shifted ∙ bits-append 12 3 id 0 (lit< tt) in
+    let together : before_code id ≡ (dominant ++ bits 11 id) ++ (false ∷ false ∷ false ∷ []) = simp append_assoc in
+    header_is id n ∙ ap (λ field. field ++ bits 4 n) (together ∙ ap (λ field. field ++ (false ∷ false ∷ false ∷ [])) (sym start) ∙ sym fixed)
+    ∙ sym (ap (bits 19) value ∙ bits-append 15 4 (id * 8) n few)
+
 pub length-data : (bytes : List ℕ) → length (flat_map (bits 8) bytes) ≡ 8 * length bytes
-length-data [] = refl
-length-data (byte ∷ bytes) = length-append (bits 8 byte) (flat_map (bits 8) bytes) ∙ omega (arith, length-bits 8 byte, length-data bytes)
+length-data bytes = length-bits_of bytes
+
+-- one byte more
+pub data-more : (bytes : List ℕ) (byte : ℕ) → flat_map (bits 8) (bytes ++ byte ∷ []) ≡ flat_map (bits 8) bytes ++ bits 8 byte
+data-more bytes byte =
+    flat_map-append (bits 8) bytes (byte ∷ []) ∙ ap (λ field. flat_map (bits 8) bytes ++ field) (append-nil (bits 8 byte))
 
 pub length-covered : (frame : DataFrame) → length (covered frame) ≡ 19 + 8 * length frame.bytes
 unfolding covered

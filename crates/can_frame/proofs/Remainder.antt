@@ -1,7 +1,6 @@
 -- Division by the generator: what it leaves, and that it leaves one thing.
-use Rattle.std.proofs.Common.{◌≡◌, ℕ, zero, suc, ◌+◌, ◌-◌, ◌*◌, ◌/◌, ◌^◌, ◌<◌, ◌≤◌, ◌⊎◌, Bool, true, false, not, cond, ltb, List, [], ◌∷◌, ◌++◌, length, fold, bit_xor, zero-add, refl, subst, sym, ap, ◌∙◌, inl, inr, arith, lit<}
+use Rattle.std.proofs.Common.{◌≡◌, ℕ, zero, suc, ◌+◌, ◌-◌, ◌*◌, ◌/◌, ◌^◌, ◌<◌, ◌≤◌, ◌⊎◌, Bool, true, false, not, cond, ltb, List, [], ◌∷◌, length, fold, bit_xor, zero-add, refl, subst, sym, ap, ◌∙◌, inl, inr, arith, lit<}
 use Rattle.std.proofs.Math.Nat.{mul_comm, pow-suc}
-use Rattle.std.proofs.lemmas.List.Sums.{fold_push}
 use Rattle.std.proofs.lemmas.Bool.{ltb-true, ltb-false}
 use Rattle.std.proofs.lemmas.Nat.{pow-add, xor_comm, xor_lt, xor_block}
 use lib.Bits.{xor_assoc, xor_self, xor_zero_l, xor_zero_r, xor_shifted, xor_shr}
@@ -26,7 +25,7 @@ double-xor a b =
     sum_is ∙ sym block ∙ ap (λ x. bit_xor x (b * 2 + 0)) a_is ∙ ap (bit_xor (2 * a)) b_is
 
 -- two numbers with the same highest bit, their sum without it
-pub top-xor : (n : ℕ) → 2 ^ 15 ≤ n → n < 2 ^ 16 → bit_xor n generator < 2 ^ 15
+top-xor : (n : ℕ) → 2 ^ 15 ≤ n → n < 2 ^ 16 → bit_xor n generator < 2 ^ 15
 top-xor n high low =
     let n_is : 1 * 2 ^ 15 + (n - 2 ^ 15) ≡ n = omega arith in
     let rest : n - 2 ^ 15 < 2 ^ 15 = omega arith in
@@ -36,7 +35,7 @@ top-xor n high low =
     omega arith
 
 -- a dividend times x leaves twice the remainder, where its degree is below 15
-pub IsRemainder-low : (d r n : ℕ) → IsRemainder d r → n ≡ 2 * r → n < 2 ^ 15 → IsRemainder (2 * d) n
+IsRemainder-low : (d r n : ℕ) → IsRemainder d r → n ≡ 2 * r → n < 2 ^ 15 → IsRemainder (2 * d) n
 unfolding product
 IsRemainder-low d r n h is low = record {
   quotient = false ∷ h.quotient;
@@ -47,7 +46,7 @@ IsRemainder-low d r n h is low = record {
 }
 
 -- and otherwise that less the generator
-pub IsRemainder-high : (d r n : ℕ) → IsRemainder d r → n ≡ 2 * r → 2 ^ 15 ≤ n → IsRemainder (2 * d) (bit_xor n generator)
+IsRemainder-high : (d r n : ℕ) → IsRemainder d r → n ≡ 2 * r → 2 ^ 15 ≤ n → IsRemainder (2 * d) (bit_xor n generator)
 unfolding product
 IsRemainder-high d r n h is high = record {
   quotient = true ∷ h.quotient;
@@ -57,37 +56,6 @@ IsRemainder-high d r n h is high = record {
       ∙ sym (xor_twice (2 * product h.quotient generator) n generator);
   below = top-xor n high (let small : r < 2 ^ 15 = h.below in omega arith);
 }
-
--- a polynomial of a degree below 15 goes to the remainder
-pub IsRemainder-fed : (d r t : ℕ) → IsRemainder d r → t < 2 ^ 15 → IsRemainder (bit_xor d t) (bit_xor r t)
-IsRemainder-fed d r t h small = record {
-  quotient = h.quotient;
-  division = ap (λ x. bit_xor x t) h.division ∙ xor_assoc (product h.quotient generator) r t;
-  below = xor_lt 15 r t h.below small;
-}
-
--- a bit at x^14
-pub bit_small : (bit : Bool) (t : ℕ) → t ≡ bit_number bit * 2 ^ 14 → t < 2 ^ 15
-bit_small true t is = omega arith
-bit_small false t is = omega arith
-
--- one more covered bit: twice what the bits so far are with the bit fed in at x^14
-pub covered_more : (covered : List Bool) (bit : Bool) (t : ℕ) → t ≡ bit_number bit * 2 ^ 14 → number (covered ++ bit ∷ []) * 2 ^ 15 ≡ 2 * bit_xor (number covered * 2 ^ 15) t
-covered_more covered bit t is =
-    let small : t < 2 ^ 15 = bit_small bit t is in
-    let pushed : number (covered ++ bit ∷ []) ≡ 2 * number covered + bit_number bit = fold_push (λ value b. 2 * value + bit_number b) 0 covered bit in
-    let apart : bit_xor (number covered * 2 ^ 15) t ≡ number covered * 2 ^ 15 + t = xor_shifted (number covered) 15 t small in
-    omega arith
-
--- the register once a bit was shifted in, where its highest bit and that bit are equal
-pub IsSequence-low : (covered : List Bool) (bit : Bool) (register t n : ℕ) → t ≡ bit_number bit * 2 ^ 14 → n ≡ bit_xor register t * 2 → n < 2 ^ 15 → IsSequence covered register → IsSequence (covered ++ bit ∷ []) n
-IsSequence-low covered bit register t n fed is low h =
-    rw (covered_more covered bit t fed) (IsRemainder-low _ _ n (IsRemainder-fed _ register t h (bit_small bit t fed)) (omega arith) low)
-
--- and where they differ
-pub IsSequence-high : (covered : List Bool) (bit : Bool) (register t n : ℕ) → t ≡ bit_number bit * 2 ^ 14 → n ≡ bit_xor register t * 2 → 2 ^ 15 ≤ n → IsSequence covered register → IsSequence (covered ++ bit ∷ []) (bit_xor n generator)
-IsSequence-high covered bit register t n fed is high h =
-    rw (covered_more covered bit t fed) (IsRemainder-high _ _ n (IsRemainder-fed _ register t h (bit_small bit t fed)) (omega arith) high)
 
 -- ---- the remainder is one
 
@@ -181,7 +149,7 @@ IsRemainder-one d r s h k =
 
 -- ---- and it is there
 
-power_step : (d r : ℕ) (b : Bool) → IsRemainder d r → ltb (2 * r) (2 ^ 15) ≡ b → IsRemainder (2 * d) (cond b (2 * r) (bit_xor (2 * r) generator))
+pub power_step : (d r : ℕ) (b : Bool) → IsRemainder d r → ltb (2 * r) (2 ^ 15) ≡ b → IsRemainder (2 * d) (cond b (2 * r) (bit_xor (2 * r) generator))
 power_step d r true h is = IsRemainder-low d r (2 * r) h refl (ltb-true (2 * r) (2 ^ 15) is)
 power_step d r false h is = IsRemainder-high d r (2 * r) h refl (ltb-false (2 * r) (2 ^ 15) is)
 
@@ -199,7 +167,7 @@ IsRemainder-power (suc k) =
     rw twice (power_step (2 ^ k) (power k) _ (IsRemainder-power k) refl)
 
 -- what stands before a field counts for the power that is behind it
-number-from : (start : ℕ) (field : List Bool) → fold (λ value bit. 2 * value + bit_number bit) start field ≡ start * 2 ^ length field + number field
+pub number-from : (start : ℕ) (field : List Bool) → fold (λ value bit. 2 * value + bit_number bit) start field ≡ start * 2 ^ length field + number field
 number-from start [] = omega arith
 number-from start (bit ∷ field) =
     let all = number-from (2 * start + bit_number bit) field in

@@ -6,7 +6,7 @@ use mir.Val.{bool_byte}
 use Rattle.stuff_bound.specs.Stuffing.{run, HasNoSix}
 use Rattle.stuff_bound.proofs.Shared.{run-more}
 use Rattle.can_frame.specs.declared.wire_fault.WireFault.TheVariants.{Form, Short}
-use Rattle.can_frame.specs.Number.{bits}
+use Rattle.stuff_bound.specs.Fields.{bits}
 use Rattle.can_frame.specs.Reading.{carried, plain_length, IsMisplaced, IsPlaced, IsBegun, GoesOn, EndsInside, Reads}
 use Rattle.can_frame.specs.Progress.{Progress, all_bits, Expects, Went, EndsPlain}
 use Rattle.can_frame.proofs.Carried.{reverse_more, carried-plain}

@@ -4,7 +4,7 @@ use Rattle.std.specs.Prelude.{ℕ, Bool, true, false, List, [], ◌∷◌, ◌++
 use Rattle.std.specs.List.{flat_map}
 use Rattle.stuff_bound.specs.Stuffing.{stuffed}
 use Rattle.can_frame.specs.DataFrame.{DataFrame}
-use Rattle.can_frame.specs.Number.{bits}
+use Rattle.stuff_bound.specs.Fields.{bits}
 use Rattle.can_frame.specs.Crc.{sequence_of}
 
 abbrev pub dominant : Bool

@@ -1,7 +1,7 @@
 //! A list of bits without memory, with room for the longest frame before stuffing.
 
 ghost use Rattle.std.specs.Prelude.{◌≡◌, ◌+◌, ◌<◌, ◌≤◌, ◌^◌, [], ◌∷◌, ◌++◌, length};
-ghost use Rattle.can_frame.specs.Number.{bits};
+ghost use Rattle.stuff_bound.specs.Fields.{bits};
 
 use std::marker::Model;
 

@@ -5,8 +5,10 @@
 mod bit_list;
 mod data_frame;
 pub mod laws;
+mod packing;
 mod reader;
-mod register;
+mod sequence;
+mod shares;
 #[cfg(test)]
 mod tests;
 mod wire_bits;
@@ -14,5 +16,6 @@ mod wire_fault;
 
 pub use data_frame::{Frame, FrameFault, MAX_BYTES, MAX_IDENTIFIER, TimedFrame};
 pub use reader::read_wire;
-pub use wire_bits::{crc, wire, wire_len};
+pub use sequence::crc;
+pub use wire_bits::{wire, wire_len};
 pub use wire_fault::WireFault;

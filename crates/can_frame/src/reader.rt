@@ -5,13 +5,14 @@ ghost use Rattle.std.specs.List.{flat_map};
 ghost use Rattle.stuff_bound.specs.Stuffing.{run, HasNoSix, at_stuff_place, stuffed};
 ghost use Rattle.can_frame.specs.declared.wire_fault.WireFault.{WireFault};
 ghost use Rattle.can_frame.specs.DataFrame.{DataFrame, IsFrame};
-ghost use Rattle.can_frame.specs.Number.{bits};
+ghost use Rattle.stuff_bound.specs.Fields.{bits};
 ghost use Rattle.can_frame.specs.Wire.{dominant, recessive, header, plain, with_sequence};
 ghost use Rattle.can_frame.specs.Reading.{carried, plain_length, IsMisplaced, IsPlaced, IsBegun, Reads};
 ghost use Rattle.can_frame.specs.Progress.{all_bits, Expects, Went, EndsPlain};
 
 use crate::data_frame::{Frame, MAX_BYTES};
-use crate::wire_bits::{TRAILER, crc};
+use crate::sequence::crc;
+use crate::wire_bits::TRAILER;
 use crate::wire_fault::WireFault;
 use std::alloc::Global;
 use std::marker::Model;

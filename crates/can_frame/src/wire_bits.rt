@@ -1,15 +1,15 @@
 //! The bits of a frame in the order of sending.
 
-ghost use Rattle.std.specs.Prelude.{◌≡◌, ◌+◌, ◌*◌, ◌<◌, ◌≤◌, ◌^◌, length, IfOk};
+ghost use Rattle.std.specs.Prelude.{◌≡◌, ◌+◌, ◌*◌, ◌≤◌, length, IfOk};
 ghost use Rattle.stuff_bound.specs.Stuffing.{worst};
-ghost use Rattle.can_frame.specs.Crc.{IsSequence, sequence_of};
 ghost use Rattle.can_frame.specs.Wire.{covered, plain, wire_of, wire_length};
 
 use crate::bit_list::BitList;
 use crate::data_frame::Frame;
-use crate::register::sequence;
+use crate::packing::plain_bytes;
+use crate::sequence::crc;
 use std::alloc::{AllocError, Global};
-use stuff_bound::{stuff, stuffed_len};
+use stuff_bound::{stuff, stuffed_len_bytes};
 
 /// A dominant bit, which is 0: it overrides a recessive one.
 const DOMINANT: bool = false;
@@ -46,18 +46,8 @@ fn plain_bits(frame: &Frame) -> BitList
     ensures few { length result ≤ 98 }
 {
     let mut list = covered_bits(frame);
-    let crc = sequence(list.as_slice());
-    list.push_field(15, crc);
+    list.push_field(15, crc(frame));
     list
-}
-
-/// The CRC sequence of a frame, 15 bits. It takes no memory.
-pub fn crc(frame: &Frame) -> u16
-    ensures value { result ≡ sequence_of (covered frame.now) }
-    ensures remainder { IsSequence (covered frame.now) result }
-    ensures range { result < 2 ^ 15 }
-{
-    sequence(covered_bits(frame).as_slice())
 }
 
 /// The wire length of a frame in bit times, its three bits of intermission included: 47 and 8 for each
@@ -67,8 +57,8 @@ pub fn wire_len(frame: &Frame) -> u32
     ensures at_least { 47 + 8 * length frame.now.bytes ≤ result }
     ensures at_most { result ≤ worst (length frame.now.bytes) }
 {
-    let stuffed = stuffed_len(plain_bits(frame).as_slice());
-    (stuffed + TRAILER.len()) as u32
+    let plain = 34 + 8 * u32::from(frame.dlc());
+    stuffed_len_bytes(&plain_bytes(frame), plain) + TRAILER.len() as u32
 }
 
 /// The bits of a frame on the wire, in the order of sending, its three bits of intermission included.

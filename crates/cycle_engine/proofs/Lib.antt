@@ -15,3 +15,5 @@ mod Pending
 mod SlotSums
 mod Waking
 mod Window
+mod BackToBack
+mod TwoParts

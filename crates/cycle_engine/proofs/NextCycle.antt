@@ -1,6 +1,6 @@
 -- The next cycle of the nodes is one more behind a cycle.
 
-use Rattle.std.proofs.Common.{◌≡◌, ◌≢◌, ℕ, ◌+◌, ◌^◌, ◌<◌, ◌≤◌, Bool, true, false, cond, List, [], ◌∷◌, ◌++◌, All, Some, refl, sym, ap, ◌∙◌, subst, arith, get_or}
+use Rattle.std.proofs.Common.{◌≡◌, ◌≢◌, ℕ, ◌+◌, ◌^◌, ◌<◌, ◌≤◌, Bool, true, false, cond, List, [], ◌∷◌, ◌++◌, All, None, Some, refl, sym, ap, ◌∙◌, subst, arith, get_or}
 use Rattle.std.specs.Prelude.{◌==◌}
 use Rattle.std.proofs.lemmas.Bool.{eq-eqb, eqb-true, false≢true}
 use Rattle.std.proofs.lemmas.List.Elements.{All-contains, All-map}
@@ -32,36 +32,54 @@ next_more false x y next is same = absurd (false≢true is)
 next_opened : (node : NodeState) (sent : TimedFrame) → sent.frame.identifier ≡ 0 → (after_hearing node sent).next ≡ node.next + 1
 next_opened node sent zero = next_more (sent.frame.identifier == 0) _ _ (node.next + 1) (eq-eqb sent.frame.identifier 0 zero) refl
 
--- each node has this next cycle
-abbrev AtCycle : ℕ → List NodeState → Type 0
-AtCycle next nodes = All (λ node. node.next ≡ next) nodes
+-- no trigger comes back
+told-alone : (frames : List TimedFrame) (before : Stationed) → before.trigger ≡ None → (told cycle_line before frames).trigger ≡ None
+told-alone [] before none = none
+told-alone (sent ∷ later) before none = told-alone later (cycle_line.next before sent) refl
 
 module _ (in_range : (node : NodeState) (at id : ℕ) → IsNode node → node_offer node at ≡ Some id → (0x100 ≤ id) × (id ≤ 0x7EF))
     (stays : (node : NodeState) (sent : TimedFrame) → (sent.frame.identifier ≡ 0 → node.next < 2 ^ 42) → IsNode node → IsNode (after_hearing node sent))
     (layout : CycleLayout) (until : ℕ) where
-  AtCycle-nodes : (before : Stationed) (sofar : List TimedFrame) (nodes : List NodeState) (free : ℕ) (frames : List TimedFrame) (next : ℕ)
-      → told cycle_line before sofar ≡ alone layout nodes → All IsNode nodes → AtCycle next nodes
-      → Follows (offers_of cycle_line before) sofar free until frames → AtCycle next (told cycle_line (alone layout nodes) frames).nodes
-  AtCycle-nodes before sofar nodes free [] next now are at follows = at
-  AtCycle-nodes before sofar nodes free (sent ∷ later) next now are at (is_next, follows) =
-      let offered = subst (λ s. IsOffered cycle_line s sent.start sent.frame) now is_next.least.offered in
-      let other : sent.frame.identifier ≢ 0 = λ zero.
-      absurd (omega (arith, zero, (All-contains (λ n. (0x100 ≤ n) × (n ≤ 0x7EF)) (offered_by_nodes nodes sent.start) sent.frame.identifier (offers_range in_range nodes sent.start are) offered.contends).0)) in
-      AtCycle-nodes before (sofar ++ sent ∷ []) (all_hear nodes sent) (end_of sent) later next
-      (fold-append cycle_line.next before sofar (sent ∷ []) ∙ ap (λ s. cycle_line.next s sent) now)
-      (All-map IsNode (λ node. after_hearing node sent) nodes (λ k d within. stays (get_or nodes k d) sent (λ zero. absurd (other zero)) (are k d within)))
-      (All-map (λ node. node.next ≡ next) (λ node. after_hearing node sent) nodes (λ k d within. next_kept (get_or nodes k d) sent other ∙ at k d within)) follows
+  -- what each node keeps of what it knows, whatever it hears but a trigger, holds behind all frames without a trigger
+  module _ (P : NodeState → Type 0) (kept : (node : NodeState) (sent : TimedFrame) → sent.frame.identifier ≢ 0 → P node → P (after_hearing node sent)) where
+    All-nodes : (before : Stationed) (sofar : List TimedFrame) (nodes : List NodeState) (free : ℕ) (frames : List TimedFrame)
+        → told cycle_line before sofar ≡ alone layout nodes → All IsNode nodes → All P nodes
+        → Follows (offers_of cycle_line before) sofar free until frames → All P (told cycle_line (alone layout nodes) frames).nodes
+    All-nodes before sofar nodes free [] now are holds follows = holds
+    All-nodes before sofar nodes free (sent ∷ later) now are holds (is_next, follows) =
+        let offered = subst (λ s. IsOffered cycle_line s sent.start sent.frame) now is_next.least.offered in
+        let other : sent.frame.identifier ≢ 0 = λ zero.
+        absurd (omega (arith, zero, (All-contains (λ n. (0x100 ≤ n) × (n ≤ 0x7EF)) (offered_by_nodes nodes sent.start) sent.frame.identifier (offers_range in_range nodes sent.start are) offered.contends).0)) in
+        All-nodes before (sofar ++ sent ∷ []) (all_hear nodes sent) (end_of sent) later
+        (fold-append cycle_line.next before sofar (sent ∷ []) ∙ ap (λ s. cycle_line.next s sent) now)
+        (All-map IsNode (λ node. after_hearing node sent) nodes (λ k d within. stays (get_or nodes k d) sent (λ zero. absurd (other zero)) (are k d within)))
+        (All-map P (λ node. after_hearing node sent) nodes (λ k d within. kept (get_or nodes k d) sent other (holds k d within))) follows
+
+    -- the trigger is the first frame, and behind it only others come
+    pub All-behind : (nodes : List NodeState) (frames : List TimedFrame) (low cycle : ℕ) (trigger : DataFrame) → low < until → trigger.identifier ≡ 0
+        → All IsNode nodes → cycle < 2 ^ 42 → All (λ node. node.next ≡ cycle) nodes
+        → ((sent : TimedFrame) → sent.frame ≡ trigger → All P (all_hear nodes sent))
+        → Follows (offers_of cycle_line (announced layout low trigger nodes)) [] low until frames
+        → All P (told cycle_line (announced layout low trigger nodes) frames).nodes
+        × ((told cycle_line (announced layout low trigger nodes) frames).trigger ≡ None)
+    All-behind nodes [] low cycle trigger some zero are early at opens nothing =
+        absurd (nothing low trigger (omega arith) some (offers_announced layout low trigger nodes zero))
+    All-behind nodes (sent ∷ later) low cycle trigger some zero are early at opens (next, follows) =
+        let is = first_announced layout low trigger nodes zero until sent next in (
+          All-nodes (announced layout low trigger nodes) (sent ∷ []) (all_hear nodes sent) (end_of sent) later refl
+              (All-map IsNode (λ node. after_hearing node sent) nodes (λ k d within. stays (get_or nodes k d) sent (λ _. subst (λ c. c < 2 ^ 42) (sym (at k d within)) early) (are k d within)))
+              (opens sent is.1) follows,
+          told-alone later (alone layout (all_hear nodes sent)) refl,
+        )
 
   -- behind a cycle the next one is one more
   pub AtCycle-behind : (nodes : List NodeState) (frames : List TimedFrame) (low cycle : ℕ) (trigger : DataFrame) → low < until → trigger.identifier ≡ 0
       → All IsNode nodes → cycle < 2 ^ 42 → All (λ node. node.next ≡ cycle) nodes
       → Follows (offers_of cycle_line (announced layout low trigger nodes)) [] low until frames
       → All (λ node. node.next ≡ cycle + 1) (told cycle_line (announced layout low trigger nodes) frames).nodes
-  AtCycle-behind nodes [] low cycle trigger some zero are early at nothing =
-      absurd (nothing low trigger (omega arith) some (offers_announced layout low trigger nodes zero))
-  AtCycle-behind nodes (sent ∷ later) low cycle trigger some zero are early at (next, follows) =
-      let is = first_announced layout low trigger nodes zero until sent next in
-      let opens : sent.frame.identifier ≡ 0 = ap (λ frame. frame.identifier) is.1 ∙ zero in
-      AtCycle-nodes (announced layout low trigger nodes) (sent ∷ []) (all_hear nodes sent) (end_of sent) later (cycle + 1) refl
-      (All-map IsNode (λ node. after_hearing node sent) nodes (λ k d within. stays (get_or nodes k d) sent (λ _. subst (λ c. c < 2 ^ 42) (sym (at k d within)) early) (are k d within)))
-      (All-map (λ node. node.next ≡ cycle + 1) (λ node. after_hearing node sent) nodes (λ k d within. next_opened (get_or nodes k d) sent opens ∙ ap (λ c. c + 1) (at k d within))) follows
+  AtCycle-behind nodes frames low cycle trigger some zero are early at follows =
+      (All-behind (λ node. node.next ≡ cycle + 1) (λ node sent other is. next_kept node sent other ∙ is) nodes frames low cycle trigger some zero are early at
+      (λ sent is.
+      let opens : sent.frame.identifier ≡ 0 = ap (λ frame. frame.identifier) is ∙ zero in
+      All-map (λ node. node.next ≡ cycle + 1) (λ node. after_hearing node sent) nodes
+      (λ k d within. next_opened (get_or nodes k d) sent opens ∙ ap (λ c. c + 1) (at k d within))) follows).0

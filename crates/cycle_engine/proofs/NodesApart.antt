@@ -3,10 +3,11 @@ use Rattle.std.proofs.Common.{◌≡◌, ◌≢◌, ℕ, ◌^◌, ◌<◌, ◌�
 use Rattle.std.specs.Prelude.{IfSome, IsSome, ◌==◌}
 use Rattle.std.proofs.lemmas.Bool.{false≢true}
 use Rattle.std.proofs.lemmas.List.{length-map}
-use Rattle.std.proofs.lemmas.List.Elements.{All-cons, All-contains, All-map}
+use Rattle.std.proofs.lemmas.List.Elements.{All-cons, All-contains, All-head, All-map, All-tail}
 use Rattle.arbitration.specs.Arbitration.{AreDistinct}
 use Rattle.can_frame.specs.declared.data_frame.TimedFrame.{TimedFrame}
 use Rattle.cycle_layout.specs.Layout.{CycleLayout}
+use Rattle.bus_line.specs.Stations.{told}
 use Rattle.requirement_table.specs.declared.entries.Placed.{Placed}
 use Rattle.node_model.specs.Node.{IsNode, NodeState, after_hearing, learnt, node_offer}
 use Rattle.node_model.specs.Own.{AreApart}
@@ -43,6 +44,17 @@ pub AreNodes-hearing : (layout : CycleLayout) (nodes : List NodeState) (sent : T
 AreNodes-hearing layout nodes sent stays apart next before =
     AreNodes-changed layout nodes (λ node. after_hearing node sent) before (λ k d within. stays (get_or nodes k d) (λ zero. next zero k d within))
     (λ node. layout_kept node sent) (λ node. number_kept node sent) (λ one other _. apart one other)
+
+-- the same behind frames without a trigger
+pub AreNodes-told : (layout : CycleLayout) (frames : List TimedFrame) (before : Stationed)
+    → ((node : NodeState) (sent : TimedFrame) → (sent.frame.identifier ≡ 0 → node.next < 2 ^ 42) → IsNode node → IsNode (after_hearing node sent))
+    → ((one other : NodeState) (sent also : TimedFrame) → AreApart one other → AreApart (after_hearing one sent) (after_hearing other also))
+    → All (λ sent. sent.frame.identifier ≢ 0) frames → AreNodes layout before.nodes → AreNodes layout (told cycle_line before frames).nodes
+AreNodes-told layout [] before stays apart none are = are
+AreNodes-told layout (sent ∷ later) before stays apart none are =
+    let other = All-head (λ one. one.frame.identifier ≢ 0) sent later none in
+    AreNodes-told layout later (cycle_line.next before sent) stays apart (All-tail (λ one. one.frame.identifier ≢ 0) sent later none)
+    (AreNodes-hearing layout before.nodes sent (λ node. stays node sent) (λ one two. apart one two sent sent) (λ zero. absurd (other zero)) are)
 
 -- no trigger is left
 pub AreStations-alone : (layout : CycleLayout) (nodes : List NodeState) → AreNodes layout nodes → AreStations (record { layout = layout; trigger = None; nodes = nodes })

@@ -2,3 +2,4 @@ pub mod Cycle
 pub mod Nodes
 pub mod Offered
 pub mod Stations
+pub mod SyncWindow

@@ -1,18 +1,21 @@
 //! What is done with each node of a bus.
 
-ghost use Rattle.std.specs.Prelude.{◌≡◌, ◌+◌, ◌^◌, ◌<◌, ◌≤◌, ◌++◌, None, All, Contains, OnOk, length, map};
+ghost use Rattle.std.specs.Prelude.{◌≡◌, ℕ, ◌+◌, ◌^◌, ◌<◌, ◌≤◌, ◌++◌, None, All, Contains, OnOk, length, map, slice_index_or};
 ghost use Rattle.arbitration.specs.Arbitration.{AreDistinct};
+ghost use Rattle.requirement_table.specs.Slots.{slots};
 ghost use Rattle.requirement_table.specs.Table.{IsWellPlaced};
 ghost use Rattle.bus_line.specs.Stations.{IsWake, sooner};
 ghost use Rattle.node_model.specs.Node.{learnt};
-ghost use Rattle.cycle_engine.specs.Nodes.{left_in, states_of};
+ghost use Rattle.node_model.specs.Window.{AreOfSlots};
+ghost use Rattle.cycle_engine.specs.Nodes.{heard_by, left_in, states_of};
 ghost use Rattle.cycle_engine.specs.Stations.{all_hear, frame_by_nodes, offered_by_nodes};
+ghost use Rattle.cycle_engine.specs.SyncWindow.{IsRowOf};
 
 use arbitration::Contenders;
 use bus_line::laws::sooner_wake;
 use can_frame::{Frame, TimedFrame};
 use node_model::Node;
-use requirement_table::Placed;
+use requirement_table::{Mask, Placed};
 use std::alloc::{AllocError, Global};
 
 /// Makes each node able to learn a list of so many entries without memory.
@@ -44,6 +47,27 @@ pub fn hear(nodes: &mut [Node], sent: &TimedFrame)
 {
     for node in nodes {
         node.hear(sent);
+    }
+}
+
+/// Puts the frame of each slot that a node is to send in its open cycle at the slot's place in an empty row.
+pub fn put_due(nodes: &[Node], row: &mut [Option<Frame>])
+    requires places { length row.old ≡ slots }
+    requires empty { (slot : ℕ) → slot < slots → slice_index_or row.old slot None ≡ None }
+    ensures row { IsRowOf (states_of nodes.now) row.new }
+{
+    for node in nodes {
+        node.put_due(row);
+    }
+}
+
+/// Tells each node of frames of slots, in their order. These are their slots.
+pub fn hear_slots(nodes: &mut [Node], sent: Mask, frames: &[TimedFrame])
+    requires slots { AreOfSlots sent frames.now }
+    ensures heard { states_of nodes.new ≡ heard_by frames.now (states_of nodes.old) }
+{
+    for node in nodes {
+        node.hear_slots(sent, frames);
     }
 }
 

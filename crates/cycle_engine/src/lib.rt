@@ -9,6 +9,7 @@ pub mod laws;
 mod nodes;
 mod segment;
 mod stations;
+mod sync_window;
 
 pub use cycle::run_cycle;
 pub use nodes::Nodes;

@@ -11,14 +11,17 @@ ghost use Rattle.async_window.specs.Owners.{AreOwners};
 ghost use Rattle.node_model.specs.Node.{fresh_node};
 ghost use Rattle.cycle_engine.specs.Nodes.{IsBus, IsNumber, heard_by, learnt_by, left_in, states_of};
 ghost use Rattle.cycle_engine.specs.Stations.{announced, cycle_line};
+ghost use Rattle.cycle_engine.specs.SyncWindow.{IsBeforeWindow};
 
 use crate::stations::NodeStations;
 use async_window::{Owner, Request};
+use bus_line::laws::{StationOffers, same_along, trace_laws};
 use bus_line::run_until;
 use can_frame::TimedFrame;
+use can_frame::laws::wire_lengths;
 use cycle_layout::Layout;
 use node_model::Node;
-use node_model::laws::nodes_are_apart;
+use node_model::laws::{nodes_are_apart, offers_in_range, sends_its_slots, stays_a_node};
 use requirement_table::{Order, PlacedList};
 use std::alloc::{AllocError, Global};
 use std::marker::Model;
@@ -126,11 +129,37 @@ impl Nodes {
             [] (order.now.cycle * self.old.layout.cycle) ((order.now.cycle + 1) * self.old.layout.cycle) frames.new.items }
     {
         let layout = self.layout();
-        let length = u64::from(layout.cycle());
-        let start = order.cycle * length;
+        let end = (order.cycle + 1) * u64::from(layout.cycle());
+        let from = self.run_up_to_window(order, frames);
+        self.stations.run_window(from, end, frames);
+    }
+
+    /// Runs the bus over the nodes through the cycle of an order up to its synchronous window, and puts the frames into `frames`, which has
+    /// room for them. The answer is the first time in that window at which the bus is free.
+    fn run_up_to_window(&mut self, order: &Order, frames: &mut Vec<TimedFrame>) -> u64
+        requires cycle { order.now.cycle < 2 ^ 42 }
+        requires next { All (λ node. node.next ≡ order.now.cycle) (states_of self.old.nodes) }
+        requires window { order.now.l ≤ self.old.layout.window }
+        requires empty { frames.old.items ≡ [] }
+        requires room { self.old.layout.cycle / 47 + 1 ≤ vec_capacity frames.old }
+        ensures layout { self.new.layout ≡ self.old.layout }
+        ensures before_window { IsBeforeWindow self.old.layout order.now.cycle order.now.l order.now.mask (states_of self.old.nodes)
+            (states_of self.new.nodes) frames.new.items result }
+        ensures capacity { vec_capacity frames.old ≤ vec_capacity frames.new }
+    {
+        wire_lengths();
+        trace_laws::<StationOffers<NodeStations>>();
+        same_along::<StationOffers<NodeStations>, StationOffers<NodeStations>>();
+        sends_its_slots();
+        stays_a_node();
+        offers_in_range();
+        order.mask.known();
+        let layout = self.layout();
+        let start = order.cycle * u64::from(layout.cycle());
+        let window = layout.sync_start(order.cycle, order.l);
         let trigger = encode(order.cycle, order.l, order.mask);
         self.stations.announce(start, trigger);
-        run_until(&mut self.stations, start, start + length, frames);
+        window.max(run_until(&mut self.stations, start, window, frames))
     }
 }
 

@@ -1,14 +1,16 @@
 //! The nodes of a bus as stations on it, and with them the master, which offers a trigger.
 
-ghost use Rattle.std.specs.Prelude.{◌≡◌, ◌^◌, ◌<◌, ◌≤◌, [], None, Some, All, OnOk, length, map};
+ghost use Rattle.std.specs.Prelude.{◌≡◌, ◌+◌, ◌-◌, ◌/◌, ◌^◌, ◌<◌, ◌≤◌, [], None, Some, All, OnOk, length, map, vec_capacity};
 ghost use Rattle.cycle_layout.specs.Layout.{IsLayout};
 ghost use Rattle.requirement_table.specs.Table.{IsWellPlaced};
 ghost use Rattle.node_model.specs.Node.{learnt};
+ghost use Rattle.node_model.specs.Window.{IsInWindow};
 ghost use Rattle.cycle_engine.specs.Nodes.{left_in, states_of};
 ghost use Rattle.bus_line.specs.Stations.{IsWake};
 ghost use Rattle.cycle_engine.specs.Stations.{AreNodes, offered_trigger};
+ghost use Rattle.cycle_engine.specs.SyncWindow.{IsSentBy};
 
-use crate::each;
+use crate::{each, sync_window};
 use arbitration::Contenders;
 use bus_line::Stations;
 use bus_line::laws::sooner_wake;
@@ -106,6 +108,21 @@ impl NodeStations {
         ensures known { AreNodes self.new.layout (states_of self.new.nodes) }
     {
         self.trigger = Some(DueTrigger { at, frame });
+    }
+
+    /// Runs the bus over the nodes in their synchronous window from `from` on, and puts the frames that start before `until` behind `out`,
+    /// which has room for them. The trigger was sent.
+    pub fn run_window(&mut self, from: u64, until: u64, out: &mut Vec<TimedFrame>)
+        requires time { until < 2 ^ 60 }
+        requires window { All (IsInWindow from until) (states_of self.old.nodes) }
+        requires room { from < until → length out.old.items + ((until - from) / 47 + 1) ≤ vec_capacity out.old }
+        ensures layout { self.new.layout ≡ self.old.layout }
+        ensures sent { IsSentBy (states_of self.old.nodes) (states_of self.new.nodes) from until out.old.items out.new.items }
+    {
+        stays_a_node();
+        nodes_are_apart();
+        sync_window::run_window(self.nodes.as_mut_slice(), from, until, out);
+        self.trigger = None;
     }
 }
 

@@ -1,6 +1,6 @@
 -- Lists of operators.
-use Rattle.std.proofs.Common.{◌≡◌, ℕ, suc, zero, ◌+◌, ◌<◌, ◌++◌, ◌∷◌, [], List, Bool, true, ◌&&◌, length, slice_index_or, All, Contains, refl, sym, ap, ◌∙◌, subst, arith, append_assoc, length-append}
-use Rattle.std.proofs.lemmas.List.Elements.{All-cons, Contains-append_left, Contains-append_right}
+use Rattle.std.proofs.Common.{◌≡◌, ℕ, suc, zero, ◌<◌, ◌≤◌, ◌++◌, ◌∷◌, [], List, Bool, true, length, slice_index_or, All, Contains, refl, sym, ap, ◌∙◌, subst, arith, append_assoc}
+use Rattle.std.proofs.lemmas.List.Elements.{All-cons, All-head, All-nil, All-push, All-tail, Contains-append_left, Contains-append_right}
 use Rattle.admission_rules.specs.declared.Rules.{Rules}
 use Rattle.turn_lock.specs.declared.view.View.{View}
 use Rattle.master_core.specs.declared.event.Event.{Event}
@@ -43,3 +43,27 @@ retired-one all rest left operator v w flag after last more kept answered retire
         answered = λ is. All-cons (λ (o : Operator). o.answered ≡ true) operator gone (answered is) (before.answered (kept is));
       },
     )
+
+-- numbers that are not above a bound, of the operators before the last one and of the last one
+few-parts : (most : ℕ) (left : List Operator) (operator : Operator) → All (λ (o : Operator). o.pass.view.number ≤ most) (left ++ operator ∷ [])
+    → All (λ (o : Operator). o.pass.view.number ≤ most) left × (operator.pass.view.number ≤ most)
+few-parts most [] operator all = (All-nil (λ (o : Operator). o.pass.view.number ≤ most), all 0 operator (omega arith))
+few-parts most (o ∷ os) operator all =
+    let P : Operator → Type 0 = λ (x : Operator). x.pass.view.number ≤ most in
+    let rest = few-parts most os operator (All-tail P o (os ++ operator ∷ []) all) in
+    (All-cons P o os (All-head P o (os ++ operator ∷ []) all) rest.0, rest.1)
+
+pub few-left : (most : ℕ) (rest left : List Operator) (operator : Operator) → rest ≡ left ++ operator ∷ []
+    → All (λ (o : Operator). o.pass.view.number ≤ most) rest
+    → All (λ (o : Operator). o.pass.view.number ≤ most) left × (operator.pass.view.number ≤ most)
+few-left most rest left operator last all =
+    few-parts most left operator (subst (λ (l : List Operator). All (λ (o : Operator). o.pass.view.number ≤ most) l) last all)
+
+-- the numbers under which calls stand stay below a bound when one more operator was retired
+pub few-joined : (most : ℕ) (v w : View Event Rules) (operator : Operator)
+    → w.ended ≡ v.ended ++ (operator.pass.view.number, operator.pass.view.mine) ∷ []
+    → All (λ (entry : ℕ × List Event). entry.0 ≤ most) v.ended → operator.pass.view.number ≤ most
+    → All (λ (entry : ℕ × List Event). entry.0 ≤ most) w.ended
+few-joined most v w operator more ended few =
+    subst (λ (l : List (ℕ × List Event)). All (λ (entry : ℕ × List Event). entry.0 ≤ most) l) (sym more)
+    (All-push (λ (entry : ℕ × List Event). entry.0 ≤ most) v.ended (operator.pass.view.number, operator.pass.view.mine) ended few)

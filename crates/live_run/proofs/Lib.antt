@@ -1,3 +1,4 @@
 mod Crews
 mod Cycles
 mod Runs
+mod Whole

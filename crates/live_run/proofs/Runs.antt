@@ -1,6 +1,5 @@
 -- A whole run: its beginning, and what is left behind its end.
-use Rattle.std.proofs.Common.{◌≡◌, ℕ, zero, suc, ◌+◌, ◌<◌, ◌≤◌, ◌++◌, ◌∷◌, [], List, true, false, Bool, cond, length, slice_index_or, All, Contains, refl, sym, ap, ◌∙◌, subst, arith, append-nil, take, filter}
-use Rattle.std.specs.Prelude.{count_by}
+use Rattle.std.proofs.Common.{◌≡◌, ℕ, ◌+◌, ◌<◌, ◌≤◌, ◌++◌, ◌∷◌, [], List, true, false, Bool, cond, length, slice_index_or, All, Contains, refl, sym, ap, ◌∙◌, subst, arith, take, filter}
 use mathlib.Core.List.{IsPrefix}
 use Rattle.std.proofs.lemmas.List.Elements.{All-cons, All-nil, filter-append}
 use Rattle.std.proofs.lemmas.List.{take_all, take-append-le}
@@ -8,7 +7,7 @@ use Rattle.turn_lock.specs.History.{own}
 use Rattle.can_frame.specs.declared.data_frame.TimedFrame.{TimedFrame}
 use Rattle.admission_rules.specs.declared.Rules.{Rules}
 use Rattle.turn_lock.specs.declared.view.View.{View}
-use Rattle.turn_lock.specs.Passes.{Facts, Known, Lock, first_view}
+use Rattle.turn_lock.specs.Passes.{Facts, Known, Lock}
 use Rattle.cycle_engine.specs.Nodes.{IsBus, IsNumber, NodesView, left_in, states_of}
 use Rattle.master_core.specs.declared.event.Event.{Event}
 use Rattle.master_core.specs.History.{IsLegal, IsPlainlyLegal, is_open, next_of}
@@ -20,10 +19,9 @@ use Rattle.live_run.specs.declared.crew.Operator.{Operator}
 use Rattle.live_run.specs.declared.dispatching.Bus.{Bus}
 use Rattle.live_run.specs.declared.frames.Run.{Run}
 use Rattle.live_run.specs.declared.script.Script.{Script}
-use Rattle.live_run.specs.Answers.{AnswersActs}
-use Rattle.live_run.specs.Crew.{AreDone, HasLent, IsDone}
-use Rattle.live_run.specs.Live.{AreFresh, HasAnswered, IsFirst, IsLeft, IsLiveRun}
-use Rattle.live_run.specs.Running.{CanRun, IsOnTheWay, IsRunning, Stays}
+use Rattle.live_run.specs.Crew.{AreDone}
+use Rattle.live_run.specs.Live.{AreFresh, HasAnswered, IsLiveRun}
+use Rattle.live_run.specs.Running.{CanRun, IsRunning}
 use Rattle.live_run.proofs.Cycles.{CallsBetween}
 
 -- a run begins with no calls, no frames, and nodes as they were made
@@ -77,6 +75,12 @@ append-cancel (x ∷ xs) ys is = append-cancel xs ys (cc)
 pub whole : (long : ℕ) (xs rest : List Operator) → long ≡ length xs → take long (xs ++ rest) ≡ xs
 whole long xs rest same = take-append-le long xs rest (omega arith) ∙ take_all long xs (omega arith)
 
+-- the numbers of operators that are done are at most that of the scripts
+pub done-few : (shared : Lock Rules) (scripts : List Script) (operators : List Operator) → length scripts ≡ length operators → AreDone shared scripts operators
+    → All (λ (o : Operator). o.pass.view.number ≤ length scripts) operators
+done-few shared (s ∷ scripts) operators same done k d within = let is = (done.each k d s within).number_is in omega arith
+done-few shared [] operators same done k d within = absurd (omega arith)
+
 -- between what the dispatcher saw last and the history, nothing was opened
 closed-behind : (seen later whole_history mine : List Event) → seen ++ later ≡ whole_history → filter is_open seen ≡ mine
     → filter is_open whole_history ≡ mine → All (λ call. is_open call ≡ false) later
@@ -120,9 +124,10 @@ pub left-behind : Laws → (setting : Setting) (shared : Lock Rules) (cycles : �
     → All (λ (o : Operator). Contains after.view.ended (o.pass.view.number, o.pass.view.mine)) operators
     → All (λ (o : Operator). o.answered ≡ true) operators
     → after.view.made ≡ length scripts → after.view.out ≡ 0
+    → All (λ (entry : ℕ × List Event). entry.0 ≤ length scripts) after.view.ended
     → run.trace ≡ bus.trace.items → run.left ≡ left_in (states_of bus.nodes.nodes)
     → IsLiveRun setting cycles scripts after.view run
-left-behind laws setting shared cycles scripts operators before after bus run known rules running stands retired zeroth number mine begins count same done ended answered made out trace left =
+left-behind laws setting shared cycles scripts operators before after bus run known rules running stands retired zeroth number mine begins count same done ended answered made out few trace left =
     let last = number ∙ zeroth in
     let later = begins.0 in
     let seen = before.view.seen in
@@ -141,8 +146,10 @@ left-behind laws setting shared cycles scripts operators before after bus run kn
       plain = plain;
       kept = laws.kept setting after.view.seen run.trace known under_way;
       opened = laws.cycles after.view retired.facts last ∙ (ap (λ (l : List Event). next_of l) mine ∙ count);
+      dispatcher = last;
       openings = openings;
       answered = answered-all after.view shared scripts operators same done ended answered retired.facts;
       others = omega arith;
+      numbers = few;
       left = record { nodes = bus.nodes; ready = ready; left = left };
     }

@@ -3,3 +3,4 @@ pub mod Crew
 pub mod Live
 pub mod Retiring
 pub mod Running
+pub mod Whole

@@ -1,5 +1,5 @@
 -- What a run of a shared master leaves.
-use Rattle.std.specs.Prelude.{◌≡◌, ℕ, ◌+◌, ◌<◌, List, [], length, filter, slice_index_or, Contains}
+use Rattle.std.specs.Prelude.{◌≡◌, ℕ, ◌+◌, ◌<◌, ◌≤◌, List, [], All, length, filter, slice_index_or, Contains}
 use Rattle.admission_rules.specs.declared.Rules.{Rules}
 use Rattle.turn_lock.specs.declared.view.View.{View}
 use Rattle.turn_lock.specs.History.{own}
@@ -48,7 +48,9 @@ pub record IsLiveRun (setting : Setting) (cycles : ℕ) (scripts : List Script) 
   pub plain : IsPlainlyLegal setting.rules v.seen
   pub kept : Kept setting.rules setting.layout setting.requests v.seen run.trace
   pub opened : next_of v.seen ≡ cycles
+  pub dispatcher : v.number ≡ 0
   pub openings : filter is_open v.seen ≡ v.mine
   pub answered : (k : ℕ) (d : Script) → k < length scripts → HasAnswered v (k + 1) (slice_index_or scripts k d).acts
   pub others : length v.ended ≡ length scripts
+  pub numbers : All (λ entry. entry.0 ≤ length scripts) v.ended
   pub left : IsLeft setting v.seen run

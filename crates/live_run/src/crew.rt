@@ -1,6 +1,6 @@
 //! The operators of a run: hired before it, and retired behind it.
 
-ghost use Rattle.std.specs.Prelude.{◌≡◌, ◌≤◌, true, [], All, Contains, IfOk, OnOk, OnErr, vec_len};
+ghost use Rattle.std.specs.Prelude.{◌≡◌, ◌≤◌, ℕ, true, [], All, Contains, IfOk, OnOk, OnErr, vec_len};
 ghost use mathlib.Core.List.{IsPrefix};
 ghost use Rattle.turn_lock.specs.Passes.{IsOf};
 ghost use Rattle.live_master.specs.Passes.{IsPassOf};
@@ -85,6 +85,8 @@ pub fn retire_all(
     requires out { pass.old.view.out ≡ vec_len operators }
     ensures answered { result ≡ true → All (λ operator. operator.answered ≡ true) operators.items }
     ensures ended { All (λ operator. Contains pass.new.view.ended (operator.pass.view.number, operator.pass.view.mine)) operators.items }
+    ensures few { (most : ℕ) → All (λ entry. entry.0 ≤ most) pass.old.view.ended
+        → All (λ operator. operator.pass.view.number ≤ most) operators.items → All (λ entry. entry.0 ≤ most) pass.new.view.ended }
     ensures begins { IsPrefix pass.old.view.seen pass.new.view.seen }
     ensures mine { pass.new.view.mine ≡ pass.old.view.mine }
     ensures number { pass.new.view.number ≡ pass.old.view.number }

@@ -4,6 +4,7 @@
 //! Cycles are elementary cycles, counted from 0; times are bit times.
 #![tactic(auto)]
 
+mod closing;
 mod crew;
 mod dispatching;
 mod frames;
@@ -13,7 +14,11 @@ mod running;
 mod script;
 mod sharing;
 
+pub use closing::{Ended, run_whole};
 pub use frames::{FrameList, Run};
 pub use points::{Gate, OpenGate, Point};
 pub use running::run_live;
 pub use script::{ActList, Script};
+
+#[cfg(test)]
+mod tests;

@@ -1,8 +1,9 @@
 //! Scripts of operators.
 
-ghost use Rattle.std.specs.Prelude.{◌≡◌};
+ghost use Rattle.std.specs.Prelude.{◌≡◌, [], ◌∷◌, ◌++◌, OnOk};
 
 use change_protocol::Act;
+use std::alloc::AllocError;
 use std::marker::Model;
 
 /// A list of acts that a value holds. Contracts see the list.
@@ -26,6 +27,14 @@ impl ActList {
         ensures list { result ≡ acts.items }
     {
         ActList { acts }
+    }
+
+    /// Adds an act behind the others.
+    pub fn push(&mut self, act: Act) -> Result<(), AllocError>
+        ensures pushed { OnOk result (self.new ≡ self.old ++ act ∷ []) }
+    {
+        self.acts.push(act)?;
+        Ok(())
     }
 
     /// The list as a slice.

@@ -66,6 +66,21 @@ module _ (rules : Rules) (history : List Event) (list : List Placed) (since : �
     to_learn = kept.to_learn ∙ sym (learned_of-push history (Look caller cycle));
   }
 
+  -- the table where entries that are over by the next cycle are dropped from those that are planned
+  pub kept-passed : (same_list : List Placed) (by : ℕ) (fewer : Ranking) → same_list ≡ list → by ≤ cycle
+      → fewer ≡ record { placed = not_over by same_list; policy = ranked.policy } → IsKept rules history same_list by fewer cycle pending learned
+  kept-passed same_list by fewer same passed is = record {
+    ranges = kept.ranges;
+    legal = kept.legal;
+    placed = same ∙ kept.placed;
+    next = kept.next;
+    near = kept.near;
+    waiting = kept.waiting ∙ ap (λ (l : List Placed). pending_at (plan_of rules l) cycle) (sym same);
+    passed = passed;
+    left = is ∙ ap (λ (r : Ranking). record { placed = not_over by same_list; policy = r.policy }) kept.left;
+    to_learn = kept.to_learn;
+  }
+
   pub kept-open : (mask next left : ℕ) → cycle < 2 ^ 41 → mask ≡ mask_at (plan_of rules list) cycle → next ≡ cycle + 1
       → left ≡ pending_at (plan_of rules list) (cycle + 1) → IsKept rules (history ++ Open cycle mask ∷ []) list since ranked next left None
   kept-open mask next left near by later waiting =

@@ -4,6 +4,7 @@ mod Earlier
 mod Events
 mod Histories
 mod Legal
+mod Passing
 mod Planned
 mod Recurring
 mod Repeating

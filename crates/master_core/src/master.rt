@@ -191,6 +191,7 @@ impl Master {
         ensures few { length self.new.history + self.new.spare < 2 ^ 61 }
     {
         let cycle = self.state.cycle;
+        self.table.pass(cycle);
         let Planned { mask, width, next } = plan_next(
             &self.table.ranked,
             self.rules.window,

@@ -1,12 +1,12 @@
 //! The table of a master.
 
-ghost use Rattle.std.specs.Prelude.{◌≡◌, IfOk, All};
+ghost use Rattle.std.specs.Prelude.{◌≡◌, ◌≤◌, IfOk, All};
 ghost use Rattle.requirement_table.specs.Table.{IsWellPlaced, not_over};
 ghost use Rattle.change_protocol.specs.Operations.{HasTypes, IsTyped};
 
 use change_protocol::{Change, Op, Ops};
 use planner_policies::{Policy, Ranked, rank};
-use requirement_table::{Entry, Placed, PlacedList, not_over};
+use requirement_table::{Entry, Placed, PlacedList, first_over, not_over};
 use std::alloc::{AllocError, Global};
 
 /// A list of placed entries, and what is needed to plan from a cycle on.
@@ -18,6 +18,8 @@ pub struct Table {
     pub since: u64,
     /// The entries that are not over by then, in the order of the policy.
     pub ranked: Ranked,
+    /// A cycle before which none of these is over.
+    pub until: u64,
 }
 
 impl Table {
@@ -36,11 +38,29 @@ impl Table {
     {
         let left = not_over(alloc, placed.as_slice(), since)?;
         let ranked = rank(alloc, left.as_slice(), policy)?;
+        let until = first_over(ranked.placed());
         Ok(Table {
             placed,
             since,
             ranked,
+            until,
         })
+    }
+
+    /// Drops the entries that are over by a cycle from those that are planned, where one of them is: in place and without memory.
+    pub fn pass(&mut self, cycle: u64)
+        requires since { self.old.since ≤ cycle }
+        requires left { self.old.ranked.placed ≡ not_over self.old.since self.old.placed.items }
+        ensures placed { self.new.placed.items ≡ self.old.placed.items }
+        ensures since { self.new.since ≤ cycle }
+        ensures ranked { self.new.ranked
+            ≡ record { placed = not_over self.new.since self.new.placed.items; policy = self.old.ranked.policy } }
+    {
+        if self.until <= cycle {
+            self.ranked.drop_over(cycle);
+            self.since = cycle;
+            self.until = first_over(self.ranked.placed());
+        }
     }
 }
 

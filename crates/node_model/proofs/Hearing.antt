@@ -75,7 +75,7 @@ abbrev pub passing : (Trigger → Bool) → Option Trigger → Option Trigger
 passing fits None = None
 passing fits (Some trigger) = cond (fits trigger) (Some trigger) None
 
-next_trigger-fits : (node : NodeState) (frame : DataFrame) (trigger : Trigger) → trigger_of frame ≡ Some trigger
+pub next_trigger-fits : (node : NodeState) (frame : DataFrame) (trigger : Trigger) → trigger_of frame ≡ Some trigger
     → trigger.l ≤ node.layout.window → trigger.low ≡ node.next % 256 → next_trigger node frame ≡ Some trigger
 next_trigger-fits node frame trigger is small same =
     ap (passing (λ t. leb t.l node.layout.window && (t.low == node.next % 256))) is

@@ -42,7 +42,7 @@ identifiers_of-distinct number owners distinct =
     (AllPairs-filter (λ one other. one.id ≢ other.id) (λ owner. owner.node == number) owners distinct)
 
 -- the identifier of a slot is own exactly where an entry has the slot
-own-slot : (entries : List Placed) (slot id : ℕ) → first_identifier + slot ≡ id → is_own_slot entries id ≡ list_any (λ p. p.entry.slot == slot) entries
+pub own-slot : (entries : List Placed) (slot id : ℕ) → first_identifier + slot ≡ id → is_own_slot entries id ≡ list_any (λ p. p.entry.slot == slot) entries
 own-slot [] slot id is = refl
 own-slot (p ∷ rest) slot id is =
     let one : (first_identifier + p.entry.slot == id) ≡ (p.entry.slot == slot) = grind (arith, nat_tests) in

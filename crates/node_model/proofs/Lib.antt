@@ -11,3 +11,8 @@ pub mod Shared
 mod Known
 mod Mail
 mod Offers
+mod WindowSets
+mod HeardSlots
+mod DueRow
+mod InWindow
+mod InCycle

@@ -16,7 +16,7 @@ use Rattle.async_window.specs.Mailbox.{IsMail, IsNextInCycle, mail_offer, unsent
 use Rattle.async_window.proofs.Shared.{IsLeastWith-same}
 use Rattle.node_model.specs.Opening.{first_identifier}
 use Rattle.node_model.specs.Node.{IsNextOffer, IsNode, NodeState, Opened, is_due, least_where, node_frame, node_offer, offer_in}
-use Rattle.node_model.specs.Kept.{IsOpenAt, opened_of}
+use Rattle.node_model.specs.Kept.{IsOpenAt, opened_of, sends_from}
 use Rattle.node_model.specs.declared.cycle.Open.{Open}
 use Rattle.node_model.proofs.Least.{least_where-same, least_where-sound}
 use Rattle.node_model.proofs.Mail.{offered-early, offered-asynchronous, offered-request}
@@ -29,7 +29,7 @@ IsOpenAt-later node at later o is same = record { opened = is.opened; cycle = sa
 in_cycle : (node : NodeState) (at : ℕ) (o : Open) → IsOpenAt node at o → node_offer node at ≡ offer_in node at (opened_of o)
 in_cycle node at o is = rw is.opened refl
 
-offer-late : (same late : Bool) (one other : Option ℕ) → same ≡ true → late ≡ true → (if same then (if late then one else other) else None) ≡ one
+pub offer-late : (same late : Bool) (one other : Option ℕ) → same ≡ true → late ≡ true → (if same then (if late then one else other) else None) ≡ one
 offer-late true true one other is_same is_late = refl
 offer-late true false one other is_same is_late = absurd (false≢true is_late)
 offer-late false late one other is_same is_late = absurd (false≢true is_same)
@@ -263,6 +263,21 @@ offered-mail node at id known offered asynchronous =
     (λ (mail : (l : ℕ) × (mail_offer node.layout l node.mail at ≡ Some id)).
     ap is_some (offered-request node.layout mail.0 at id node.mail known mail.1).1.waiting.first)
     (offered-cases node at id node.opened refl offered)
+
+in_open-cycle : (same : Bool) (one : Option ℕ) (id : ℕ) → (if same then one else None) ≡ Some id → same ≡ true
+in_open-cycle true one id offered = refl
+in_open-cycle false one id offered = absurd (none-some id offered)
+
+offered-from_cases : (node : NodeState) (at id : ℕ) (opened : Option Opened) → node.opened ≡ opened → node_offer node at ≡ Some id → sends_from opened node.next ≤ at / node.layout.cycle
+offered-from_cases node at id None is offered = let none : node_offer node at ≡ None = rw is refl in absurd (none-some id (sym none ∙ offered))
+offered-from_cases node at id (Some o) is offered =
+    let in_open : node_offer node at ≡ offer_in node at o = rw is refl in
+    let same : at / node.layout.cycle ≡ o.cycle = eqb-true _ _ (in_open-cycle (nat_eq (at / node.layout.cycle) o.cycle) _ id (sym in_open ∙ offered)) in
+    omega (arith, same)
+
+-- what is offered is offered from the cycle on from which the node may have to send
+pub offered-from : (node : NodeState) (at id : ℕ) → node_offer node at ≡ Some id → sends_from node.opened node.next ≤ at / node.layout.cycle
+offered-from node at id offered = offered-from_cases node at id node.opened refl offered
 
 -- an instance that is there has bytes
 pub no-instance : (found : Option Instance) → option_map bytes_of found ≡ None → is_some found ≡ true → ⊥

@@ -1,8 +1,10 @@
--- What a node keeps besides what it knows, so that it answers without a look at its entries.
-use Rattle.std.specs.Prelude.{◌≡◌, ℕ, ◌/◌, ◌<◌, ◌==◌, List, Option, Some, None, IfSome}
+-- What a node keeps besides what it knows, so that it answers without a look at its entries, or at those of them that are over.
+use Rattle.std.specs.Prelude.{◌≡◌, ℕ, ◌/◌, ◌<◌, ◌≤◌, ◌==◌, List, Option, Some, None, IfSome}
+use Rattle.std.specs.Option.{option_map_or}
 use Rattle.std.specs.List.{list_any}
 use Rattle.requirement_table.specs.declared.entries.Placed.{Placed}
 use Rattle.requirement_table.specs.Slots.{contains_slot, slots}
+use Rattle.requirement_table.specs.Table.{instance_in, IsWellPlaced}
 use Rattle.node_model.specs.Node.{IsNode, NodeState, Opened, is_due, node_offer}
 use Rattle.node_model.specs.declared.cycle.Open.{Open}
 
@@ -20,10 +22,20 @@ abbrev pub KnowsDue : List Placed → Open → Type 0
 KnowsDue entries open_cycle =
     (slot : ℕ) → slot < slots → contains_slot open_cycle.due slot ≡ is_due entries (opened_of open_cycle) slot
 
+-- the cycle from which on a node may have to send: the open one, or the next one where none is open
+abbrev pub sends_from : Option Opened → ℕ → ℕ
+sends_from opened next = option_map_or (λ o. o.cycle) opened next
+
+-- from a cycle on, the entries that are left have all instances that may be sent of these entries
+abbrev pub HaveInstances : List Placed → ℕ → List Placed → Type 0
+HaveInstances entries from left = (slot c : ℕ) → from ≤ c → instance_in left slot c ≡ instance_in entries slot c
+
 -- what is true of the fields of every node: those that contracts see make a node, and the others follow from them
-pub record IsKept (state : NodeState) (own : ℕ) (current : Option Open) : Type 0 where
+pub record IsKept (state : NodeState) (own : ℕ) (left : List Placed) (current : Option Open) : Type 0 where
   pub node : IsNode state
   pub own_slots : AreSlotsOf state.entries own
+  pub placed : IsWellPlaced left
+  pub instances : HaveInstances state.entries (sends_from state.opened state.next) left
   pub due : IfSome current (KnowsDue state.entries)
 
 -- this cycle is open for the node, and the time lies in it

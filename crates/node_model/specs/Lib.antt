@@ -3,3 +3,4 @@ pub mod Offered
 pub mod Node
 pub mod Own
 pub mod Kept
+pub mod Window

@@ -1,12 +1,12 @@
 //! A cycle that is open for a node, and which slot the node sends next in it.
 
-ghost use Rattle.std.specs.Prelude.{◌≡◌, ℕ, ◌+◌, ◌^◌, ◌<◌, ◌&&◌, not, nat_lt, max, if◌then◌else◌, is_some, false, true, List, Some, None, IfSome, MatchOption, option_map};
+ghost use Rattle.std.specs.Prelude.{◌≡◌, ℕ, ◌+◌, ◌*◌, ◌/◌, ◌^◌, ◌<◌, ◌&&◌, not, nat_eq, nat_lt, max, if◌then◌else◌, is_some, false, true, List, Some, None, IfSome, MatchOption, option_map};
 ghost use Rattle.requirement_table.specs.declared.entries.Placed.{Placed};
 ghost use Rattle.requirement_table.specs.Slots.{contains_slot, slots};
 ghost use Rattle.requirement_table.specs.Table.{IsWellPlaced};
 ghost use Rattle.node_model.specs.Opening.{first_identifier};
 ghost use Rattle.node_model.specs.Node.{least_where, opened_by, with_heard};
-ghost use Rattle.node_model.specs.Kept.{KnowsDue, opened_of};
+ghost use Rattle.node_model.specs.Kept.{KnowsDue, opened_of, sends_from};
 
 use crate::entries::sendable_slots;
 use requirement_table::{Mask, Placed, SLOTS};
@@ -30,6 +30,16 @@ pub struct Open {
     pub due: Mask,
 }
 
+/// Whether a time lies in a cycle, where cycles have this length. No division is made.
+pub fn is_in(at: u64, cycle: u64, length: u64) -> bool
+    requires some { 0 < length }
+    requires few { cycle * length < 2 ^ 64 }
+    ensures test { result ≡ nat_eq (at / length) cycle }
+{
+    let start = cycle * length;
+    start <= at && at - start < length
+}
+
 /// The cycle as its trigger opens it for a node with these entries; without one it has nothing synchronous.
 pub fn opened_by(cycle: u64, trigger: Option<Trigger>, entries: &[Placed]) -> Open
     requires well_placed { IsWellPlaced entries.now }
@@ -47,6 +57,16 @@ pub fn opened_by(cycle: u64, trigger: Option<Trigger>, entries: &[Placed]) -> Op
         flags,
         heard,
         due: unheard(flags, sendable_slots(entries, cycle), heard),
+    }
+}
+
+/// The cycle from which on a node may have to send: the open one, or `next` where none is open.
+pub fn sends_from(opened: &Option<Open>, next: u64) -> u64
+    ensures from { result ≡ sends_from (option_map opened_of opened.now) next }
+{
+    match opened {
+        Some(open_cycle) => open_cycle.cycle,
+        None => next,
     }
 }
 
@@ -122,7 +142,7 @@ pub fn slot_among(among: Mask, id: u16) -> Option<u8>
 }
 
 /// The least slot of a set.
-fn least_slot(among: Mask) -> Option<u8>
+pub fn least_slot(among: Mask) -> Option<u8>
     ensures least { result ≡ least_where slots (contains_slot among) }
 {
     let bits = among.bits();

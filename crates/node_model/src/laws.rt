@@ -1,6 +1,6 @@
 //! Laws about the definitions of this crate. Each function has an empty body or calls other laws, and its contract is the law.
 
-ghost use Rattle.std.specs.Prelude.{◌≡◌, ◌≢◌, ℕ, ◌+◌, ◌/◌, ◌^◌, ◌<◌, ◌≤◌, ◌⊎◌, List, [], ◌∷◌, ◌++◌, All, Some};
+ghost use Rattle.std.specs.Prelude.{◌≡◌, ◌≢◌, ℕ, ◌+◌, ◌/◌, ◌^◌, ◌<◌, ◌≤◌, ◌==◌, ◌&&◌, ◌⊎◌, not, List, [], ◌∷◌, ◌++◌, All, MatchOption, Some, false, true};
 ghost use Rattle.can_frame.specs.declared.data_frame.TimedFrame.{TimedFrame};
 ghost use Rattle.cycle_layout.specs.Layout.{CycleLayout};
 ghost use Rattle.requirement_table.specs.declared.entries.Placed.{Placed};
@@ -11,7 +11,9 @@ ghost use Rattle.async_window.specs.declared.request.Owner.{Owner};
 ghost use Rattle.async_window.specs.declared.request.Request.{Request};
 ghost use Rattle.requirement_table.specs.Opening.{Opening, width_of};
 ghost use Rattle.node_model.specs.Opening.{start_of};
-ghost use Rattle.node_model.specs.Node.{IsNode, NodeState, after_hearing, learnt, node_offer};
+ghost use Rattle.node_model.specs.Opening.{first_identifier};
+ghost use Rattle.node_model.specs.Node.{IsNode, NodeState, after_hearing, learnt, node_frame, node_offer};
+ghost use Rattle.node_model.specs.Window.{IsInWindow, due_frame, is_due_slot};
 ghost use Rattle.async_window.specs.Owners.{AreOwners};
 ghost use Rattle.node_model.specs.Own.{AreApart, OffersLeastOwn, Stands, StandsIn};
 
@@ -81,6 +83,27 @@ pub fn stays_a_node()
 {
     taking_laws();
 }
+
+/// A node in the synchronous window of the cycle that is open for it: it offers the least slot that it is to send, and the frame of a slot
+/// takes that slot away and no other one. A trigger opens the cycle.
+pub fn sends_its_slots()
+    ensures offers { (node : NodeState) (from until at : ℕ) → IsNode node → IsInWindow from until node → from ≤ at → at < until
+        → MatchOption (node_offer node at) ((slot : ℕ) → slot < slots → is_due_slot node slot ≡ false)
+        (λ id. (slot : ℕ) × (slot < slots) × (id ≡ first_identifier + slot) × (is_due_slot node slot ≡ true)
+        × ((other : ℕ) → other < slot → is_due_slot node other ≡ false)) }
+    ensures frames { (node : NodeState) (from until at slot : ℕ) → IsNode node → IsInWindow from until node → from ≤ at → at < until
+        → slot < slots → node_frame node at (first_identifier + slot) ≡ due_frame node slot }
+    ensures stays { (node : NodeState) (from until : ℕ) (sent : TimedFrame) → sent.frame.identifier ≢ 0
+        → IsInWindow from until node → IsInWindow from until (after_hearing node sent) }
+    ensures same_frames { (node : NodeState) (slot other : ℕ) (sent : TimedFrame) → IsNode node
+        → sent.frame.identifier ≡ first_identifier + slot → slot < slots → due_frame (after_hearing node sent) other ≡ due_frame node other }
+    ensures takes { (node : NodeState) (slot other : ℕ) (sent : TimedFrame) → IsNode node
+        → sent.frame.identifier ≡ first_identifier + slot → slot < slots → other < slots
+        → is_due_slot (after_hearing node sent) other ≡ (not (other == slot) && is_due_slot node other) }
+    ensures opens { (node : NodeState) (l mask : ℕ) (sent : TimedFrame) → l ≤ node.layout.window → node.layout.window ≤ 16383
+        → mask < 2 ^ slots → sent.frame ≡ trigger_frame node.next l mask
+        → (after_hearing node sent).opened ≡ Some (record { cycle = node.next; width = l; flags = mask; heard = 0 }) }
+{}
 
 /// What a node offers is the identifier of a slot or an asynchronous one.
 pub fn offers_in_range()

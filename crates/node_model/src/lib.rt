@@ -4,10 +4,12 @@
 #![tactic(auto)]
 
 mod cycle;
+mod due;
 mod entries;
 pub mod laws;
 mod node;
 
+pub use cycle::FIRST_IDENTIFIER;
 pub use node::Node;
 
 #[cfg(test)]

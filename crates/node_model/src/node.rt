@@ -1,20 +1,21 @@
 //! A node, which offers what follows from what it learnt and heard.
 
-ghost use Rattle.std.specs.Prelude.{◌≡◌, ◌≢◌, ℕ, ◌+◌, ◌*◌, ◌/◌, ◌^◌, ◌<◌, ◌≤◌, [], All, AllPairs, IfOk, IsSome, MatchOption, OnErr, OnOk, Some, None, false, true, length};
+ghost use Rattle.std.specs.Prelude.{◌≡◌, ◌≢◌, ℕ, ◌+◌, ◌*◌, ◌/◌, ◌^◌, ◌<◌, ◌≤◌, [], All, AllPairs, IfOk, IfSome, IsSome, MatchOption, OnErr, OnOk, Some, None, false, true, length, option_map};
 ghost use Rattle.requirement_table.specs.Slots.{slots};
-ghost use Rattle.requirement_table.specs.Table.{IsWellPlaced};
+ghost use Rattle.requirement_table.specs.Instance.{bytes_of};
+ghost use Rattle.requirement_table.specs.Table.{IsWellPlaced, instance_in};
 ghost use Rattle.async_window.specs.Mailbox.{IsNextInCycle, left};
 ghost use Rattle.async_window.specs.Owners.{AreOwners};
 ghost use Rattle.node_model.specs.Opening.{first_identifier};
 ghost use Rattle.node_model.specs.Node.{IsNextOffer, IsNode, after_hearing, after_opening, after_request, after_slot, fresh_node, is_own_slot, learnt, next_trigger, node_frame, node_offer};
-ghost use Rattle.node_model.specs.Kept.{IsClosedAt, IsOpenAt};
+ghost use Rattle.node_model.specs.Kept.{IsClosedAt, IsOpenAt, sends_from};
 
 use crate::cycle::{self, FIRST_IDENTIFIER, Open};
-use crate::entries;
+use crate::entries::{self, Remaining};
 use async_window::{Mailboxes, Owner, Request};
 use can_frame::{Frame, TimedFrame};
 use cycle_layout::Layout;
-use requirement_table::{Mask, Placed};
+use requirement_table::{Mask, Payload, Placed};
 use std::alloc::{AllocError, Global};
 use std::marker::Model;
 use trigger_codec::{TRIGGER_IDENTIFIER, Trigger, decode};
@@ -27,18 +28,21 @@ const LEAST_ASYNCHRONOUS: u16 = 0x200;
 pub struct Node {
     number: u8,
     layout: Layout,
-    /// The node's entries; the vector's capacity is the length of a list that can be learnt without memory.
+    /// The node's entries, as it learnt them. This vector and that of the remaining ones have room for a list that can be learnt without
+    /// memory.
     entries: Vec<Placed>,
+    /// Those of them that are not over, from which the node sends.
+    remaining: Remaining,
     /// The slots in which the node has an entry.
-    own: Mask,
+    pub(crate) own: Mask,
     mailboxes: Mailboxes,
-    opened: Option<Open>,
+    pub(crate) opened: Option<Open>,
     next: u64,
-    frames: u64,
+    pub(crate) frames: u64,
 }
 
 impl Model for Node {
-    ghost use Rattle.std.specs.Prelude.{option_map, vec_capacity};
+    ghost use Rattle.std.specs.Prelude.{min, option_map, vec_capacity};
     ghost use Rattle.node_model.specs.Node.{NodeView};
     ghost use Rattle.node_model.specs.Kept.{IsKept, opened_of};
 
@@ -54,7 +58,7 @@ impl Model for Node {
         next = n.next;
         frames = n.frames;
       };
-      spare = vec_capacity n.entries;
+      spare = min (vec_capacity n.entries) (vec_capacity n.remaining.entries);
     } };
 
     ghost invariant = { λ n. IsKept (record {
@@ -65,7 +69,7 @@ impl Model for Node {
       opened = option_map opened_of n.opened;
       next = n.next;
       frames = n.frames;
-    }) n.own n.opened };
+    }) n.own n.remaining.entries.items n.opened };
 }
 
 impl Node {
@@ -91,6 +95,7 @@ impl Node {
             number,
             layout,
             entries: Vec::new(alloc),
+            remaining: Remaining::new(alloc),
             own: Mask::empty(),
             mailboxes,
             opened: None,
@@ -106,7 +111,10 @@ impl Node {
         ensures spare { self.old.spare ≤ self.new.spare }
     {
         let additional = entries.saturating_sub(self.entries.len());
-        self.entries.reserve(additional)
+        self.entries.reserve(additional)?;
+        let remaining = &mut self.remaining.entries;
+        let additional = entries.saturating_sub(remaining.len());
+        remaining.reserve(additional)
     }
 
     /// Replaces the node's entries by those of its number in a list.
@@ -130,7 +138,9 @@ impl Node {
     {
         entries::keep_own(self.number, placed, &mut self.entries);
         self.own = entries::slots_of(self.entries.as_slice());
-        self.opened = cycle::after_learning(&self.opened, self.entries.as_slice());
+        let from = cycle::sends_from(&self.opened, self.next);
+        self.remaining.keep(self.entries.as_slice(), from);
+        self.opened = cycle::after_learning(&self.opened, self.remaining.entries.as_slice());
     }
 
     /// Hears a frame of the bus.
@@ -157,7 +167,8 @@ impl Node {
         ensures spare { self.new.spare ≡ self.old.spare }
     {
         let trigger = self.next_trigger(frame);
-        self.opened = Some(cycle::opened_by(self.next, trigger, self.entries.as_slice()));
+        self.remaining.pass(self.next);
+        self.opened = Some(cycle::opened_by(self.next, trigger, self.remaining.entries.as_slice()));
         self.next += 1;
     }
 
@@ -218,9 +229,9 @@ impl Node {
         ensures open_cycle { MatchOption result (IsClosedAt self.now.state at) (IsOpenAt self.now.state at) }
         ensures known { IsNode self.now.state }
     {
-        let cycle = at / u64::from(self.layout.cycle());
         let open_cycle = self.opened?;
-        (cycle == open_cycle.cycle).then_some(open_cycle)
+        let length = u64::from(self.layout.cycle());
+        cycle::is_in(at, open_cycle.cycle, length).then_some(open_cycle)
     }
 
     /// The least time behind `at`, in the cycle of `at`, at which `offer` is something while nothing is heard.
@@ -287,13 +298,22 @@ impl Node {
     {
         let cycle = at / u64::from(self.layout.cycle());
         let slot = (id - FIRST_IDENTIFIER) as u8;
-        match entries::payload_in(self.entries.as_slice(), slot, cycle) {
+        match self.payload(slot, cycle) {
             Some(payload) => match Frame::new(id, payload.as_slice()) {
                 Ok(frame) => frame,
                 Err(_) => unreachable!(),
             },
             None => unreachable!(),
         }
+    }
+
+    /// The bytes of the instance of a slot that may be sent in a cycle, from the open one on.
+    pub(crate) fn payload(&self, slot: u8, cycle: u64) -> Option<Payload>
+        requires from { sends_from self.now.state.opened self.now.state.next ≤ cycle }
+        ensures bytes { result ≡ option_map bytes_of (instance_in self.now.state.entries slot cycle) }
+        ensures few { IfSome result (λ bytes. length bytes ≤ 8) }
+    {
+        self.remaining.payload(slot, cycle)
     }
 
     /// The number of frames that the node heard; it stands still at the greatest u64.

@@ -1,5 +1,6 @@
 pub mod Shared
 mod Cycles
+mod Filtered
 mod Fits
 mod Going
 mod Held

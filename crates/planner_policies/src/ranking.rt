@@ -1,10 +1,10 @@
 //! The table of a planning, in key order.
 
 ghost use Rattle.std.specs.Prelude.{◌≡◌, All, IfOk, IsPermutation};
-ghost use Rattle.requirement_table.specs.Table.{IsInRange, IsWellPlaced};
+ghost use Rattle.requirement_table.specs.Table.{IsInRange, IsWellPlaced, not_over};
 
 use crate::Policy;
-use requirement_table::Placed;
+use requirement_table::{Placed, drop_over};
 use std::alloc::{AllocError, Global};
 use std::marker::Model;
 
@@ -67,6 +67,14 @@ impl Ranked {
         ensures well_placed { IsWellPlaced self.now.placed }
     {
         self.placed.as_slice()
+    }
+
+    /// Drops the entries that are over by `cycle`, in place and without memory.
+    pub fn drop_over(&mut self, cycle: u64)
+        ensures left { self.new ≡ record { placed = not_over cycle self.old.placed; policy = self.old.policy } }
+    {
+        drop_over(&mut self.placed, cycle);
+        drop_over(&mut self.rows, cycle);
     }
 
     /// The placed entries in key order.

@@ -108,5 +108,19 @@ fn one_frame_a_cycle(rt: HostRuntime) -> Result<(), Fail> {
     let (found, miss) = masks(rt.alloc(), &ranked, 135, 60)?;
     assert_eq!(rt; found.len(), 60);
     assert_eq!(rt; miss, None);
+    // An entry with end 2 and deadline 4 is over by cycle 5.
+    let ended = [
+        entry(0, 3, 0),
+        Placed {
+            end: Some(2),
+            ..entry(1, 4, 0)
+        },
+    ];
+    assert!(rt; well_placed(ended.as_slice()));
+    let mut ranked = rank(rt.alloc(), ended.as_slice(), Policy::Rm)?;
+    ranked.drop_over(4);
+    assert_eq!(rt; ranked.placed(), ended.as_slice());
+    ranked.drop_over(5);
+    assert_eq!(rt; ranked.placed(), [entry(0, 3, 0)].as_slice());
     Ok(())
 }

@@ -1,5 +1,9 @@
 -- What proofs of the crates above may take from here: lemmas about the definitions of this crate.
-use Rattle.std.proofs.Common.{◌≤◌, sym, subst}
+use Rattle.std.proofs.Common.{◌≡◌, ◌≤◌, ℕ, List, true, nat_eq, sym, subst}
+use Rattle.std.specs.List.{Any, list_any}
+use Rattle.std.proofs.lemmas.Bool.{eqb-true}
+use Rattle.std.proofs.lemmas.List.Folds.{Any-from_list_any}
+use Rattle.async_window.specs.declared.request.Owner.{Owner}
 use Rattle.admission.specs.Verdict.{IsRules}
 use Rattle.input_text.specs.SystemFile.{IsSystem}
 use Rattle.input_text.specs.declared.system.System.{System}
@@ -14,3 +18,9 @@ is_rules system is = record {
   some_cycles = is.some_horizon;
   near_horizon = is.near_horizon;
 }
+
+-- an identifier that passes the test has an owner
+pub owner-of : (owners : List Owner) (id : ℕ) → list_any (λ owner. nat_eq owner.id id) owners ≡ true → Any (λ owner. owner.id ≡ id) owners
+owner-of owners id is =
+    let found = Any-from_list_any (λ owner. nat_eq owner.id id) owners is in
+    (found.0, found.1, found.2, found.3, eqb-true _ _ found.4)

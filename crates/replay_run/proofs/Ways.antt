@@ -1,10 +1,7 @@
 -- What keeps a run on its way.
 use Rattle.std.proofs.Common.{◌≡◌, ℕ, ◌+◌, ◌*◌, ◌++◌, List, [], ◌∷◌, All, true, false, sym, ◌∙◌, subst}
 use Rattle.std.specs.Prelude.{nat_eq, IfOk, Result, Ok, Err}
-use Rattle.std.specs.List.{Any, list_any}
-use Rattle.std.proofs.lemmas.Bool.{eqb-true}
 use Rattle.std.proofs.lemmas.List.Elements.{All-cons, All-nil}
-use Rattle.std.proofs.lemmas.List.Folds.{Any-from_list_any}
 use Rattle.can_frame.specs.declared.data_frame.TimedFrame.{TimedFrame}
 use Rattle.async_window.specs.declared.request.Owner.{Owner}
 use Rattle.async_window.specs.declared.request.Request.{Request}
@@ -25,12 +22,6 @@ use Rattle.input_text.specs.declared.steps.Step.{Step}
 use Rattle.input_text.specs.declared.system.System.{System}
 use Rattle.replay_run.specs.Progress.{IsOnTheWay, setting_of}
 use Rattle.replay_run.specs.Run.{AnswersSteps, IsRun}
-
--- an identifier that passes the test has an owner
-pub owner-of : (owners : List Owner) (id : ℕ) → list_any (λ owner. nat_eq owner.id id) owners ≡ true → Any (λ owner. owner.id ≡ id) owners
-owner-of owners id is =
-    let found = Any-from_list_any (λ owner. nat_eq owner.id id) owners is in
-    (found.0, found.1, found.2, found.3, eqb-true _ _ found.4)
 
 -- calls that open no cycle keep a run under way and its nodes ready
 pub record CallsBetween : Type 0 where

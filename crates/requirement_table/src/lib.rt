@@ -12,7 +12,7 @@ mod slots;
 
 pub use entries::{Entry, Order, Placed, PlacedList};
 pub use instances::{Payload, cost, current, due, releases};
-pub use lists::{not_over, released_in, well_placed};
+pub use lists::{drop_over, first_over, is_over, not_over, released_in, well_placed};
 pub use slots::{Mask, SLOTS};
 
 #[cfg(test)]

@@ -1,6 +1,7 @@
 //! Lists of placed entries.
 
-ghost use Rattle.std.specs.Prelude.{◌≡◌, ℕ, ◌+◌, ◌^◌, ◌<◌, ◌≤◌, ◌↔◌, IsTrue, Some, IsSomeAnd, IfOk, All};
+ghost use Rattle.std.specs.Prelude.{◌≡◌, ℕ, ◌+◌, ◌^◌, ◌<◌, ◌≤◌, ◌↔◌, IsTrue, false, Some, IsSomeAnd, IfOk, vec_capacity};
+ghost use Rattle.std.specs.List.{list_any};
 ghost use Rattle.requirement_table.specs.Table.{IsEntry, IsInRange, IsWellPlaced, free_from, is_over, not_over, released_in};
 
 use crate::entries::{Entry, Placed};
@@ -62,12 +63,41 @@ fn free_after(p: &Placed) -> Option<u64>
     p.end.map(|end| end + u64::from(p.entry.deadline) - 1)
 }
 
-/// Whether a placed entry is over by `cycle`: its slot is free again.
-fn is_over(p: &Placed, cycle: u64) -> bool
-    requires { IsInRange p.now }
-    ensures { result ≡ is_over cycle p.now }
+/// Whether a placed entry is over by `cycle`: its slot is free again, and none of its instances may be sent any more.
+pub fn is_over(p: &Placed, cycle: u64) -> bool
+    ensures over { result ≡ is_over cycle p.now }
 {
-    free_after(p).is_some_and(|from| from <= cycle)
+    let deadline = u128::from(p.entry.deadline);
+    p.end
+        .is_some_and(|end| u128::from(end) + deadline <= u128::from(cycle) + 1)
+}
+
+/// Drops the entries that are over by `cycle`, in place and without memory. The others stay in their order.
+pub fn drop_over(placed: &mut Vec<Placed>, cycle: u64)
+    ensures left { placed.new.items ≡ not_over cycle placed.old.items }
+    ensures capacity { vec_capacity placed.new ≡ vec_capacity placed.old }
+{
+    placed.retain(|p| !is_over(p, cycle));
+}
+
+/// A cycle before which none of these entries is over: the least one by which one of them is, or the greatest number where none ends.
+pub fn first_over(placed: &[Placed]) -> u64
+    requires { IsWellPlaced placed.now }
+    ensures none_before { (cycle : ℕ) → cycle < result → list_any (is_over cycle) placed.now ≡ false }
+{
+    let mut first = u64::MAX;
+    for p in placed {
+        first = first.min(over_from(p));
+    }
+    first
+}
+
+/// The cycle by which a placed entry is over; the greatest number where it does not end.
+fn over_from(p: &Placed) -> u64
+    requires { IsInRange p.now }
+    ensures not_before { (cycle : ℕ) → cycle < result → is_over cycle p.now ≡ false }
+{
+    free_after(p).unwrap_or(u64::MAX)
 }
 
 /// The placed entries that are not over by `cycle`, in their order: those with an instance that may be sent

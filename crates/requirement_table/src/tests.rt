@@ -3,8 +3,8 @@
 ghost use Rattle.std.specs.Prelude.{◌≡◌, ◌+◌};
 
 use crate::{
-    Entry, Mask, Order, Payload, Placed, PlacedList, SLOTS, cost, current, due, not_over,
-    released_in, releases, well_placed,
+    Entry, Mask, Order, Payload, Placed, PlacedList, SLOTS, cost, current, drop_over, due,
+    first_over, is_over, not_over, released_in, releases, well_placed,
 };
 use std::test::Fail;
 
@@ -168,6 +168,11 @@ fn lists_of_placed_entries(rt: HostRuntime) -> Result<(), Fail> {
     let left = not_over(rt.alloc(), ended.as_slice(), 14)?;
     assert_eq!(rt; left.as_slice(), ended.as_slice());
     let left = not_over(rt.alloc(), ended.as_slice(), 15)?;
+    assert_eq!(rt; left.as_slice(), [later(15)].as_slice());
+    assert_eq!(rt; first_over(ended.as_slice()), 15);
+    assert_eq!(rt; (is_over(&first, 14), is_over(&first, 15)), (false, true));
+    let mut left = vec![in rt.alloc(); first, later(15)]?;
+    drop_over(&mut left, 15);
     assert_eq!(rt; left.as_slice(), [later(15)].as_slice());
 
     let list = PlacedList::of(vec![in rt.alloc(); first, placed(8, None)]?);

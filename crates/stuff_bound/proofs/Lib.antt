@@ -1,4 +1,8 @@
+mod Entries
 mod Faults
+mod Fields
 mod Places
 pub mod Shared
+mod Sent
 mod Stuffs
+mod Table

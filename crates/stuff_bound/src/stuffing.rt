@@ -1,11 +1,13 @@
 //! Stuffing a list of bits, taking the stuff bits out again, and how long stuffed bits and frames are.
 
-ghost use Rattle.std.specs.Prelude.{◌≡◌, ℕ, ◌+◌, ◌*◌, ◌<◌, ◌≤◌, ◌^◌, ◌≢◌, ◌↔◌, Bool, List, length, IfOk, IsOkUnless};
+ghost use Rattle.std.specs.Prelude.{◌≡◌, ℕ, ◌+◌, ◌*◌, ◌<◌, ◌≤◌, ◌^◌, ◌≢◌, ◌↔◌, Bool, List, length, take, IfOk, IsOkUnless};
 ghost use Rattle.stuff_bound.specs.Stuffing.{Stuffs, stuffed, worst};
+ghost use Rattle.stuff_bound.specs.Fields.{bits_of};
 ghost use Rattle.stuff_bound.specs.declared.stuffing.StuffFault.TheVariants.{Memory};
 ghost use Rattle.stuff_bound.specs.StuffFault.{HasFirstSixth, EndsInFive};
 
 use crate::run::Run;
+use crate::sender::after_bits;
 use std::alloc::{AllocError, AllocFailed, Global};
 use std::error::Error;
 use std::fmt;
@@ -117,6 +119,18 @@ pub fn stuffed_len(bits: &[bool]) -> usize
         }
     }
     len
+}
+
+/// The number of bits that `stuff` gives for the first `bits` bits of these bytes, the most significant bit of each byte
+/// first, in bit times. It goes from byte to byte, and takes no memory.
+pub fn stuffed_len_bytes(bytes: &[u8], bits: u32) -> u32
+    requires within { bits ≤ 8 * length bytes.now }
+    requires few { bits < 2 ^ 30 }
+    ensures len { result ≡ length (stuffed (take bits (bits_of bytes.now))) }
+    ensures at_least { bits ≤ result }
+    ensures at_most { 0 < bits → 4 * result + 1 ≤ 5 * bits }
+{
+    bits + after_bits(bytes, bits).stuff_bits
 }
 
 /// The worst length of a data frame with `dlc` data bytes, 0 to 8, in bit times: no frame of that many

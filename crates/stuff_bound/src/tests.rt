@@ -65,3 +65,26 @@ fn length_limits(rt: HostRuntime) {
     assert_eq!(rt; bound(1), 65);
     assert_eq!(rt; bound(8), 135);
 }
+
+/// Bytes, how many of their bits, and the length of their stuffing.
+const LENGTHS: [(&[u8], u32, u32); 11] = [
+    (&[0, 0], 9, 10),
+    (&[0, 0], 10, 12),
+    (&[], 0, 0),
+    (&[0x07, 0x80], 9, 11),
+    (&[0xF8, 0x40], 10, 12),
+    (&[0x50], 4, 4),
+    (&[0x00], 5, 6),
+    (&[0xAA, 0x55], 16, 16),
+    (&[0x1F, 0xF0, 0x7C], 24, 27),
+    (&[0xFF; 9], 71, 85),
+    (&[0xFF; 9], 72, 86),
+];
+
+#[test]
+fn lengths_by_bytes(rt: HostRuntime) {
+    for (bytes, bits, length) in LENGTHS {
+        assert!(rt; bits as usize <= 8 * bytes.len() && bits < 100);
+        assert_eq!(rt; stuffed_len_bytes(bytes, bits), length, "{bits} bits");
+    }
+}

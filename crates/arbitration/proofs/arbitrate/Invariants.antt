@@ -1,10 +1,9 @@
-use Rattle.std.proofs.Common.{◌-◌, ◌^◌, ◌<◌}
-use Rattle.arbitration.proofs.Leading.{Leads}
+use Rattle.std.proofs.Common.{ℕ, ◌<◌, ◌≤◌, length, slice_index}
 use Rattle.arbitration.proofs.arbitrate.Given as goal
 
--- the bus has the leading bits of some identifier, and no identifier has lesser ones
+-- of the identifiers before this place, the winner's is the least
 abbrev pub invariant-loop-place : goal.invariant-loop-place
 invariant-loop-place l = record {
-  fits : l.bus < 2 ^ (11 - l.place);
-  leads : Leads l.ids l.place l.bus;
+  within : l.winner < length l.ids;
+  least : (k : ℕ) → k < l.place → slice_index l.ids l.winner ≤ slice_index l.ids k;
 }

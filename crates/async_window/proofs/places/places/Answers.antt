@@ -1,5 +1,5 @@
-use Rattle.std.proofs.Common.{arith, rules}
-use Rattle.async_window.proofs.Table.{IsTable-none, IsTable-more, IsTable-all}
+use Rattle.std.proofs.Common.{◌<◌, ◌≤◌, ◌^◌, length, arith, rules}
+use Rattle.async_window.proofs.Table.{IsTable-none, IsTable-more, IsTable-all, rising-few}
 use Rattle.async_window.proofs.places.places.Goals as goal
 
 pub loop-place-init : goal.loop-place-init
@@ -7,8 +7,14 @@ loop-place-init c = IsTable-none c.args.ids.now c.in_ok-table.table.items (c.in_
 
 pub loop-place-preserved : goal.loop-place-preserved
 loop-place-preserved c =
-    IsTable-more c.args.ids.now c.loop-place.place c.loop-place.table.items c.from.result c.requires.distinct c.loop-place-test.true c.from.ensures
+    IsTable-more c.args.ids.now c.loop-place.place c.loop-place.table.items c.from.result c.requires.rising c.loop-place-test.true c.from.ensures
     (search rules) c.loop-place.invariant
+
+pub overflow_cast-place : goal.overflow_cast-place
+overflow_cast-place c =
+    let few : length c.args.ids.now ≤ 2048 = rising-few c.args.ids.now c.requires.rising c.requires.small in
+    let small : c.loop-place.place < 2 ^ 16 = omega (arith, c.loop-place-test.true) in
+    search rules
 
 pub returns-clause-places : goal.returns-clause-places
 returns-clause-places c = IsTable-all c.args.ids.now c.loop-place.place c.loop-place.table.items (omega arith) c.loop-place.invariant

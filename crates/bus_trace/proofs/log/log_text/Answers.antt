@@ -9,7 +9,7 @@ use Rattle.bus_trace.proofs.log.log_text.Goals as goal
 pub loop-event-init : goal.loop-event-init
 loop-event-init c = (
   record {
-    text_is = c.new-text.ensures.bytes;
+    text_is = c.new-text.ensures.items;
     entries = c.new-entries.ensures.entries;
     next_is = refl;
     left_is = rw (take_rest c.args.trace.now c.until_trigger.result, c.until_trigger.ensures.place) (IsLeft-first c.args.trace.now);

@@ -1,9 +1,7 @@
 use Rattle.std.proofs.Common.{◌≡◌, ◌++◌, take}
 use Rattle.std.specs.List.{flat_map}
-use Rattle.std.specs.String.{string_bytes}
 use Rattle.bus_trace.specs.Log.{frame_row}
 use Rattle.bus_trace.proofs.rows.push_frame_rows.Given as goal
 
 abbrev pub invariant-loop-sent : goal.invariant-loop-sent
-invariant-loop-sent l =
-    string_bytes l.text ≡ string_bytes l.initial.text ++ flat_map frame_row (take l.sent-index l.frames)
+invariant-loop-sent l = l.text.items ≡ l.initial.text.items ++ flat_map frame_row (take l.sent-index l.frames)

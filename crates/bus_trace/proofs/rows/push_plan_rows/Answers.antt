@@ -1,6 +1,5 @@
 use Rattle.std.proofs.Common.{◌+◌, ◌++◌, ◌∷◌, [], take, sym, ap, ◌∙◌, arith, append_assoc}
 use Rattle.std.proofs.lemmas.List.{take_more, length-take-le}
-use Rattle.std.specs.String.{string_bytes}
 use Rattle.bus_trace.specs.Log.{plan_row, plan_rows}
 use Rattle.bus_trace.proofs.Plans.{plan_rows-push}
 use Rattle.bus_trace.proofs.rows.push_plan_rows.Goals as goal
@@ -10,9 +9,10 @@ loop-number-preserved c =
     let i = c.loop-number.number in
     let masks = c.args.masks.now in
     let mask = c.index-masks-number.result in
-    let start = string_bytes c.args.text.now in
+    let start = c.args.text.now.items in
     let count = length-take-le i masks (omega (arith, c.loop-number-test.true)) in
-    c.in_ok-push_plan_row.ensures.ok
+    c.in_ok-extend_from_slice.ensures.items
+    ∙ ap (λ l. c.loop-number.text.items ++ l) (c.as_slice.ensures.bytes ∙ c.plan_row.ensures.row)
     ∙ ap (λ l. l ++ plan_row (c.args.from + i) mask) c.loop-number.invariant
     ∙ append_assoc start (plan_rows c.args.from (take i masks)) (plan_row (c.args.from + i) mask)
     ∙ ap (λ l. start ++ l) (sym (plan_rows-push c.args.from (c.args.from + i) (take i masks) mask (omega (arith, count))))

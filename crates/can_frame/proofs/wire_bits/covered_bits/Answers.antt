@@ -2,7 +2,7 @@
 use Rattle.std.proofs.Common.{◌≡◌, Bool, List, ◌++◌, refl, ap, ap₂, ◌∙◌, arith}
 use Rattle.std.specs.List.{flat_map}
 use Rattle.std.proofs.lemmas.List.{take_all}
-use Rattle.can_frame.specs.Number.{bits}
+use Rattle.stuff_bound.specs.Fields.{bits}
 use Rattle.can_frame.specs.Wire.{header, covered}
 use Rattle.can_frame.proofs.wire_bits.covered_bits.Goals as goal
 

@@ -1,7 +1,7 @@
 -- The data bytes so far stand behind the other fields.
 use Rattle.std.proofs.Common.{◌≡◌, ◌+◌, ◌*◌, ◌++◌, length, take}
 use Rattle.std.specs.List.{flat_map}
-use Rattle.can_frame.specs.Number.{bits}
+use Rattle.stuff_bound.specs.Fields.{bits}
 use Rattle.can_frame.proofs.wire_bits.covered_bits.Given as goal
 
 abbrev pub invariant-loop-place : goal.invariant-loop-place

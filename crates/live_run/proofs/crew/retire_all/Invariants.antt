@@ -1,4 +1,4 @@
-use Rattle.std.proofs.Common.{◌≡◌, ◌++◌, List, true, All, vec_len}
+use Rattle.std.proofs.Common.{◌≡◌, ◌≤◌, ℕ, List, All, vec_len}
 use mathlib.Core.List.{IsPrefix}
 use Rattle.live_master.specs.Passes.{IsPassOf}
 use Rattle.live_run.specs.declared.crew.Operator.{Operator}
@@ -8,6 +8,9 @@ use Rattle.live_run.proofs.crew.retire_all.Given as goal
 abbrev pub invariant-loop-operator : goal.invariant-loop-operator
 invariant-loop-operator l = record {
   retired : (gone : List Operator) × HaveRetired l.initial.operators.items l.operators.items gone l.pass.view l.all_answered;
+  few : (most : ℕ) → All (λ entry. entry.0 ≤ most) l.initial.pass.view.ended
+      → All (λ (operator : Operator). operator.pass.view.number ≤ most) l.initial.operators.items
+      → All (λ entry. entry.0 ≤ most) l.pass.view.ended × All (λ (operator : Operator). operator.pass.view.number ≤ most) l.operators.items;
   out : l.pass.view.out ≡ vec_len l.operators;
   begins : IsPrefix l.initial.pass.view.seen l.pass.view.seen;
   mine : l.pass.view.mine ≡ l.initial.pass.view.mine;

@@ -1,11 +1,12 @@
-use Rattle.std.proofs.Common.{◌≡◌, ◌∙◌, ◌++◌, List, All, Contains, length, drop, true, sym, ap, subst, arith}
+use Rattle.std.proofs.Common.{◌≡◌, ◌≤◌, ◌∙◌, ℕ, List, All, Contains, length, drop, true, sym, ap, subst, arith}
+use Rattle.std.proofs.lemmas.List.Elements.{All-nil}
 use Rattle.turn_lock.specs.Passes.{IsOf, Known}
 use Rattle.admission_rules.specs.declared.Rules.{Rules}
 use Rattle.master_core.specs.declared.event.Event.{Event}
 use Rattle.live_run.specs.declared.crew.Operator.{Operator}
 use Rattle.live_run.specs.declared.script.Script.{Script}
 use Rattle.live_run.specs.Crew.{AreDone}
-use Rattle.live_run.proofs.Runs.{begun, can_begin, done-stand, left-behind, whole}
+use Rattle.live_run.proofs.Runs.{begun, can_begin, done-few, done-stand, left-behind, whole}
 use Rattle.live_run.proofs.running.run_live.Goals as goal
 
 pub share-ran-requires-clause-running : goal.share-ran-requires-clause-running
@@ -61,4 +62,11 @@ returns-clause-run g c =
     (subst (λ (l : List Operator). All (λ (o : Operator). Contains c.retire_all-answered.new.pass.view.ended (o.pass.view.number, o.pass.view.mine)) l) entire
     c.retire_all-answered.ensures.ended)
     (subst (λ (l : List Operator). All (λ (o : Operator). o.answered ≡ true) l) entire (c.retire_all-answered.ensures.answered (grind arith)))
-    all_made c.retire_all-answered.ensures.out c.of.ensures.list c.left-left.ensures.left
+    all_made c.retire_all-answered.ensures.out
+    (c.retire_all-answered.ensures.few (length c.args.scripts.items)
+    (subst (λ (l : List (ℕ × List Event)). All (λ (entry : ℕ × List Event). entry.0 ≤ length c.args.scripts.items) l)
+    (sym (stays.ended ∙ (lent.ended ∙ ap (λ (k : Known Event Rules). k.view.ended) first.is))) (All-nil (λ (entry : ℕ × List Event). entry.0 ≤ length c.args.scripts.items)))
+    (subst (λ (l : List Operator). All (λ (o : Operator). o.pass.view.number ≤ length c.args.scripts.items) l)
+    (sym (whole c.in_ok-operators.operators.len operators (drop (length operators) c.in_ok-operators.operators.items) long))
+    (done-few c.args.shared.now c.args.scripts.items operators same done)))
+    c.of.ensures.list c.left-left.ensures.left

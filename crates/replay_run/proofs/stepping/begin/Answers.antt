@@ -1,6 +1,6 @@
 use Rattle.std.proofs.Common.{◌≡◌, sym, subst}
 use Rattle.std.specs.List.{All, Any}
-use Rattle.replay_run.proofs.Ways.{owner-of}
+use Rattle.replay_run.proofs.Shared.{owner-of}
 use Rattle.replay_run.proofs.stepping.begin.Goals as goal
 
 pub new-requires-clause-owned : goal.new-requires-clause-owned

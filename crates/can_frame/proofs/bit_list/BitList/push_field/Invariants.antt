@@ -1,6 +1,6 @@
 -- The bits above `place` stand behind those that were there.
 use Rattle.std.proofs.Common.{◌≡◌, ◌+◌, ◌-◌, ◌/◌, ◌^◌, ◌++◌, length}
-use Rattle.can_frame.specs.Number.{bits}
+use Rattle.stuff_bound.specs.Fields.{bits}
 use Rattle.can_frame.proofs.bit_list.BitList.push_field.Given as goal
 
 abbrev pub invariant-loop-place : goal.invariant-loop-place

@@ -1,7 +1,7 @@
 -- The bytes so far were read.
 use Rattle.std.proofs.Common.{◌≡◌, length, take}
 use Rattle.std.specs.List.{flat_map}
-use Rattle.can_frame.specs.Number.{bits}
+use Rattle.stuff_bound.specs.Fields.{bits}
 use Rattle.can_frame.specs.Progress.{Went}
 use Rattle.can_frame.proofs.reader.Reader.data.Given as goal
 

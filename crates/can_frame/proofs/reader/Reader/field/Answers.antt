@@ -1,7 +1,7 @@
 -- One bit after another, each twice the value so far and the bit.
 use Rattle.std.proofs.Common.{arith, lit<}
-use Rattle.can_frame.specs.Number.{bits}
-use Rattle.can_frame.proofs.Fields.{length-bits}
+use Rattle.stuff_bound.specs.Fields.{bits}
+use Rattle.stuff_bound.proofs.Shared.{length-bits}
 use Rattle.can_frame.proofs.Steps.{went_none, expects_more, field_more, value_more}
 use Rattle.can_frame.proofs.reader.Reader.field.Goals as goal
 

@@ -1,6 +1,6 @@
 -- The bits so far are those of the value, and the last of them is one of the plain part.
 use Rattle.std.proofs.Common.{◌^◌, ◌<◌}
-use Rattle.can_frame.specs.Number.{bits}
+use Rattle.stuff_bound.specs.Fields.{bits}
 use Rattle.can_frame.specs.Progress.{Went, EndsPlain}
 use Rattle.can_frame.proofs.reader.Reader.field.Given as goal
 

@@ -1,6 +1,6 @@
 -- The seven most significant bits, which are not all recessive, and the other four.
 use Rattle.std.proofs.Common.{◌++◌, ◌∙◌, ap}
-use Rattle.can_frame.specs.Number.{bits}
+use Rattle.stuff_bound.specs.Fields.{bits}
 use Rattle.can_frame.proofs.Expectations.{expects_high, expects_low, high_found, identifier_read}
 use Rattle.can_frame.proofs.reader.Reader.identifier.Goals as goal
 

@@ -16,6 +16,8 @@ invariant_of-self c =
         frames = old.node.frames;
       };
       own_slots = old.own_slots;
+      placed = old.placed;
+      instances = old.instances;
       due = old.due;
     }
 

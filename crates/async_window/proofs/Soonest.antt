@@ -1,0 +1,232 @@
+-- What mailboxes offer, by the arrivals of their first requests.
+use Rattle.std.proofs.Common.{◌≡◌, ℕ, ◌+◌, ◌*◌, ◌/◌, ◌^◌, ◌<◌, ◌≤◌, cond, leb, Option, Some, None, List, [], ◌∷◌, ◌++◌, length, get_or, inl, inr, refl, sym, ap, ◌∙◌, subst, arith}
+use Rattle.std.specs.List.{slice_get}
+use Rattle.std.specs.Option.{IsSome, option_to_list}
+use Rattle.std.proofs.Math.Nat.{div-eq_of_lt-le, div-mul-le_self}
+use Rattle.std.proofs.lemmas.Bool.{cases_Bool, cases_eq, cases_lt, le-leb, leb-true}
+use Rattle.std.proofs.lemmas.List.{get_or-map, length-map}
+use Rattle.std.proofs.lemmas.Option.{get_or_from_slice_get, slice_get_within}
+use Rattle.stuff_bound.specs.Stuffing.{worst}
+use Rattle.cycle_layout.specs.Layout.{CycleLayout, IsLayout, async_open, sync_start}
+use Rattle.async_window.specs.declared.request.Request.{Request}
+use Rattle.async_window.specs.Mailbox.{Mail, Offers, IsLeastWith, IsNextInCycle, least_of, mail_offer, unsent_of}
+use Rattle.async_window.specs.Tournament.{IsSoonest, never, arrival_within, node_value}
+use Rattle.async_window.specs.Sorted.{AreKept, AreShort, mail_of}
+use Rattle.async_window.proofs.Offered.{IsLeastWith-either, IsLeastWith-one, IsLeastWith-same, IsLeastWith-some, Offers-among, Offers-least}
+use Rattle.async_window.proofs.Table.{unsent_of-at}
+use Rattle.async_window.proofs.Trees.{top-all, top-some}
+
+-- a first request that has arrived and is short enough
+arrival-some : (bytes at : ℕ) (unsent : List Request) (request : Request) → slice_get unsent 0 ≡ Some request → request.at ≤ at
+    → length request.frame.bytes ≤ bytes → arrival_within bytes unsent ≤ at
+arrival-some bytes at [] request first arrived short = let none : ⊥ = cc (first) in absurd none
+arrival-some bytes at (r ∷ later) request first arrived short =
+    let same : r ≡ request = cc (first) in
+    subst (λ (x : Request). cond (leb (length x.frame.bytes) bytes) x.at never ≤ at) (sym same)
+    (subst (λ n. n ≤ at) (sym (ap (λ b. cond b request.at never) (le-leb (length request.frame.bytes) bytes short))) arrived)
+
+arrival-from : (bytes at : ℕ) (unsent : List Request) → at < never → arrival_within bytes unsent ≤ at
+    → (request : Request) × (slice_get unsent 0 ≡ Some request) × (request.at ≤ at) × (length request.frame.bytes ≤ bytes)
+arrival-from bytes at [] time low = absurd (omega arith)
+arrival-from bytes at (r ∷ later) time low =
+    elim (cases_Bool (leb (length r.frame.bytes) bytes)) [
+      | inl passed ↦ (r, refl, subst (λ n. n ≤ at) (ap (λ b. cond b r.at never) passed) low, leb-true (length r.frame.bytes) bytes passed)
+      | inr failed ↦ let high : never ≤ at = subst (λ n. n ≤ at) (ap (λ b. cond b r.at never) failed) low in absurd (omega arith)
+    ]
+
+module _ (layout : CycleLayout) (l : ℕ) (ids : List ℕ) (boxes : List Mail) (table : List ℕ) (levels : ℕ) (nodes : List (List ℕ))
+    (remaining : ℕ) (kept : AreKept ids boxes table levels nodes remaining) where
+  -- a mailbox whose first request has arrived and may start is offered
+  pub offers-at : (at bytes place : ℕ) (d : Mail) → at < never → place < length boxes
+      → arrival_within bytes (get_or boxes place d).unsent ≤ at → async_open layout (at / layout.cycle) ≤ at
+      → at + worst bytes ≤ sync_start layout (at / layout.cycle) l → Offers layout l (mail_of ids boxes) at (get_or boxes place d).identifier
+  offers-at at bytes place d time within low opened whole =
+      let id : ℕ = (get_or boxes place d).identifier in
+      let unsent : unsent_of (mail_of ids boxes) id ≡ (get_or boxes place d).unsent
+      = kept.same id ∙ unsent_of-at boxes place d id kept.known.distinct within refl in
+      let first = arrival-from bytes at (get_or boxes place d).unsent time low in (
+        first.0,
+        record {
+          waiting = record { first = ap (λ xs. slice_get xs 0) unsent ∙ first.1; arrived = first.2 };
+          allowed = record { opened = opened; whole = omega (arith, first.3) };
+        },
+      )
+
+  -- what is offered is the first request of a mailbox
+  pub record IsOfferOf (at id place : ℕ) (request : Request) : Type 0 where
+    pub within : place < length boxes
+    pub same : (d : Mail) → (get_or boxes place d).identifier ≡ id
+    pub first : (d : Mail) → slice_get (get_or boxes place d).unsent 0 ≡ Some request
+    pub arrived : request.at ≤ at
+    pub short : length request.frame.bytes ≤ 8
+    pub opened : async_open layout (at / layout.cycle) ≤ at
+    pub whole : at + worst (length request.frame.bytes) ≤ sync_start layout (at / layout.cycle) l
+
+  pub offered-by : (at id : ℕ) → Offers layout l (mail_of ids boxes) at id → (place : ℕ) × (request : Request) × IsOfferOf at id place request
+  offered-by at id may =
+      let first : slice_get (unsent_of boxes id) 0 ≡ Some may.0 = ap (λ xs. slice_get xs 0) (sym (kept.same id)) ∙ may.1.waiting.first in
+      let among = Offers-among layout l at boxes id
+      (may.0, record { waiting = record { first = first; arrived = may.1.waiting.arrived }; allowed = may.1.allowed }) in
+      let place : ℕ = among.0 in
+      let within : place < length boxes = omega (arith, among.1, length-map boxes (λ (x : Mail). x.identifier)) in
+      let same : (d : Mail) → (get_or boxes place d).identifier ≡ id
+      = λ d. sym (get_or-map (λ (x : Mail). x.identifier) boxes place d id within) ∙ among.2 in
+      let here : (d : Mail) → slice_get (get_or boxes place d).unsent 0 ≡ Some may.0
+      = λ d. ap (λ xs. slice_get xs 0) (sym (unsent_of-at boxes place d id kept.known.distinct within (same d))) ∙ first in
+      let box : Mail = record { identifier = id; unsent = [] } in
+      let some : 0 < length (get_or boxes place box).unsent = slice_get_within (get_or boxes place box).unsent 0 may.0 (here box) in
+      let short : AreShort (get_or boxes place box).unsent = kept.short place box within in (
+        place,
+        may.0,
+        record {
+          within = within;
+          same = same;
+          first = here;
+          arrived = may.1.waiting.arrived;
+          short = subst (λ (x : Request). length x.frame.bytes ≤ 8) (get_or_from_slice_get (get_or boxes place box).unsent 0 may.0 may.0 (here box))
+              (short 0 may.0 some);
+          opened = may.1.allowed.opened;
+          whole = may.1.allowed.whole;
+        },
+      )
+
+  -- the least identifier that is offered, by what the window and the tournament say
+  pub none-fits : (at : ℕ) → ((bytes : ℕ) → bytes ≤ 8 → async_open layout (at / layout.cycle) ≤ at
+      → at + worst bytes ≤ sync_start layout (at / layout.cycle) l → ⊥) → IsLeastWith (Offers layout l (mail_of ids boxes) at) None
+  none-fits at none = λ id may.
+      let found = offered-by at id may in
+      none (length found.1.frame.bytes) found.2.short found.2.opened found.2.whole
+
+  pub none-arrived : (at room : ℕ) → ((bytes : ℕ) → bytes ≤ 8 → at + worst bytes ≤ sync_start layout (at / layout.cycle) l → bytes ≤ room)
+      → ((place : ℕ) (d : Mail) → place < length boxes → at < arrival_within room (get_or boxes place d).unsent)
+      → IsLeastWith (Offers layout l (mail_of ids boxes) at) None
+  none-arrived at room fits none = λ id may.
+      let found = offered-by at id may in
+      let box : Mail = record { identifier = id; unsent = [] } in
+      let low : arrival_within room (get_or boxes found.0 box).unsent ≤ at
+      = arrival-some room at (get_or boxes found.0 box).unsent found.1 (found.2.first box) found.2.arrived
+      (fits (length found.1.frame.bytes) found.2.short found.2.whole) in
+      let high : at < arrival_within room (get_or boxes found.0 box).unsent = none found.0 box found.2.within in
+      absurd (omega arith)
+
+  pub first-offers : (at room first : ℕ) (d : Mail) → at < never
+      → ((bytes : ℕ) → bytes ≤ 8 → at + worst bytes ≤ sync_start layout (at / layout.cycle) l → bytes ≤ room)
+      → async_open layout (at / layout.cycle) ≤ at → at + worst room ≤ sync_start layout (at / layout.cycle) l → first < length boxes
+      → ((e : Mail) → arrival_within room (get_or boxes first e).unsent ≤ at)
+      → ((place : ℕ) (e : Mail) → place < first → at < arrival_within room (get_or boxes place e).unsent)
+      → IsLeastWith (Offers layout l (mail_of ids boxes) at) (Some (get_or boxes first d).identifier)
+  first-offers at room first d time fits opened whole within here before = (
+    offers-at at room first d time within (here d) opened whole,
+    λ id may.
+        let found = offered-by at id may in
+        let low : arrival_within room (get_or boxes found.0 d).unsent ≤ at
+        = arrival-some room at (get_or boxes found.0 d).unsent found.1 (found.2.first d) found.2.arrived
+        (fits (length found.1.frame.bytes) found.2.short found.2.whole) in
+        let same : (get_or boxes found.0 d).identifier ≡ id = found.2.same d in
+        elim (cases_lt found.0 first) [
+          | inl earlier ↦ let high : at < arrival_within room (get_or boxes found.0 d).unsent = before found.0 d earlier in absurd (omega arith)
+          | inr later ↦ elim (cases_eq found.0 first) [
+            | inl at_first ↦
+                let equal : (get_or boxes first d).identifier ≡ id = ap (λ n. (get_or boxes n d).identifier) (sym at_first) ∙ same in
+                omega arith
+            | inr apart ↦
+                let behind : first < found.0 = elim (cases_lt first found.0) [ inl less ↦ less | inr more ↦ absurd (apart (omega arith)) ] in
+                let less : (get_or boxes first d).identifier < (get_or boxes found.0 d).identifier
+                = kept.rising first found.0 d behind found.2.within in
+                omega arith
+          ]
+        ],
+  )
+
+  pub is-offer : (at : ℕ) (least : Option ℕ) → IsLeastWith (Offers layout l (mail_of ids boxes) at) least
+      → least ≡ mail_offer layout l (mail_of ids boxes) at
+  is-offer at least is =
+      IsLeastWith-one (Offers layout l (mail_of ids boxes) at) least (mail_offer layout l (mail_of ids boxes) at) is
+      (Offers-least layout l at (mail_of ids boxes) kept.mail)
+
+pub IsSoonest-none : (nodes : List (List ℕ)) (boxes : List Mail) (opened closed at : ℕ) → IsSoonest nodes boxes opened closed at 0 None
+IsSoonest-none nodes boxes opened closed at = λ later found. let below : found.0 < 0 = found.1 in absurd (omega arith)
+
+pub IsSoonest-more : (nodes : List (List ℕ)) (boxes : List Mail) (opened closed at count arrival : ℕ) (one other next : Option ℕ)
+    → IsSoonest nodes boxes opened closed at count one → arrival ≡ node_value count nodes boxes 1
+    → IsLeastWith (λ later. (at < later) × (arrival ≤ later) × (opened ≤ later) × (later + worst count ≤ closed)) other
+    → next ≡ least_of (option_to_list one ++ option_to_list other) → IsSoonest nodes boxes opened closed at (count + 1) next
+IsSoonest-more nodes boxes opened closed at count arrival one other next first is second is_next =
+    subst (λ x. IsSoonest nodes boxes opened closed at (count + 1) x) (sym is_next)
+    (IsLeastWith-either
+    (λ later. (bytes : ℕ) × (bytes < count) × (at < later) × (node_value bytes nodes boxes 1 ≤ later) × (opened ≤ later)
+    × (later + worst bytes ≤ closed))
+    (λ later. (at < later) × (arrival ≤ later) × (opened ≤ later) × (later + worst count ≤ closed))
+    (λ later. (bytes : ℕ) × (bytes < count + 1) × (at < later) × (node_value bytes nodes boxes 1 ≤ later) × (opened ≤ later)
+    × (later + worst bytes ≤ closed))
+    one other
+    (λ later h. let below : h.0 < count = h.1 in (h.0, omega arith, h.2, h.3, h.4, h.5))
+    (λ later h. (count, omega arith, h.0, subst (λ n. n ≤ later) is h.1, h.2, h.3))
+    (λ later h.
+    let below : h.0 < count + 1 = h.1 in
+    elim (cases_lt h.0 count) [
+      | inl less ↦ inl (h.0, less, h.2, h.3, h.4, h.5)
+      | inr more ↦
+          let same : h.0 ≡ count = omega arith in
+          let high : later + worst h.0 ≤ closed = h.5 in
+          inr (
+            h.2,
+            subst (λ n. n ≤ later) (ap (λ n. node_value n nodes boxes 1) same ∙ sym is) h.3,
+            h.4,
+            subst (λ n. later + worst n ≤ closed) same high,
+          )
+    ])
+    first second)
+
+module _ (layout : CycleLayout) (l at : ℕ) (ids : List ℕ) (boxes : List Mail) (table : List ℕ) (levels : ℕ) (nodes : List (List ℕ))
+    (remaining : ℕ) (kept : AreKept ids boxes table levels nodes remaining) (known : IsLayout layout) (time : at < 2 ^ 60) where
+  pub next-offer : (opened closed : ℕ) (least : Option ℕ) → opened ≡ async_open layout (at / layout.cycle)
+      → closed ≡ sync_start layout (at / layout.cycle) l → IsSoonest nodes boxes opened closed at 9 least
+      → IsNextInCycle layout.cycle at (λ later. IsSome (mail_offer layout l (mail_of ids boxes) later)) least
+  next-offer opened closed least is_opened is_closed is =
+      IsLeastWith-same
+      (λ later. (at < later) × (later / layout.cycle ≡ at / layout.cycle) × IsSome (mail_offer layout l (mail_of ids boxes) later))
+      (λ later. (bytes : ℕ) × (bytes < 9) × (at < later) × (node_value bytes nodes boxes 1 ≤ later) × (opened ≤ later)
+      × (later + worst bytes ≤ closed))
+      least
+      (λ later found.
+      let bytes : ℕ = found.0 in
+      let few : bytes < 9 = found.1 in
+      let start : at / layout.cycle * layout.cycle ≤ at = div-mul-le_self at layout.cycle in
+      let from : opened ≤ later = found.4 in
+      let to : later + worst bytes ≤ closed = found.5 in
+      let cycle : layout.cycle ≤ 100000 = known.cycle_range.below in
+      let end : later < (at / layout.cycle + 1) * layout.cycle = omega arith in
+      let same : later / layout.cycle ≡ at / layout.cycle = div-eq_of_lt-le layout.cycle (omega arith) end in
+      let high : later < never = omega arith in
+      let place = top-some bytes levels nodes boxes (omega arith) kept.tournament later high found.3 in
+      let box : Mail = record { identifier = 0; unsent = [] } in (
+        found.2,
+        same,
+        (IsLeastWith-some (Offers layout l (mail_of ids boxes) later) (mail_offer layout l (mail_of ids boxes) later)
+            (Offers-least layout l later (mail_of ids boxes) kept.mail)).1 (
+              (get_or boxes place.0 box).identifier,
+              offers-at layout l ids boxes table levels nodes remaining kept later bytes place.0 box high place.1 (place.2 box)
+                  (subst (λ c. async_open layout c ≤ later) (sym same) (subst (λ n. n ≤ later) is_opened from))
+                  (subst (λ c. later + worst bytes ≤ sync_start layout c l) (sym same) (subst (λ n. later + worst bytes ≤ n) is_closed to)),
+            ),
+      ))
+      (λ later found.
+      let offer = (IsLeastWith-some (Offers layout l (mail_of ids boxes) later) (mail_offer layout l (mail_of ids boxes) later)
+      (Offers-least layout l later (mail_of ids boxes) kept.mail)).0 found.2 in
+      let by = offered-by layout l ids boxes table levels nodes remaining kept later offer.0 offer.1 in
+      let bytes : ℕ = length by.1.frame.bytes in
+      let few : bytes ≤ 8 = by.2.short in
+      let box : Mail = record { identifier = 0; unsent = [] } in
+      let arrived : arrival_within bytes (get_or boxes by.0 box).unsent ≤ later
+      = arrival-some bytes later (get_or boxes by.0 box).unsent by.1 (by.2.first box) by.2.arrived (omega arith) in
+      let low : node_value bytes nodes boxes 1 ≤ arrival_within bytes (get_or boxes by.0 box).unsent
+      = top-all bytes levels nodes boxes few kept.tournament by.0 box by.2.within in (
+        bytes,
+        omega arith,
+        found.0,
+        omega arith,
+        subst (λ n. n ≤ later) (sym is_opened) (subst (λ c. async_open layout c ≤ later) found.1 by.2.opened),
+        subst (λ n. later + worst bytes ≤ n) (sym is_closed) (subst (λ c. later + worst bytes ≤ sync_start layout c l) found.1 by.2.whole),
+      ))
+      is

@@ -1,0 +1,74 @@
+//! The asynchronous window of one cycle, and when a frame of some length may start in it. All times are bit times.
+
+ghost use Rattle.std.specs.Prelude.{◌≡◌, ℕ, ◌+◌, ◌/◌, ◌^◌, ◌<◌, ◌≤◌, MatchOption};
+ghost use Rattle.stuff_bound.specs.Stuffing.{worst};
+ghost use Rattle.cycle_layout.specs.Layout.{IsLayout, async_open, sync_start};
+ghost use Rattle.async_window.specs.Mailbox.{IsLeastWith};
+
+use cycle_layout::Layout;
+use stuff_bound::bound;
+
+/// How many numbers of data bytes a frame may have: 0 to 8.
+const LENGTHS: u8 = 9;
+
+/// The asynchronous window of one cycle.
+#[derive(Clone, Copy)]
+pub struct Window {
+    /// Its start.
+    pub opened: u64,
+    /// The start of the synchronous window, before which each frame has to end.
+    pub closed: u64,
+}
+
+/// The window of the cycle of `at`, whose synchronous window has the length `l`.
+pub fn window_at(layout: &Layout, at: u64, l: u32) -> Window
+    requires window { l ≤ layout.now.window }
+    requires time { at < 2 ^ 60 }
+    ensures opened { result.opened ≡ async_open layout.now (at / layout.now.cycle) }
+    ensures closed { result.closed ≡ sync_start layout.now (at / layout.now.cycle) l }
+    ensures known { IsLayout layout.now }
+{
+    let start = at - at % u64::from(layout.cycle());
+    Window {
+        opened: start + layout.async_open(0),
+        closed: start + layout.sync_start(0, l),
+    }
+}
+
+impl Window {
+    /// The greatest number of data bytes with which a frame may start at `at`, where any may.
+    pub fn room(&self, at: u64) -> Option<u8>
+        requires time { at < 2 ^ 60 }
+        ensures room { MatchOption result
+            ((bytes : ℕ) → bytes ≤ 8 → self.now.opened ≤ at → at + worst bytes ≤ self.now.closed → ⊥)
+            (λ room. (room ≤ 8) × (self.now.opened ≤ at) × (at + worst room ≤ self.now.closed)
+            × ((bytes : ℕ) → bytes ≤ 8 → at + worst bytes ≤ self.now.closed → bytes ≤ room)) }
+    {
+        if at < self.opened {
+            return None;
+        }
+        for less in 0..LENGTHS {
+            let bytes = LENGTHS - 1 - less;
+            if at + u64::from(bound(bytes)) <= self.closed {
+                return Some(bytes);
+            }
+        }
+        None
+    }
+
+    /// The least time behind `at` at which a frame of so many data bytes, which arrives at `arrival`, may start.
+    pub fn earliest(&self, at: u64, arrival: u64, bytes: u8) -> Option<u64>
+        requires time { at < 2 ^ 60 }
+        requires bytes { bytes ≤ 8 }
+        ensures earliest { IsLeastWith (λ later. (at < later) × (arrival ≤ later) × (self.now.opened ≤ later)
+            × (later + worst bytes ≤ self.now.closed)) result }
+    {
+        let last = self.closed.saturating_sub(u64::from(bound(bytes)));
+        let earliest = arrival.max(at + 1).max(self.opened);
+        if earliest <= last {
+            Some(earliest)
+        } else {
+            None
+        }
+    }
+}

@@ -1,0 +1,46 @@
+-- The rows of a history, event by event.
+use Rattle.std.proofs.Common.{◌≡◌, ℕ, ◌≤◌, List, [], ◌∷◌, ◌++◌, take, length, refl, sym, ap, ◌∙◌, subst, arith}
+use Rattle.std.specs.List.{flat_map}
+use Rattle.can_frame.specs.declared.data_frame.TimedFrame.{TimedFrame}
+use Rattle.master_core.specs.declared.event.Event.{Event}
+use Rattle.master_core.specs.declared.event.Event.TheVariants.{Submit, Look, Open}
+use Rattle.master_core.specs.History.{AllAfter}
+use Rattle.trigger_codec.specs.Bytes.{trigger_bytes}
+use Rattle.bus_trace.specs.EventRows.{BeginsCycle, HasItsFrames, HasWindow, HasWindowIn, SaysWidth, rows_of_event}
+use Rattle.bus_trace.specs.Log.{event_rows, events_rows, frame_row, started_in}
+use Rattle.bus_trace.specs.Logged.{frames_of_event, opened_row}
+
+one-event : (trace : List TimedFrame) (before : List Event) (event : Event) → SaysWidth trace before event
+    → rows_of_event event (frames_of_event trace event) ≡ event_rows trace before event
+one-event trace before (Submit caller change from verdict trail) says = refl
+one-event trace before (Look caller next) says = refl
+one-event trace before (Open cycle mask) says = ap (λ w. opened_row cycle mask w ++ flat_map frame_row (started_in cycle 0 trace)) says
+
+pub all-events : (trace : List TimedFrame) (before history : List Event) → AllAfter (SaysWidth trace) before history
+    → flat_map (λ event. rows_of_event event (frames_of_event trace event)) history ≡ events_rows trace before history
+all-events trace before [] says = refl
+all-events trace before (event ∷ later) says =
+    ap (λ l. l ++ flat_map (λ e. rows_of_event e (frames_of_event trace e)) later) (one-event trace before event says.0)
+    ∙ ap (λ l. event_rows trace before event ++ l) (all-events trace (before ++ event ∷ []) later says.1)
+
+-- a trigger has the bytes that say the length of its window
+pub has-window : (event : Event) (frames : List TimedFrame) → HasItsFrames event frames → HasWindowIn event frames
+has-window (Submit caller change from verdict trail) frames is = tt
+has-window (Look caller next) frames is = tt
+has-window (Open cycle mask) frames is =
+    let bytes : length is.trigger.frame.bytes ≡ 8 = ap (λ f. length f.bytes) is.says in
+    let some : 3 ≤ length is.trigger.frame.bytes = omega arith in
+    subst HasWindow (sym is.frames_are) some
+
+front-of : (xs ys zs : List ℕ) → take (length (xs ++ ys)) zs ≡ xs ++ ys → take (length xs) zs ≡ xs
+front-of [] ys zs begins = refl
+front-of (x ∷ xs) ys [] begins = absurd (cc)
+front-of (x ∷ xs) ys (z ∷ zs) begins =
+    let first : z ≡ x = cc in
+    let rest : take (length (xs ++ ys)) zs ≡ xs ++ ys = cc in
+    let more = front-of xs ys zs rest in
+    cc
+
+-- what begins with a text and more begins with the text
+pub still-begins : (old more now later : List ℕ) → now ≡ old ++ more → take (length now) later ≡ now → take (length old) later ≡ old
+still-begins old more now later is begins = front-of old more later (subst (λ l. take (length l) later ≡ l) is begins)

@@ -1,0 +1,58 @@
+-- The rows of one event, by the frames that follow it.
+use Rattle.std.specs.Prelude.{◌≡◌, ◌≢◌, ℕ, ◌^◌, ◌<◌, ◌≤◌, List, [], ◌∷◌, ◌++◌, All, length}
+use Rattle.std.specs.List.{flat_map}
+use Rattle.can_frame.specs.declared.data_frame.TimedFrame.{TimedFrame}
+use Rattle.trigger_codec.specs.Bytes.{trigger_frame, window_in}
+use Rattle.requirement_table.specs.Opening.{Opening, width_of}
+use Rattle.master_core.specs.declared.event.Event.{Event}
+use Rattle.master_core.specs.declared.event.Event.TheVariants.{Submit, Look, Open}
+use Rattle.master_core.specs.History.{placed_of}
+use Rattle.bus_trace.specs.Log.{frame_row, look_row, plan_rows, started_in, submit_row}
+use Rattle.bus_trace.specs.Logged.{opened_row}
+
+-- the frames of an opened cycle: first its trigger, which says some length of the synchronous window, and then no other frame with
+-- identifier 0
+pub record BeginsCycle (cycle mask : ℕ) (frames : List TimedFrame) : Type 0 where
+  pub trigger : TimedFrame
+  pub later : List TimedFrame
+  pub frames_are : frames ≡ trigger ∷ later
+  pub window : ℕ
+  pub wide : window < 2 ^ 16
+  pub says : trigger.frame ≡ trigger_frame cycle window mask
+  pub others : All (λ sent. sent.frame.identifier ≢ 0) later
+
+-- no frames follow an event that opens no cycle
+abbrev pub HasItsFrames : Event → List TimedFrame → Type 0
+HasItsFrames (Submit caller change from verdict trail) frames = frames ≡ []
+HasItsFrames (Look caller next) frames = frames ≡ []
+HasItsFrames (Open cycle mask) frames = BeginsCycle cycle mask frames
+
+-- the length of the synchronous window that the first of these frames says, a trigger
+abbrev pub window_of : List TimedFrame → ℕ
+window_of [] = 0
+window_of (trigger ∷ later) = window_in trigger.frame.bytes
+
+-- the rows of an event and of the frames that follow it: a change that is refused for a miss is followed by its plan up to the miss
+abbrev pub rows_of_event : Event → List TimedFrame → List ℕ
+rows_of_event (Submit caller change from verdict trail) frames = submit_row caller from verdict ++ plan_rows from trail
+rows_of_event (Look caller next) frames = look_row caller next
+rows_of_event (Open cycle mask) frames = opened_row cycle mask (window_of frames) ++ flat_map frame_row frames
+
+-- after the events before it, the trigger of the cycle that the event opens says the length of the cycle's synchronous window
+abbrev pub SaysWidth : List TimedFrame → List Event → Event → Type 0
+SaysWidth trace before (Submit caller change from verdict trail) = Unit {0}
+SaysWidth trace before (Look caller next) = Unit {0}
+SaysWidth trace before (Open cycle mask) =
+    window_of (started_in cycle 0 trace) ≡ width_of (record { cycle = cycle; mask = mask; placed = placed_of before })
+
+-- Words for contracts inside the crate
+
+-- the first frame has the bytes that say the length of a window
+abbrev pub HasWindow : List TimedFrame → Type 0
+HasWindow [] = ⊥
+HasWindow (trigger ∷ later) = 3 ≤ length trigger.frame.bytes
+
+abbrev pub HasWindowIn : Event → List TimedFrame → Type 0
+HasWindowIn (Submit caller change from verdict trail) frames = Unit {0}
+HasWindowIn (Look caller next) frames = Unit {0}
+HasWindowIn (Open cycle mask) frames = HasWindow frames

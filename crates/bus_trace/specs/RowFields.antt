@@ -1,0 +1,193 @@
+-- What the fields of a row say: words for contracts inside the crate.
+use Rattle.std.specs.Prelude.{ℕ, ◌+◌, ◌*◌, ◌-◌, ◌^◌, ◌%◌, ◌==◌, ◌&&◌, ◌||◌, Bool, not, if◌then◌else◌, nat_lt, nat_le, List, [], ◌∷◌, length, slice_get, slice_index, codes, Option, Some, None, option_map, option_and_then}
+use Rattle.std.specs.Char.{digit_value, is_ascii_digit}
+use Rattle.std.specs.List.{list_all, slice_split}
+use Rattle.std.specs.Str.{bytes_eq}
+use Rattle.std.specs.Str.Parse.{digits_value}
+use Rattle.can_frame.specs.DataFrame.{DataFrame}
+use Rattle.bus_trace.specs.declared.row.LogRow.{LogRow}
+use Rattle.bus_trace.specs.declared.row.LogRow.TheVariants as row
+use Rattle.bus_trace.specs.declared.row.LogVerdict.{LogVerdict}
+use Rattle.bus_trace.specs.declared.row.LogVerdict.TheVariants as verdict
+
+infixl 10 ◌>>=◌
+-- what the second gives for the value of the first, where both are there
+abbrev pub ◌>>=◌ : {A B : Type 0} → Option A → (A → Option B) → Option B
+value >>= next = option_and_then next value
+
+-- the fields of a line: what stands between its commas
+abbrev pub is_comma : ℕ → Bool
+is_comma byte = byte == 44
+
+abbrev pub fields_of_line : List ℕ → List (List ℕ)
+fields_of_line line = slice_split is_comma line
+
+-- Fields
+
+-- whether the first of several digits is a zero
+abbrev pub has_leading_zero : List ℕ → Bool
+has_leading_zero digits = nat_lt 1 (length digits) && (slice_index digits 0 == 48)
+
+-- the number that decimal digits without leading zeros write
+abbrev pub number_of : List ℕ → Option ℕ
+number_of field =
+    if not (length field == 0) && list_all is_ascii_digit field && not (has_leading_zero field) then Some (digits_value 10 field) else None
+
+-- a number, where it is not above the greatest one
+abbrev pub up_to : ℕ → ℕ → Option ℕ
+up_to most number = if nat_le number most then Some number else None
+
+-- the number in the field at a place, where it is not above the greatest one
+abbrev pub number_at : List (List ℕ) → ℕ → ℕ → Option ℕ
+number_at fields place most = slice_get fields place >>= number_of >>= up_to most
+
+-- whether a byte is a hexadecimal digit in lower case
+abbrev pub is_hex_digit : ℕ → Bool
+is_hex_digit byte = (nat_le 48 byte && nat_le byte 57) || (nat_le 97 byte && nat_le byte 102)
+
+-- the number that so many hexadecimal digits in lower case write
+abbrev pub hex_of : ℕ → List ℕ → Option ℕ
+hex_of count field = if (length field == count) && list_all is_hex_digit field then Some (digits_value 16 field) else None
+
+abbrev pub hex_at : List (List ℕ) → ℕ → ℕ → Option ℕ
+hex_at fields place count = slice_get fields place >>= hex_of count
+
+-- the bytes that two hexadecimal digits each write
+abbrev pub bytes_written : List ℕ → List ℕ
+bytes_written [] = []
+bytes_written (high ∷ []) = []
+bytes_written (high ∷ low ∷ rest) = (16 * digit_value high + digit_value low) ∷ bytes_written rest
+
+-- the bytes that a field writes: an even number of 0 to 16 hexadecimal digits in lower case
+abbrev pub bytes_of : List ℕ → Option (List ℕ)
+bytes_of field =
+    if nat_le (length field) 16 && (length field % 2 == 0) && list_all is_hex_digit field then Some (bytes_written field) else None
+
+-- the frame of an identifier and its bytes
+abbrev pub frame_with : ℕ → List ℕ → DataFrame
+frame_with identifier bytes = record { identifier = identifier; bytes = bytes }
+
+-- the frame of the identifier and the bytes in the fields at two places
+abbrev pub frame_at : List (List ℕ) → Option DataFrame
+frame_at fields = do
+  identifier ← hex_at fields 3 3 >>= up_to 0x7EF
+  bytes ← slice_get fields 4 >>= bytes_of
+  Some (frame_with identifier bytes)
+
+-- Verdicts
+
+-- whether there are so many fields
+abbrev pub are_fields : List (List ℕ) → ℕ → Bool
+are_fields fields count = length fields == count
+
+-- two numbers in the fields from place 4 on, where there are no others
+abbrev pub accepted_of : List (List ℕ) → Option LogVerdict
+accepted_of fields = if are_fields fields 6 then (do
+  first ← number_at fields 4 (2 ^ 64 - 1)
+  count ← number_at fields 5 (2 ^ 64 - 1)
+  Some (verdict.Accepted first count)) else None
+
+abbrev pub passed_of : List (List ℕ) → Option LogVerdict
+passed_of fields = if are_fields fields 6 then (do
+  start ← number_at fields 4 (2 ^ 64 - 1)
+  next ← number_at fields 5 (2 ^ 64 - 1)
+  Some (verdict.Passed start next)) else None
+
+abbrev pub horizon_of : List (List ℕ) → Option LogVerdict
+horizon_of fields = if are_fields fields 6 then (do
+  from ← number_at fields 4 (2 ^ 64 - 1)
+  walked ← number_at fields 5 (2 ^ 64 - 1)
+  Some (verdict.Horizon from walked)) else None
+
+abbrev pub miss_of : List (List ℕ) → Option LogVerdict
+miss_of fields = if are_fields fields 7 then (do
+  slot ← number_at fields 4 255
+  release ← number_at fields 5 (2 ^ 64 - 1)
+  cycle ← number_at fields 6 (2 ^ 64 - 1)
+  Some (verdict.Miss slot release cycle)) else None
+
+-- the number of a rule
+abbrev pub rule_of : ℕ → Option ℕ
+rule_of why = if nat_le 1 why && nat_le why 11 then Some why else None
+
+-- the cycle behind the number of a rule, where there is one
+abbrev pub until_of : List (List ℕ) → ℕ → Option (Option ℕ)
+until_of fields why =
+    if are_fields fields 6 then Some None
+    else if are_fields fields 7 && (why == 10) then option_map Some (number_at fields 6 (2 ^ 64 - 1))
+    else None
+
+abbrev pub malformed_of : List (List ℕ) → Option LogVerdict
+malformed_of fields = do
+  op ← number_at fields 4 255
+  why ← number_at fields 5 255 >>= rule_of
+  until ← until_of fields why
+  Some (verdict.Malformed op why until)
+
+-- the verdict that this word begins
+abbrev pub verdict_by : List (List ℕ) → List ℕ → Option LogVerdict
+verdict_by fields word =
+    if bytes_eq word (codes "accepted") then accepted_of fields
+    else if bytes_eq word (codes "malformed") then malformed_of fields
+    else if bytes_eq word (codes "passed") then passed_of fields
+    else if bytes_eq word (codes "miss") then miss_of fields
+    else if bytes_eq word (codes "horizon") then horizon_of fields
+    else None
+
+unfoldable pub verdict_of : List (List ℕ) → Option LogVerdict
+verdict_of fields = slice_get fields 3 >>= verdict_by fields
+
+-- Rows
+
+abbrev pub submit_of : List (List ℕ) → Option LogRow
+submit_of fields = do
+  caller ← number_at fields 1 255
+  from ← number_at fields 2 (2 ^ 64 - 1)
+  said ← verdict_of fields
+  Some (row.Submit caller from said)
+
+abbrev pub plan_of : List (List ℕ) → Option LogRow
+plan_of fields = if are_fields fields 3 then (do
+  cycle ← number_at fields 1 (2 ^ 64 - 1)
+  mask ← hex_at fields 2 10
+  Some (row.Plan cycle mask)) else None
+
+abbrev pub look_of : List (List ℕ) → Option LogRow
+look_of fields = if are_fields fields 3 then (do
+  caller ← number_at fields 1 255
+  next ← number_at fields 2 (2 ^ 64 - 1)
+  Some (row.Look caller next)) else None
+
+abbrev pub open_of : List (List ℕ) → Option LogRow
+open_of fields = if are_fields fields 4 then (do
+  cycle ← number_at fields 1 (2 ^ 64 - 1)
+  mask ← hex_at fields 2 10
+  width ← number_at fields 3 (2 ^ 32 - 1)
+  Some (row.Open cycle mask width)) else None
+
+abbrev pub frame_of : List (List ℕ) → Option LogRow
+frame_of fields = if are_fields fields 5 then (do
+  start ← number_at fields 1 (2 ^ 64 - 1)
+  len ← number_at fields 2 (2 ^ 32 - 1)
+  frame ← frame_at fields
+  Some (row.Frame (record { start = start; len = len; frame = frame }))) else None
+
+abbrev pub end_of : List (List ℕ) → Option LogRow
+end_of fields = if are_fields fields 2 then (do
+  next ← number_at fields 1 (2 ^ 64 - 1)
+  Some (row.End next)) else None
+
+-- the row that this word begins
+abbrev pub row_by : List (List ℕ) → List ℕ → Option LogRow
+row_by fields word =
+    if bytes_eq word (codes "submit") then submit_of fields
+    else if bytes_eq word (codes "plan") then plan_of fields
+    else if bytes_eq word (codes "look") then look_of fields
+    else if bytes_eq word (codes "open") then open_of fields
+    else if bytes_eq word (codes "frame") then frame_of fields
+    else if bytes_eq word (codes "end") then end_of fields
+    else None
+
+-- the row that these fields have the form of
+unfoldable pub row_of : List (List ℕ) → Option LogRow
+row_of fields = slice_get fields 0 >>= row_by fields

@@ -1,0 +1,40 @@
+//! Why a text is no log.
+
+use std::alloc::{AllocError, AllocFailed};
+use thiserror::Error;
+
+/// Why no log was read.
+#[derive(Clone, Copy, PartialEq, Eq, Debug, Error)]
+pub enum LogFault {
+    /// The text is not that of rows of a log.
+    #[error("row {number}")]
+    Row {
+        /// The first row, from 1, that has none of the forms. A row without its line feed has none.
+        number: u64,
+    },
+    /// There was no memory for the rows.
+    #[error("out of memory")]
+    Memory,
+}
+
+impl<T: Drop> From<AllocFailed<T>> for LogFault {
+    ghost use Rattle.std.specs.Prelude.{◌≡◌};
+    ghost use Rattle.bus_trace.specs.declared.log_fault.LogFault.TheVariants.{Memory};
+
+    ghost from_gives = { λ _ fault. fault ≡ Memory };
+
+    fn from(_failed: AllocFailed<T>) -> LogFault {
+        LogFault::Memory
+    }
+}
+
+impl From<AllocError> for LogFault {
+    ghost use Rattle.std.specs.Prelude.{◌≡◌};
+    ghost use Rattle.bus_trace.specs.declared.log_fault.LogFault.TheVariants.{Memory};
+
+    ghost from_gives = { λ _ fault. fault ≡ Memory };
+
+    fn from(_error: AllocError) -> LogFault {
+        LogFault::Memory
+    }
+}

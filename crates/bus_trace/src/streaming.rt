@@ -1,0 +1,87 @@
+//! The rows of one event, for a log that is written while the run goes on.
+
+ghost use Rattle.std.specs.Prelude.{◌≡◌, ◌+◌, ◌*◌, ◌≤◌, ◌++◌, length, take, OnOk, OnErr};
+ghost use Rattle.can_frame.specs.DataFrame.{IsFrame};
+ghost use Rattle.trigger_codec.specs.Bytes.{window_in};
+ghost use Rattle.bus_trace.specs.EventRows.{HasItsFrames, HasWindow, HasWindowIn, rows_of_event, window_of};
+ghost use Rattle.bus_trace.specs.Logged.{IsNear};
+
+use crate::rows::{push_frame_rows, push_look_row, push_open_row, push_plan_rows, push_submit_row};
+use can_frame::{Frame, TimedFrame};
+use master_core::Event;
+use std::alloc::{AllocError, Global};
+
+/// The length of the synchronous window that a trigger says, in bit times.
+fn window_in(trigger: &Frame) -> u32
+    requires bytes { 3 ≤ length trigger.now.bytes }
+    ensures window { result ≡ window_in trigger.now.bytes }
+{
+    u32::from(trigger.byte(1)) * 256 + u32::from(trigger.byte(2))
+}
+
+/// The length of the synchronous window that the first of these frames says, in bit times.
+fn window_of(frames: &[TimedFrame]) -> u32
+    requires trigger { HasWindow frames.now }
+    ensures window { result ≡ window_of frames.now }
+{
+    match frames {
+        [] => 0,
+        [trigger, ..] => window_in(&trigger.frame),
+    }
+}
+
+/// Appends the rows of an event and of its frames. Where memory runs out, some of them may stand behind what stood.
+fn push_rows(out: &mut Vec<u8>, event: &Event, frames: &[TimedFrame]) -> Result<(), AllocError>
+    requires near { IsNear event.now }
+    requires window { HasWindowIn event.now frames.now }
+    ensures ok { OnOk result (out.new.items ≡ out.old.items ++ rows_of_event event.now frames.now) }
+    ensures err { OnErr result (take (length out.old.items) out.new.items ≡ out.old.items) }
+{
+    match event {
+        Event::Submit {
+            caller,
+            from,
+            verdict,
+            trail,
+            ..
+        } => {
+            push_submit_row(out, *caller, *from, verdict)?;
+            push_plan_rows(out, *from, trail.as_slice())
+        }
+        Event::Look { caller, next } => push_look_row(out, *caller, *next),
+        Event::Open { cycle, mask } => {
+            push_open_row(out, *cycle, *mask, window_of(frames))?;
+            push_frame_rows(out, frames)
+        }
+    }
+}
+
+/// Appends the rows of an event of a master's history, and those of the frames that were sent in the cycle that it opened: the trigger of
+/// the cycle first, and no other frame with identifier 0. An event that opens no cycle has no frames. The length of the cycle's
+/// synchronous window is the one that the trigger says.
+///
+/// The change of an event was planned from a cycle below 2^63.
+///
+/// # Errors
+///
+/// Only where memory runs out. Then `out` is as before.
+pub fn event_rows(
+    _alloc: Global,
+    event: &Event,
+    frames: &[TimedFrame],
+    out: &mut Vec<u8>,
+) -> Result<(), AllocError>
+    requires near { IsNear event.now }
+    requires frames { HasItsFrames event.now frames.now }
+    ensures rows { OnOk result (out.new.items ≡ out.old.items ++ rows_of_event event.now frames.now) }
+    ensures memory { OnErr result (out.new.items ≡ out.old.items) }
+{
+    let before = out.len();
+    match push_rows(out, event, frames) {
+        Ok(()) => Ok(()),
+        Err(error) => {
+            out.truncate(before);
+            Err(error)
+        }
+    }
+}

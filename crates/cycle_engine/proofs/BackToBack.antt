@@ -1,0 +1,362 @@
+-- In a synchronous window the frames that the nodes are to send, in the order of their slots, are those that arbitration decides.
+use Rattle.std.proofs.Common.{◌≡◌, ◌≢◌, ℕ, zero, suc, ◌+◌, ◌-◌, ◌*◌, ◌<◌, ◌≤◌, ◌&&◌, Bool, true, false, not, cond, eqb, List, [], ◌∷◌, ◌++◌, All, Contains, map, length, length-append, take, drop, replicate, get_or, Option, None, Some, inl, inr, refl, sym, ap, ◌∙◌, subst, arith}
+use Rattle.std.specs.Prelude.{◌==◌, MatchOption, nat_lt, find}
+use Rattle.std.specs.List.{cons_option, filter_map}
+use Rattle.std.specs.Option.{option_map_or}
+use Rattle.std.proofs.lemmas.Bool.{cases_Bool, cases_eq, cases_lt, cases_order, eq-eqb, ne_eqb, lt-ltb, le-ltb, cond-true, cond-false, false≢true}
+use Rattle.std.proofs.lemmas.Option.{none-some, same_Some}
+use Rattle.std.proofs.lemmas.List.Elements.{All-cons, All-contains, All-head, All-map, All-tail}
+use Rattle.std.proofs.lemmas.List.Sums.{fold-append}
+use Rattle.std.proofs.lemmas.List.{take_all}
+use Rattle.can_frame.specs.DataFrame.{DataFrame}
+use Rattle.can_frame.specs.Wire.{wire_length}
+use Rattle.can_frame.specs.declared.data_frame.TimedFrame.{TimedFrame}
+use Rattle.cycle_layout.specs.Layout.{CycleLayout}
+use Rattle.requirement_table.specs.Slots.{slots}
+use Rattle.bus_line.specs.Trace.{Follows, end_of}
+use Rattle.bus_line.specs.Stations.{IsOffered, offers_of, told}
+use Rattle.node_model.specs.Opening.{first_identifier}
+use Rattle.node_model.specs.Node.{IsNode, NodeState, after_hearing, node_frame, node_offer}
+use Rattle.node_model.specs.Window.{IsInWindow, due_frame, is_due_slot}
+use Rattle.cycle_engine.specs.Stations.{Stationed, all_hear, cycle_line, frame_by_nodes, offered_by_nodes, offers_this}
+use Rattle.cycle_engine.specs.SyncWindow.{IsRowOf, back_to_back, due_by, frames_of, nodes_alone, sent_at}
+use Rattle.cycle_engine.proofs.Lists.{Contains-filter_map, Contains-from_filter_map, Contains-here, Contains-later, filter_map-none}
+
+-- the laws of nodes in their windows, and of wires, on which this stands
+pub record WindowLaws : Type 0 where
+  pub long : (frame : DataFrame) → 0 < wire_length frame
+  pub offers : (node : NodeState) (from until at : ℕ) → IsNode node → IsInWindow from until node → from ≤ at → at < until
+      → MatchOption (node_offer node at) ((slot : ℕ) → slot < slots → is_due_slot node slot ≡ false)
+      (λ id. (slot : ℕ) × (slot < slots) × (id ≡ first_identifier + slot) × (is_due_slot node slot ≡ true)
+      × ((other : ℕ) → other < slot → is_due_slot node other ≡ false))
+  pub frames : (node : NodeState) (from until at slot : ℕ) → IsNode node → IsInWindow from until node → from ≤ at → at < until
+      → slot < slots → node_frame node at (first_identifier + slot) ≡ due_frame node slot
+  pub stays_in : (node : NodeState) (from until slot : ℕ) (sent : TimedFrame) → IsNode node → sent.frame.identifier ≡ first_identifier + slot
+      → slot < slots → IsInWindow from until node → IsInWindow from until (after_hearing node sent)
+  pub same_frames : (node : NodeState) (slot other : ℕ) (sent : TimedFrame) → IsNode node → sent.frame.identifier ≡ first_identifier + slot
+      → slot < slots → due_frame (after_hearing node sent) other ≡ due_frame node other
+  pub takes : (node : NodeState) (slot other : ℕ) (sent : TimedFrame) → IsNode node → sent.frame.identifier ≡ first_identifier + slot
+      → slot < slots → other < slots → is_due_slot (after_hearing node sent) other ≡ (not (other == slot) && is_due_slot node other)
+  pub stays : (node : NodeState) (sent : TimedFrame) → (sent.frame.identifier ≡ 0 → ⊥) → IsNode node → IsNode (after_hearing node sent)
+
+-- no slot below this one is due
+abbrev pub IsDueFrom : ℕ → NodeState → Type 0
+IsDueFrom k node = (slot : ℕ) → slot < k → is_due_slot node slot ≡ false
+
+-- what is first due
+due-cases : (node : NodeState) (later : List NodeState) (slot : ℕ) (b : Bool) (o : Option DataFrame) → is_due_slot node slot ≡ b
+    → due_by (node ∷ later) slot ≡ o → cond b (Some (due_frame node slot)) (due_by later slot) ≡ o
+due-cases node later slot b o is same = ap (λ c. cond c (Some (due_frame node slot)) (due_by later slot)) (sym is) ∙ same
+
+due_by-none : (nodes : List NodeState) (slot : ℕ) → due_by nodes slot ≡ None → All (λ node. is_due_slot node slot ≡ false) nodes
+due_by-none [] slot none = λ k d within. absurd (omega arith)
+due_by-none (node ∷ later) slot none = elim (cases_Bool (is_due_slot node slot)) [
+  | inl due ↦ absurd (none-some (due_frame node slot) (sym (due-cases node later slot true None due none)))
+  | inr not_due ↦ All-cons (λ n. is_due_slot n slot ≡ false) node later not_due (due_by-none later slot (due-cases node later slot false None not_due none))
+]
+
+module _ (laws : WindowLaws) (from until : ℕ) where
+  -- a node in its window, of which no slot below `k` is due
+  pub record IsAt (k : ℕ) (node : NodeState) : Type 0 where
+    pub known : IsNode node
+    pub in_window : IsInWindow from until node
+    pub later : IsDueFrom k node
+
+  offer-found : (node : NodeState) (k : ℕ) (o : Option ℕ)
+      → MatchOption o ((slot : ℕ) → slot < slots → is_due_slot node slot ≡ false)
+      (λ id. (slot : ℕ) × (slot < slots) × (id ≡ first_identifier + slot) × (is_due_slot node slot ≡ true)
+      × ((other : ℕ) → other < slot → is_due_slot node other ≡ false))
+      → IsDueFrom k node → k < slots → is_due_slot node k ≡ true → o ≡ Some (first_identifier + k)
+  offer-found node k None nothing below within due = absurd (false≢true (sym (nothing k within) ∙ due))
+  offer-found node k (Some id) (slot, inside, is, due_too, least) below within due = elim (cases_order slot k) [
+    | inl same ↦ ap (λ n. Some n) (is ∙ ap (λ s. first_identifier + s) same)
+    | inr (inl before) ↦ absurd (false≢true (sym (below slot before) ∙ due_too))
+    | inr (inr behind) ↦ absurd (false≢true (sym (least k behind) ∙ due))
+  ]
+
+  -- an identifier that is offered is that of a slot that is due
+  offer-due : (node : NodeState) (o : Option ℕ) (id : ℕ)
+      → MatchOption o ((slot : ℕ) → slot < slots → is_due_slot node slot ≡ false)
+      (λ id. (slot : ℕ) × (slot < slots) × (id ≡ first_identifier + slot) × (is_due_slot node slot ≡ true)
+      × ((other : ℕ) → other < slot → is_due_slot node other ≡ false))
+      → o ≡ Some id → (slot : ℕ) × (slot < slots) × (id ≡ first_identifier + slot) × (is_due_slot node slot ≡ true)
+  offer-due node None id nothing is = absurd (none-some id is)
+  offer-due node (Some own) id (slot, inside, same, due, least) is = (slot, inside, sym (same_Some own id is) ∙ same, due)
+
+  offer-none : (node : NodeState) (o : Option ℕ)
+      → MatchOption o ((slot : ℕ) → slot < slots → is_due_slot node slot ≡ false)
+      (λ id. (slot : ℕ) × (slot < slots) × (id ≡ first_identifier + slot) × (is_due_slot node slot ≡ true)
+      × ((other : ℕ) → other < slot → is_due_slot node other ≡ false))
+      → ((slot : ℕ) → slot < slots → is_due_slot node slot ≡ false) → o ≡ None
+  offer-none node None nothing none = refl
+  offer-none node (Some id) (slot, inside, is, due, least) none = absurd (false≢true (sym (none slot inside) ∙ due))
+
+  offers_none : (o : Option ℕ) (id : ℕ) → (o ≡ Some id → ⊥) → offers_this id o ≡ false
+  offers_none None id never = refl
+  offers_none (Some own) id never = ne_eqb own id (λ same. never (ap (λ n. Some n) same))
+
+  module _ (at k : ℕ) (begun : from ≤ at) (early : at < until) (within : k < slots) where
+    offers-at : (node : NodeState) → IsAt k node → is_due_slot node k ≡ true → node_offer node at ≡ Some (first_identifier + k)
+    offers-at node is due =
+        offer-found node k (node_offer node at) (laws.offers node from until at is.known is.in_window begun early) is.later within due
+
+    -- the first node that has the slot due is the first that offers its identifier
+    frame-first : (nodes : List NodeState) (frame : DataFrame) → All (IsAt k) nodes → due_by nodes k ≡ Some frame
+        → (frame_by_nodes nodes at (first_identifier + k) ≡ frame) × Contains (offered_by_nodes nodes at) (first_identifier + k)
+    frame-first [] frame all due = absurd (none-some frame due)
+    frame-first (node ∷ later) frame all due = elim (cases_Bool (is_due_slot node k)) [
+      | inl its ↦
+          let is = All-head (IsAt k) node later all in
+          let offered = offers-at node is its in
+          let same : due_frame node k ≡ frame = same_Some (due_frame node k) frame (due-cases node later k true (Some frame) its due) in
+          let first = ap (offers_this (first_identifier + k)) offered ∙ eq-eqb (first_identifier + k) (first_identifier + k) refl in (
+            ap (λ b. option_map_or (λ n. node_frame n at (first_identifier + k))
+                (cond b (Some node) (find (λ n. offers_this (first_identifier + k) (node_offer n at)) later)) (record { identifier = first_identifier + k; bytes = [] })) first
+                ∙ laws.frames node from until at k is.known is.in_window begun early within ∙ same,
+            Contains-filter_map (λ n. node_offer n at) (node ∷ later) node (first_identifier + k) (Contains-here node later) offered,
+          )
+      | inr other ↦
+          let is = All-head (IsAt k) node later all in
+          let never : node_offer node at ≡ Some (first_identifier + k) → ⊥ = λ same.
+          let its = offer-due node (node_offer node at) (first_identifier + k) (laws.offers node from until at is.known is.in_window begun early) same in
+          let slot : its.0 ≡ k = omega (arith, its.2) in
+          false≢true (sym other ∙ ap (is_due_slot node) (sym slot) ∙ its.3) in
+          let rest = frame-first later frame (All-tail (IsAt k) node later all) (due-cases node later k false (Some frame) other due) in
+          let passes = offers_none (node_offer node at) (first_identifier + k) never in (
+            ap (λ b. option_map_or (λ n. node_frame n at (first_identifier + k))
+                (cond b (Some node) (find (λ n. offers_this (first_identifier + k) (node_offer n at)) later)) (record { identifier = first_identifier + k; bytes = [] })) passes
+                ∙ rest.0,
+            offered-later node (node_offer node at) later rest.1,
+          )
+    ]
+      where
+        offered-later : (node : NodeState) (o : Option ℕ) (later : List NodeState) → Contains (offered_by_nodes later at) (first_identifier + k)
+            → Contains (cons_option o (offered_by_nodes later at)) (first_identifier + k)
+        offered-later node None later has = has
+        offered-later node (Some own) later has = Contains-later own (offered_by_nodes later at) (first_identifier + k) has
+
+    -- no lesser identifier is offered
+    offers-more : (nodes : List NodeState) (id : ℕ) → All (IsAt k) nodes → Contains (offered_by_nodes nodes at) id → first_identifier + k ≤ id
+    offers-more nodes id all has =
+        let found = Contains-from_filter_map (λ n. node_offer n at) nodes id has in
+        let is = All-contains (IsAt k) nodes found.0 all found.1 in
+        let its = offer-due found.0 (node_offer found.0 at) id (laws.offers found.0 from until at is.known is.in_window begun early) found.2 in
+        elim (cases_lt its.0 k) [
+          | inl before ↦ absurd (false≢true (sym (is.later its.0 before) ∙ its.3))
+          | inr behind ↦ omega (arith, behind, its.2)
+        ]
+
+  -- nothing is offered where no slot is due
+  offers-nothing : (nodes : List NodeState) (at : ℕ) → from ≤ at → at < until → All (IsAt slots) nodes → offered_by_nodes nodes at ≡ []
+  offers-nothing nodes at begun early all =
+      filter_map-none (λ n. node_offer n at) nodes (λ k d within.
+      let is = all k d within in
+      let node = get_or nodes k d in
+      offer-none node (node_offer node at) (laws.offers node from until at is.known is.in_window begun early) is.later)
+
+  -- nodes that heard the frame of a slot
+  IsAt-heard : (k : ℕ) (sent : TimedFrame) (nodes : List NodeState) → sent.frame.identifier ≡ first_identifier + k → k < slots → All (IsAt k) nodes
+      → All (IsAt (k + 1)) (all_hear nodes sent)
+  IsAt-heard k sent nodes is within all = All-map (IsAt (k + 1)) (λ node. after_hearing node sent) nodes (λ j d inside.
+      let node = get_or nodes j d in
+      let was = all j d inside in
+      record {
+        known = laws.stays node sent (λ none. omega (arith, is, none)) was.known;
+        in_window = laws.stays_in node from until k sent was.known is within was.in_window;
+        later = λ slot below. elim (cases_eq slot k) [
+          | inl here ↦ laws.takes node k slot sent was.known is within (omega (arith, here, within))
+              ∙ ap (λ b. not b && is_due_slot node slot) (eq-eqb slot k here)
+          | inr other ↦ laws.takes node k slot sent was.known is within (omega (arith, below, within))
+              ∙ ap (λ b. not b && is_due_slot node slot) (ne_eqb slot k other) ∙ was.later slot (omega (arith, below, other))
+        ];
+      })
+
+  IsAt-next : (k : ℕ) (nodes : List NodeState) → due_by nodes k ≡ None → All (IsAt k) nodes → All (IsAt (k + 1)) nodes
+  IsAt-next k nodes none all = λ j d inside.
+      let was = all j d inside in
+      record {
+        known = was.known;
+        in_window = was.in_window;
+        later = λ slot below. elim (cases_eq slot k) [
+          | inl here ↦ ap (is_due_slot (get_or nodes j d)) here ∙ due_by-none nodes k none j d inside
+          | inr other ↦ was.later slot (omega (arith, below, other))
+        ];
+      }
+
+  -- what the nodes are to send of the other slots stays
+  due_by-heard : (k : ℕ) (sent : TimedFrame) (slot : ℕ) (nodes : List NodeState) → sent.frame.identifier ≡ first_identifier + k → k < slots → slot < slots
+      → slot ≢ k → All (IsAt k) nodes → due_by (all_hear nodes sent) slot ≡ due_by nodes slot
+  due_by-heard k sent slot [] is within inside other all = refl
+  due_by-heard k sent slot (node ∷ later) is within inside other all =
+      let was = All-head (IsAt k) node later all in
+      let due : is_due_slot (after_hearing node sent) slot ≡ is_due_slot node slot =
+      laws.takes node k slot sent was.known is within inside ∙ ap (λ b. not b && is_due_slot node slot) (ne_eqb slot k other) in
+      ap (λ b. cond b (Some (due_frame (after_hearing node sent) slot)) (due_by (all_hear later sent) slot)) due
+      ∙ ap (λ f. cond (is_due_slot node slot) (Some f) (due_by (all_hear later sent) slot)) (laws.same_frames node k slot sent was.known is within)
+      ∙ ap (cond (is_due_slot node slot) (Some (due_frame node slot))) (due_by-heard k sent slot later is within inside other (All-tail (IsAt k) node later all))
+
+-- the frames that nodes are to send of `n` slots from slot `k` on
+abbrev pub due_from : List NodeState → ℕ → ℕ → List DataFrame
+due_from nodes k zero = []
+due_from nodes k (suc n) = cons_option (due_by nodes k) (due_from nodes (k + 1) n)
+
+due_from-same : (nodes others : List NodeState) (n k : ℕ) → ((slot : ℕ) → k ≤ slot → slot < k + n → due_by nodes slot ≡ due_by others slot)
+    → due_from nodes k n ≡ due_from others k n
+due_from-same nodes others zero k same = refl
+due_from-same nodes others (suc n) k same =
+    ap (λ o. cons_option o (due_from nodes (k + 1) n)) (same k (omega arith) (omega arith))
+    ∙ ap (cons_option (due_by others k)) (due_from-same nodes others n (k + 1) (λ slot low high. same slot (omega arith) (omega arith)))
+
+row-from : (nodes : List NodeState) (row : List (Option DataFrame)) (n k : ℕ) → length row ≡ n
+    → ((i slot : ℕ) → slot ≡ k + i → i < n → get_or row i None ≡ due_by nodes slot) → frames_of row ≡ due_from nodes k n
+row-from nodes [] zero k long each = refl
+row-from nodes [] (suc n) k long each = absurd (omega arith)
+row-from nodes (x ∷ xs) zero k long each = absurd (omega arith)
+row-from nodes (x ∷ xs) (suc n) k long each =
+    ap (λ o. cons_option o (frames_of xs)) (each 0 k (omega arith) (omega arith))
+    ∙ ap (cons_option (due_by nodes k)) (row-from nodes xs n (k + 1) (omega arith) (λ i slot is within. each (suc i) slot (omega arith) (omega arith)))
+
+pub frames_of-row : (nodes : List NodeState) (row : List (Option DataFrame)) → IsRowOf nodes row → frames_of row ≡ due_from nodes 0 slots
+frames_of-row nodes row is =
+    row-from nodes row slots 0 is.places (λ i slot same within. is.each i within ∙ ap (due_by nodes) (let here : i ≡ slot = omega arith in here))
+
+module _ (laws : WindowLaws) (layout : CycleLayout) (from until : ℕ) (before : Stationed) where
+  abbrev Decided : List TimedFrame → ℕ → List TimedFrame → Type 0
+  Decided sofar at frames = Follows (offers_of cycle_line before) sofar at until frames
+
+  -- what is decided behind any frames, where no slot below `k` is due any more
+  abbrev Goes : ℕ → ℕ → Type 0
+  Goes k n = (nodes : List NodeState) (sofar : List TimedFrame) (at : ℕ) → told cycle_line before sofar ≡ nodes_alone layout nodes
+      → All (IsAt laws from until k) nodes → from ≤ at → Decided sofar at (back_to_back (due_from nodes k n) at until)
+
+  one-sent : (n k : ℕ) → k + 1 + n ≡ slots → Goes (k + 1) n → (nodes : List NodeState) (sofar : List TimedFrame) (at : ℕ)
+      → told cycle_line before sofar ≡ nodes_alone layout nodes → All (IsAt laws from until k) nodes → from ≤ at → at < until
+      → (frame : DataFrame) → due_by nodes k ≡ Some frame
+      → Decided sofar at (sent_at at frame ∷ back_to_back (due_from nodes (k + 1) n) (at + wire_length frame) until)
+  one-sent n k sum goes nodes sofar at now all begun early frame due =
+      let within : k < slots = omega (arith, sum) in
+      let sent = sent_at at frame in
+      let first = frame-first laws from until at k begun early within nodes frame all due in
+      let identifier : frame.identifier ≡ first_identifier + k = ap (λ f. f.identifier) (sym first.0) ∙ identifier_of nodes at (first_identifier + k) in
+      let next = all_hear nodes sent in
+      let told_more : told cycle_line before (sofar ++ sent ∷ []) ≡ nodes_alone layout next =
+      fold-append cycle_line.next before sofar (sent ∷ []) ∙ ap (λ s. cycle_line.next s sent) now in
+      let rest = goes next (sofar ++ sent ∷ []) (at + wire_length frame) told_more (IsAt-heard laws from until k sent nodes identifier within all) (omega (arith, begun)) in
+      let same : due_from next (k + 1) n ≡ due_from nodes (k + 1) n =
+      due_from-same next nodes n (k + 1) (λ slot low high.
+      due_by-heard laws from until k sent slot nodes identifier within (omega (arith, high, sum)) (λ here. omega (arith, here, low)) all) in (
+        record {
+          when_free = omega arith;
+          within = early;
+          first = λ t other low high _. omega (arith, low, high);
+          least = record {
+            offered = subst (λ s. IsOffered cycle_line s at frame) (sym now) (record {
+              contends = subst (Contains (offered_by_nodes nodes at)) (sym identifier) first.1;
+              framed = sym first.0 ∙ ap (frame_by_nodes nodes at) (sym identifier);
+            });
+            least = λ other offered.
+                let its = subst (λ s. IsOffered cycle_line s at other) now offered in
+                omega (arith, identifier, offers-more laws from until at k begun early within nodes other.identifier all its.contends);
+          };
+          whole = refl;
+        },
+        subst (λ fs. Decided (sofar ++ sent ∷ []) (at + wire_length frame) (back_to_back fs (at + wire_length frame) until)) same rest,
+      )
+    where
+      identifier-found : (at id : ℕ) (o : Option NodeState) → (option_map_or (λ node. node_frame node at id) o (record { identifier = id; bytes = [] })).identifier ≡ id
+      identifier-found at id None = refl
+      identifier-found at id (Some node) = refl
+
+      identifier_of : (nodes : List NodeState) (at id : ℕ) → (frame_by_nodes nodes at id).identifier ≡ id
+      identifier_of nodes at id = identifier-found at id (find (λ node. offers_this id (node_offer node at)) nodes)
+
+  one-slot : (n k : ℕ) → k + 1 + n ≡ slots → Goes (k + 1) n → (nodes : List NodeState) (sofar : List TimedFrame) (at : ℕ)
+      → told cycle_line before sofar ≡ nodes_alone layout nodes → All (IsAt laws from until k) nodes → from ≤ at
+      → (o : Option DataFrame) → due_by nodes k ≡ o → Decided sofar at (back_to_back (cons_option o (due_from nodes (k + 1) n)) at until)
+  one-slot n k sum goes nodes sofar at now all begun None due =
+      goes nodes sofar at now (IsAt-next laws from until k nodes due all) begun
+  one-slot n k sum goes nodes sofar at now all begun (Some frame) due = elim (cases_lt at until) [
+    | inl early ↦
+        subst (Decided sofar at) (sym (cond-true (nat_lt at until) _ _ (lt-ltb at until early)))
+        (one-sent n k sum goes nodes sofar at now all begun early frame due)
+    | inr late ↦
+        subst (Decided sofar at) (sym (cond-false (nat_lt at until) _ _ (le-ltb at until late)))
+        (λ t other low high _. omega (arith, low, high, late))
+  ]
+
+  goes-on : (n k : ℕ) → k + n ≡ slots → Goes k n
+  goes-on zero k sum nodes sofar at now all begun = λ t other low high offered.
+      let its = subst (λ s. IsOffered cycle_line s t other) now offered in
+      let here : k ≡ slots = omega (arith, sum) in
+      let none = offers-nothing laws from until nodes t (omega (arith, begun, low)) high (subst (λ j. All (IsAt laws from until j) nodes) here all) in
+      contains_none (offered_by_nodes nodes t) other.identifier none its.contends
+    where
+      contains_none : (ids : List ℕ) (id : ℕ) → ids ≡ [] → Contains ids id → ⊥
+      contains_none [] id none (j, within, is) = omega arith
+      contains_none (x ∷ xs) id none has = absurd (cc)
+  goes-on (suc n) k sum nodes sofar at now all begun =
+      one-slot n k (omega (arith, sum)) (goes-on n (k + 1) (omega (arith, sum))) nodes sofar at now all begun (due_by nodes k) refl
+
+-- the frames of a row, one behind the other, are those that arbitration decides
+pub Follows-row : (laws : WindowLaws) (layout : CycleLayout) (from until : ℕ) (nodes : List NodeState) (row : List (Option DataFrame))
+    → All IsNode nodes → All (IsInWindow from until) nodes → IsRowOf nodes row
+    → Follows (offers_of cycle_line (nodes_alone layout nodes)) [] from until (back_to_back (frames_of row) from until)
+Follows-row laws layout from until nodes row are in_window is =
+    subst (λ fs. Follows (offers_of cycle_line (nodes_alone layout nodes)) [] from until (back_to_back fs from until)) (sym (frames_of-row nodes row is))
+    (goes-on laws layout from until (nodes_alone layout nodes) slots 0 refl nodes [] from refl
+    (λ j d within. record { known = are j d within; in_window = in_window j d within; later = λ slot below. absurd (omega arith) }) (omega arith))
+
+-- the identifiers of these frames are those of slots
+abbrev IsSlotId : ℕ → Type 0
+IsSlotId id = (first_identifier ≤ id) × (id < first_identifier + slots)
+
+due_by-id : (nodes : List NodeState) (slot : ℕ) (frame : DataFrame) → due_by nodes slot ≡ Some frame → frame.identifier ≡ first_identifier + slot
+due_by-id [] slot frame due = absurd (none-some frame due)
+due_by-id (node ∷ later) slot frame due = elim (cases_Bool (is_due_slot node slot)) [
+  | inl its ↦ ap (λ f. f.identifier) (sym (same_Some (due_frame node slot) frame (due-cases node later slot true (Some frame) its due)))
+  | inr other ↦ due_by-id later slot frame (due-cases node later slot false (Some frame) other due)
+]
+
+one-id : (o : Option DataFrame) (k : ℕ) (fs : List DataFrame) → ((frame : DataFrame) → o ≡ Some frame → frame.identifier ≡ first_identifier + k) → k < slots
+    → All (λ f. IsSlotId f.identifier) fs → All (λ f. IsSlotId f.identifier) (cons_option o fs)
+one-id None k fs is within all = all
+one-id (Some frame) k fs is within all =
+    let same = is frame refl in All-cons (λ f. IsSlotId f.identifier) frame fs (omega (arith, same), omega (arith, same, within)) all
+
+due_from-ids : (nodes : List NodeState) (n k : ℕ) → k + n ≤ slots → All (λ f. IsSlotId f.identifier) (due_from nodes k n)
+due_from-ids nodes zero k few = λ j d within. absurd (omega arith)
+due_from-ids nodes (suc n) k few =
+    one-id (due_by nodes k) k (due_from nodes (k + 1) n) (due_by-id nodes k) (omega (arith, few)) (due_from-ids nodes n (k + 1) (omega (arith, few)))
+
+sent-ids : (fs : List DataFrame) (at until : ℕ) → All (λ f. IsSlotId f.identifier) fs → All (λ sent. IsSlotId sent.frame.identifier) (back_to_back fs at until)
+sent-ids [] at until all = λ j d within. absurd (omega arith)
+sent-ids (frame ∷ later) at until all = if-sent (nat_lt at until)
+    (sent-ids later (at + wire_length frame) until (All-tail (λ f. IsSlotId f.identifier) frame later all))
+  where
+    if-sent : (b : Bool) → All (λ sent. IsSlotId sent.frame.identifier) (back_to_back later (at + wire_length frame) until)
+        → All (λ sent. IsSlotId sent.frame.identifier) (cond b (sent_at at frame ∷ back_to_back later (at + wire_length frame) until) [])
+    if-sent true rest =
+        All-cons (λ sent. IsSlotId sent.frame.identifier) (sent_at at frame) _ (All-head (λ f. IsSlotId f.identifier) frame later all) rest
+    if-sent false rest = λ j d within. absurd (omega arith)
+
+pub row-ids : (nodes : List NodeState) (row : List (Option DataFrame)) (from until : ℕ) → IsRowOf nodes row
+    → All (λ sent. (first_identifier ≤ sent.frame.identifier) × (sent.frame.identifier < first_identifier + slots)) (back_to_back (frames_of row) from until)
+row-ids nodes row from until is =
+    sent-ids (frames_of row) from until (subst (All (λ f. IsSlotId f.identifier)) (sym (frames_of-row nodes row is)) (due_from-ids nodes slots 0 (omega arith)))
+
+-- what stands behind a front, as a slice of the whole
+pub behind-front : {X : Type 0} (front back all : List X) (n : ℕ) → all ≡ front ++ back → n ≡ length front → take (length all - n) (drop n all) ≡ back
+behind-front {X = X} front back all n is long =
+    ap (λ xs. take (length xs - n) (drop n xs)) is
+    ∙ ap (λ k. take (length (front ++ back) - k) (drop k (front ++ back))) long
+    ∙ ap (take (length (front ++ back) - length front)) (drop-front front)
+    ∙ take_all (length (front ++ back) - length front) back (omega (arith, length-append front back))
+  where
+    drop-front : (xs : List X) → drop (length xs) (xs ++ back) ≡ back
+    drop-front [] = refl
+    drop-front (x ∷ xs) = drop-front xs
+
+pub nones : (n k : ℕ) → get_or {A = Option DataFrame} (replicate n None) k None ≡ None
+nones zero k = refl
+nones (suc n) zero = refl
+nones (suc n) (suc k) = nones n k

@@ -1,0 +1,174 @@
+-- A cycle in two parts: the bus runs over its stations up to the synchronous window, and then over the nodes in that window.
+use Rattle.std.proofs.Common.{◌≡◌, ◌≢◌, ℕ, ◌+◌, ◌-◌, ◌*◌, ◌^◌, ◌<◌, ◌≤◌, List, [], ◌∷◌, ◌++◌, All, None, Some, length, max, get_or, refl, sym, ap, ◌∙◌, subst, arith}
+use Rattle.std.proofs.Math.Nat.{add-mul}
+use Rattle.std.proofs.lemmas.List.Elements.{All-map, All-weaker}
+use Rattle.std.proofs.lemmas.List.Sums.{fold-append}
+use Rattle.can_frame.specs.DataFrame.{DataFrame}
+use Rattle.can_frame.specs.Wire.{wire_length}
+use Rattle.can_frame.specs.declared.data_frame.TimedFrame.{TimedFrame}
+use Rattle.cycle_layout.specs.Layout.{CycleLayout, IsLayout, sync_start}
+use Rattle.requirement_table.specs.Slots.{slots}
+use Rattle.trigger_codec.specs.Bytes.{trigger_frame}
+use Rattle.bus_line.specs.Trace.{AgreeAlong, Follows, end_of, free_after}
+use Rattle.bus_line.specs.Stations.{IsOffered, Ran, offers_of, told}
+use Rattle.node_model.specs.Node.{IsNode, NodeState, after_hearing, node_offer}
+use Rattle.node_model.specs.Window.{IsInWindow}
+use Rattle.cycle_engine.specs.Nodes.{heard_by}
+use Rattle.cycle_engine.specs.Stations.{AreNodes, Stationed, all_hear, announced, cycle_line}
+use Rattle.cycle_engine.specs.SyncWindow.{IsBeforeWindow, nodes_alone}
+use Rattle.cycle_engine.proofs.Along.{layout_kept, told-heard, told-layout}
+use Rattle.cycle_engine.proofs.NextCycle.{All-behind}
+
+-- the laws of traces on which this stands
+pub record PartLaws : Type 0 where
+  pub joined : (setting : Stationed) (past : List TimedFrame) (free middle until : ℕ) (front back : List TimedFrame) → middle ≤ until
+      → Follows (offers_of cycle_line setting) past free middle front
+      → Follows (offers_of cycle_line setting) (past ++ front) (max middle (free_after free front)) until back
+      → Follows (offers_of cycle_line setting) past free until (front ++ back)
+  pub along : (one other : Stationed) (past other_past : List TimedFrame) (free until : ℕ) (frames : List TimedFrame)
+      → AgreeAlong (offers_of cycle_line one) (offers_of cycle_line other) past other_past free until frames
+      → Follows (offers_of cycle_line one) past free until frames → Follows (offers_of cycle_line other) other_past free until frames
+
+-- the stations behind some frames, once no trigger is left
+told-is : (s : Stationed) (layout : CycleLayout) → s.layout ≡ layout → s.trigger ≡ None → nodes_alone layout s.nodes ≡ s
+told-is s layout same none =
+    ap (λ l. record { layout = l; trigger = None; nodes = s.nodes }) (sym same) ∙ ap (λ t. record { layout = s.layout; trigger = t; nodes = s.nodes }) (sym none)
+
+-- what follows among the stations behind some frames follows those frames
+Follows-told : PartLaws → (before : Stationed) (front back : List TimedFrame) (free until : ℕ)
+    → Follows (offers_of cycle_line (told cycle_line before front)) [] free until back → Follows (offers_of cycle_line before) front free until back
+Follows-told laws before front back free until follows =
+    laws.along (told cycle_line before front) before [] front free until back
+    (λ sofar later at frame _ _ _.
+    let same : told cycle_line (told cycle_line before front) sofar ≡ told cycle_line before (front ++ sofar) = sym (fold-append cycle_line.next before front sofar) in
+    (subst (λ s. IsOffered cycle_line s at frame) same, subst (λ s. IsOffered cycle_line s at frame) (sym same)))
+    follows
+
+-- both parts together
+pub Follows-parts : PartLaws → (layout : CycleLayout) (before : Stationed) (start window end : ℕ) (front back : List TimedFrame) → window ≤ end
+    → before.layout ≡ layout → (told cycle_line before front).trigger ≡ None
+    → Follows (offers_of cycle_line before) [] start window front
+    → Follows (offers_of cycle_line (nodes_alone layout (told cycle_line before front).nodes)) [] (max window (free_after start front)) end back
+    → Follows (offers_of cycle_line before) [] start end (front ++ back)
+Follows-parts laws layout before start window end front back early same none first second =
+    laws.joined before [] start window end front back early first
+    (Follows-told laws before front back (max window (free_after start front)) end
+    (subst (λ s. Follows (offers_of cycle_line s) [] (max window (free_after start front)) end back)
+    (told-is (told cycle_line before front) layout (told-layout front before ∙ same) none) second))
+
+pub heard-parts : (before : Stationed) (front back : List TimedFrame)
+    → heard_by back (told cycle_line before front).nodes ≡ heard_by (front ++ back) before.nodes
+heard-parts before front back =
+    sym (told-heard back (told cycle_line before front))
+    ∙ ap (λ s. s.nodes) (sym (fold-append cycle_line.next before front back))
+    ∙ told-heard (front ++ back) before
+
+-- no frame is shorter than 47 bit times
+pub few-frames : ((frame : DataFrame) → 47 ≤ wire_length frame) → (before : Stationed) (past : List TimedFrame) (free until : ℕ) (frames : List TimedFrame)
+    → Follows (offers_of cycle_line before) past free until frames → free + 47 * length frames ≤ free_after free frames
+few-frames long before past free until [] follows = omega arith
+few-frames long before past free until (sent ∷ later) (next, follows) =
+    let rest = few-frames long before (past ++ sent ∷ []) (end_of sent) until later follows in
+    let first = long sent.frame in
+    omega (arith, rest, first, next.whole, next.when_free)
+
+-- the nodes behind the first part are in the window
+module _ (in_range : (node : NodeState) (at id : ℕ) → IsNode node → node_offer node at ≡ Some id → (0x100 ≤ id) × (id ≤ 0x7EF))
+    (stays : (node : NodeState) (sent : TimedFrame) → (sent.frame.identifier ≡ 0 → node.next < 2 ^ 42) → IsNode node → IsNode (after_hearing node sent))
+    (stays_in : (node : NodeState) (from until : ℕ) (sent : TimedFrame) → sent.frame.identifier ≢ 0
+    → IsInWindow from until node → IsInWindow from until (after_hearing node sent))
+    (opens : (node : NodeState) (l mask : ℕ) (sent : TimedFrame) → l ≤ node.layout.window → node.layout.window ≤ 16383
+    → mask < 2 ^ slots → sent.frame ≡ trigger_frame node.next l mask
+    → (after_hearing node sent).opened ≡ Some (record { cycle = node.next; width = l; flags = mask; heard = 0 }))
+    (layout : CycleLayout) (cycle l mask : ℕ) (is_layout : IsLayout layout) (early : cycle < 2 ^ 42) (small : l ≤ layout.window) (few : mask < 2 ^ slots) where
+  -- a node that hears the trigger is in the window of that cycle
+  opened-by : (window end : ℕ) (node : NodeState) (sent : TimedFrame) → sync_start layout cycle l ≤ window → end ≤ (cycle + 1) * layout.cycle
+      → sent.frame ≡ trigger_frame cycle l mask → node.layout ≡ layout → node.next ≡ cycle → IsInWindow window end (after_hearing node sent)
+  opened-by window end node sent begun ends trigger same next =
+      let own = opens node l mask sent (subst (λ x. l ≤ x.window) (sym same) small) (subst (λ x. x.window ≤ 16383) (sym same) is_layout.window_range.below) few
+      (trigger ∙ ap (λ c. trigger_frame c l mask) (sym next)) in
+      let its : (after_hearing node sent).layout ≡ layout = layout_kept node sent ∙ same in
+      record {
+        opened = record { cycle = node.next; width = l; flags = mask; heard = 0 };
+        is_open = own;
+        begun = subst (λ x. sync_start x node.next l ≤ window) (sym its) (subst (λ c. sync_start layout c l ≤ window) (sym next) begun);
+        ends = subst (λ x. end ≤ (node.next + 1) * x.cycle) (sym its) (subst (λ c. end ≤ (c + 1) * layout.cycle) (sym next) ends);
+      }
+
+  pub in_window-behind : (start window end : ℕ) (nodes : List NodeState) (frames : List TimedFrame) → start < window → sync_start layout cycle l ≤ window
+      → end ≤ (cycle + 1) * layout.cycle → AreNodes layout nodes → All (λ node. node.next ≡ cycle) nodes
+      → Follows (offers_of cycle_line (announced layout start (trigger_frame cycle l mask) nodes)) [] start window frames
+      → All (IsInWindow window end) (told cycle_line (announced layout start (trigger_frame cycle l mask) nodes) frames).nodes
+      × ((told cycle_line (announced layout start (trigger_frame cycle l mask) nodes) frames).trigger ≡ None)
+  in_window-behind start window end nodes frames some begun ends are next follows =
+      All-behind in_range stays layout window (IsInWindow window end) (λ node sent other is. stays_in node window end sent other is)
+      nodes frames start cycle (trigger_frame cycle l mask) some refl are.are early next
+      (λ sent trigger. All-map (IsInWindow window end) (λ node. after_hearing node sent) nodes
+      (λ k d within. opened-by window end (get_or nodes k d) sent begun ends trigger (are.layouts k d within) (next k d within)))
+      follows
+
+-- and so they are from any later time on
+pub in_window-later : (window from end : ℕ) (nodes : List NodeState) → window ≤ from → All (IsInWindow window end) nodes → All (IsInWindow from end) nodes
+in_window-later window from end nodes later all =
+    All-weaker (IsInWindow window end) (IsInWindow from end)
+    (λ node is. record { opened = is.opened; is_open = is.is_open; begun = omega (arith, later, is.begun); ends = is.ends }) nodes all
+
+-- a run by what is said of it
+Ran-same : (before also after : Stationed) (from low until high : ℕ) (old new : List TimedFrame) (free : ℕ) → before ≡ also → from ≡ low → until ≡ high
+    → old ≡ [] → Ran cycle_line before after from until old new free → Ran cycle_line also after low high [] new free
+Ran-same before also after from low until high old new free a b c d ran =
+    subst (λ x. Ran cycle_line also after low high x new free) d
+    (subst (λ x. Ran cycle_line also after low x old new free) c
+    (subst (λ x. Ran cycle_line also after x until old new free) b
+    (subst (λ x. Ran cycle_line x after from until old new free) a ran)))
+
+-- what is known of the nodes and the frames when the bus has run up to the synchronous window
+pub before-window : PartLaws → ((frame : DataFrame) → 47 ≤ wire_length frame)
+    → ((node : NodeState) (at id : ℕ) → IsNode node → node_offer node at ≡ Some id → (0x100 ≤ id) × (id ≤ 0x7EF))
+    → ((node : NodeState) (sent : TimedFrame) → (sent.frame.identifier ≡ 0 → node.next < 2 ^ 42) → IsNode node → IsNode (after_hearing node sent))
+    → ((node : NodeState) (from until : ℕ) (sent : TimedFrame) → sent.frame.identifier ≢ 0
+    → IsInWindow from until node → IsInWindow from until (after_hearing node sent))
+    → ((node : NodeState) (l mask : ℕ) (sent : TimedFrame) → l ≤ node.layout.window → node.layout.window ≤ 16383
+    → mask < 2 ^ slots → sent.frame ≡ trigger_frame node.next l mask
+    → (after_hearing node sent).opened ≡ Some (record { cycle = node.next; width = l; flags = mask; heard = 0 }))
+    → (layout : CycleLayout) (cycle l mask : ℕ) → IsLayout layout → cycle < 2 ^ 42 → l ≤ layout.window → mask < 2 ^ slots
+    → (nodes : List NodeState) → AreNodes layout nodes → All (λ node. node.next ≡ cycle) nodes
+    → (before after : Stationed) (from until : ℕ) (old new : List TimedFrame) (free : ℕ)
+    → before ≡ announced layout (cycle * layout.cycle) (trigger_frame cycle l mask) nodes → from ≡ cycle * layout.cycle
+    → until ≡ sync_start layout cycle l → old ≡ [] → Ran cycle_line before after from until old new free
+    → IsBeforeWindow layout cycle l mask nodes after.nodes new (max until free)
+before-window laws long in_range stays stays_in opens layout cycle l mask is_layout early small few nodes are next before after from until old new free a b c d first =
+    let start = cycle * layout.cycle in
+    let window = sync_start layout cycle l in
+    let end = (cycle + 1) * layout.cycle in
+    let waiting = announced layout start (trigger_frame cycle l mask) nodes in
+    let ran = Ran-same before waiting after from start until window old new free a b c d first in
+    let front = ran.frames in
+    let longer = add-mul cycle 1 layout.cycle in
+    let some : start < window = omega (arith, longer, small, is_layout.room) in
+    let behind = in_window-behind in_range stays stays_in opens layout cycle l mask is_layout early small few start window end nodes front some
+    (omega arith) (omega arith) are next ran.follows in
+    let told_of : after ≡ told cycle_line waiting front = ran.told_of in
+    let sooner : max window (free_after start front) ≡ max until free = ap (max window) (sym ran.free_is) ∙ ap (λ n. max n free) (sym c) in
+    let shown : window ≤ max until free = omega (arith, c) in
+    let sum = few-frames long waiting [] start window front ran.follows in
+    record {
+      in_window = in_window-later window (max until free) end after.nodes shown
+          (subst (λ s. All (IsInWindow window end) s.nodes) (sym told_of) behind.0);
+      few = subst (λ fs. start + 47 * length fs ≤ max until free) (sym ran.appended) (omega (arith, sum, ran.free_is));
+      heard = ap (λ s. s.nodes) told_of ∙ told-heard front waiting ∙ ap (λ fs. heard_by fs nodes) (sym ran.appended);
+      whole = λ later follows.
+          subst (λ fs. Follows (offers_of cycle_line waiting) [] start end (fs ++ later)) (sym ran.appended)
+          (Follows-parts laws layout waiting start window end front later (omega arith) refl behind.1 ran.follows
+          (subst (λ n. Follows (offers_of cycle_line (nodes_alone layout (told cycle_line waiting front).nodes)) [] n end later) (sym sooner)
+          (subst (λ s. Follows (offers_of cycle_line (nodes_alone layout s.nodes)) [] (max until free) end later) told_of follows)));
+    }
+
+-- frames of the window behind those before it
+pub heard-later : (frames later : List TimedFrame) (nodes : List NodeState) → heard_by later (heard_by frames nodes) ≡ heard_by (frames ++ later) nodes
+heard-later frames later nodes =
+    let before : Stationed = nodes_alone any_layout nodes in
+    ap (heard_by later) (sym (told-heard frames before)) ∙ heard-parts before frames later
+  where
+    any_layout : CycleLayout
+    any_layout = record { cycle = 0; turnaround = 0; window = 0 }

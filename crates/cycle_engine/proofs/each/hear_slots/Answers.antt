@@ -1,0 +1,18 @@
+use Rattle.std.proofs.Common.{arith}
+use Rattle.std.specs.Prelude.{fold}
+use Rattle.node_model.specs.Node.{after_hearing}
+use Rattle.cycle_engine.proofs.NodeByNode.{DoneBefore-none, DoneBefore-more, DoneBefore-all}
+use Rattle.cycle_engine.proofs.each.hear_slots.Goals as goal
+
+pub loop-node-init : goal.loop-node-init
+loop-node-init c = DoneBefore-none (λ node. fold after_hearing node c.args.frames.now) c.args.nodes.now
+
+pub loop-node-preserved : goal.loop-node-preserved
+loop-node-preserved c =
+    DoneBefore-more (λ node. fold after_hearing node c.args.frames.now) c.loop-node.node-index c.args.nodes.now c.loop-node.node-items c.node-item.result c.hear_slots.new.self
+    (omega (arith, c.loop-node-test.true, c.loop-node.auto.node-items)) c.hear_slots.ensures.heard c.loop-node.invariant
+
+pub returns : goal.returns
+returns c = record {
+  heard = DoneBefore-all (λ node. fold after_hearing node c.args.frames.now) c.loop-node.node-index c.args.nodes.now c.loop-node.node-items c.loop-node.auto.node-items (omega (arith, c.loop-node-test.false)) c.loop-node.invariant;
+}

@@ -1,0 +1,8 @@
+use Rattle.std.specs.Prelude.{fold}
+use Rattle.node_model.specs.Node.{after_hearing}
+use Rattle.cycle_engine.proofs.NodeByNode.{DoneBefore}
+use Rattle.cycle_engine.proofs.each.hear_slots.Given as goal
+
+-- the nodes before this one have heard the frames
+abbrev pub invariant-loop-node : goal.invariant-loop-node
+invariant-loop-node l = DoneBefore (λ node. fold after_hearing node l.frames) l.node-index l.initial.node-items l.node-items

@@ -1,0 +1,48 @@
+use Rattle.std.proofs.Common.{◌≡◌, ◌+◌, ◌*◌, ◌≤◌, sym, ap, ◌∙◌, subst, arith}
+use Rattle.can_frame.specs.DataFrame.{DataFrame}
+use Rattle.can_frame.specs.Wire.{wire_length}
+use Rattle.cycle_layout.specs.Layout.{sync_start}
+use Rattle.trigger_codec.specs.Bytes.{trigger_frame}
+use Rattle.cycle_engine.specs.Nodes.{NodesView, heard_by, left_in, states_of}
+use Rattle.cycle_engine.specs.Stations.{AreNodes, StationsView, announced, stationed}
+use Rattle.cycle_engine.specs.SyncWindow.{IsBeforeWindow}
+use Rattle.cycle_engine.proofs.Along.{told-heard, told-layout}
+use Rattle.cycle_engine.proofs.Left.{left-heard}
+use Rattle.cycle_engine.proofs.OneCycle.{announced-same}
+use Rattle.cycle_engine.proofs.TwoParts.{PartLaws, before-window}
+use Rattle.cycle_engine.proofs.nodes.Nodes.run_up_to_window.Goals as goal
+
+pub returns-clause-layout : goal.returns-clause-layout
+returns-clause-layout c =
+    let ran = c.run_until.ensures.ran in
+    ap (λ s. s.layout) ran.told_of ∙ told-layout ran.frames (stationed c.announce.new.self) ∙ ap (λ v. v.layout) c.announce.ensures.announced ∙ ap (λ v. v.layout) c.self.view_is
+
+pub returns-clause-before_window : goal.returns-clause-before_window
+returns-clause-before_window c =
+    let order = c.args.order.now in
+    let layout = c.args.self.now.layout in
+    let nodes = states_of c.args.self.now.nodes in
+    let laws : PartLaws = record { joined = c.trace_laws.ensures.joined; along = c.same_along.ensures.along } in
+    let long : (frame : DataFrame) → 47 ≤ wire_length frame = λ frame. omega (arith, c.wire_lengths.ensures.at_least frame) in
+    let length : c.from.result ≡ layout.cycle = c.from.ensures ∙ c.cycle.ensures.value ∙ ap (λ l. l.cycle) c.layout-layout.ensures.layout in
+    let start : order.cycle * c.from.result ≡ order.cycle * layout.cycle = ap (λ n. order.cycle * n) length in
+    let window : c.sync_start-window.result ≡ sync_start layout order.cycle order.l =
+    c.sync_start-window.ensures.value ∙ ap (λ l. sync_start l order.cycle order.l) c.layout-layout.ensures.layout in
+    let before : stationed c.announce.new.self ≡ announced layout (order.cycle * layout.cycle) (trigger_frame order.cycle order.l order.mask) nodes =
+    ap stationed c.announce.ensures.announced
+    ∙ announced-same _ _ _ _ _ _ _ _ (ap (λ v. v.layout) c.self.view_is) start c.encode-trigger.ensures.frame (ap (λ v. states_of v.nodes) c.self.view_is) in
+    let are : AreNodes layout nodes =
+    subst (λ (v : NodesView). AreNodes v.layout (states_of v.nodes)) c.self.view_is
+    (subst (λ (v : StationsView). AreNodes v.layout (states_of v.nodes)) c.announce.ensures.announced c.announce.ensures.known) in
+    subst (λ from. IsBeforeWindow layout order.cycle order.l order.mask nodes (states_of c.run_until.new.stations.nodes) c.run_until.new.out.items from) (sym c.max.ensures)
+    (before-window laws long c.offers_in_range.ensures.in_range c.stays_a_node.ensures.hearing c.sends_its_slots.ensures.stays c.sends_its_slots.ensures.opens
+    layout order.cycle order.l order.mask c.layout-layout.ensures.known c.requires.cycle c.requires.window c.known.ensures.below nodes are c.requires.next
+    (stationed c.announce.new.self) (stationed c.run_until.new.stations) _ _ _ _ _ before start window c.requires.empty c.run_until.ensures.ran)
+
+pub invariant_of-self : goal.invariant_of-self
+invariant_of-self c =
+    let ran = c.run_until.ensures.ran in
+    let heard : states_of c.run_until.new.stations.nodes ≡ heard_by ran.frames (states_of c.self.inside.stations.nodes) =
+    ap (λ s. s.nodes) ran.told_of ∙ told-heard ran.frames (stationed c.announce.new.self)
+    ∙ ap (λ v. heard_by ran.frames (stationed v).nodes) c.announce.ensures.announced in
+    omega (arith, ap left_in heard, left-heard ran.frames (states_of c.self.inside.stations.nodes), c.self.invariant)

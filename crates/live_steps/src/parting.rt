@@ -1,0 +1,67 @@
+//! The steps of a file by who has them answered.
+
+ghost use Rattle.std.specs.Prelude.{◌≡◌, ℕ, ◌+◌, ◌<◌, ◌≤◌, ◌==◌, [], ◌∷◌, ◌++◌, if◌then◌else◌, All, length, slice_index_or, sum_by, IfOk, OnOk};
+ghost use Rattle.input_text.specs.StepsFile.{AreLegalSteps, IsStep, count_of};
+ghost use Rattle.live_run.specs.declared.script.Script.{Script};
+ghost use Rattle.live_steps.specs.Live.{act_of, acts_of};
+ghost use Rattle.live_steps.specs.Parts.{AreParted};
+
+use change_protocol::Act;
+use input_text::Step;
+use live_run::{ActList, Script};
+use std::alloc::{AllocError, Global};
+
+/// The most operators of a run.
+const OPERATORS: usize = 8;
+
+/// The steps of a file, parted.
+#[derive(Drop)]
+pub struct Parts {
+    /// How many cycles all counts together ask for.
+    pub cycles: u64,
+    /// The acts of each operator, from operator 1 on.
+    pub scripts: Vec<Script>,
+}
+
+/// Scripts of all operators, without an act.
+fn empty_scripts(alloc: Global) -> Result<Vec<Script>, AllocError>
+    ensures count { IfOk result (λ scripts. length scripts.items ≡ 8) }
+    ensures empty { IfOk result (λ scripts. All (λ script. script.acts ≡ []) scripts.items) }
+{
+    let mut scripts = Vec::new(alloc);
+    for _ in 0..OPERATORS {
+        scripts.push(Script {
+            acts: ActList::of(Vec::new(alloc)),
+        })?;
+    }
+    Ok(scripts)
+}
+
+/// Adds an act to the script of its operator.
+fn add_act(scripts: &mut [Script], caller: u8, act: Act) -> Result<(), AllocError>
+    requires count { length scripts.old ≡ 8 }
+    requires some { 1 ≤ caller }
+    requires few { caller ≤ 8 }
+    ensures count { length scripts.new ≡ length scripts.old }
+    ensures added { OnOk result ((k : ℕ) (d : Script) → k < 8 → (slice_index_or scripts.new k d).acts
+        ≡ (if caller == k + 1 then (slice_index_or scripts.old k d).acts ++ act ∷ [] else (slice_index_or scripts.old k d).acts)) }
+{
+    let script = &mut scripts[usize::from(caller) - 1];
+    script.acts.push(act)
+}
+
+/// Parts the steps of a file, which has its limits.
+pub fn part(alloc: Global, steps: Vec<Step>) -> Result<Parts, AllocError>
+    requires steps { AreLegalSteps steps.items }
+    ensures parted { IfOk result (AreParted steps.items) }
+{
+    let mut cycles = 0;
+    let mut scripts = empty_scripts(alloc)?;
+    for step in steps {
+        match step {
+            Step::Cycle { count } => cycles += count,
+            Step::Act { caller, act } => add_act(scripts.as_mut_slice(), caller, act)?,
+        }
+    }
+    Ok(Parts { cycles, scripts })
+}

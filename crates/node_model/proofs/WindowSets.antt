@@ -1,0 +1,88 @@
+-- Sets of slots as words: what stands in both of two, in one of them, in one alone; and that a set without one of its slots is less.
+use Rattle.std.proofs.Common.{◌≡◌, ℕ, zero, suc, ◌+◌, ◌-◌, ◌^◌, ◌<◌, ◌≤◌, ◌&&◌, ◌||◌, Bool, true, false, not, nat_eq, if◌then◌else◌, bit_and, bit_or, min, max, inl, inr, refl, sym, ap, ◌∙◌, arith}
+use Rattle.std.specs.Int.{bit_at, bit_not, w128}
+use Rattle.std.proofs.lemmas.Bool.{cases_lt, false≢true}
+use Rattle.std.proofs.lemmas.Bool.Decides.{nat_tests}
+use Rattle.std.proofs.lemmas.Nat.{or_lt, pow_pos}
+use Rattle.std.proofs.lemmas.Nat.Bits.{bit_at-lt, bit_at_and, bit_at_or, bit_at_not}
+use Rattle.requirement_table.specs.Slots.{contains_slot, set_of, slots, sum_where}
+use Rattle.requirement_table.proofs.Shared.{set_of-contains_slot, set_of-from_slots}
+
+both-bits : (a b : ℕ) → a < 2 → b < 2 → nat_eq (min a b) 1 ≡ (nat_eq a 1 && nat_eq b 1)
+both-bits a b small few = grind (arith, nat_tests)
+
+pub contains_slot-common : (result one other a b slot : ℕ) → result ≡ bit_and a b → a ≡ one → b ≡ other
+    → contains_slot result slot ≡ (contains_slot one slot && contains_slot other slot)
+contains_slot-common result one other a b slot is a_is b_is =
+    ap (λ mask. contains_slot mask slot) is
+    ∙ ap (λ bit. nat_eq bit 1) (bit_at_and a b slot)
+    ∙ both-bits (bit_at a slot) (bit_at b slot) (bit_at-lt a slot) (bit_at-lt b slot)
+    ∙ ap (λ mask. contains_slot mask slot && contains_slot b slot) a_is
+    ∙ ap (λ mask. contains_slot one slot && contains_slot mask slot) b_is
+
+either-bits : (a b : ℕ) → a < 2 → b < 2 → nat_eq (max a b) 1 ≡ (nat_eq a 1 || nat_eq b 1)
+either-bits a b small few = grind (arith, nat_tests)
+
+contains_slot-either : (a b slot : ℕ) → contains_slot (bit_or a b) slot ≡ (contains_slot a slot || contains_slot b slot)
+contains_slot-either a b slot =
+    ap (λ bit. nat_eq bit 1) (bit_at_or a b slot) ∙ either-bits (bit_at a slot) (bit_at b slot) (bit_at-lt a slot) (bit_at-lt b slot)
+
+pub set_of-either : (result one other a b : ℕ) → result ≡ bit_or a b → a ≡ one → b ≡ other → a < 2 ^ slots → b < 2 ^ slots
+    → result ≡ set_of slots (λ slot. contains_slot one slot || contains_slot other slot)
+set_of-either result one other a b is a_is b_is low small =
+    is ∙ set_of-from_slots slots (bit_or a b) (λ slot. contains_slot one slot || contains_slot other slot) (or_lt slots a b low small)
+    (λ slot within.
+    contains_slot-either a b slot
+    ∙ ap (λ mask. contains_slot mask slot || contains_slot b slot) a_is
+    ∙ ap (λ mask. contains_slot one slot || contains_slot mask slot) b_is)
+
+alone-bits : (a b : ℕ) → a < 2 → b < 2 → nat_eq (min a (1 - b)) 1 ≡ (nat_eq a 1 && not (nat_eq b 1))
+alone-bits a b small few = grind (arith, nat_tests)
+
+pub contains_slot-alone : (result one other a b slot : ℕ) → result ≡ bit_and a (bit_not w128 b) → a ≡ one → b ≡ other → b < 2 ^ 128 → slot < 128
+    → contains_slot result slot ≡ (contains_slot one slot && not (contains_slot other slot))
+contains_slot-alone result one other a b slot is a_is b_is low small =
+    ap (λ mask. contains_slot mask slot) is
+    ∙ ap (λ bit. nat_eq bit 1) (bit_at_and a (bit_not w128 b) slot)
+    ∙ ap (λ bit. nat_eq (min (bit_at a slot) bit) 1) (bit_at_not w128 b slot low small)
+    ∙ alone-bits (bit_at a slot) (bit_at b slot) (bit_at-lt a slot) (bit_at-lt b slot)
+    ∙ ap (λ mask. contains_slot mask slot && not (contains_slot b slot)) a_is
+    ∙ ap (λ mask. contains_slot one slot && not (contains_slot mask slot)) b_is
+
+-- fewer slots make a lesser sum
+at_most : (b c : Bool) (n : ℕ) → (c ≡ true → b ≡ true) → (if c then n else 0) ≤ (if b then n else 0)
+at_most true true n more = omega arith
+at_most true false n more = omega arith
+at_most false true n more = absurd (false≢true (more refl))
+at_most false false n more = omega arith
+
+sum_where-fewer : (n : ℕ) (p q : ℕ → Bool) (f : ℕ → ℕ) → ((s : ℕ) → s < n → q s ≡ true → p s ≡ true) → sum_where n q f ≤ sum_where n p f
+unfolding sum_where
+sum_where-fewer zero p q f more = omega arith
+sum_where-fewer (suc n) p q f more =
+    omega (arith, sum_where-fewer n p q f (λ s within. more s (omega arith)), at_most (p n) (q n) (f n) (more n (omega arith)))
+
+sum_where-less : (n : ℕ) (p q : ℕ → Bool) (f : ℕ → ℕ) (k : ℕ) → k < n → ((s : ℕ) → s < n → q s ≡ true → p s ≡ true) → p k ≡ true → q k ≡ false
+    → 0 < f k → sum_where n q f < sum_where n p f
+unfolding sum_where
+sum_where-less zero p q f k within more has lacks some = absurd (omega arith)
+sum_where-less (suc n) p q f k within more has lacks some = elim (cases_lt k n) [
+  | inl before ↦
+      omega (arith, sum_where-less n p q f k before (λ s below. more s (omega arith)) has lacks some, at_most (p n) (q n) (f n) (more n (omega arith)))
+  | inr behind ↦
+      let here : n ≡ k = omega arith in
+      let one : (if p n then f n else 0) ≡ f k = rw (here, has) refl in
+      let none : (if q n then f n else 0) ≡ 0 = rw (here, lacks) refl in
+      omega (arith, sum_where-fewer n p q f (λ s below. more s (omega arith)), one, none, some)
+]
+
+-- a set without one of its slots is a lesser number
+pub without-less : (left rest k : ℕ) → k < slots → left < 2 ^ slots → rest < 2 ^ slots → contains_slot left k ≡ true
+    → ((s : ℕ) → contains_slot rest s ≡ (not (nat_eq s k) && contains_slot left s)) → rest < left
+unfolding set_of
+without-less left rest k within low small has without =
+    let whole = set_of-contains_slot slots left low in
+    let part = set_of-contains_slot slots rest small in
+    let less = sum_where-less slots (contains_slot left) (contains_slot rest) (λ slot. 2 ^ slot) k within
+    (λ s _ in_rest. let is = without s in grind (arith, nat_tests)) has (let is = without k in grind (arith, nat_tests)) (pow_pos k) in
+    rw (whole, part) less

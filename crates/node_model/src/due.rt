@@ -1,0 +1,110 @@
+//! What a node does in the synchronous window of the cycle that is open for it, for all its slots at once.
+
+ghost use Rattle.std.specs.Prelude.{◌≡◌, ℕ, ◌^◌, ◌<◌, ◌&&◌, ◌||◌, not, None, Some, IfSome, List, length, fold, option_map, slice_index_or, true};
+ghost use Rattle.requirement_table.specs.declared.entries.Placed.{Placed};
+ghost use Rattle.requirement_table.specs.Slots.{contains_slot, set_of, slots};
+ghost use Rattle.node_model.specs.Node.{after_hearing};
+ghost use Rattle.node_model.specs.Kept.{KnowsDue, opened_of};
+ghost use Rattle.node_model.specs.Window.{AreOfSlots, due_frame, frame_due, is_due_slot, or_else, with_all_heard};
+
+use crate::cycle::{FIRST_IDENTIFIER, Open, least_slot};
+use crate::node::Node;
+use can_frame::{Frame, TimedFrame};
+use requirement_table::Mask;
+
+impl Node {
+    /// Puts the frame of each slot that the node is to send in the open cycle at the slot's place in a row of as many places as there are
+    /// slots, where none stands there yet.
+    pub fn put_due(&self, row: &mut [Option<Frame>])
+        requires places { length row.old ≡ slots }
+        ensures places { length row.new ≡ slots }
+        ensures put { (slot : ℕ) → slot < slots
+            → slice_index_or row.new slot None ≡ or_else (slice_index_or row.old slot None) (frame_due self.now.state slot) }
+    {
+        if let Some(open_cycle) = self.opened {
+            let mut left = open_cycle.due;
+            while let Some(slot) = least_slot(left) {
+                let place = usize::from(slot);
+                row[place] = or_else(row[place], self.due_frame(&open_cycle, slot));
+                left.known();
+                left = left.without(slot);
+                left.known();
+            }
+        }
+    }
+
+    /// The frame of a slot that the node is to send in the open cycle.
+    fn due_frame(&self, open_cycle: &Open, slot: u8) -> Frame
+        requires slot { slot < slots }
+        requires open_cycle { self.now.state.opened ≡ Some (opened_of open_cycle.now) }
+        requires due { is_due_slot self.now.state slot ≡ true }
+        ensures frame { result ≡ due_frame self.now.state slot }
+    {
+        let id = FIRST_IDENTIFIER + u16::from(slot);
+        match self.payload(slot, open_cycle.cycle) {
+            Some(payload) => match Frame::new(id, payload.as_slice()) {
+                Ok(frame) => frame,
+                Err(_) => unreachable!(),
+            },
+            None => unreachable!(),
+        }
+    }
+
+    /// Hears frames of slots, one after the other. These are their slots.
+    pub fn hear_slots(&mut self, sent: Mask, frames: &[TimedFrame])
+        requires slots { AreOfSlots sent frames.now }
+        ensures heard { self.new.state ≡ fold after_hearing self.old.state frames.now }
+        ensures spare { self.new.spare ≡ self.old.spare }
+    {
+        self.frames = self.frames.saturating_add(frames.len() as u64);
+        let own = common(self.own, sent);
+        self.opened = after_slots(&self.opened, own);
+    }
+}
+
+/// The frame that there is, or else another one.
+fn or_else(frame: Option<Frame>, other: Frame) -> Option<Frame>
+    ensures frame { result ≡ or_else frame (Some other) }
+{
+    match frame {
+        Some(frame) => Some(frame),
+        None => Some(other),
+    }
+}
+
+/// The open cycle, where there is one, of a node that heard frames of these of its slots.
+fn after_slots(before: &Option<Open>, heard: Mask) -> Option<Open>
+    ensures opened { option_map opened_of result ≡ option_map (with_all_heard heard) (option_map opened_of before.now) }
+    ensures due { (entries : List Placed) → IfSome before.now (KnowsDue entries) → IfSome result (KnowsDue entries) }
+    ensures known { IfSome before.now (λ open_cycle. open_cycle.heard < 2 ^ slots) }
+{
+    let before = before.as_ref()?;
+    before.heard.known();
+    let all_heard = both(before.heard, heard);
+    Some(Open {
+        heard: all_heard,
+        due: without_all(before.due, heard),
+        ..*before
+    })
+}
+
+/// The slots that stand in two sets.
+fn common(one: Mask, other: Mask) -> Mask
+    ensures slots { (slot : ℕ) → contains_slot result slot ≡ (contains_slot one slot && contains_slot other slot) }
+{
+    Mask::from_bits(one.bits() & other.bits())
+}
+
+/// The slots of two sets together.
+fn both(one: Mask, other: Mask) -> Mask
+    ensures slots { result ≡ set_of slots (λ slot. contains_slot one slot || contains_slot other slot) }
+{
+    Mask::from_bits(one.bits() | other.bits())
+}
+
+/// The slots of a set that do not stand in another one.
+fn without_all(one: Mask, other: Mask) -> Mask
+    ensures slots { (slot : ℕ) → slot < slots → contains_slot result slot ≡ (contains_slot one slot && not (contains_slot other slot)) }
+{
+    Mask::from_bits(one.bits() & !other.bits())
+}

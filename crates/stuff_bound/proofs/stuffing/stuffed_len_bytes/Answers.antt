@@ -1,0 +1,28 @@
+use Rattle.std.proofs.Common.{◌≡◌, ℕ, ◌*◌, ◌≤◌, List, length, take, arith}
+use Rattle.std.proofs.lemmas.List.{length-reverse, length-take-le}
+use Rattle.stuff_bound.specs.Fields.{bits_of}
+use Rattle.stuff_bound.proofs.Fields.{length-bits_of}
+use Rattle.stuff_bound.proofs.Sent.{HasSent-few, HasSent-length}
+use Rattle.stuff_bound.proofs.Stuffs.{length-stuffed-most}
+use Rattle.stuff_bound.proofs.stuffing.stuffed_len_bytes.Goals as goal
+
+-- the bits are there
+length-first : (bytes : List ℕ) (count : ℕ) → count ≤ 8 * length bytes → length (take count (bits_of bytes)) ≡ count
+length-first bytes count within = length-take-le count (bits_of bytes) (omega (arith, length-bits_of bytes))
+
+pub overflow_add-result : goal.overflow_add-result
+overflow_add-result c =
+    let plain = take c.args.bits (bits_of c.args.bytes.now) in
+    let few = HasSent-few _ _ _ c.after_bits.ensures.sent in
+    omega (arith, few, length-reverse plain, length-first c.args.bytes.now c.args.bits c.requires.within)
+
+pub returns-clause-len : goal.returns-clause-len
+returns-clause-len c =
+    let plain = take c.args.bits (bits_of c.args.bytes.now) in
+    omega (arith, HasSent-length plain _ _ c.after_bits.ensures.sent, length-first c.args.bytes.now c.args.bits c.requires.within)
+
+pub returns-clause-at_most : goal.returns-clause-at_most
+returns-clause-at_most c some =
+    let plain = take c.args.bits (bits_of c.args.bytes.now) in
+    let width = length-first c.args.bytes.now c.args.bits c.requires.within in
+    omega (arith, HasSent-length plain _ _ c.after_bits.ensures.sent, width, length-stuffed-most plain (omega arith))
