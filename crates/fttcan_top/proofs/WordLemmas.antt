@@ -14,7 +14,7 @@ use Rattle.clap.specs.Walk.{Text}
 use Rattle.clap.proofs.WalkLemmas.{both}
 use Rattle.clap.specs.Words.{is_simple_and_free}
 use Rattle.clap.proofs.OnLiterals.{clap_on_literals}
-use Rattle.fttcan_top.specs.Words.{admit_app, check_app, live_app, number_in, replay_app}
+use Rattle.fttcan_top.specs.Words.{admit_app, check_app, generate_app, live_app, number_in, replay_app}
 
 is_true : {E : Type 0} (G : Text → Result Bool E → Type 0) (text : Text) (read : Option Bool)
     → ((t : Text) (x : Result Bool E) → G t x → ParsesBool t x) → ReadsOne G text read → unwrap_or read false ≡ bytes_eq text (codes "true")
@@ -85,6 +85,10 @@ admit_is_simple = refl
 pub check_is_simple : is_simple_and_free check_app ≡ true
 unfolding clap_on_literals check_app
 check_is_simple = refl
+
+pub generate_is_simple : is_simple_and_free generate_app ≡ true
+unfolding clap_on_literals generate_app
+generate_is_simple = refl
 
 pub live_is_simple : is_simple_and_free live_app ≡ true
 unfolding clap_on_literals live_app

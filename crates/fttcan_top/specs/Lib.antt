@@ -1,6 +1,7 @@
 pub mod Words
 pub mod WordsRead
 pub mod LastRows
+pub mod Summary
 pub mod Status
 pub mod Output
 pub mod Loads

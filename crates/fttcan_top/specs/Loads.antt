@@ -11,10 +11,10 @@ use Rattle.fttcan_top.specs.declared.load.Refusal.{Refusal}
 use Rattle.fttcan_top.specs.declared.load.Refusal.TheVariants.{TooLong, System, Steps, Requests, Plan, LaterPlan}
 use Rattle.fttcan_top.specs.declared.load.Job.{Job as LoadedJob}
 use Rattle.fttcan_top.specs.declared.load.Task.{Task}
-use Rattle.fttcan_top.specs.declared.load.Task.TheVariants.{Log, Table, Check}
+use Rattle.fttcan_top.specs.declared.load.Task.TheVariants.{Log, Table, Check, Summary}
 use Rattle.fttcan_top.specs.declared.load.Stop.{Stop}
 use Rattle.fttcan_top.specs.declared.load.Stop.TheVariants.{Input, Read, Memory}
-use Rattle.fttcan_top.specs.Output.{Asked, IsFromStart, Job, Stopped, absent, check_of, later_plan, log_of, plan_of, too_long, wrong_plan, wrong_requests, wrong_steps, wrong_system}
+use Rattle.fttcan_top.specs.Output.{Asked, IsFromStart, Job, Stopped, absent, check_of, later_plan, log_of, plan_of, summary_of, too_long, wrong_plan, wrong_requests, wrong_steps, wrong_system}
 
 -- a refusal as the reason why there is nothing to do
 abbrev pub stopped_by : Refusal → Stopped
@@ -37,9 +37,10 @@ job_of job = record { system = job.system; steps = job.steps.items; requests = j
 
 -- a task as what was asked
 abbrev pub asked_of : Task → Asked
-asked_of (Log job tail) = log_of (job_of job) tail
+asked_of (Log job tail report) = log_of (job_of job) tail report
 asked_of (Table job) = plan_of (job_of job)
 asked_of (Check job certificate) = check_of (job_of job) certificate
+asked_of (Summary number) = summary_of number
 
 -- what holds of each job
 pub record IsJob (job : LoadedJob) : Type 0 where
@@ -54,6 +55,7 @@ pub record IsToCheck (certificate : CertificateView) : Type 0 where
 
 -- what holds of each task
 abbrev pub IsTask : Task → Type 0
-IsTask (Log job tail) = IsJob job
+IsTask (Log job tail report) = IsJob job
 IsTask (Table job) = IsJob job
 IsTask (Check job certificate) = IsJob job × IsToCheck certificate
+IsTask (Summary number) = ⊤

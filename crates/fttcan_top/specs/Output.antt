@@ -12,6 +12,8 @@ use Rattle.plan_check.specs.PlanText.{IsFirstWrongLine, IsReadable, plan_text}
 use Rattle.plan_check.specs.declared.breach.Breach.{Breach}
 use Rattle.plan_check.specs.declared.breach.Breach.TheVariants.{BadLoop, NotReleased, TooWide, Missed, NotClosed}
 use Rattle.bus_trace.specs.Log.{log_text}
+use Rattle.plan_report.specs.Report.{report_text}
+use Rattle.input_text.specs.Generator.{requests_made, steps_made, system_made}
 use Rattle.replay_run.specs.AskedTable.{table_of}
 use Rattle.replay_run.specs.Run.{AnswersSteps, IsRun}
 use Rattle.async_window.specs.declared.request.Owner.{Owner}
@@ -36,7 +38,8 @@ use Rattle.fttcan_top.specs.declared.load.Source.{Source}
 use Rattle.fttcan_top.specs.declared.status.Status.{Status}
 use Rattle.fttcan_top.specs.declared.status.Status.TheVariants.{Done, Refused, Words, Input, Read, Write, Memory, No}
 use Rattle.fttcan_top.specs.LastRows.{last_rows}
-use Rattle.fttcan_top.specs.Words.{Command, admit, check, command_of, replay}
+use Rattle.fttcan_top.specs.Summary.{summary_text}
+use Rattle.fttcan_top.specs.Words.{Command, admit, check, command_of, generate, replay}
 
 -- What is asked
 
@@ -58,9 +61,11 @@ pub record Job : Type 0 where
   pub steps : List Step
   pub requests : List Request
 
--- what is asked for: the log of a run or so many of its last rows, the plan of the table behind a run, or the check of a plan
+-- what is asked for: the log of a run or so many of its last rows, and the report behind it or not; the plan of the table behind a run; the
+-- check of a plan; or the summary of the run of the input that a number makes
 pub data Asked : Type 0 where
-  log_of : Job → Option ℕ → Asked
+  log_of : Job → Option ℕ → Bool → Asked
+  summary_of : ℕ → Asked
   plan_of : Job → Asked
   check_of : Job → CertificateView → Asked
 
@@ -156,9 +161,10 @@ IsCheckOf files name (Err why) asked_for = asked_for ≡ Err why
 -- what a command asks of the files: the first that stops decides
 abbrev pub IsAskedOf : NamedFiles → Command → Result Asked Stopped → Type 0
 IsAskedOf files (replay run tail) asked_for =
-    asked_for ≡ (job_in files run.system run.steps run.requests >>= λ job. Ok (log_of job tail))
+    asked_for ≡ (job_in files run.system run.steps run.requests >>= λ job. Ok (log_of job tail run.report))
 IsAskedOf files (admit system steps) asked_for = asked_for ≡ (job_in files system steps None >>= λ job. Ok (plan_of job))
 IsAskedOf files (check system steps plan) asked_for = IsCheckOf files plan (job_in files system steps None) asked_for
+IsAskedOf files (generate number) asked_for = asked_for ≡ Ok (summary_of number)
 
 abbrev pub IsAskedBy : NamedFiles → Option Command → Result Asked Stopped → Type 0
 IsAskedBy files None asked_for = asked_for ≡ Err no_command
@@ -184,13 +190,18 @@ all_accepted history = list_all refuses_nothing history
 abbrev pub status_of : List Event → Status
 status_of history = if all_accepted history then Done else Refused
 
--- the log of a run, or so many of its last rows: the history answers the steps, and history and trace keep what is promised
-pub record IsLog (job : Job) (tail : Option ℕ) (status : Status) (text : List ℕ) : Type 0 where
+-- the report of a run, where it is asked for
+abbrev pub report_if : Bool → Job → List Event → List TimedFrame → List ℕ
+report_if report job history trace = if report then report_text history trace job.system.owners job.requests else []
+
+-- the log of a run, or so many of its last rows, and the report behind it where that is asked for: the history answers the steps, and history
+-- and trace keep what is promised
+pub record IsLog (job : Job) (tail : Option ℕ) (report : Bool) (status : Status) (text : List ℕ) : Type 0 where
   pub history : List Event
   pub trace : List TimedFrame
   pub run : IsRun job.system job.steps job.requests history trace
   pub ended : status ≡ status_of history
-  pub written : text ≡ last_rows tail (log_text history trace)
+  pub written : text ≡ last_rows tail (log_text history trace) ++ report_if report job history trace
 
 -- the plan of the table that stands when a master has answered the steps: from cycle 0 on, and it keeps that table for ever
 pub record IsPlanText (job : Job) (status : Status) (text : List ℕ) : Type 0 where
@@ -230,9 +241,19 @@ IsCheckText job certificate Read text = ⊥
 IsCheckText job certificate Write text = ⊥
 IsCheckText job certificate Memory text = ⊥
 
+-- the summary of the run of the input that a number makes: the history answers its steps, and history and trace keep what is promised; the
+-- call is done also where a change was refused
+pub record IsSummary (number : ℕ) (status : Status) (text : List ℕ) : Type 0 where
+  pub history : List Event
+  pub trace : List TimedFrame
+  pub run : IsRun (system_made number) (steps_made number) (requests_made number) history trace
+  pub ended : status ≡ Done
+  pub written : text ≡ summary_text number history trace (length (requests_made number))
+
 -- *Output*: the text that answers what is asked, with the status of the call
 abbrev pub IsOutput : Asked → Status → List ℕ → Type 0
-IsOutput (log_of job tail) status text = IsLog job tail status text
+IsOutput (log_of job tail report) status text = IsLog job tail report status text
+IsOutput (summary_of number) status text = IsSummary number status text
 IsOutput (plan_of job) status text = IsPlanText job status text
 IsOutput (check_of job certificate) status text = IsCheckText job certificate status text
 

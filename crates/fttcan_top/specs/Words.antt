@@ -1,27 +1,32 @@
 -- The words of a call, the program's name left out: which command they ask for. The first word names the command. The words are in the
 -- table of commands exactly where clap's simple command of that row takes them, which gets the first word as its program's name.
-use Rattle.std.specs.Prelude.{ℕ, ◌+◌, ◌^◌, pos, List, [], ◌∷◌, Bool, true, ◌&&◌, Option, Some, None, if◌then◌else◌, codes, nat_lt, unwrap_or, option_and_then}
+use Rattle.std.specs.Prelude.{ℕ, ◌+◌, ◌^◌, pos, List, [], ◌∷◌, Bool, true, false, ◌&&◌, Option, Some, None, if◌then◌else◌, codes, nat_lt, unwrap_or, option_and_then}
+use Rattle.std.specs.Option.{option_map_or}
 use Rattle.std.specs.Str.{bytes_eq}
 use Rattle.std.specs.Str.Parse.{digits_value, without_leading_plus}
 use Rattle.clap.specs.ValueTests.{is_numeral}
 use Rattle.clap.specs.Walk.{is_empty, one_of, first_of}
 use Rattle.clap.specs.Words.{App, Row, Rule, Text, fault_of, matches_of, new_app, new_rule, with_rule}
+use Rattle.clap.specs.declared.builder.action.ArgAction.TheVariants.{SetTrue}
 use Rattle.clap.specs.declared.builder.value_parser.ValueParser.{ValueParser}
 use Rattle.clap.specs.declared.builder.value_parser.ValueParser.TheVariants.{Signed}
 
 -- What is asked
 
--- a run: the names of its files
+-- a run: the names of its files, and whether its report is asked for
 pub record RunWords : Type 0 where
   pub system : Text
   pub steps : Text
   pub requests : Option Text
+  pub report : Bool
 
--- a command: a replay, of which only the last rows of the log may be asked for; the plan of the table behind steps; or the check of a plan
+-- a command: a replay, of which only the last rows of the log may be asked for; the plan of the table behind steps; the check of a plan; or
+-- the run of the input that a number makes
 pub data Command : Type 0 where
   replay : RunWords → Option ℕ → Command
   admit : Text → Text → Command
   check : Text → Text → Text → Command
+  generate : ℕ → Command
 
 -- The table of commands, as clap is told it
 
@@ -33,6 +38,14 @@ optional id = new_rule id
 abbrev pub needed : Text → Rule
 needed id = record (new_rule id) { required = true }
 
+-- a number that has to be there, up to a greatest one
+abbrev pub number_up_to : ℕ → Text → Rule
+number_up_to greatest id = record (needed id) { parser = Some (Signed (pos 0) (pos greatest)) }
+
+-- an option that is there or not
+abbrev pub flag : Text → Rule
+flag id = record (new_rule id) { long = Some id; action = Some SetTrue }
+
 -- an option with a number from 1 to a greatest one
 abbrev pub counted_option : ℕ → Text → Rule
 counted_option greatest id = record (new_rule id) { long = Some id; parser = Some (Signed (pos 1) (pos greatest)) }
@@ -41,11 +54,11 @@ counted_option greatest id = record (new_rule id) { long = Some id; parser = Som
 abbrev pub files_app : Text → App
 files_app name = with_rule (with_rule (new_app name) (needed (codes "system"))) (needed (codes "steps"))
 
--- `SYSTEM STEPS [REQUESTS]`
+-- `SYSTEM STEPS [REQUESTS] [--report]`
 abbrev pub run_app : Text → App
-run_app name = with_rule (files_app name) (optional (codes "requests"))
+run_app name = with_rule (with_rule (files_app name) (optional (codes "requests"))) (flag (codes "report"))
 
--- `replay SYSTEM STEPS [REQUESTS] [--tail N]`
+-- `replay SYSTEM STEPS [REQUESTS] [--tail N] [--report]`
 unfoldable pub replay_app : App
 replay_app = with_rule (run_app (codes "replay")) (counted_option 10000 (codes "tail"))
 
@@ -57,7 +70,11 @@ admit_app = files_app (codes "admit")
 unfoldable pub check_app : App
 check_app = with_rule (files_app (codes "check")) (needed (codes "plan"))
 
--- `live SYSTEM STEPS [REQUESTS]`
+-- `gen NUMBER`
+unfoldable pub generate_app : App
+generate_app = with_rule (new_app (codes "gen")) (number_up_to 4294967295 (codes "number"))
+
+-- `live SYSTEM STEPS [REQUESTS] [--report]`
 unfoldable pub live_app : App
 live_app = run_app (codes "live")
 
@@ -66,6 +83,10 @@ live_app = run_app (codes "live")
 -- the word that has to be there
 abbrev pub word_of : Text → List Row → Text
 word_of id rows = unwrap_or (first_of id rows) []
+
+-- whether an option is there
+abbrev pub is_set : Text → List Row → Bool
+is_set id rows = option_map_or (λ text. bytes_eq text (codes "true")) (one_of id rows) false
 
 -- the number that decimal digits write, a plus allowed before them, where it is one of so many bits
 abbrev pub number_in : ℕ → Text → Option ℕ
@@ -82,6 +103,7 @@ run_meant rows = record {
   system = word_of (codes "system") rows;
   steps = word_of (codes "steps") rows;
   requests = first_of (codes "requests") rows;
+  report = is_set (codes "report") rows;
 }
 
 abbrev pub replay_meant : List Row → Command
@@ -93,6 +115,9 @@ admit_meant rows = admit (word_of (codes "system") rows) (word_of (codes "steps"
 abbrev pub check_meant : List Row → Command
 check_meant rows = check (word_of (codes "system") rows) (word_of (codes "steps") rows) (word_of (codes "plan") rows)
 
+abbrev pub generate_meant : List Row → Command
+generate_meant rows = generate (unwrap_or (number_of 32 (codes "number") rows) 0)
+
 -- what the words mean, where clap's command takes them
 abbrev pub taken_by : {A : Type 0} → App → (List Row → A) → List Text → Option A
 taken_by app meaning words = if is_empty (fault_of app words) then Some (meaning (matches_of app words)) else None
@@ -103,6 +128,7 @@ command_named name words =
     if bytes_eq name (codes "replay") then taken_by replay_app replay_meant words
     else if bytes_eq name (codes "admit") then taken_by admit_app admit_meant words
     else if bytes_eq name (codes "check") then taken_by check_app check_meant words
+    else if bytes_eq name (codes "gen") then taken_by generate_app generate_meant words
     else None
 
 -- the command that the words ask for; `None` where they are in no row of the table of commands
@@ -130,6 +156,7 @@ files_named None = 0
 files_named (Some (replay run tail)) = 2 + named run.requests
 files_named (Some (admit system steps)) = 2
 files_named (Some (check system steps plan)) = 3
+files_named (Some (generate number)) = 0
 
 -- the number of files that the words name
 abbrev pub file_count : List Text → ℕ

@@ -1,18 +1,20 @@
 -- What the words of a call name, read off the code's own types.
 use Rattle.std.specs.Prelude.{option_map}
 use Rattle.fttcan_top.specs.declared.words.Command.{Command as NamedCommand}
-use Rattle.fttcan_top.specs.declared.words.Command.TheVariants.{Replay, Admit, Check}
+use Rattle.fttcan_top.specs.declared.words.Command.TheVariants.{Replay, Admit, Check, Generate}
 use Rattle.fttcan_top.specs.declared.words.RunWords.{RunWords as NamedRun}
-use Rattle.fttcan_top.specs.Words.{Command, RunWords, replay, admit, check}
+use Rattle.fttcan_top.specs.Words.{Command, RunWords, replay, admit, check, generate}
 
 abbrev pub run_read : NamedRun → RunWords
 run_read run = record {
   system = run.system.now;
   steps = run.steps.now;
   requests = option_map (λ word. word.now) run.requests;
+  report = run.report;
 }
 
 abbrev pub command_read : NamedCommand → Command
 command_read (Replay run tail) = replay (run_read run) tail
 command_read (Admit system steps) = admit system.now steps.now
 command_read (Check system steps plan) = check system.now steps.now plan.now
+command_read (Generate number) = generate number

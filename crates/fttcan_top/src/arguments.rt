@@ -2,9 +2,9 @@
 
 ghost use Rattle.std.specs.Prelude.{◌≡◌, false, IfOk, codes};
 ghost use Rattle.clap.specs.Words.{app_of, rule_of};
-ghost use Rattle.fttcan_top.specs.Words.{admit_app, check_app, counted_option, files_app, live_app, needed, optional, replay_app, run_app};
+ghost use Rattle.fttcan_top.specs.Words.{admit_app, check_app, counted_option, files_app, flag, generate_app, live_app, needed, number_up_to, optional, replay_app, run_app};
 
-use clap::{Arg, Command, value_parser};
+use clap::{Arg, ArgAction, Command, value_parser};
 use std::alloc::{AllocError, Global};
 
 /// A word that may be left out.
@@ -23,6 +23,14 @@ fn needed<'a>(alloc: Global, id: &'a str) -> Arg<'a>
     Arg::new(alloc, id).required(true)
 }
 
+/// An option that is there or not.
+fn flag<'a>(alloc: Global, id: &'a str) -> Arg<'a>
+    ensures rule { rule_of result ≡ flag id.entry.now }
+    ensures local { result.global ≡ false }
+{
+    Arg::new(alloc, id).long(id).action(ArgAction::SetTrue)
+}
+
 /// `--tail N`.
 fn tail<'a>(alloc: Global) -> Arg<'a>
     ensures rule { rule_of result ≡ counted_option 10000 (codes "tail") }
@@ -31,6 +39,16 @@ fn tail<'a>(alloc: Global) -> Arg<'a>
     Arg::new(alloc, "tail")
         .long("tail")
         .value_parser(value_parser!(u16).range(1..=10_000))
+}
+
+/// `NUMBER`.
+fn number<'a>(alloc: Global) -> Arg<'a>
+    ensures rule { rule_of result ≡ number_up_to 4294967295 (codes "number") }
+    ensures local { result.global ≡ false }
+{
+    Arg::new(alloc, "number")
+        .required(true)
+        .value_parser(value_parser!(u32))
 }
 
 /// A command of two files, `SYSTEM STEPS`.
@@ -42,14 +60,16 @@ fn files_command<'a>(alloc: Global, name: &'a str) -> Result<Command<'a>, AllocE
         .arg(needed(alloc, "steps"))
 }
 
-/// A run, `SYSTEM STEPS [REQUESTS]`.
+/// A run, `SYSTEM STEPS [REQUESTS] [--report]`.
 fn run_command<'a>(alloc: Global, name: &'a str) -> Result<Command<'a>, AllocError>
     ensures app { IfOk result (λ command. app_of command ≡ run_app name.entry.now) }
 {
-    files_command(alloc, name)?.arg(optional(alloc, "requests"))
+    files_command(alloc, name)?
+        .arg(optional(alloc, "requests"))?
+        .arg(flag(alloc, "report"))
 }
 
-/// `replay SYSTEM STEPS [REQUESTS] [--tail N]`.
+/// `replay SYSTEM STEPS [REQUESTS] [--tail N] [--report]`.
 #[tactic(auto, unfolding(crate::specs::Words::replay_app))]
 pub fn replay_command<'a>(alloc: Global) -> Result<Command<'a>, AllocError>
     ensures app { IfOk result (λ command. app_of command ≡ replay_app) }
@@ -73,7 +93,15 @@ pub fn check_command<'a>(alloc: Global) -> Result<Command<'a>, AllocError>
     files_command(alloc, "check")?.arg(needed(alloc, "plan"))
 }
 
-/// `live SYSTEM STEPS [REQUESTS]`.
+/// `gen NUMBER`.
+#[tactic(auto, unfolding(crate::specs::Words::generate_app))]
+pub fn generate_command<'a>(alloc: Global) -> Result<Command<'a>, AllocError>
+    ensures app { IfOk result (λ command. app_of command ≡ generate_app) }
+{
+    Command::new(alloc, "gen").arg(number(alloc))
+}
+
+/// `live SYSTEM STEPS [REQUESTS] [--report]`.
 #[tactic(auto, unfolding(crate::specs::Words::live_app))]
 pub fn live_command<'a>(alloc: Global) -> Result<Command<'a>, AllocError>
     ensures app { IfOk result (λ command. app_of command ≡ live_app) }

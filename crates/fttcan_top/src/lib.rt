@@ -7,6 +7,7 @@ mod load;
 mod program;
 mod rows;
 mod status;
+mod summary;
 mod words;
 mod work;
 

@@ -73,12 +73,14 @@ pub struct Job {
 /// What is to be done.
 #[derive(Debug, Drop)]
 pub enum Task {
-    /// To write the log of the run, or so many of its last rows.
-    Log(Job, Option<u16>),
+    /// To write the log of the run, or so many of its last rows, and the report behind it or not.
+    Log(Job, Option<u16>, bool),
     /// To write the plan of the table behind the run.
     Table(Job),
     /// To check the certificate against the changes of the steps.
     Check(Job, Certificate),
+    /// To write the summary of the run of the input that this number makes.
+    Summary(u32),
 }
 
 /// Fetches a file's bytes.
@@ -257,7 +259,7 @@ fn load_plan<S: Shelf>(alloc: Global, shelf: &mut S, name: &str) -> Result<Certi
     plan_in(alloc, bytes.as_slice())
 }
 
-/// The log that `replay` asks for, or so many of its last rows.
+/// The log that `replay` asks for, or so many of its last rows, and the report behind it or not.
 fn load_replay<S: Shelf>(
     alloc: Global,
     shelf: &mut S,
@@ -275,7 +277,7 @@ fn load_replay<S: Shelf>(
     ensures read { IsErrOf result Stop.Read → Rose (S.faults shelf.old) (S.faults shelf.new) ⊎ IsSome (S.told_files shelf.old) }
 {
     let job = load_job(alloc, shelf, run.system, run.steps, run.requests)?;
-    Ok(Task::Log(job, tail))
+    Ok(Task::Log(job, tail, run.report))
 }
 
 /// The plan that `admit` asks for.
@@ -345,5 +347,6 @@ pub fn load<S: Shelf>(alloc: Global, shelf: &mut S, command: Command<'_>) -> Res
             steps,
             plan,
         } => load_check(alloc, shelf, system, steps, plan),
+        Command::Generate { number } => Ok(Task::Summary(number)),
     }
 }

@@ -138,8 +138,7 @@ fn replay_requests(alloc: Global, texts: [&str; 3]) -> Result<Answer, AllocError
 fn each_command_writes_its_answer(rt: HostRuntime) -> Result<(), Fail> {
     let alloc = rt.alloc();
     let refused = "add,1,0,0,0,8,0,1,1,0\nadd,1,0,1,0,0,0,1,1,0\n";
-    let refused_log =
-        "submit,1,0,accepted,0,1\nsubmit,1,0,miss,1,0,0\nplan,0,0000000001\nend,0\n";
+    let refused_log = "submit,1,0,accepted,0,1\nsubmit,1,0,miss,1,0,0\nplan,0,0000000001\nend,0\n";
     let requests = "200,513,\n200,512,\n";
     let requests_log =
         "open,0,0000000000,0\nframe,0,127,000,0000000000000000\nframe,200,51,200,\nframe,251,50,201,\nend,1\n";
@@ -176,6 +175,12 @@ fn each_command_writes_its_answer(rt: HostRuntime) -> Result<(), Fail> {
             ONE_TRIGGER,
         ),
         (
+            "replay system steps requests --tail 1 --report",
+            [TWO_OWNERS, "cycle,1\n", requests],
+            Status::Done,
+            "end,1\nasync,200,1,0\nasync,201,1,0\nload,0,0,0\n",
+        ),
+        (
             "admit system steps",
             [WIDE_WINDOW, THREE, ""],
             Status::Done,
@@ -205,6 +210,19 @@ fn each_command_writes_its_answer(rt: HostRuntime) -> Result<(), Fail> {
         );
         assert!(rt; answer.err.bytes().is_empty(), "{words:?}");
     }
+    Ok(())
+}
+
+/// The summary of the input that 1 makes. Some of its changes are refused, and the call is done. It fetches nothing.
+#[test]
+fn a_generated_input_is_summed_up(rt: HostRuntime) -> Result<(), Fail> {
+    let alloc = rt.alloc();
+    let summary =
+        "gen,1\naccepted,32\nrefused,8\ncycles,5000\nsynchronous,34028\nasynchronous,19929\nleft,71\nbusy,5457708\nend\n";
+    let shelf = MemShelf::new(Vec::new(alloc), Vec::new(alloc));
+    let answer = call(alloc, &["gen", "1"], shelf, sink(alloc)?)?;
+    assert_eq!(rt; answer.status, Status::Done);
+    assert_eq!(rt; str::from_utf8(answer.out.bytes()), Ok(summary));
     Ok(())
 }
 

@@ -1,23 +1,24 @@
 //! The words of a call, which say what is asked.
 
-ghost use Rattle.std.specs.Prelude.{◌≡◌, codes, ℕ, [], List, Option, Some, None, true, IfOk, IsErrOf, map, option_map, string_bytes};
+ghost use Rattle.std.specs.Prelude.{◌≡◌, codes, unwrap_or, ℕ, [], List, Option, Some, None, true, IfOk, IsErrOf, map, option_map, string_bytes};
 ghost use Rattle.clap.specs.Words.{fault_of, app_of, first_of, found_of, is_simple_and_free, matches_of, rows_of, App, Row};
-ghost use Rattle.fttcan_top.specs.Words.{admit_app, admit_meant, check_app, check_meant, command_of, live_app, live_of, number_of, replay_app, replay_meant, run_meant, taken_by, word_of};
+ghost use Rattle.fttcan_top.specs.Words.{admit_app, admit_meant, check_app, check_meant, command_of, generate_app, generate_meant, is_set, live_app, live_of, number_of, replay_app, replay_meant, run_meant, taken_by, word_of};
 ghost use Rattle.fttcan_top.specs.WordsRead.{run_read, command_read};
 
 use crate::arguments::{
-    admit_command, check_command, live_command, replay_command,
+    admit_command, check_command, generate_command, live_command, replay_command,
 };
 use clap::ArgMatches;
 use clap::error::ErrorKind;
 use std::alloc::{AllocError, Global};
 
-/// The words of a run: the names of its files.
+/// The words of a run: the names of its files, and whether its report is asked for.
 #[derive(Clone, Copy)]
 pub struct RunWords<'a> {
     pub system: &'a str,
     pub steps: &'a str,
     pub requests: Option<&'a str>,
+    pub report: bool,
 }
 
 /// What is to be done.
@@ -29,12 +30,19 @@ pub enum Command<'a> {
         tail: Option<u16>,
     },
     /// To run the steps, and to write the plan of the table that stands then.
-    Admit { system: &'a str, steps: &'a str },
+    Admit {
+        system: &'a str,
+        steps: &'a str,
+    },
     /// To check a plan against the changes of the steps.
     Check {
         system: &'a str,
         steps: &'a str,
         plan: &'a str,
+    },
+    /// To run the input that a number makes, and to write a summary.
+    Generate {
+        number: u32,
     },
 }
 
@@ -58,10 +66,7 @@ impl From<AllocError> for WordsFault {
 }
 
 /// What clap's command makes of the words.
-fn parsed<'a>(
-    command: clap::Command<'a>,
-    words: &'a [String],
-) -> Result<ArgMatches<'a>, WordsFault>
+fn parsed<'a>(command: clap::Command<'a>, words: &'a [String]) -> Result<ArgMatches<'a>, WordsFault>
     requires simple { is_simple_and_free (app_of command) ≡ true }
     ensures taken { IfOk result (λ matches. fault_of (app_of command.entry) (map string_bytes words.entry.now) ≡ []) }
     ensures rows { IfOk result (λ matches. rows_of (found_of matches) ≡ matches_of (app_of command.entry) (map string_bytes words.entry.now)) }
@@ -96,11 +101,25 @@ fn needed_word<'a>(matches: &ArgMatches<'a>, id: &str) -> &'a str
     }
 }
 
+/// Whether an option is there.
+fn is_set(matches: &ArgMatches<'_>, id: &str) -> bool
+    ensures set { result ≡ is_set id.now (rows_of (found_of matches.now)) }
+{
+    matches.get_one::<bool>(id).unwrap_or(false)
+}
+
 /// The number of `--tail`, where it is there.
 fn tail(matches: &ArgMatches<'_>) -> Option<u16>
     ensures tail { result ≡ number_of 16 (codes "tail") (rows_of (found_of matches.now)) }
 {
     matches.get_one::<u16>("tail")
+}
+
+/// The number of an input.
+fn number(matches: &ArgMatches<'_>) -> u32
+    ensures number { result ≡ unwrap_or (number_of 32 (codes "number") (rows_of (found_of matches.now))) 0 }
+{
+    matches.get_one::<u32>("number").unwrap_or(0)
 }
 
 /// The words of a run.
@@ -111,6 +130,7 @@ fn run_words<'a>(matches: &ArgMatches<'a>) -> RunWords<'a>
         system: needed_word(matches, "system"),
         steps: needed_word(matches, "steps"),
         requests: word(matches, "requests"),
+        report: is_set(matches, "report"),
     }
 }
 
@@ -154,6 +174,18 @@ fn check_in(alloc: Global, words: &[String]) -> Result<Command<'_>, WordsFault>
     })
 }
 
+/// What the words of `gen` ask for.
+fn generate_in(alloc: Global, words: &[String]) -> Result<Command<'_>, WordsFault>
+    ensures ok { IfOk result (λ command. Some (command_read command) ≡ taken_by generate_app generate_meant (map string_bytes words.now)) }
+    ensures words { IsErrOf result WordsFault.NoCommand → taken_by generate_app generate_meant (map string_bytes words.now) ≡ None }
+{
+    let command = generate_command(alloc)?;
+    let matches = parsed(command, words)?;
+    Ok(Command::Generate {
+        number: number(&matches),
+    })
+}
+
 /// What the words ask for.
 pub fn command_in(alloc: Global, words: &[String]) -> Result<Command<'_>, WordsFault>
     ensures ok { IfOk result (λ command. Some (command_read command) ≡ command_of (map string_bytes words.now)) }
@@ -170,6 +202,9 @@ pub fn command_in(alloc: Global, words: &[String]) -> Result<Command<'_>, WordsF
     }
     if name.as_str() == "check" {
         return check_in(alloc, words);
+    }
+    if name.as_str() == "gen" {
+        return generate_in(alloc, words);
     }
     Err(WordsFault::NoCommand)
 }

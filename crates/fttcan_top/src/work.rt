@@ -1,17 +1,19 @@
 //! What is done of what was asked: the answer to a task as a text, before it is written.
 
-ghost use Rattle.std.specs.Prelude.{◌≡◌, IfOk};
+ghost use Rattle.std.specs.Prelude.{◌≡◌, ◌++◌, IfOk, OnOk};
 ghost use Rattle.fttcan_top.specs.LastRows.{last_rows};
 ghost use Rattle.fttcan_top.specs.Loads.{IsJob, IsTask, IsToCheck, asked_of, job_of};
-ghost use Rattle.fttcan_top.specs.Output.{IsCheckText, IsDone, IsLog, IsOutput, IsPlanText, breach_line, refuses_nothing, status_of};
+ghost use Rattle.fttcan_top.specs.Output.{IsCheckText, IsDone, IsLog, IsOutput, IsPlanText, IsSummary, breach_line, report_if, refuses_nothing, status_of};
 
 use crate::load::{Job, Task};
 use crate::rows::last_rows;
 use crate::status::Status;
+use crate::summary::summary_of;
 use bus_trace::log_text;
+use input_text::generate;
 use master_core::Event;
 use plan_check::{Breach, Certificate, check, write_plan};
-use replay_run::{answer, asked_table, replay};
+use replay_run::{Run, answer, asked_table, replay};
 use std::alloc::{AllocError, Global};
 
 /// The answer to a task.
@@ -55,10 +57,35 @@ fn tail_of(alloc: Global, text: Vec<u8>, tail: Option<u16>) -> Result<Vec<u8>, A
     }
 }
 
-/// Runs the steps, and answers with the log, or with so many of its last rows.
-fn log_of(alloc: Global, job: &Job, tail: Option<u16>) -> Result<Outcome, AllocError>
+/// Appends the report of a run, where it is asked for.
+fn push_report(
+    alloc: Global,
+    text: &mut Vec<u8>,
+    job: &Job,
+    run: &Run,
+    report: bool,
+) -> Result<(), AllocError>
+    ensures report { OnOk result (text.new.items ≡ text.old.items
+        ++ report_if report (job_of job.now) run.now.master.history run.now.trace.items) }
+{
+    if !report {
+        return Ok(());
+    }
+    let rows = plan_report::report(
+        alloc,
+        &run.master,
+        run.trace.as_slice(),
+        job.system.owners.as_slice(),
+        job.requests.as_slice(),
+    )?;
+    text.extend_from_slice(rows.as_slice())?;
+    Ok(())
+}
+
+/// Runs the steps, and answers with the log, or with so many of its last rows, and with the report behind it where that is asked for.
+fn log_of(alloc: Global, job: &Job, tail: Option<u16>, report: bool) -> Result<Outcome, AllocError>
     requires job { IsJob job.now }
-    ensures log { IfOk result (λ outcome. IsLog (job_of job.now) tail outcome.status outcome.text.items) }
+    ensures log { IfOk result (λ outcome. IsLog (job_of job.now) tail report outcome.status outcome.text.items) }
     ensures done { IfOk result (λ outcome. IsDone outcome.status) }
 {
     let run = replay(
@@ -68,10 +95,33 @@ fn log_of(alloc: Global, job: &Job, tail: Option<u16>) -> Result<Outcome, AllocE
         job.requests.as_slice(),
     )?;
     let history = run.master.history();
-    let text = log_text(alloc, history, run.trace.as_slice())?;
+    let log = log_text(alloc, history, run.trace.as_slice())?;
+    let mut text = tail_of(alloc, log, tail)?;
+    push_report(alloc, &mut text, job, &run, report)?;
     Ok(Outcome {
         status: status_of(history),
-        text: tail_of(alloc, text, tail)?,
+        text,
+    })
+}
+
+/// Runs the input that a number makes, and answers with the summary.
+fn summary_of_made(alloc: Global, number: u32) -> Result<Outcome, AllocError>
+    ensures summary { IfOk result (λ outcome. IsSummary number outcome.status outcome.text.items) }
+    ensures done { IfOk result (λ outcome. IsDone outcome.status) }
+{
+    let made = generate(alloc, number)?;
+    let requests = made.requests.as_slice();
+    let run = replay(alloc, &made.system, made.steps.as_slice(), requests)?;
+    let text = summary_of(
+        alloc,
+        number,
+        run.master.history(),
+        run.trace.as_slice(),
+        requests.len(),
+    )?;
+    Ok(Outcome {
+        status: Status::Done,
+        text,
     })
 }
 
@@ -137,8 +187,9 @@ pub fn work_out(alloc: Global, task: &Task) -> Result<Outcome, AllocError>
     ensures done { IfOk result (λ outcome. IsDone outcome.status) }
 {
     match task {
-        Task::Log(job, tail) => log_of(alloc, job, *tail),
+        Task::Log(job, tail, report) => log_of(alloc, job, *tail, *report),
         Task::Table(job) => plan_of(alloc, job),
         Task::Check(job, certificate) => check_of(alloc, job, certificate),
+        Task::Summary(number) => summary_of_made(alloc, *number),
     }
 }

@@ -1,0 +1,55 @@
+-- *Summary*: the counts of a run, as the text that `gen` writes. Each row ends with one line feed; numbers are decimal without leading zeros.
+use Rattle.std.specs.Prelude.{ℕ, ◌-◌, ◌&&◌, Bool, true, false, not, List, ◌++◌, length, codes, count_by, nat_le, nat_lt}
+use Rattle.std.specs.List.{sum_by}
+use Rattle.std.specs.Fmt.{decimal}
+use Rattle.can_frame.specs.declared.data_frame.TimedFrame.{TimedFrame}
+use Rattle.admission.specs.Verdict.{is_accepted}
+use Rattle.master_core.specs.declared.event.Event.{Event}
+use Rattle.master_core.specs.declared.event.Event.TheVariants.{Submit, Look, Open}
+use Rattle.master_core.specs.History.{is_open}
+
+-- whether the event accepts a change
+abbrev pub accepts : Event → Bool
+accepts (Submit caller change from verdict trail) = is_accepted verdict
+accepts (Look caller next) = false
+accepts (Open cycle mask) = false
+
+-- whether the event refuses a change
+abbrev pub refuses : Event → Bool
+refuses (Submit caller change from verdict trail) = not (is_accepted verdict)
+refuses (Look caller next) = false
+refuses (Open cycle mask) = false
+
+-- whether the frame is a synchronous one: it has an identifier from 0x100 to 0x127
+abbrev pub is_synchronous : TimedFrame → Bool
+is_synchronous sent = nat_le 256 sent.frame.identifier && nat_lt sent.frame.identifier 296
+
+-- whether the frame is an asynchronous one: it has an identifier from 0x200 on
+abbrev pub is_asynchronous : TimedFrame → Bool
+is_asynchronous sent = nat_le 512 sent.frame.identifier
+
+-- a row of a name and a number
+abbrev pub row : List ℕ → ℕ → List ℕ
+row name number = name ++ codes "," ++ decimal number ++ codes "\n"
+
+-- the rows of a history: the changes that were accepted, those that were refused, and the opened cycles
+unfoldable pub history_rows : List Event → List ℕ
+history_rows history =
+    row (codes "accepted") (count_by accepts history)
+    ++ (row (codes "refused") (count_by refuses history) ++ row (codes "cycles") (count_by is_open history))
+
+-- how many of so many requests were left, where each asynchronous frame sent one; and the bit times that the frames took
+unfoldable pub rest_rows : List TimedFrame → ℕ → List ℕ
+rest_rows trace requests =
+    row (codes "left") (requests - count_by is_asynchronous trace) ++ row (codes "busy") (sum_by (λ sent. sent.len) trace)
+
+-- the rows of a trace: the synchronous and the asynchronous frames, and the rest
+unfoldable pub trace_rows : List TimedFrame → ℕ → List ℕ
+trace_rows trace requests =
+    row (codes "synchronous") (count_by is_synchronous trace)
+    ++ (row (codes "asynchronous") (count_by is_asynchronous trace) ++ rest_rows trace requests)
+
+-- *Summary*: the number that made the input, the rows of history and trace, and the last row
+abbrev pub summary_text : ℕ → List Event → List TimedFrame → ℕ → List ℕ
+summary_text number history trace requests =
+    row (codes "gen") number ++ (history_rows history ++ (trace_rows trace requests ++ codes "end\n"))
