@@ -1,18 +1,21 @@
-//! The program: words, files and streams of the operating system, given to [`fttcan_top::plain`] and [`fttcan_top::flushed`].
+//! The program: words, files, streams and threads of the operating system, given to [`fttcan_top::plain`] or [`fttcan_top::live`], and to
+//! [`fttcan_top::flushed`].
 #![tactic(auto)]
 
 use ftt_io::{FileShelf, StdSink, write_all};
-use fttcan_top::{Status, flushed, plain};
+use fttcan_top::{OpenGate, Status, flushed, live, plain};
 use std::env;
 use std::io::{self, BufWriter, ErrorKind};
 use std::process::ExitCode;
+use std::sync::Wait;
+use std::thread::Threads;
 
 fn main(rt: HostRuntime) -> ExitCode {
-    ExitCode::from(call(&rt).code())
+    ExitCode::from(call(&rt, &rt).code())
 }
 
-/// Carries out the words of this call.
-fn call(rt: &HostRuntime) -> Status {
+/// Carries out the words of this call, by these threads where they ask for that.
+fn call<T: Threads + Wait + Sync>(rt: &HostRuntime, threads: &T) -> Status {
     let Ok(words) = words(rt) else {
         return stopped(rt, "out of memory\n", Status::Memory);
     };
@@ -22,8 +25,24 @@ fn call(rt: &HostRuntime) -> Status {
     let mut shelf = FileShelf::new(rt);
     let mut out = StdSink::over(writer);
     let mut err = StdSink::over(rt.stderr());
-    let status = plain(rt.alloc(), words.as_slice(), &mut shelf, &mut out, &mut err);
+    let alloc = rt.alloc();
+    let words = words.as_slice();
+    let status = if asks_for_threads(words) {
+        live(
+            threads, alloc, words, &mut shelf, &mut out, &mut err, &OpenGate,
+        )
+    } else {
+        plain(alloc, words, &mut shelf, &mut out, &mut err)
+    };
     flushed(status, &mut out, &mut err)
+}
+
+/// Whether the words are those of the run by threads: the first one says so.
+fn asks_for_threads(words: &[String]) -> bool {
+    match words.first() {
+        Some(name) => name.as_str() == "live",
+        None => false,
+    }
 }
 
 /// The words of this call after the program's name. Words that are not UTF-8 count as none, which is no command.

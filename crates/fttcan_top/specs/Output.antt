@@ -16,6 +16,7 @@ use Rattle.plan_report.specs.Report.{report_text}
 use Rattle.input_text.specs.Generator.{requests_made, steps_made, system_made}
 use Rattle.replay_run.specs.AskedTable.{table_of}
 use Rattle.replay_run.specs.Run.{AnswersSteps, IsRun}
+use Rattle.live_steps.specs.Live.{IsLive}
 use Rattle.async_window.specs.declared.request.Owner.{Owner}
 use Rattle.async_window.specs.declared.request.Request.{Request}
 use Rattle.input_text.specs.SystemFile.{system_of}
@@ -39,7 +40,7 @@ use Rattle.fttcan_top.specs.declared.status.Status.{Status}
 use Rattle.fttcan_top.specs.declared.status.Status.TheVariants.{Done, Refused, Words, Input, Read, Write, Memory, No}
 use Rattle.fttcan_top.specs.LastRows.{last_rows}
 use Rattle.fttcan_top.specs.Summary.{summary_text}
-use Rattle.fttcan_top.specs.Words.{Command, admit, check, command_of, generate, replay}
+use Rattle.fttcan_top.specs.Words.{Command, RunWords, admit, check, command_of, generate, live_of, replay}
 
 -- What is asked
 
@@ -62,12 +63,13 @@ pub record Job : Type 0 where
   pub requests : List Request
 
 -- what is asked for: the log of a run or so many of its last rows, and the report behind it or not; the plan of the table behind a run; the
--- check of a plan; or the summary of the run of the input that a number makes
+-- check of a plan; the summary of the run of the input that a number makes; or the log of a run by threads, and the report behind it or not
 pub data Asked : Type 0 where
   log_of : Job → Option ℕ → Bool → Asked
   summary_of : ℕ → Asked
   plan_of : Job → Asked
   check_of : Job → CertificateView → Asked
+  live_log_of : Job → Bool → Asked
 
 -- the greatest number of bytes of a file
 abbrev pub file_limit : ℕ
@@ -174,6 +176,19 @@ IsAskedBy files (Some command) asked_for = IsAskedOf files command asked_for
 abbrev pub IsAsked : List (List ℕ) → NamedFiles → Result Asked Stopped → Type 0
 IsAsked words files asked_for = IsAskedBy files (command_of words) asked_for
 
+-- what a run by threads asks of the files: the first that stops decides
+abbrev pub IsLiveAskedOf : NamedFiles → RunWords → Result Asked Stopped → Type 0
+IsLiveAskedOf files run asked_for =
+    asked_for ≡ (job_in files run.system run.steps run.requests >>= λ job. Ok (live_log_of job run.report))
+
+abbrev pub IsLiveAskedBy : NamedFiles → Option RunWords → Result Asked Stopped → Type 0
+IsLiveAskedBy files None asked_for = asked_for ≡ Err no_command
+IsLiveAskedBy files (Some run) asked_for = IsLiveAskedOf files run asked_for
+
+-- *Input meaning*, for a run by threads: what the words ask of the files
+abbrev pub IsLiveAsked : List (List ℕ) → NamedFiles → Result Asked Stopped → Type 0
+IsLiveAsked words files asked_for = IsLiveAskedBy files (live_of words) asked_for
+
 -- What is written
 
 -- whether the event refuses no change
@@ -191,8 +206,8 @@ abbrev pub status_of : List Event → Status
 status_of history = if all_accepted history then Done else Refused
 
 -- the report of a run, where it is asked for
-abbrev pub report_if : Bool → Job → List Event → List TimedFrame → List ℕ
-report_if report job history trace = if report then report_text history trace job.system.owners job.requests else []
+abbrev pub report_if : Bool → List Event → List TimedFrame → List Owner → List Request → List ℕ
+report_if report history trace owners requests = if report then report_text history trace owners requests else []
 
 -- the log of a run, or so many of its last rows, and the report behind it where that is asked for: the history answers the steps, and history
 -- and trace keep what is promised
@@ -201,7 +216,7 @@ pub record IsLog (job : Job) (tail : Option ℕ) (report : Bool) (status : Statu
   pub trace : List TimedFrame
   pub run : IsRun job.system job.steps job.requests history trace
   pub ended : status ≡ status_of history
-  pub written : text ≡ last_rows tail (log_text history trace) ++ report_if report job history trace
+  pub written : text ≡ last_rows tail (log_text history trace) ++ report_if report history trace job.system.owners job.requests
 
 -- the plan of the table that stands when a master has answered the steps: from cycle 0 on, and it keeps that table for ever
 pub record IsPlanText (job : Job) (status : Status) (text : List ℕ) : Type 0 where
@@ -250,12 +265,22 @@ pub record IsSummary (number : ℕ) (status : Status) (text : List ℕ) : Type 0
   pub ended : status ≡ Done
   pub written : text ≡ summary_text number history trace (length (requests_made number))
 
+-- the log of a run by threads, and the report behind it where that is asked for: the history answers the steps of each operator, in whatever
+-- order they came, and history and trace keep what is promised
+pub record IsLiveLog (job : Job) (report : Bool) (status : Status) (text : List ℕ) : Type 0 where
+  pub history : List Event
+  pub trace : List TimedFrame
+  pub run : IsLive job.system job.steps job.requests history trace
+  pub ended : status ≡ status_of history
+  pub written : text ≡ log_text history trace ++ report_if report history trace job.system.owners job.requests
+
 -- *Output*: the text that answers what is asked, with the status of the call
 abbrev pub IsOutput : Asked → Status → List ℕ → Type 0
 IsOutput (log_of job tail report) status text = IsLog job tail report status text
 IsOutput (summary_of number) status text = IsSummary number status text
 IsOutput (plan_of job) status text = IsPlanText job status text
 IsOutput (check_of job certificate) status text = IsCheckText job certificate status text
+IsOutput (live_log_of job report) status text = IsLiveLog job report status text
 
 -- the output was put, and the status is that of what was asked
 pub record Tells (asked_for : Asked) (status : Status) (old new : Option (List ℕ)) : Type 0 where

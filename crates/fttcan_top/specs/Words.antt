@@ -161,3 +161,11 @@ files_named (Some (generate number)) = 0
 -- the number of files that the words name
 abbrev pub file_count : List Text → ℕ
 file_count words = files_named (command_of words)
+
+-- the number of files that the words of a run by threads name
+abbrev pub live_files_named : Option RunWords → ℕ
+live_files_named None = 0
+live_files_named (Some run) = 2 + named run.requests
+
+abbrev pub live_file_count : List Text → ℕ
+live_file_count words = live_files_named (live_of words)

@@ -2,6 +2,7 @@
 #![tactic(auto)]
 
 mod arguments;
+mod by_threads;
 mod gathered;
 mod load;
 mod program;
@@ -11,9 +12,13 @@ mod summary;
 mod words;
 mod work;
 
+pub use by_threads::live;
 pub use gathered::flushed;
+pub use live_run::{Gate, OpenGate, Point};
 pub use program::plain;
 pub use status::Status;
 
+#[cfg(test)]
+mod live_tests;
 #[cfg(test)]
 mod tests;

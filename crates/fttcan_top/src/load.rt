@@ -7,9 +7,9 @@ ghost use Rattle.input_text.specs.SystemFile.{IsSystem};
 ghost use Rattle.input_text.specs.RequestsFile.{AreLegal};
 ghost use Rattle.input_text.specs.StepsFile.{AreLegalSteps};
 ghost use Rattle.fttcan_top.specs.declared.load.Refusal.{Refusal};
-ghost use Rattle.fttcan_top.specs.Output.{IsAskedOf, IsPlanIn, IsPlanMeant, job_in, requests_in, steps_in, system_in, within_limit};
+ghost use Rattle.fttcan_top.specs.Output.{IsAskedOf, IsLiveAskedOf, IsPlanIn, IsPlanMeant, job_in, live_log_of, requests_in, steps_in, system_in, within_limit};
 ghost use Rattle.fttcan_top.specs.Loads.{Explains, IsJob, IsTask, IsToCheck, asked_of, job_of, stopped_by};
-ghost use Rattle.fttcan_top.specs.Words.{admit, check, files_named, named, replay};
+ghost use Rattle.fttcan_top.specs.Words.{admit, check, files_named, live_files_named, named, replay};
 ghost use Rattle.fttcan_top.specs.WordsRead.{command_read, run_read};
 
 use crate::words::{Command, RunWords};
@@ -349,4 +349,21 @@ pub fn load<S: Shelf>(alloc: Global, shelf: &mut S, command: Command<'_>) -> Res
         } => load_check(alloc, shelf, system, steps, plan),
         Command::Generate { number } => Ok(Task::Summary(number)),
     }
+}
+
+/// The run that the words of `live` ask for.
+pub fn load_live<S: Shelf>(alloc: Global, shelf: &mut S, run: RunWords<'_>) -> Result<Job, Stop>
+    ensures files_stay { S.told_files shelf.new ≡ S.told_files shelf.old }
+    ensures counted { S.fetches shelf.new ≤ S.fetches shelf.old + live_files_named (Some (run_read run.entry)) }
+    ensures fetches_never_fall { S.fetches shelf.old ≤ S.fetches shelf.new }
+    ensures faults_never_fall { S.faults shelf.old ≤ S.faults shelf.new }
+    ensures job { IfOk result IsJob }
+    ensures ok { IfOk result (λ job. ForSome (S.told_files shelf.old)
+        (λ files. IsLiveAskedOf files (run_read run.entry) (Ok (live_log_of (job_of job) run.entry.report)))) }
+    ensures stop { IfErr result (λ why. ForSome (S.told_files shelf.old)
+        (λ files. Explains (IsLiveAskedOf files (run_read run.entry)) (Rose (S.faults shelf.old) (S.faults shelf.new)) why)) }
+    ensures read { IsErrOf result Stop.Read → Rose (S.faults shelf.old) (S.faults shelf.new) ⊎ IsSome (S.told_files shelf.old) }
+{
+    let job = load_job(alloc, shelf, run.system, run.steps, run.requests)?;
+    Ok(job)
 }

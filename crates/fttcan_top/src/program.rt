@@ -24,7 +24,7 @@ const USAGE: &str =
 
 /// How a call ended, with the reason where a file was refused.
 #[derive(Debug, Drop)]
-enum End {
+pub enum End {
     Done,
     Refused,
     Words,
@@ -94,7 +94,7 @@ fn line_of(status: Status) -> &'static str
 }
 
 /// Says on the error sink how the call ended, and answers its status. Where memory runs out for the line of a refused file, it ends so.
-fn tell<R: Sink>(alloc: Global, end: &End, err: &mut R) -> Status
+pub fn tell<R: Sink>(alloc: Global, end: &End, err: &mut R) -> Status
     ensures status { IsStatusOf end.now result }
     ensures message { Says (R.told_bytes err.old) (R.told_bytes err.new) (Rose (R.faults err.old) (R.faults err.new)) (message_of result (end_reason end.now)) }
     ensures faults_never_fall { R.faults err.old ≤ R.faults err.new }
@@ -114,7 +114,7 @@ fn tell<R: Sink>(alloc: Global, end: &End, err: &mut R) -> Status
 
 impl Stop {
     /// How a call ends that has nothing to do.
-    fn end(self) -> End
+    pub fn end(self) -> End
         ensures end { result ≡ stop_end self }
     {
         match self {
@@ -143,6 +143,23 @@ impl Status {
     }
 }
 
+/// Writes the answer to what was asked.
+pub fn put_answer<O: Sink>(outcome: Outcome, out: &mut O) -> End
+    requires done { IsDone outcome.status }
+    ensures faults_never_fall { O.faults out.old ≤ O.faults out.new }
+    ensures run { IsRunEnd result }
+    ensures status { IsDone (end_status result) → end_status result ≡ outcome.status }
+    ensures all { IsDone (end_status result) → Puts (O.told_bytes out.old) (O.told_bytes out.new) outcome.text.items }
+    ensures front { IsCut (end_status result) → PutsPrefix (O.told_bytes out.old) (O.told_bytes out.new) outcome.text.items }
+    ensures write { result ≡ End.Write → Rose (O.faults out.old) (O.faults out.new) }
+{
+    let Outcome { status, text } = outcome;
+    match put_rows(out, text.as_slice()) {
+        Ok(()) => status.end(),
+        Err(_) => End::Write,
+    }
+}
+
 /// Does what was asked, and writes the answer.
 fn carry_out<O: Sink>(alloc: Global, task: &Task, out: &mut O) -> End
     requires task { IsTask task.now }
@@ -152,12 +169,9 @@ fn carry_out<O: Sink>(alloc: Global, task: &Task, out: &mut O) -> End
     ensures cut { IsCut (end_status result) → (O.told_bytes out.new ≡ O.told_bytes out.old) ⊎ TellsFront (asked_of task.now) (O.told_bytes out.old) (O.told_bytes out.new) }
     ensures write { result ≡ End.Write → Rose (O.faults out.old) (O.faults out.new) }
 {
-    let Ok(Outcome { status, text }) = work_out(alloc, task) else {
-        return End::Memory;
-    };
-    match put_rows(out, text.as_slice()) {
-        Ok(()) => status.end(),
-        Err(_) => End::Write,
+    match work_out(alloc, task) {
+        Ok(outcome) => put_answer(outcome, out),
+        Err(_) => End::Memory,
     }
 }
 

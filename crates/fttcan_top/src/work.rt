@@ -3,18 +3,23 @@
 ghost use Rattle.std.specs.Prelude.{◌≡◌, ◌++◌, IfOk, OnOk};
 ghost use Rattle.fttcan_top.specs.LastRows.{last_rows};
 ghost use Rattle.fttcan_top.specs.Loads.{IsJob, IsTask, IsToCheck, asked_of, job_of};
-ghost use Rattle.fttcan_top.specs.Output.{IsCheckText, IsDone, IsLog, IsOutput, IsPlanText, IsSummary, breach_line, report_if, refuses_nothing, status_of};
+ghost use Rattle.fttcan_top.specs.Output.{IsCheckText, IsDone, IsLiveLog, IsLog, IsOutput, IsPlanText, IsSummary, breach_line, report_if, refuses_nothing, status_of};
 
 use crate::load::{Job, Task};
 use crate::rows::last_rows;
 use crate::status::Status;
 use crate::summary::summary_of;
+use async_window::{Owner, Request};
 use bus_trace::log_text;
+use can_frame::TimedFrame;
 use input_text::generate;
-use master_core::Event;
+use live_run::{Ended, Gate};
+use master_core::{Event, Master};
 use plan_check::{Breach, Certificate, check, write_plan};
-use replay_run::{Run, answer, asked_table, replay};
+use replay_run::{answer, asked_table, replay};
 use std::alloc::{AllocError, Global};
+use std::sync::Wait;
+use std::thread::Threads;
 
 /// The answer to a task.
 #[derive(Drop)]
@@ -61,23 +66,18 @@ fn tail_of(alloc: Global, text: Vec<u8>, tail: Option<u16>) -> Result<Vec<u8>, A
 fn push_report(
     alloc: Global,
     text: &mut Vec<u8>,
-    job: &Job,
-    run: &Run,
+    master: &Master,
+    trace: &[TimedFrame],
+    owners: &[Owner],
+    requests: &[Request],
     report: bool,
 ) -> Result<(), AllocError>
-    ensures report { OnOk result (text.new.items ≡ text.old.items
-        ++ report_if report (job_of job.now) run.now.master.history run.now.trace.items) }
+    ensures report { OnOk result (text.new.items ≡ text.old.items ++ report_if report master.now.history trace.now owners.now requests.now) }
 {
     if !report {
         return Ok(());
     }
-    let rows = plan_report::report(
-        alloc,
-        &run.master,
-        run.trace.as_slice(),
-        job.system.owners.as_slice(),
-        job.requests.as_slice(),
-    )?;
+    let rows = plan_report::report(alloc, master, trace, owners, requests)?;
     text.extend_from_slice(rows.as_slice())?;
     Ok(())
 }
@@ -88,16 +88,52 @@ fn log_of(alloc: Global, job: &Job, tail: Option<u16>, report: bool) -> Result<O
     ensures log { IfOk result (λ outcome. IsLog (job_of job.now) tail report outcome.status outcome.text.items) }
     ensures done { IfOk result (λ outcome. IsDone outcome.status) }
 {
-    let run = replay(
-        alloc,
-        &job.system,
-        job.steps.as_slice(),
-        job.requests.as_slice(),
-    )?;
+    let owners = job.system.owners.as_slice();
+    let requests = job.requests.as_slice();
+    let run = replay(alloc, &job.system, job.steps.as_slice(), requests)?;
     let history = run.master.history();
-    let log = log_text(alloc, history, run.trace.as_slice())?;
+    let trace = run.trace.as_slice();
+    let log = log_text(alloc, history, trace)?;
     let mut text = tail_of(alloc, log, tail)?;
-    push_report(alloc, &mut text, job, &run, report)?;
+    push_report(
+        alloc,
+        &mut text,
+        &run.master,
+        trace,
+        owners,
+        requests,
+        report,
+    )?;
+    Ok(Outcome {
+        status: status_of(history),
+        text,
+    })
+}
+
+/// Runs the steps by threads, each of which passes the gate, and answers with the log, and with the report behind it where that is asked for.
+pub fn live_log_of<T: Threads + Wait + Sync, G: Gate>(
+    rt: &T,
+    alloc: Global,
+    job: Job,
+    report: bool,
+    gate: &G,
+) -> Result<Outcome, AllocError>
+    requires job { IsJob job }
+    ensures log { IfOk result (λ outcome. IsLiveLog (job_of job) report outcome.status outcome.text.items) }
+    ensures done { IfOk result (λ outcome. IsDone outcome.status) }
+{
+    let Job {
+        system,
+        steps,
+        requests,
+    } = job;
+    let owners = system.owners.as_slice();
+    let requests = requests.as_slice();
+    let Ended { master, run } = live_steps::live(rt, alloc, &system, steps, requests, gate)?;
+    let history = master.history();
+    let trace = run.trace.as_slice();
+    let mut text = log_text(alloc, history, trace)?;
+    push_report(alloc, &mut text, &master, trace, owners, requests, report)?;
     Ok(Outcome {
         status: status_of(history),
         text,
