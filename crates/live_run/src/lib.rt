@@ -19,6 +19,3 @@ pub use frames::{FrameList, Run};
 pub use points::{Gate, OpenGate, Point};
 pub use running::run_live;
 pub use script::{ActList, Script};
-
-#[cfg(test)]
-mod tests;
