@@ -78,11 +78,12 @@ impl Keyed for PlanWalk {
 
     ghost key_of = { λ walk state. key_in_period walk.bound walk.period state };
 
+    // Places are counted down to the end of the period: their keys fall, and a map finds a least key soonest.
     fn key(&self, state: &PlanState) -> Option<(u128, u64)> {
         let period = self.period?;
         let settled = self.bound <= state.cycle;
-        settled.then_some((state.pending.bits(), state.cycle % period))
+        settled.then_some((state.pending.bits(), period - 1 - state.cycle % period))
     }
 
-    ghost keyed = { λ walk one other _ _ _ _. keyed walk.bound walk.period one other };
+    ghost keyed = { λ walk one other _ _ _ _. keyed walk.bound walk.period walk.positive one other };
 }

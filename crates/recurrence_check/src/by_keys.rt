@@ -53,8 +53,8 @@ pub fn lasso_keyed<W: Keyed>(alloc: Global, walk: &W, horizon: u64) -> Result<Re
     Err(WalkEnd::NoRepeat { walked: horizon })
 }
 
-/// The steps to the earlier state with this key. Where there is none, the key is put down with
-/// these steps.
+/// The steps to the earlier state with this key, which is put down with these steps: where there is
+/// an earlier one the search is over, and one look-up serves both.
 fn meet(
     steps_to: &mut BTreeMap<Key, u64>,
     key: Option<Key>,
@@ -66,9 +66,6 @@ fn meet(
     let Some(key) = key else {
         return Ok(None);
     };
-    if let Some(before) = steps_to.get(&key) {
-        return Ok(Some(*before));
-    }
-    steps_to.insert(key, steps)?;
-    Ok(None)
+    let earlier = steps_to.insert(key, steps)?;
+    Ok(earlier)
 }
