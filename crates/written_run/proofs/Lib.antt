@@ -1,0 +1,4 @@
+mod Cutting
+mod EventRows
+mod Going
+mod Whole
