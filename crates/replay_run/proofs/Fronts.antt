@@ -16,7 +16,8 @@ use Rattle.cycle_engine.specs.Offered.{IsCanTrace, offered, offered_in}
 
 -- Lists
 
-Contains-filter : {X : Type 0} (p : X → Bool) (xs : List X) (x : X) → Contains xs x → p x ≡ true → Contains (filter p xs) x
+-- an element that passes is kept
+pub Contains-filter : {X : Type 0} (p : X → Bool) (xs : List X) (x : X) → Contains xs x → p x ≡ true → Contains (filter p xs) x
 Contains-filter p [] x (k, within, same) passes = absurd (omega arith)
 Contains-filter p (y ∷ ys) x (zero, within, same) passes =
     subst (λ l. Contains l x) (sym (cond-true (p y) _ _ (ap p same ∙ passes))) (0, omega arith, same)

@@ -1,0 +1,2 @@
+mod EventRows
+mod RowsSoFar
