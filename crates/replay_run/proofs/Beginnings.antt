@@ -25,10 +25,12 @@ use Rattle.replay_run.proofs.Histories.{OneVerdict, first-history}
 pub next_of-append : (events later : List Event) → next_of (events ++ later) ≡ next_of events + next_of later
 next_of-append events later = sum_by-append (λ e. cond (is_open e) 1 0) events later
 
-pub next_of-cons : (event : Event) (later : List Event) → next_of (event ∷ later) ≡ cond (is_open event) 1 0 + next_of later
+pub next_of-cons : (event : Event) (later : List Event)
+    → next_of (event ∷ later) ≡ cond (is_open event) 1 0 + next_of later
 next_of-cons event later = sum_by-cons (λ e. cond (is_open e) 1 0) event later
 
-pub AllAfter-parts : (holds : List Event → Event → Type 0) (before events later : List Event) → AllAfter holds before (events ++ later)
+pub AllAfter-parts : (holds : List Event → Event → Type 0) (before events later : List Event)
+    → AllAfter holds before (events ++ later)
     → AllAfter holds before events × AllAfter holds (before ++ events) later
 AllAfter-parts holds before [] later all = (tt, subst (λ h. AllAfter holds h later) (sym (append-nil before)) all)
 AllAfter-parts holds before (event ∷ events) later all =
@@ -44,7 +46,8 @@ openings_after-append before (event ∷ events) later =
     ∙ ap (λ h. openings_after (before ++ event ∷ []) events ++ openings_after h later) (append_assoc before (event ∷ []) events))
     ∙ sym (append_assoc (opening_of before event) (openings_after (before ++ event ∷ []) events) (openings_after (before ++ event ∷ events) later))
 
-pub openings_of-append : (history later : List Event) → openings_of (history ++ later) ≡ openings_of history ++ openings_after history later
+pub openings_of-append : (history later : List Event)
+    → openings_of (history ++ later) ≡ openings_of history ++ openings_after history later
 openings_of-append history later = openings_after-append [] history later
 
 -- the number of the opening lies between these
@@ -84,7 +87,8 @@ module _ (layout : CycleLayout) (known : IsLayout layout) (requests : List Reque
   IsTraceOf history trace = IsCanTrace layout requests (openings_of history) (next_of history) trace
 
   -- what the trace of a legal history sends in the cycles that a front of the history opens is the trace of that front
-  pub front-trace : (history later : List Event) (trace : List TimedFrame) → IsLegal rules (history ++ later) → IsTraceOf (history ++ later) trace
+  pub front-trace : (history later : List Event) (trace : List TimedFrame) → IsLegal rules (history ++ later)
+      → IsTraceOf (history ++ later) trace
       → IsTraceOf history (started_before (next_of history * layout.cycle) trace)
   front-trace history later trace legal is =
       let parts = AllAfter-parts (IsRight rules) [] history later legal in
@@ -97,13 +101,16 @@ module _ (layout : CycleLayout) (known : IsLayout layout) (requests : List Reque
 -- The run of the first calls of steps
 
 -- its history begins that of the run of all calls
-pub begun-history : OneVerdict → (system : System) (steps : List Step) (requests : List Request) (history whole : List Event) (trace frames : List TimedFrame)
-    → IsBegun system steps requests history trace → IsRun system steps requests whole frames → (rest : List Event) × (whole ≡ history ++ rest)
+pub begun-history : OneVerdict
+    → (system : System) (steps : List Step) (requests : List Request) (history whole : List Event) (trace frames : List TimedFrame)
+    → IsBegun system steps requests history trace → IsRun system steps requests whole frames
+    → (rest : List Event) × (whole ≡ history ++ rest)
 begun-history verdicts system steps requests history whole trace frames begun run =
     first-history verdicts system.rules history whole begun.later (begun.answers ∙ sym run.answers) begun.plain run.plain
 
 -- and its trace begins that of the run of all calls, whose other frames start behind the cycles that it opens
-pub begun-trace : OneVerdict → (system : System) (steps : List Step) (requests : List Request) (history whole : List Event) (trace frames : List TimedFrame)
+pub begun-trace : OneVerdict
+    → (system : System) (steps : List Step) (requests : List Request) (history whole : List Event) (trace frames : List TimedFrame)
     → IsSystem system → IsBegun system steps requests history trace → IsRun system steps requests whole frames
     → (rest : List TimedFrame) × (frames ≡ trace ++ rest) × All (λ sent. next_of history * system.layout.cycle ≤ sent.start) rest
 begun-trace verdicts system steps requests history whole trace frames is begun run =

@@ -17,7 +17,8 @@ use Rattle.cycle_engine.specs.Offered.{IsCanTrace, offered, offered_in}
 -- Lists
 
 -- an element that passes is kept
-pub Contains-filter : {X : Type 0} (p : X → Bool) (xs : List X) (x : X) → Contains xs x → p x ≡ true → Contains (filter p xs) x
+pub Contains-filter : {X : Type 0} (p : X → Bool) (xs : List X) (x : X) → Contains xs x → p x ≡ true
+    → Contains (filter p xs) x
 Contains-filter p [] x (k, within, same) passes = absurd (omega arith)
 Contains-filter p (y ∷ ys) x (zero, within, same) passes =
     subst (λ l. Contains l x) (sym (cond-true (p y) _ _ (ap p same ∙ passes))) (0, omega arith, same)
@@ -30,13 +31,15 @@ Contains-filter p (y ∷ ys) x (suc k, within, same) passes =
 
 -- what starts before a time, and what starts from it on
 
-pub started-none : (at : ℕ) (frames : List TimedFrame) → All (λ sent. at ≤ sent.start) frames → started_before at frames ≡ []
+pub started-none : (at : ℕ) (frames : List TimedFrame) → All (λ sent. at ≤ sent.start) frames
+    → started_before at frames ≡ []
 started-none at [] none = refl
 started-none at (sent ∷ later) none =
     let late = All-head (λ s. at ≤ s.start) sent later none in
     rw (le-ltb sent.start at late) (started-none at later (All-tail (λ s. at ≤ s.start) sent later none))
 
-pub started-all : (at : ℕ) (frames : List TimedFrame) → All (λ sent. sent.start < at) frames → started_before at frames ≡ frames
+pub started-all : (at : ℕ) (frames : List TimedFrame) → All (λ sent. sent.start < at) frames
+    → started_before at frames ≡ frames
 started-all at [] all = refl
 started-all at (sent ∷ later) all =
     let early = All-head (λ s. s.start < at) sent later all in
@@ -51,7 +54,8 @@ started-other : (at : ℕ) (sent : TimedFrame) (later : List TimedFrame) → at 
 started-other at sent later late = rw (le-ltb _ _ late)
 
 -- what starts before a time starts before a later one
-pub started-within : (at until : ℕ) (frames : List TimedFrame) → at ≤ until → started_before at (started_before until frames) ≡ started_before at frames
+pub started-within : (at until : ℕ) (frames : List TimedFrame) → at ≤ until
+    → started_before at (started_before until frames) ≡ started_before at frames
 started-within at until [] order = refl
 started-within at until (sent ∷ later) order = elim (cases_lt sent.start at) [
   | inl early ↦
@@ -81,7 +85,8 @@ pub record IsCut (at : ℕ) (frames : List TimedFrame) : Type 0 where
   pub all : frames ≡ started_before at frames ++ later
   pub after : All (λ sent. at ≤ sent.start) later
 
-pub cut-at : (at : ℕ) (frames : List TimedFrame) → AllPairs (λ earlier later. end_of earlier ≤ later.start) frames → IsCut at frames
+pub cut-at : (at : ℕ) (frames : List TimedFrame) → AllPairs (λ earlier later. end_of earlier ≤ later.start) frames
+    → IsCut at frames
 cut-at at [] apart = record { later = []; all = refl; after = All-nil (λ sent. at ≤ sent.start) }
 cut-at at (sent ∷ more) apart = elim (cases_lt sent.start at) [
   | inl early ↦
@@ -99,7 +104,8 @@ cut-at at (sent ∷ more) apart = elim (cases_lt sent.start at) [
 
 module _ (layout : CycleLayout) (known : IsLayout layout) (requests : List Request) where
   -- what is offered in a cycle is offered at a time of the cycle
-  pub in_cycle : (opening : Opening) (past : List TimedFrame) (at : ℕ) (frame : DataFrame) → offered_in layout requests opening past at frame
+  pub in_cycle : (opening : Opening) (past : List TimedFrame) (at : ℕ) (frame : DataFrame)
+      → offered_in layout requests opening past at frame
       → (start_of layout opening ≤ at) × (at < end_of_cycle layout opening)
   in_cycle opening past at frame (inl trigger) =
       let longer = add-mul opening.cycle 1 layout.cycle in
@@ -111,7 +117,8 @@ module _ (layout : CycleLayout) (known : IsLayout layout) (requests : List Reque
 
   module _ (openings more : List Opening) (n : ℕ) (later : All (λ o. n ≤ o.cycle) more) where
     -- before the start of cycle n, openings of cycles from n on offer nothing
-    offered-more : (past : List TimedFrame) (at : ℕ) (frame : DataFrame) → offered layout requests openings past at frame
+    offered-more : (past : List TimedFrame) (at : ℕ) (frame : DataFrame)
+        → offered layout requests openings past at frame
         → offered layout requests (openings ++ more) past at frame
     offered-more past at frame offer = (offer.0, Contains-append_left openings more offer.0 offer.1, offer.2)
 
@@ -127,7 +134,8 @@ module _ (layout : CycleLayout) (known : IsLayout layout) (requests : List Reque
           absurd (omega (arith, time.0, start, early))
     ]
 
-    pub front-can_trace : (count : ℕ) (frames : List TimedFrame) → n ≤ count → IsCanTrace layout requests (openings ++ more) count frames
+    pub front-can_trace : (count : ℕ) (frames : List TimedFrame) → n ≤ count
+        → IsCanTrace layout requests (openings ++ more) count frames
         → IsCanTrace layout requests openings n (started_before (n * layout.cycle) frames)
     front-can_trace count frames few trace =
         let until : ℕ = n * layout.cycle in

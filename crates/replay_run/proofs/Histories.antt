@@ -75,7 +75,8 @@ same-parts : (one other : Call) (calls more : List Call) → one ∷ calls ≡ o
 same-parts one other calls more is = record { head = cc; tail = cc }
 
 -- events that answer the first of some calls are the first of the events that answer them all
-first-events : OneVerdict → (rules : Rules) (before one other : List Event) (later : List Call) → map call_of one ++ later ≡ map call_of other
+first-events : OneVerdict → (rules : Rules) (before one other : List Event) (later : List Call)
+    → map call_of one ++ later ≡ map call_of other
     → AllAfter (IsRight rules) before one → AllAfter IsPlannedNow before one
     → AllAfter (IsRight rules) before other → AllAfter IsPlannedNow before other → (rest : List Event) × (other ≡ one ++ rest)
 first-events verdicts rules before [] other later calls right now right2 now2 = (other, refl)
@@ -88,8 +89,8 @@ first-events verdicts rules before (x ∷ xs) (y ∷ ys) later calls right now r
     (subst (λ e. AllAfter IsPlannedNow (before ++ e ∷ []) ys) (sym event) now2.1) in
     (rest, ap (λ l. y ∷ l) is ∙ ap (λ e. e ∷ (xs ++ rest)) (sym event))
 
-pub first-history : OneVerdict → (rules : Rules) (one other : List Event) (later : List Call) → map call_of one ++ later ≡ map call_of other
-    → IsPlainlyLegal rules one → IsPlainlyLegal rules other → (rest : List Event) × (other ≡ one ++ rest)
+pub first-history : OneVerdict → (rules : Rules) (one other : List Event) (later : List Call)
+    → map call_of one ++ later ≡ map call_of other → IsPlainlyLegal rules one → IsPlainlyLegal rules other → (rest : List Event) × (other ≡ one ++ rest)
 first-history verdicts rules one other later calls plain plain2 =
     first-events verdicts rules [] one other later calls plain.legal plain.now plain2.legal plain2.now
 

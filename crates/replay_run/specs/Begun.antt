@@ -1,4 +1,4 @@
--- A run of the first calls of steps, and what it is to the run of all of them.
+-- A run of the first calls of steps.
 use Rattle.std.specs.Prelude.{◌≡◌, List, ◌++◌, map}
 use Rattle.std.specs.List.{flat_map}
 use Rattle.can_frame.specs.declared.data_frame.TimedFrame.{TimedFrame}

@@ -32,8 +32,8 @@ pub fn one_run()
     one_verdict();
 }
 
-/// A run of the first calls of some steps begins the run of all of them: its events are the first ones of the whole history, and its frames
-/// the first ones of the whole trace, whose other frames start behind the cycles that it opens.
+/// A run of the first calls of some steps begins the run of all of them: its events are the first ones of the whole
+/// history, and its frames the first ones of the whole trace, whose other frames start behind the cycles that it opens.
 pub fn beginnings()
     ensures history { (system : System) (steps : List Step) (requests : List Request) (history whole : List Event)
         (trace frames : List TimedFrame) → IsBegun system steps requests history trace → IsRun system steps requests whole frames
@@ -41,13 +41,14 @@ pub fn beginnings()
     ensures trace { (system : System) (steps : List Step) (requests : List Request) (history whole : List Event)
         (trace frames : List TimedFrame) → IsSystem system → IsBegun system steps requests history trace
         → IsRun system steps requests whole frames
-        → (rest : List TimedFrame) × (frames ≡ trace ++ rest) × All (λ sent. next_of history * system.layout.cycle ≤ sent.start) rest }
+        → (rest : List TimedFrame) × (frames ≡ trace ++ rest)
+        × All (λ sent. next_of history * system.layout.cycle ≤ sent.start) rest }
 {
     one_verdict();
 }
 
-/// A history and a trace that keep what is promised, with a system and requests that were read, are those of a run under way: in each
-/// opened cycle the trace sends what the opening says, and it has ended by the start of the next cycle.
+/// A history and a trace that keep what is promised, with a system and requests that were read, are those of a run under
+/// way: in each opened cycle the trace sends what the opening says, and it has ended by the start of the next cycle.
 pub fn runs_under_way()
     ensures under_way { (system : System) (requests : List Request) (history : List Event) (trace : List TimedFrame)
         → IsSystem system → AreLegal system.owners requests → Kept system.rules system.layout requests history trace

@@ -36,7 +36,8 @@ use Rattle.written_run.proofs.EventRows.{counted-trigger, rows-stay, triggers-al
 
 -- legal histories open the cycles from 0 on, in their order
 pub record OpensCycles : Type 0 where
-  pub cycles : (rules : Rules) (history : List Event) → IsLegal rules history → map (λ o. o.cycle) (openings_of history) ≡ range_with_len 0 (next_of history)
+  pub cycles : (rules : Rules) (history : List Event) → IsLegal rules history
+      → map (λ o. o.cycle) (openings_of history) ≡ range_with_len 0 (next_of history)
 
 -- each frame takes some time on the bus
 abbrev pub TakesTime : Type 0
@@ -48,11 +49,13 @@ record IsOpened (openings : List Opening) (cycle : ℕ) : Type 0 where
   among : Contains openings opening
   is : opening.cycle ≡ cycle
 
-opened-at : (openings : List Opening) (n cycle : ℕ) → map (λ o. o.cycle) openings ≡ range_with_len 0 n → cycle < n → IsOpened openings cycle
+opened-at : (openings : List Opening) (n cycle : ℕ) → map (λ o. o.cycle) openings ≡ range_with_len 0 n → cycle < n
+    → IsOpened openings cycle
 opened-at openings n cycle in_order early =
     let none : Opening = record { cycle = 0; mask = 0; placed = [] } in
     let number : Opening → ℕ = λ o. o.cycle in
-    let count : length openings ≡ n = sym (length-map openings number) ∙ ap length in_order ∙ length-range_with_len 0 n in
+    let count : length openings ≡ n =
+    sym (length-map openings number) ∙ ap length in_order ∙ length-range_with_len 0 n in
     record {
       opening = get_or openings cycle none;
       among = Contains-get_or openings cycle none (omega arith);
@@ -68,14 +71,17 @@ record HasTrigger (setting : Setting) (trace : List TimedFrame) (cycle : ℕ) : 
   is_trigger : sent.frame.identifier ≡ 0
 
 -- each opened cycle of a run under way has its trigger
-has-trigger : OpensCycles → (setting : Setting) (history : List Event) (trace : List TimedFrame) → IsUnderWay setting history trace
+has-trigger : OpensCycles → (setting : Setting) (history : List Event) (trace : List TimedFrame)
+    → IsUnderWay setting history trace
     → (cycle : ℕ) → cycle < next_of history → HasTrigger setting trace cycle
 has-trigger opens setting history trace way cycle early =
     let opened = opened-at (openings_of history) (next_of history) cycle (opens.cycles setting.rules history way.legal) early in
     let runs = All-contains (λ o. RunsCycle setting.layout o (frames_in setting.layout o.cycle trace)) (openings_of history) opened.opening way.cycles opened.among in
     let here : List TimedFrame = frames_in setting.layout opened.opening.cycle trace in
-    let first : Contains here runs.trigger = subst (λ l. Contains l runs.trigger) (sym runs.all_frames) (0, omega arith, refl) in
-    let all : All (Contains trace) here = All-filter (λ sent. eqb (cycle_of setting.layout sent) opened.opening.cycle) (Contains trace) trace (All-contains_itself trace) in
+    let first : Contains here runs.trigger =
+    subst (λ l. Contains l runs.trigger) (sym runs.all_frames) (0, omega arith, refl) in
+    let all : All (Contains trace) here =
+    All-filter (λ sent. eqb (cycle_of setting.layout sent) opened.opening.cycle) (Contains trace) trace (All-contains_itself trace) in
     record {
       sent = runs.trigger;
       among = All-contains (Contains trace) here runs.trigger all first;
@@ -85,7 +91,8 @@ has-trigger opens setting history trace way cycle early =
 
 -- How many triggers there are
 
-counted-among : (seen : ℕ) (frames : List TimedFrame) (sent : TimedFrame) → Contains frames sent → sent.frame.identifier ≡ 0
+counted-among : (seen : ℕ) (frames : List TimedFrame) (sent : TimedFrame) → Contains frames sent
+    → sent.frame.identifier ≡ 0
     → seen + 1 ≤ fold triggers_with seen frames
 counted-among seen [] sent (k, within, is) trigger = absurd (omega arith)
 counted-among seen (x ∷ later) sent (zero, within, is) trigger =
@@ -98,8 +105,10 @@ counted-among seen (x ∷ later) sent (suc k, within, is) trigger =
     omega arith
 
 -- before the start of a cycle at least as many triggers start as there are cycles below it
-triggers-below : (setting : Setting) (trace : List TimedFrame) → AllPairs (λ earlier later. end_of earlier ≤ later.start) trace → 0 < setting.layout.cycle
-    → (n : ℕ) → ((c : ℕ) → c < n → HasTrigger setting trace c) → n ≤ triggers_in (started_before (n * setting.layout.cycle) trace)
+triggers-below : (setting : Setting) (trace : List TimedFrame)
+    → AllPairs (λ earlier later. end_of earlier ≤ later.start) trace → 0 < setting.layout.cycle
+    → (n : ℕ) → ((c : ℕ) → c < n → HasTrigger setting trace c)
+    → n ≤ triggers_in (started_before (n * setting.layout.cycle) trace)
 triggers-below setting trace apart some zero each = omega arith
 triggers-below setting trace apart some (suc n) each =
     let low : ℕ = n * setting.layout.cycle in
@@ -108,21 +117,25 @@ triggers-below setting trace apart some (suc n) each =
     let before : List TimedFrame = started_before low trace in
     let front : List TimedFrame = started_before high trace in
     let cut = cut-at low front (AllPairs-filter (λ earlier later. end_of earlier ≤ later.start) (λ sent. nat_lt sent.start high) trace apart) in
-    let all : front ≡ before ++ cut.later = cut.all ∙ ap (λ l. l ++ cut.later) (started-within low high trace (omega arith)) in
+    let all : front ≡ before ++ cut.later =
+    cut.all ∙ ap (λ l. l ++ cut.later) (started-within low high trace (omega arith)) in
     let so_far = triggers-below setting trace apart some n (λ c early. each c (omega arith)) in
     let has = each n (omega arith) in
     let early : has.sent.start < high = omega (arith, has.starts) in
-    let among : Contains front has.sent = Contains-filter (λ sent. nat_lt sent.start high) trace has.sent has.among (lt-ltb has.sent.start high early) in
+    let among : Contains front has.sent =
+    Contains-filter (λ sent. nat_lt sent.start high) trace has.sent has.among (lt-ltb has.sent.start high early) in
     let last : Contains cut.later has.sent = elim (Contains-append_cases before cut.later has.sent (subst (λ l. Contains l has.sent) all among)) [
       | inl sooner ↦ absurd (omega (arith, has.starts, All-contains (λ s. s.start < low) before has.sent (started-early low trace) sooner))
       | inr later ↦ later
     ] in
-    let count : triggers_in front ≡ fold triggers_with (triggers_in before) cut.later = ap triggers_in all ∙ fold-append triggers_with 0 before cut.later in
+    let count : triggers_in front ≡ fold triggers_with (triggers_in before) cut.later =
+    ap triggers_in all ∙ fold-append triggers_with 0 before cut.later in
     let more = counted-among (triggers_in before) cut.later has.sent last has.is_trigger in
     omega arith
 
 -- a run under way has at least as many triggers as it has opened cycles
-triggers-enough : OpensCycles → (setting : Setting) (history : List Event) (trace : List TimedFrame) → 0 < setting.layout.cycle → IsUnderWay setting history trace
+triggers-enough : OpensCycles → (setting : Setting) (history : List Event) (trace : List TimedFrame)
+    → 0 < setting.layout.cycle → IsUnderWay setting history trace
     → next_of history ≤ triggers_in trace
 triggers-enough opens setting history trace some way =
     let n : ℕ = next_of history in
@@ -131,25 +144,31 @@ triggers-enough opens setting history trace some way =
 
 -- The first frame behind a front of a trace
 
-Contains-cases : (x : TimedFrame) (xs : List TimedFrame) (y : TimedFrame) → Contains (x ∷ xs) y → (x ≡ y) ⊎ Contains xs y
+Contains-cases : (x : TimedFrame) (xs : List TimedFrame) (y : TimedFrame) → Contains (x ∷ xs) y
+    → (x ≡ y) ⊎ Contains xs y
 Contains-cases x xs y (zero, within, is) = inl is
 Contains-cases x xs y (suc k, within, is) = inr (k, omega arith, is)
 
-apart-behind : (front : List TimedFrame) (sent : TimedFrame) (later : List TimedFrame) → AllPairs (λ one other. end_of one ≤ other.start) (front ++ sent ∷ later)
+apart-behind : (front : List TimedFrame) (sent : TimedFrame) (later : List TimedFrame)
+    → AllPairs (λ one other. end_of one ≤ other.start) (front ++ sent ∷ later)
     → All (λ s. end_of sent ≤ s.start) later
 apart-behind [] sent later apart = λ k d within. apart 0 (suc k) d (omega arith) (omega arith)
 apart-behind (x ∷ front) sent later apart =
     apart-behind front sent later (λ i j d before within. apart (suc i) (suc j) d (omega arith) (omega arith))
 
 -- the first frame that starts behind the cycles below one is the trigger of that cycle
-first-behind : OpensCycles → TakesTime → (setting : Setting) (whole : List Event) (frames trace : List TimedFrame) (sent : TimedFrame) (later : List TimedFrame) (n : ℕ)
-    → IsUnderWay setting whole frames → frames ≡ trace ++ sent ∷ later → All (λ s. s.start < n * setting.layout.cycle) trace
+first-behind : OpensCycles → TakesTime
+    → (setting : Setting) (whole : List Event) (frames trace : List TimedFrame) (sent : TimedFrame) (later : List TimedFrame) (n : ℕ)
+    → IsUnderWay setting whole frames → frames ≡ trace ++ sent ∷ later
+    → All (λ s. s.start < n * setting.layout.cycle) trace
     → n * setting.layout.cycle ≤ sent.start → sent.frame.identifier ≡ 0
 first-behind opens positive setting whole frames trace sent later n way all early late =
     let start : ℕ = n * setting.layout.cycle in
     let many : ℕ = next_of whole in
-    let place : Contains frames sent = subst (λ l. Contains l sent) (sym all) (Contains-append_right trace (sent ∷ later) sent (0, omega arith, refl)) in
-    let ends : sent.start < many * setting.layout.cycle = All-contains (λ s. s.start < many * setting.layout.cycle) frames sent way.can_trace.within place in
+    let place : Contains frames sent =
+    subst (λ l. Contains l sent) (sym all) (Contains-append_right trace (sent ∷ later) sent (0, omega arith, refl)) in
+    let ends : sent.start < many * setting.layout.cycle =
+    All-contains (λ s. s.start < many * setting.layout.cycle) frames sent way.can_trace.within place in
     let opened : n < many = elim (cases_lt n many) [
       | inl is ↦ is
       | inr few ↦ absurd (let less : many * setting.layout.cycle ≤ start = mul-le-mul_right setting.layout.cycle few in omega arith)
@@ -180,7 +199,8 @@ rows-append trace before (event ∷ events) later =
     ∙ sym (append_assoc (event_rows trace before event) (events_rows trace (before ++ event ∷ []) events) (events_rows trace (before ++ event ∷ events) later))
 
 -- frames behind the cycles that a history opens change none of its rows
-rows-kept : OpensCycles → TakesTime → (setting : Setting) (history whole : List Event) (trace frames later : List TimedFrame) → 0 < setting.layout.cycle
+rows-kept : OpensCycles → TakesTime
+    → (setting : Setting) (history whole : List Event) (trace frames later : List TimedFrame) → 0 < setting.layout.cycle
     → IsUnderWay setting history trace → IsUnderWay setting whole frames → frames ≡ trace ++ later
     → All (λ sent. next_of history * setting.layout.cycle ≤ sent.start) later
     → events_rows frames [] history ≡ events_rows trace [] history
@@ -197,15 +217,20 @@ pub record BeginningLaws : Type 0 where
   pub opens : OpensCycles
   pub positive : TakesTime
   pub history : (system : System) (steps : List Step) (requests : List Request) (history whole : List Event) (trace frames : List TimedFrame)
-      → IsBegun system steps requests history trace → IsRun system steps requests whole frames → (rest : List Event) × (whole ≡ history ++ rest)
+      → IsBegun system steps requests history trace → IsRun system steps requests whole frames
+      → (rest : List Event) × (whole ≡ history ++ rest)
   pub trace : (system : System) (steps : List Step) (requests : List Request) (history whole : List Event) (trace frames : List TimedFrame)
       → IsSystem system → IsBegun system steps requests history trace → IsRun system steps requests whole frames
       → (rest : List TimedFrame) × (frames ≡ trace ++ rest) × All (λ sent. next_of history * system.layout.cycle ≤ sent.start) rest
-  pub under_way : (system : System) (requests : List Request) (history : List Event) (trace : List TimedFrame) → IsSystem system
-      → AreLegal system.owners requests → Kept system.rules system.layout requests history trace → IsUnderWay (setting_of system requests) history trace
+  pub under_way : (system : System) (requests : List Request) (history : List Event) (trace : List TimedFrame)
+      → IsSystem system
+      → AreLegal system.owners requests → Kept system.rules system.layout requests history trace
+      → IsUnderWay (setting_of system requests) history trace
 
-pub rows-begin : BeginningLaws → (system : System) (steps : List Step) (requests : List Request) (history whole : List Event) (trace frames : List TimedFrame)
-    → IsSystem system → AreLegal system.owners requests → IsBegun system steps requests history trace → IsRun system steps requests whole frames
+pub rows-begin : BeginningLaws
+    → (system : System) (steps : List Step) (requests : List Request) (history whole : List Event) (trace frames : List TimedFrame)
+    → IsSystem system → AreLegal system.owners requests → IsBegun system steps requests history trace
+    → IsRun system steps requests whole frames
     → (rest : List ℕ) × (log_text whole frames ≡ events_rows trace [] history ++ rest)
 rows-begin laws system steps requests history whole trace frames is are begun run =
     let setting : Setting = setting_of system requests in

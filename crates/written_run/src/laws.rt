@@ -1,5 +1,5 @@
-//! Laws about logs that are written while a run goes on. Each function has an empty body but for calls of other laws, and its contract is
-//! the law.
+//! Laws about logs that are written while a run goes on. Each function has an empty body but for calls of other laws,
+//! and its contract is the law.
 
 ghost use Rattle.std.specs.Prelude.{◌≡◌, ℕ, ◌++◌, [], List};
 ghost use Rattle.can_frame.specs.declared.data_frame.TimedFrame.{TimedFrame};
@@ -17,7 +17,8 @@ use can_frame::laws::wire_lengths;
 use master_core::laws::opened_cycles;
 use replay_run::laws::{beginnings, runs_under_way};
 
-/// The rows of a run of the first calls of some steps begin the log of the run of all of them, with a system and requests that were read.
+/// The rows of a run of the first calls of some steps begin the log of the run of all of them, with a system and
+/// requests that were read.
 pub fn rows_so_far()
     ensures front { (system : System) (steps : List Step) (requests : List Request) (history whole : List Event)
         (trace frames : List TimedFrame) → IsSystem system → AreLegal system.owners requests
