@@ -1,4 +1,4 @@
--- A run that was begun: some of the calls of its steps were answered.
+-- A run of the first calls of steps.
 use Rattle.std.specs.Prelude.{◌≡◌, List, ◌++◌, map}
 use Rattle.std.specs.List.{flat_map}
 use Rattle.can_frame.specs.declared.data_frame.TimedFrame.{TimedFrame}
@@ -10,7 +10,8 @@ use Rattle.master_core.specs.History.{IsPlainlyLegal}
 use Rattle.kept_run.specs.Kept.{Kept}
 use Rattle.replay_run.specs.Run.{Call, call_of, calls_of}
 
--- the history answers the first calls of the steps, each change planned when it is answered, and history and trace keep what is promised
+-- a run of the first calls of the steps: the history answers them, each change planned when it is answered, and history and trace keep
+-- what is promised
 pub record IsBegun (system : System) (steps : List Step) (requests : List Request) (history : List Event) (trace : List TimedFrame) : Type 0 where
   pub later : List Call
   pub answers : map call_of history ++ later ≡ flat_map calls_of steps

@@ -1,7 +1,7 @@
 -- The rows of a history with one event more.
-use Rattle.std.proofs.Common.{◌≡◌, ◌≢◌, ℕ, suc, ◌+◌, ◌<◌, ◌≤◌, Bool, true, false, cond, eqb, List, [], ◌∷◌, ◌++◌, fold, All, refl, sym, ap, ◌∙◌, subst, arith, inl, inr, append_assoc}
+use Rattle.std.proofs.Common.{◌≡◌, ◌≢◌, ℕ, ◌+◌, ◌<◌, ◌≤◌, false, cond, eqb, List, [], ◌∷◌, ◌++◌, fold, All, refl, sym, ap, ◌∙◌, arith, inl, inr, append_assoc}
 use Rattle.std.specs.List.{flat_map}
-use Rattle.std.proofs.lemmas.Bool.{cases_Bool, ne_eqb, eqb-true, eq-eqb, cond-true, cond-false}
+use Rattle.std.proofs.lemmas.Bool.{cases_Bool, ne_eqb, eq-eqb, cond-true, cond-false}
 use Rattle.std.proofs.lemmas.List.{append-nil}
 use Rattle.std.proofs.lemmas.List.Elements.{All-head, All-tail}
 use Rattle.std.proofs.lemmas.List.Sums.{fold-append, sum_by-cons, sum_by_push}
@@ -21,7 +21,7 @@ IsTrigger sent = sent.frame.identifier ≡ 0
 
 -- Counting triggers
 
-counted-trigger : (seen : ℕ) (sent : TimedFrame) → sent.frame.identifier ≡ 0 → triggers_with seen sent ≡ seen + 1
+pub counted-trigger : (seen : ℕ) (sent : TimedFrame) → sent.frame.identifier ≡ 0 → triggers_with seen sent ≡ seen + 1
 counted-trigger seen sent is = cond-true (eqb sent.frame.identifier 0) (seen + 1) seen (eq-eqb _ _ is)
 
 counted-other : (seen : ℕ) (sent : TimedFrame) → sent.frame.identifier ≢ 0 → triggers_with seen sent ≡ seen
@@ -34,7 +34,7 @@ triggers-up seen sent =
       | inr other ↦ omega (arith, cond-false (eqb sent.frame.identifier 0) (seen + 1) seen other)
     ]
 
-triggers-all-up : (seen : ℕ) (frames : List TimedFrame) → seen ≤ fold triggers_with seen frames
+pub triggers-all-up : (seen : ℕ) (frames : List TimedFrame) → seen ≤ fold triggers_with seen frames
 triggers-all-up seen [] = omega arith
 triggers-all-up seen (sent ∷ later) =
     let now = triggers-up seen sent in
@@ -144,7 +144,7 @@ event-stays rules trace sent later before (Open cycle mask) trigger right few =
     ap (λ l. open_row (record { cycle = cycle; mask = mask; placed = placed_of before }) ++ flat_map frame_row l) same
 
 -- frames of a later cycle change no rows before it
-rows-stay : (rules : Rules) (trace : List TimedFrame) (sent : TimedFrame) (later : List TimedFrame) (before events : List Event)
+pub rows-stay : (rules : Rules) (trace : List TimedFrame) (sent : TimedFrame) (later : List TimedFrame) (before events : List Event)
     → sent.frame.identifier ≡ 0 → AllAfter (IsRight rules) before events → next_of before + next_of events ≤ triggers_in trace
     → events_rows (trace ++ sent ∷ later) before events ≡ events_rows trace before events
 rows-stay rules trace sent later before [] trigger right few = refl

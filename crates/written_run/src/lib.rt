@@ -3,6 +3,7 @@
 //! Cycles are elementary cycles, counted from 0; times are bit times.
 #![tactic(auto)]
 
+pub mod laws;
 mod writing;
 
 pub use writing::{Cut, Written, replay_to};
