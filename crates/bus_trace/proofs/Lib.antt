@@ -4,6 +4,7 @@ mod HexFields
 mod LogTrace
 mod LogHistory
 mod Plans
+mod PutRows
 mod Readings
 mod RowDigits
 mod RowForms

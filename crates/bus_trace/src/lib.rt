@@ -22,7 +22,7 @@ pub use log_fault::LogFault;
 pub use log_reading::read_log;
 pub use recent::Recent;
 pub use row::{LogRow, LogVerdict};
-pub use streaming::event_rows;
+pub use streaming::{event_rows, put_end_row, put_event_rows};
 
 #[cfg(test)]
 mod tests;

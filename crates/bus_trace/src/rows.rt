@@ -106,7 +106,7 @@ fn put_verdict(row: &mut RowWriter, verdict: &Verdict)
 }
 
 /// The row of a change that operator `caller` asked for, planned from the cycle `from` on.
-fn submit_row(caller: u8, from: u64, verdict: &Verdict) -> RowWriter
+pub fn submit_row(caller: u8, from: u64, verdict: &Verdict) -> RowWriter
     ensures row { result ≡ submit_row caller from verdict.now }
 {
     let mut row = ended();
@@ -118,7 +118,7 @@ fn submit_row(caller: u8, from: u64, verdict: &Verdict) -> RowWriter
 }
 
 /// The row of a cycle that was planned and not opened, with the slots that are flagged in it.
-fn plan_row(cycle: u64, mask: Mask) -> RowWriter
+pub fn plan_row(cycle: u64, mask: Mask) -> RowWriter
     ensures row { result ≡ plan_row cycle mask }
 {
     let mut row = ended();
@@ -129,7 +129,7 @@ fn plan_row(cycle: u64, mask: Mask) -> RowWriter
 }
 
 /// The row of a look of operator `caller`, with the cycle that was to be opened next.
-fn look_row(caller: u8, next: u64) -> RowWriter
+pub fn look_row(caller: u8, next: u64) -> RowWriter
     ensures row { result ≡ look_row caller next }
 {
     let mut row = ended();
@@ -139,7 +139,7 @@ fn look_row(caller: u8, next: u64) -> RowWriter
 }
 
 /// The row of an opened cycle, with its flagged slots and the length of its synchronous window in bit times.
-fn open_row(cycle: u64, mask: Mask, width: u32) -> RowWriter
+pub fn open_row(cycle: u64, mask: Mask, width: u32) -> RowWriter
     ensures row { result ≡ opened_row cycle mask width }
 {
     let mut row = ended();
@@ -151,7 +151,7 @@ fn open_row(cycle: u64, mask: Mask, width: u32) -> RowWriter
 }
 
 /// The row of a frame.
-fn frame_row(sent: &TimedFrame) -> RowWriter
+pub fn frame_row(sent: &TimedFrame) -> RowWriter
     ensures row { result ≡ frame_row sent.now }
 {
     let mut row = ended();
@@ -165,7 +165,7 @@ fn frame_row(sent: &TimedFrame) -> RowWriter
 }
 
 /// The last row, with the number of opened cycles.
-fn end_row(next: u64) -> RowWriter
+pub fn end_row(next: u64) -> RowWriter
     ensures row { result ≡ end_row next }
 {
     let mut row = ended();

@@ -1,14 +1,23 @@
 //! The rows of one event, for a log that is written while the run goes on.
 
-ghost use Rattle.std.specs.Prelude.{◌≡◌, ◌+◌, ◌*◌, ◌≤◌, ◌++◌, length, take, OnOk, OnErr};
+ghost use Rattle.std.specs.Prelude.{◌≡◌, ◌+◌, ◌*◌, ◌^◌, ◌<◌, ◌≤◌, ◌++◌, length, take, OnOk, OnErr};
+ghost use Rattle.std.specs.List.{flat_map};
+ghost use Rattle.ftt_io.specs.Counts.{Rose};
+ghost use Rattle.ftt_io.specs.Puts.{Puts, PutsPrefix};
 ghost use Rattle.can_frame.specs.DataFrame.{IsFrame};
 ghost use Rattle.trigger_codec.specs.Bytes.{window_in};
 ghost use Rattle.bus_trace.specs.EventRows.{HasItsFrames, HasWindow, HasWindowIn, rows_of_event, window_of};
+ghost use Rattle.bus_trace.specs.Log.{end_row, frame_row, plan_rows};
 ghost use Rattle.bus_trace.specs.Logged.{IsNear};
 
-use crate::rows::{push_frame_rows, push_look_row, push_open_row, push_plan_rows, push_submit_row};
+use crate::rows::{
+    end_row, frame_row, look_row, open_row, plan_row, push_frame_rows, push_look_row,
+    push_open_row, push_plan_rows, push_submit_row, submit_row,
+};
 use can_frame::{Frame, TimedFrame};
+use ftt_io::{Failed, Sink, write_all};
 use master_core::Event;
+use requirement_table::Mask;
 use std::alloc::{AllocError, Global};
 
 /// The length of the synchronous window that a trigger says, in bit times.
@@ -84,4 +93,81 @@ pub fn event_rows(
             Err(error)
         }
     }
+}
+
+/// Puts the rows of a plan, one for each cycle from `from` on, below 2^63.
+fn put_plan_rows<O: Sink>(out: &mut O, from: u64, masks: &[Mask]) -> Result<(), Failed>
+    requires from { from < 2 ^ 63 }
+    ensures faults_never_fall { O.faults out.old ≤ O.faults out.new }
+    ensures all { OnOk result (Puts (O.told_bytes out.old) (O.told_bytes out.new) (plan_rows from masks.now)) }
+    ensures failed { OnErr result (Rose (O.faults out.old) (O.faults out.new)) }
+    ensures prefix { OnErr result (PutsPrefix (O.told_bytes out.old) (O.told_bytes out.new) (plan_rows from masks.now)) }
+{
+    for (number, mask) in masks.iter().enumerate() {
+        write_all(out, plan_row(from + number as u64, *mask).as_slice())?;
+    }
+    Ok(())
+}
+
+/// Puts the rows of frames.
+fn put_frame_rows<O: Sink>(out: &mut O, frames: &[TimedFrame]) -> Result<(), Failed>
+    ensures faults_never_fall { O.faults out.old ≤ O.faults out.new }
+    ensures all { OnOk result (Puts (O.told_bytes out.old) (O.told_bytes out.new) (flat_map frame_row frames.now)) }
+    ensures failed { OnErr result (Rose (O.faults out.old) (O.faults out.new)) }
+    ensures prefix { OnErr result (PutsPrefix (O.told_bytes out.old) (O.told_bytes out.new) (flat_map frame_row frames.now)) }
+{
+    for sent in frames {
+        write_all(out, frame_row(sent).as_slice())?;
+    }
+    Ok(())
+}
+
+/// Puts the rows that [`event_rows`] appends, each by a call of its own, and takes no memory.
+///
+/// # Errors
+///
+/// Only where the sink fails. Then it took the first bytes of the rows.
+pub fn put_event_rows<O: Sink>(
+    out: &mut O,
+    event: &Event,
+    frames: &[TimedFrame],
+) -> Result<(), Failed>
+    requires near { IsNear event.now }
+    requires frames { HasItsFrames event.now frames.now }
+    ensures faults_never_fall { O.faults out.old ≤ O.faults out.new }
+    ensures all { OnOk result (Puts (O.told_bytes out.old) (O.told_bytes out.new) (rows_of_event event.now frames.now)) }
+    ensures failed { OnErr result (Rose (O.faults out.old) (O.faults out.new)) }
+    ensures prefix { OnErr result (PutsPrefix (O.told_bytes out.old) (O.told_bytes out.new) (rows_of_event event.now frames.now)) }
+{
+    match event {
+        Event::Submit {
+            caller,
+            from,
+            verdict,
+            trail,
+            ..
+        } => {
+            write_all(out, submit_row(*caller, *from, verdict).as_slice())?;
+            put_plan_rows(out, *from, trail.as_slice())
+        }
+        Event::Look { caller, next } => write_all(out, look_row(*caller, *next).as_slice()),
+        Event::Open { cycle, mask } => {
+            write_all(out, open_row(*cycle, *mask, window_of(frames)).as_slice())?;
+            put_frame_rows(out, frames)
+        }
+    }
+}
+
+/// Puts the last row of a log, where `next` cycles were opened.
+///
+/// # Errors
+///
+/// Only where the sink fails. Then it took the first bytes of the row.
+pub fn put_end_row<O: Sink>(out: &mut O, next: u64) -> Result<(), Failed>
+    ensures faults_never_fall { O.faults out.old ≤ O.faults out.new }
+    ensures all { OnOk result (Puts (O.told_bytes out.old) (O.told_bytes out.new) (end_row next)) }
+    ensures failed { OnErr result (Rose (O.faults out.old) (O.faults out.new)) }
+    ensures prefix { OnErr result (PutsPrefix (O.told_bytes out.old) (O.told_bytes out.new) (end_row next)) }
+{
+    write_all(out, end_row(next).as_slice())
 }

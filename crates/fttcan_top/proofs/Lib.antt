@@ -1,3 +1,4 @@
 mod EndLemmas
+mod StreamedLemmas
 mod WordLemmas
 mod RowLemmas

@@ -3,6 +3,7 @@ pub mod WordsRead
 pub mod LastRows
 pub mod Summary
 pub mod Status
+pub mod Streamed
 pub mod Output
 pub mod Loads
 pub mod Ends

@@ -11,10 +11,11 @@ use Rattle.plan_check.specs.PlanKept.{IsTaken}
 use Rattle.plan_check.specs.PlanText.{IsFirstWrongLine, IsReadable, plan_text}
 use Rattle.plan_check.specs.declared.breach.Breach.{Breach}
 use Rattle.plan_check.specs.declared.breach.Breach.TheVariants.{BadLoop, NotReleased, TooWide, Missed, NotClosed}
-use Rattle.bus_trace.specs.Log.{log_text}
+use Rattle.bus_trace.specs.Log.{events_rows, log_text}
 use Rattle.plan_report.specs.Report.{report_text}
 use Rattle.input_text.specs.Generator.{requests_made, steps_made, system_made}
 use Rattle.replay_run.specs.AskedTable.{table_of}
+use Rattle.replay_run.specs.Begun.{IsBegun}
 use Rattle.replay_run.specs.Run.{AnswersSteps, IsRun}
 use Rattle.live_steps.specs.Live.{IsLive}
 use Rattle.async_window.specs.declared.request.Owner.{Owner}
@@ -294,6 +295,24 @@ pub record TellsFront (asked_for : Asked) (old new : Option (List ℕ)) : Type 0
   pub text : List ℕ
   pub output : IsOutput asked_for status text
   pub puts : PutsPrefix old new text
+
+-- a run was cut short: it had answered the first calls of its steps, and what was put are the first bytes of its rows, and the first bytes
+-- of the output of every run of all the calls
+pub record TellsBegun (job : Job) (report : Bool) (old new : Option (List ℕ)) : Type 0 where
+  pub history : List Event
+  pub trace : List TimedFrame
+  pub begun : IsBegun job.system job.steps job.requests history trace
+  pub puts : PutsPrefix old new (events_rows trace [] history)
+  pub front : (status : Status) (text : List ℕ) → IsOutput (log_of job None report) status text → PutsPrefix old new text
+
+-- this may be so of a whole log alone, which is written while the run goes on
+abbrev pub IsCutWhileRun : Asked → Option (List ℕ) → Option (List ℕ) → Type 0
+IsCutWhileRun (log_of job None report) old new = TellsBegun job report old new
+IsCutWhileRun (log_of job (Some count) report) old new = ⊥
+IsCutWhileRun (summary_of number) old new = ⊥
+IsCutWhileRun (plan_of job) old new = ⊥
+IsCutWhileRun (check_of job certificate) old new = ⊥
+IsCutWhileRun (live_log_of job report) old new = ⊥
 
 -- How a call ends
 

@@ -8,6 +8,7 @@ mod load;
 mod program;
 mod rows;
 mod status;
+mod streamed;
 mod summary;
 mod words;
 mod work;

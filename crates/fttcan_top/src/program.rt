@@ -1,22 +1,24 @@
 //! The top call: from the words of a call and the files that they name to the bytes that are written.
 
-ghost use Rattle.std.specs.Prelude.{◌≡◌, ◌+◌, ◌≤◌, ◌⊎◌, ◌∷◌, [], List, ℕ, map, string_bytes, IfOk, IsSome, Some, None, Ok, Err, option_map};
+ghost use Rattle.std.specs.Prelude.{◌≡◌, ◌+◌, ◌≤◌, ◌⊎◌, ◌∷◌, [], List, ℕ, map, string_bytes, IfOk, IsErr, IsErrOf, IsSome, Some, None, Ok, Err, option_map};
 ghost use Rattle.std.specs.Option.{ForSome};
 ghost use Rattle.ftt_io.specs.Counts.{Rose};
 ghost use Rattle.ftt_io.specs.Puts.{Puts, PutsPrefix};
 ghost use Rattle.fttcan_top.specs.declared.load.Refusal.{Refusal};
 ghost use Rattle.fttcan_top.specs.Ends.{end_status, end_reason, stop_end, IsRunEnd, IsStatusOf};
 ghost use Rattle.fttcan_top.specs.Loads.{Explains, IsTask, asked_of, stopped_by};
-ghost use Rattle.fttcan_top.specs.Output.{Asked, Stopped, IsAnswer, IsAsked, IsAskedOf, IsCut, IsDone, IsOutput, IsRefusal, IsStopped, Says, Tells, TellsFront, message_of, refusal};
+ghost use Rattle.fttcan_top.specs.Output.{Asked, Stopped, IsAnswer, IsAsked, IsAskedOf, IsCut, IsCutWhileRun, IsDone, IsOutput, IsRefusal, IsStopped, Says, Tells, TellsFront, message_of, refusal};
 ghost use Rattle.fttcan_top.specs.Words.{command_of, file_count, named};
 
 use crate::load::{Refusal, Source, Stop, Task, load};
 use crate::rows::put_rows;
 use crate::status::Status;
+use crate::streamed::write_log;
 use crate::words::{WordsFault, command_in};
 use crate::work::{Outcome, work_out};
 use ftt_io::{Shelf, Sink, write_all};
 use std::alloc::{AllocError, Global};
+use written_run::Cut;
 
 /// The lines that say which words a call may have.
 const USAGE: &str =
@@ -160,8 +162,23 @@ pub fn put_answer<O: Sink>(outcome: Outcome, out: &mut O) -> End
     }
 }
 
-/// Does what was asked, and writes the answer.
-fn carry_out<O: Sink>(alloc: Global, task: &Task, out: &mut O) -> End
+/// How a call ends whose log was written while the run went on.
+fn end_of(written: Result<Status, Cut>) -> End
+    requires done { IfOk written IsDone }
+    ensures run { IsRunEnd result }
+    ensures done { IsDone (end_status result) → written ≡ Ok (end_status result) }
+    ensures cut { IsCut (end_status result) → IsErr written }
+    ensures write { result ≡ End.Write → IsErrOf written Cut.Write }
+{
+    match written {
+        Ok(status) => status.end(),
+        Err(Cut::Memory) => End::Memory,
+        Err(Cut::Write) => End::Write,
+    }
+}
+
+/// Works out what was asked, and then writes the answer.
+fn work_and_put<O: Sink>(alloc: Global, task: &Task, out: &mut O) -> End
     requires task { IsTask task.now }
     ensures faults_never_fall { O.faults out.old ≤ O.faults out.new }
     ensures run { IsRunEnd result }
@@ -172,6 +189,23 @@ fn carry_out<O: Sink>(alloc: Global, task: &Task, out: &mut O) -> End
     match work_out(alloc, task) {
         Ok(outcome) => put_answer(outcome, out),
         Err(_) => End::Memory,
+    }
+}
+
+/// Does what was asked, and writes the answer: a whole log while the run goes on, and anything else when it is worked out.
+fn carry_out<O: Sink>(alloc: Global, task: &Task, out: &mut O) -> End
+    requires task { IsTask task.now }
+    ensures faults_never_fall { O.faults out.old ≤ O.faults out.new }
+    ensures run { IsRunEnd result }
+    ensures done { IsDone (end_status result) → Tells (asked_of task.now) (end_status result) (O.told_bytes out.old) (O.told_bytes out.new) }
+    ensures cut { IsCut (end_status result) → (O.told_bytes out.new ≡ O.told_bytes out.old)
+        ⊎ (TellsFront (asked_of task.now) (O.told_bytes out.old) (O.told_bytes out.new)
+        ⊎ IsCutWhileRun (asked_of task.now) (O.told_bytes out.old) (O.told_bytes out.new)) }
+    ensures write { result ≡ End.Write → Rose (O.faults out.old) (O.faults out.new) }
+{
+    match task {
+        Task::Log(job, None, report) => end_of(write_log(alloc, job, *report, out)),
+        _ => work_and_put(alloc, task, out),
     }
 }
 
@@ -190,7 +224,8 @@ fn call<S: Shelf, O: Sink>(alloc: Global, words: &[String], shelf: &mut S, out: 
         × Tells asked_for (end_status result) (O.told_bytes out.old) (O.told_bytes out.new) }
     ensures cut { IsCut (end_status result) → (O.told_bytes out.new ≡ O.told_bytes out.old) ⊎ ((asked_for : Asked)
         × ForSome (S.told_files shelf.old) (λ files. IsAsked (map string_bytes words.now) files (Ok asked_for))
-        × TellsFront asked_for (O.told_bytes out.old) (O.told_bytes out.new)) }
+        × (TellsFront asked_for (O.told_bytes out.old) (O.told_bytes out.new)
+        ⊎ IsCutWhileRun asked_for (O.told_bytes out.old) (O.told_bytes out.new))) }
     ensures nothing { IsStopped (end_status result) → O.told_bytes out.new ≡ O.told_bytes out.old }
     ensures fetches { S.fetches shelf.new ≤ S.fetches shelf.old + file_count (map string_bytes words.now) }
     ensures files_stay { S.told_files shelf.new ≡ S.told_files shelf.old }
@@ -232,13 +267,14 @@ pub fn plain<S: Shelf, O: Sink, R: Sink>(
     ensures read { result ≡ Status.Read → Rose (S.faults shelf.old) (S.faults shelf.new) ⊎ IsSome (S.told_files shelf.old) }
     ensures write { result ≡ Status.Write → Rose (O.faults out.old) (O.faults out.new) }
 
-    // What was put to `out`: the answer to what was asked, its first bytes, or nothing.
+    // What was put to `out`: the answer to what was asked, its first bytes, the first rows of a run that was begun, or nothing.
     ensures done { IsDone result → (asked_for : Asked)
         × ForSome (S.told_files shelf.old) (λ files. IsAsked (map string_bytes words.now) files (Ok asked_for))
         × Tells asked_for result (O.told_bytes out.old) (O.told_bytes out.new) }
     ensures cut { IsCut result → (O.told_bytes out.new ≡ O.told_bytes out.old) ⊎ ((asked_for : Asked)
         × ForSome (S.told_files shelf.old) (λ files. IsAsked (map string_bytes words.now) files (Ok asked_for))
-        × TellsFront asked_for (O.told_bytes out.old) (O.told_bytes out.new)) }
+        × (TellsFront asked_for (O.told_bytes out.old) (O.told_bytes out.new)
+        ⊎ IsCutWhileRun asked_for (O.told_bytes out.old) (O.told_bytes out.new))) }
     ensures nothing { IsStopped result → O.told_bytes out.new ≡ O.told_bytes out.old }
 
     // What was put to `err`, and how often a file was fetched.

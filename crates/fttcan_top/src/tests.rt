@@ -13,6 +13,12 @@ const TWO_NODES: &str = "[bus]\ncycle = 1000\nwindow = 135\nnodes = 2\n";
 
 const ONE_TRIGGER: &str = "open,0,0000000000,0\nframe,0,127,000,0000000000000000\nend,1\n";
 
+/// The rows of one cycle, and the first bytes of the last row behind them.
+const TRIGGER_ROWS: &str = "open,0,0000000000,0\nframe,0,127,000,0000000000000000\n";
+
+const TRIGGER_ROWS_AND_MORE: &str =
+    "open,0,0000000000,0\nframe,0,127,000,0000000000000000\nend";
+
 const USAGE: &str = "\
 usage: fttcan replay SYSTEM STEPS [REQUESTS] [--tail N] [--report]
 usage: fttcan admit SYSTEM STEPS
@@ -361,15 +367,18 @@ fn files_that_are_not_read_are_named(rt: HostRuntime) -> Result<(), Fail> {
     Ok(())
 }
 
-/// A put that fails, or finds no room, leaves the front of the log.
+/// A put that fails, or finds no room, leaves the front of the log. Each row is a put of its own.
 #[test]
 fn a_failing_output_keeps_the_front_of_the_log(rt: HostRuntime) -> Result<(), Fail> {
     let alloc = rt.alloc();
-    let cases: [(usize, &[u64], &str); 4] = [
+    let cases: [(usize, &[u64], &str); 7] = [
         (3, &[], "ope"),
         (0, &[], ""),
         (ROOM, &[1], "open,0,0000000000,0\n"),
         (ROOM, &[0], ""),
+        (ROOM, &[2], TRIGGER_ROWS),
+        (53, &[], TRIGGER_ROWS),
+        (56, &[], TRIGGER_ROWS_AND_MORE),
     ];
     for (room, failing, front) in cases {
         let shelf = shelf(alloc, TWO_NODES, "cycle,1\n", Vec::new(alloc))?;

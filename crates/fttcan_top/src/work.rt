@@ -40,7 +40,7 @@ fn refuses_nothing(event: &Event) -> bool
 }
 
 /// The status of a run with this history.
-fn status_of(history: &[Event]) -> Status
+pub fn status_of(history: &[Event]) -> Status
     ensures status { result ≡ status_of history.now }
     ensures done { IsDone result }
 {

@@ -1,5 +1,5 @@
--- Steps have one history.
-use Rattle.std.proofs.Common.{◌≡◌, ℕ, List, [], ◌∷◌, ◌++◌, map, refl, sym, ap, ◌∙◌, subst}
+-- Steps have one history, and what answers their first calls begins it.
+use Rattle.std.proofs.Common.{◌≡◌, ℕ, List, [], ◌∷◌, ◌++◌, map, refl, sym, ap, ◌∙◌, subst, append-nil}
 use Rattle.requirement_table.specs.declared.entries.Placed.{Placed}
 use Rattle.change_protocol.specs.Applied.{applied}
 use Rattle.change_protocol.specs.declared.operations.Change.{Change}
@@ -74,21 +74,35 @@ record SameHeadAndTail (one other : Call) (calls more : List Call) : Type 0 wher
 same-parts : (one other : Call) (calls more : List Call) → one ∷ calls ≡ other ∷ more → SameHeadAndTail one other calls more
 same-parts one other calls more is = record { head = cc; tail = cc }
 
-same-events : OneVerdict → (rules : Rules) (before one other : List Event) → map call_of one ≡ map call_of other
+-- events that answer the first of some calls are the first of the events that answer them all
+first-events : OneVerdict → (rules : Rules) (before one other : List Event) (later : List Call)
+    → map call_of one ++ later ≡ map call_of other
     → AllAfter (IsRight rules) before one → AllAfter IsPlannedNow before one
-    → AllAfter (IsRight rules) before other → AllAfter IsPlannedNow before other → one ≡ other
-same-events verdicts rules before [] [] calls right now right2 now2 = refl
-same-events verdicts rules before [] (y ∷ ys) calls right now right2 now2 = absurd (cc)
-same-events verdicts rules before (x ∷ xs) [] calls right now right2 now2 = absurd (cc)
-same-events verdicts rules before (x ∷ xs) (y ∷ ys) calls right now right2 now2 =
-    let parts = same-parts (call_of x) (call_of y) (map call_of xs) (map call_of ys) calls in
+    → AllAfter (IsRight rules) before other → AllAfter IsPlannedNow before other → (rest : List Event) × (other ≡ one ++ rest)
+first-events verdicts rules before [] other later calls right now right2 now2 = (other, refl)
+first-events verdicts rules before (x ∷ xs) [] later calls right now right2 now2 = absurd (cc)
+first-events verdicts rules before (x ∷ xs) (y ∷ ys) later calls right now right2 now2 =
+    let parts = same-parts (call_of x) (call_of y) (map call_of xs ++ later) (map call_of ys) calls in
     let event : x ≡ y = same-event verdicts rules before x y parts.head right.0 now.0 right2.0 now2.0 in
-    let later : xs ≡ ys = same-events verdicts rules (before ++ x ∷ []) xs ys parts.tail right.1 now.1
+    let (rest, is) = first-events verdicts rules (before ++ x ∷ []) xs ys later parts.tail right.1 now.1
     (subst (λ e. AllAfter (IsRight rules) (before ++ e ∷ []) ys) (sym event) right2.1)
     (subst (λ e. AllAfter IsPlannedNow (before ++ e ∷ []) ys) (sym event) now2.1) in
-    ap (λ e. e ∷ xs) event ∙ ap (λ l. y ∷ l) later
+    (rest, ap (λ l. y ∷ l) is ∙ ap (λ e. e ∷ (xs ++ rest)) (sym event))
+
+pub first-history : OneVerdict → (rules : Rules) (one other : List Event) (later : List Call)
+    → map call_of one ++ later ≡ map call_of other → IsPlainlyLegal rules one → IsPlainlyLegal rules other → (rest : List Event) × (other ≡ one ++ rest)
+first-history verdicts rules one other later calls plain plain2 =
+    first-events verdicts rules [] one other later calls plain.legal plain.now plain2.legal plain2.now
+
+-- where the same calls are answered, no event is left
+none-left : (one rest : List Event) → map call_of one ≡ map call_of (one ++ rest) → one ≡ one ++ rest
+none-left [] [] calls = refl
+none-left [] (y ∷ rest) calls = absurd (cc)
+none-left (x ∷ one) rest calls =
+    ap (λ l. x ∷ l) (none-left one rest (same-parts (call_of x) (call_of x) (map call_of one) (map call_of (one ++ rest)) calls).tail)
 
 pub one-history : OneVerdict → (rules : Rules) (one other : List Event) → map call_of one ≡ map call_of other
     → IsPlainlyLegal rules one → IsPlainlyLegal rules other → one ≡ other
 one-history verdicts rules one other calls plain plain2 =
-    same-events verdicts rules [] one other calls plain.legal plain.now plain2.legal plain2.now
+    let (rest, is) = first-history verdicts rules one other [] (append-nil (map call_of one) ∙ calls) plain plain2 in
+    none-left one rest (calls ∙ ap (map call_of) is) ∙ sym is

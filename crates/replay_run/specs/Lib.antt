@@ -1,3 +1,4 @@
 pub mod AskedTable
+pub mod Begun
 pub mod Progress
 pub mod Run

@@ -1,16 +1,25 @@
 //! Laws about runs of steps. Each function has an empty body but for calls of other laws, and its contract is the law.
 
-ghost use Rattle.std.specs.Prelude.{◌≡◌, List};
+ghost use Rattle.std.specs.Prelude.{◌≡◌, ◌*◌, ◌≤◌, ◌++◌, List, All};
 ghost use Rattle.can_frame.specs.declared.data_frame.TimedFrame.{TimedFrame};
 ghost use Rattle.admission_rules.specs.declared.Rules.{Rules};
 ghost use Rattle.async_window.specs.declared.request.Request.{Request};
+ghost use Rattle.input_text.specs.RequestsFile.{AreLegal};
+ghost use Rattle.input_text.specs.SystemFile.{IsSystem};
 ghost use Rattle.input_text.specs.declared.steps.Step.{Step};
 ghost use Rattle.input_text.specs.declared.system.System.{System};
 ghost use Rattle.master_core.specs.declared.event.Event.{Event};
-ghost use Rattle.master_core.specs.History.{IsPlainlyLegal};
+ghost use Rattle.master_core.specs.History.{IsPlainlyLegal, next_of};
+ghost use Rattle.kept_run.specs.Kept.{Kept};
+ghost use Rattle.kept_run.specs.Progress.{IsUnderWay};
+ghost use Rattle.replay_run.specs.Begun.{IsBegun};
+ghost use Rattle.replay_run.specs.Progress.{setting_of};
 ghost use Rattle.replay_run.specs.Run.{AnswersSteps, IsRun};
 
 use admission::laws::one_verdict;
+use bus_line::laws::trace_laws;
+use cycle_engine::laws::OpenedCycles;
+use kept_run::laws::{beginning, calls_between, cycles_run, requests_of_owners};
 
 /// Steps have one history: two that answer them, each change planned when it is answered, are the same. So each verdict is the one that
 /// the rules give. And they have one run: with these requests there is one trace, too.
@@ -21,4 +30,33 @@ pub fn one_run()
         → IsRun system steps requests one trace → IsRun system steps requests other second → trace ≡ second }
 {
     one_verdict();
+}
+
+/// A run of the first calls of some steps begins the run of all of them: its events are the first ones of the whole
+/// history, and its frames the first ones of the whole trace, whose other frames start behind the cycles that it opens.
+pub fn beginnings()
+    ensures history { (system : System) (steps : List Step) (requests : List Request) (history whole : List Event)
+        (trace frames : List TimedFrame) → IsBegun system steps requests history trace → IsRun system steps requests whole frames
+        → (rest : List Event) × (whole ≡ history ++ rest) }
+    ensures trace { (system : System) (steps : List Step) (requests : List Request) (history whole : List Event)
+        (trace frames : List TimedFrame) → IsSystem system → IsBegun system steps requests history trace
+        → IsRun system steps requests whole frames
+        → (rest : List TimedFrame) × (frames ≡ trace ++ rest)
+        × All (λ sent. next_of history * system.layout.cycle ≤ sent.start) rest }
+{
+    one_verdict();
+}
+
+/// A history and a trace that keep what is promised, with a system and requests that were read, are those of a run under
+/// way: in each opened cycle the trace sends what the opening says, and it has ended by the start of the next cycle.
+pub fn runs_under_way()
+    ensures under_way { (system : System) (requests : List Request) (history : List Event) (trace : List TimedFrame)
+        → IsSystem system → AreLegal system.owners requests → Kept system.rules system.layout requests history trace
+        → IsUnderWay (setting_of system requests) history trace }
+{
+    beginning();
+    calls_between();
+    cycles_run();
+    requests_of_owners();
+    trace_laws::<OpenedCycles>();
 }

@@ -1,0 +1,28 @@
+use Rattle.std.proofs.Common.{◌≡◌, ◌++◌, ◌+◌, refl, sym, ap, ◌∙◌, subst, arith, rules, drop}
+use Rattle.ftt_io.specs.Puts.{Puts, PutsPrefix}
+use Rattle.ftt_io.proofs.Shared.{PutsUpTo-next, PutsUpTo-stops}
+use Rattle.bus_trace.specs.Log.{plan_row, plan_rows}
+use Rattle.bus_trace.proofs.PutRows.{plan_rows-at}
+use Rattle.bus_trace.proofs.streaming.put_plan_rows.Goals as goal
+
+pub returns-in_err-write_all-clause-prefix : goal.returns-in_err-write_all-clause-prefix
+returns-in_err-write_all-clause-prefix g c =
+    let i = c.loop-number.number in
+    let mask = c.index-masks-number.result in
+    let row = c.as_slice.ensures.bytes ∙ c.plan_row.ensures.row in
+    let all = PutsUpTo-stops (plan_row (c.args.from + i) mask) (plan_rows (c.args.from + (i + 1)) (drop (i + 1) c.args.masks.now)) c.loop-number.invariant.put
+    (plan_rows-at c.args.from c.args.masks.now i mask mask c.loop-number-test.true (sym c.index-masks-number.is))
+    (subst (PutsPrefix (g.O.Sink.told_bytes c.loop-number.out) (g.O.Sink.told_bytes c.write_all.new.sink)) row c.in_err-write_all.ensures.prefix) in
+    search (rules, all)
+
+pub loop-number-preserved : goal.loop-number-preserved
+loop-number-preserved g c =
+    let i = c.loop-number.number in
+    let mask = c.index-masks-number.result in
+    let row = c.as_slice.ensures.bytes ∙ c.plan_row.ensures.row in
+    record {
+      put = PutsUpTo-next (plan_row (c.args.from + i) mask) _ c.loop-number.invariant.put
+          (plan_rows-at c.args.from c.args.masks.now i mask mask c.loop-number-test.true (sym c.index-masks-number.is))
+          (subst (Puts (g.O.Sink.told_bytes c.loop-number.out) (g.O.Sink.told_bytes c.write_all.new.sink)) row c.in_ok-write_all.ensures.all);
+      faults = omega (arith, c.in_ok-write_all.ensures.faults_never_fall, c.loop-number.invariant.faults);
+    }

@@ -1,0 +1,71 @@
+//! The log of a run, written while the run goes on, and the report behind it.
+
+ghost use Rattle.std.specs.Prelude.{◌≡◌, ◌≤◌, ◌⊎◌, None, IfOk, IsErrOf, OnErr, OnOk, is_some};
+ghost use Rattle.ftt_io.specs.Counts.{Rose};
+ghost use Rattle.fttcan_top.specs.Loads.{IsJob, job_of};
+ghost use Rattle.fttcan_top.specs.Output.{IsDone, Tells, TellsBegun, TellsFront, log_of};
+ghost use Rattle.fttcan_top.specs.Streamed.{PutsReport, PutsReportFront};
+
+use crate::load::Job;
+use crate::rows::put_rows;
+use crate::status::Status;
+use crate::work::status_of;
+use async_window::{Owner, Request};
+use ftt_io::Sink;
+use std::alloc::Global;
+use written_run::laws::rows_so_far;
+use written_run::{Cut, Written, replay_to};
+
+/// Puts the report of a run, where its frames were kept.
+fn put_report<O: Sink>(
+    alloc: Global,
+    run: &Written,
+    owners: &[Owner],
+    requests: &[Request],
+    out: &mut O,
+) -> Result<(), Cut>
+    ensures faults_never_fall { O.faults out.old ≤ O.faults out.new }
+    ensures all { OnOk result (PutsReport run.now owners.now requests.now (O.told_bytes out.old) (O.told_bytes out.new)) }
+    ensures prefix { OnErr result (PutsReportFront run.now owners.now requests.now (O.told_bytes out.old) (O.told_bytes out.new)) }
+    ensures failed { IsErrOf result Cut.Write → Rose (O.faults out.old) (O.faults out.new) }
+{
+    match &run.trace {
+        None => Ok(()),
+        Some(trace) => {
+            let text = plan_report::report(alloc, &run.master, trace.as_slice(), owners, requests)?;
+            put_rows(out, text.as_slice())?;
+            Ok(())
+        }
+    }
+}
+
+/// Runs the steps and writes the log meanwhile, and the report behind it where that is asked for. Answers the status of the run.
+///
+/// The rows of an event are put when its cycle was run, so what is put is never searched or kept. The frames are kept for the report
+/// alone.
+///
+/// # Errors
+///
+/// `Memory` where memory runs out, `Write` where the sink fails. Then the sink took the first bytes of the output.
+pub fn write_log<O: Sink>(
+    alloc: Global,
+    job: &Job,
+    report: bool,
+    out: &mut O,
+) -> Result<Status, Cut>
+    requires job { IsJob job.now }
+    ensures faults_never_fall { O.faults out.old ≤ O.faults out.new }
+    ensures done { IfOk result IsDone }
+    ensures tells { IfOk result (λ status. Tells (log_of (job_of job.now) None report) status (O.told_bytes out.old) (O.told_bytes out.new)) }
+    ensures cut { OnErr result (TellsFront (log_of (job_of job.now) None report) (O.told_bytes out.old) (O.told_bytes out.new)
+        ⊎ TellsBegun (job_of job.now) report (O.told_bytes out.old) (O.told_bytes out.new)) }
+    ensures failed { IsErrOf result Cut.Write → Rose (O.faults out.old) (O.faults out.new) }
+{
+    rows_so_far();
+    let system = &job.system;
+    let owners = system.owners.as_slice();
+    let requests = job.requests.as_slice();
+    let run = replay_to(alloc, system, job.steps.as_slice(), requests, report, out)?;
+    put_report(alloc, &run, owners, requests, out)?;
+    Ok(status_of(run.master.history()))
+}

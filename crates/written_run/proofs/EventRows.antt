@@ -1,0 +1,177 @@
+-- The rows of a history with one event more.
+use Rattle.std.proofs.Common.{◌≡◌, ◌≢◌, ℕ, ◌+◌, ◌<◌, ◌≤◌, false, cond, eqb, List, [], ◌∷◌, ◌++◌, fold, All, refl, sym, ap, ◌∙◌, arith, inl, inr, append_assoc}
+use Rattle.std.specs.List.{flat_map}
+use Rattle.std.proofs.lemmas.Bool.{cases_Bool, ne_eqb, eq-eqb, cond-true, cond-false}
+use Rattle.std.proofs.lemmas.List.{append-nil}
+use Rattle.std.proofs.lemmas.List.Elements.{All-head, All-tail}
+use Rattle.std.proofs.lemmas.List.Sums.{fold-append, sum_by-cons, sum_by_push}
+use Rattle.can_frame.specs.declared.data_frame.TimedFrame.{TimedFrame}
+use Rattle.requirement_table.specs.Opening.{width_of}
+use Rattle.admission_rules.specs.declared.Rules.{Rules}
+use Rattle.master_core.specs.declared.event.Event.{Event}
+use Rattle.master_core.specs.declared.event.Event.TheVariants.{Submit, Look, Open}
+use Rattle.master_core.specs.History.{AllAfter, IsRight, is_open, next_of, placed_of}
+use Rattle.bus_trace.specs.EventRows.{rows_of_event, window_of}
+use Rattle.bus_trace.specs.Log.{event_rows, events_rows, frame_row, open_row, started_in, triggers_with}
+use Rattle.bus_trace.specs.Logged.{opened_row}
+use Rattle.written_run.specs.Progress.{triggers_in}
+
+abbrev IsTrigger : TimedFrame → Type 0
+IsTrigger sent = sent.frame.identifier ≡ 0
+
+-- Counting triggers
+
+pub counted-trigger : (seen : ℕ) (sent : TimedFrame) → sent.frame.identifier ≡ 0 → triggers_with seen sent ≡ seen + 1
+counted-trigger seen sent is = cond-true (eqb sent.frame.identifier 0) (seen + 1) seen (eq-eqb _ _ is)
+
+counted-other : (seen : ℕ) (sent : TimedFrame) → sent.frame.identifier ≢ 0 → triggers_with seen sent ≡ seen
+counted-other seen sent other = cond-false (eqb sent.frame.identifier 0) (seen + 1) seen (ne_eqb _ _ other)
+
+triggers-up : (seen : ℕ) (sent : TimedFrame) → seen ≤ triggers_with seen sent
+triggers-up seen sent =
+    elim (cases_Bool (eqb sent.frame.identifier 0)) [
+      | inl is ↦ omega (arith, cond-true (eqb sent.frame.identifier 0) (seen + 1) seen is)
+      | inr other ↦ omega (arith, cond-false (eqb sent.frame.identifier 0) (seen + 1) seen other)
+    ]
+
+pub triggers-all-up : (seen : ℕ) (frames : List TimedFrame) → seen ≤ fold triggers_with seen frames
+triggers-all-up seen [] = omega arith
+triggers-all-up seen (sent ∷ later) =
+    let now = triggers-up seen sent in
+    let more = triggers-all-up (triggers_with seen sent) later in
+    omega arith
+
+-- frames none of which is a trigger
+counted-none : (seen : ℕ) (frames : List TimedFrame) → All (λ sent. sent.frame.identifier ≢ 0) frames → fold triggers_with seen frames ≡ seen
+counted-none seen [] none = refl
+counted-none seen (sent ∷ later) none =
+    ap (λ n. fold triggers_with n later) (counted-other seen sent (All-head (λ s. s.frame.identifier ≢ 0) sent later none))
+    ∙ counted-none seen later (All-tail (λ s. s.frame.identifier ≢ 0) sent later none)
+
+-- the frames of a cycle hold one trigger
+pub triggers-more : (trace : List TimedFrame) (sent : TimedFrame) (later : List TimedFrame) → sent.frame.identifier ≡ 0
+    → All (λ s. s.frame.identifier ≢ 0) later → triggers_in (trace ++ sent ∷ later) ≡ triggers_in trace + 1
+triggers-more trace sent later is others =
+    fold-append triggers_with 0 trace (sent ∷ later)
+    ∙ ap (λ n. fold triggers_with n later) (counted-trigger (triggers_in trace) sent is)
+    ∙ counted-none (triggers_in trace + 1) later others
+
+-- The frames that start in a cycle
+
+here-not : (cycle seen : ℕ) (sent : TimedFrame) (rest : List TimedFrame) → seen ≢ cycle + 1 → cond (eqb seen (cycle + 1)) (sent ∷ []) [] ++ rest ≡ rest
+here-not cycle seen sent rest other = ap (λ l. l ++ rest) (cond-false (eqb seen (cycle + 1)) (sent ∷ []) [] (ne_eqb _ _ other))
+
+here : (cycle seen : ℕ) (sent : TimedFrame) (rest : List TimedFrame) → seen ≡ cycle + 1 → cond (eqb seen (cycle + 1)) (sent ∷ []) [] ++ rest ≡ sent ∷ rest
+here cycle seen sent rest is = ap (λ l. l ++ rest) (cond-true (eqb seen (cycle + 1)) (sent ∷ []) [] (eq-eqb _ _ is))
+
+started-append : (cycle seen : ℕ) (first second : List TimedFrame)
+    → started_in cycle seen (first ++ second) ≡ started_in cycle seen first ++ started_in cycle (fold triggers_with seen first) second
+started-append cycle seen [] second = refl
+started-append cycle seen (sent ∷ later) second =
+    let now = triggers_with seen sent in
+    ap (λ l. cond (eqb now (cycle + 1)) (sent ∷ []) [] ++ l) (started-append cycle now later second)
+    ∙ sym (append_assoc (cond (eqb now (cycle + 1)) (sent ∷ []) []) (started_in cycle now later) (started_in cycle (fold triggers_with now later) second))
+
+-- none behind the next cycle's trigger
+started-past : (cycle seen : ℕ) (frames : List TimedFrame) → cycle + 1 < seen → started_in cycle seen frames ≡ []
+started-past cycle seen [] past = refl
+started-past cycle seen (sent ∷ later) past =
+    let up = triggers-up seen sent in
+    here-not cycle (triggers_with seen sent) sent _ (λ is. omega arith) ∙ started-past cycle (triggers_with seen sent) later (omega arith)
+
+-- nor from it on
+started-later : (cycle seen : ℕ) (sent : TimedFrame) (later : List TimedFrame) → sent.frame.identifier ≡ 0 → cycle + 1 ≤ seen
+    → started_in cycle seen (sent ∷ later) ≡ []
+started-later cycle seen sent later trigger past =
+    let now = counted-trigger seen sent trigger in
+    here-not cycle (triggers_with seen sent) sent _ (λ is. omega arith) ∙ started-past cycle (triggers_with seen sent) later (omega arith)
+
+-- none before the cycle's own trigger
+started-before : (cycle seen : ℕ) (frames : List TimedFrame) → fold triggers_with seen frames ≤ cycle → started_in cycle seen frames ≡ []
+started-before cycle seen [] few = refl
+started-before cycle seen (sent ∷ later) few =
+    let up = triggers-all-up (triggers_with seen sent) later in
+    here-not cycle (triggers_with seen sent) sent _ (λ is. omega arith) ∙ started-before cycle (triggers_with seen sent) later few
+
+-- all behind it, up to the next one
+started-rest : (cycle : ℕ) (frames : List TimedFrame) → All (λ s. s.frame.identifier ≢ 0) frames → started_in cycle (cycle + 1) frames ≡ frames
+started-rest cycle [] none = refl
+started-rest cycle (sent ∷ later) none =
+    let same = counted-other (cycle + 1) sent (All-head (λ s. s.frame.identifier ≢ 0) sent later none) in
+    ap (λ n. cond (eqb n (cycle + 1)) (sent ∷ []) [] ++ started_in cycle n later) same
+    ∙ here cycle (cycle + 1) sent _ refl
+    ∙ ap (λ l. sent ∷ l) (started-rest cycle later (All-tail (λ s. s.frame.identifier ≢ 0) sent later none))
+
+-- the frames of the next cycle are those behind the trace
+started-next : (trace : List TimedFrame) (cycle : ℕ) (sent : TimedFrame) (later : List TimedFrame) → triggers_in trace ≡ cycle → sent.frame.identifier ≡ 0
+    → All (λ s. s.frame.identifier ≢ 0) later → started_in cycle 0 (trace ++ sent ∷ later) ≡ sent ∷ later
+started-next trace cycle sent later so_far trigger others =
+    started-append cycle 0 trace (sent ∷ later)
+    ∙ ap (λ l. l ++ started_in cycle (triggers_in trace) (sent ∷ later)) (started-before cycle 0 trace (omega arith))
+    ∙ ap (λ n. started_in cycle n (sent ∷ later)) so_far
+    ∙ ap (λ n. cond (eqb n (cycle + 1)) (sent ∷ []) [] ++ started_in cycle n later) (counted-trigger cycle sent trigger)
+    ∙ here cycle (cycle + 1) sent _ refl
+    ∙ ap (λ l. sent ∷ l) (started-rest cycle later others)
+
+-- The rows
+
+pub rows-push : (trace : List TimedFrame) (before events : List Event) (event : Event)
+    → events_rows trace before (events ++ event ∷ []) ≡ events_rows trace before events ++ event_rows trace (before ++ events) event
+rows-push trace before [] event = append-nil (event_rows trace before event) ∙ ap (λ h. event_rows trace h event) (sym (append-nil before))
+rows-push trace before (first ∷ events) event =
+    ap (λ l. event_rows trace before first ++ l)
+    (rows-push trace (before ++ first ∷ []) events event
+    ∙ ap (λ h. events_rows trace (before ++ first ∷ []) events ++ event_rows trace h event) (append_assoc before (first ∷ []) events))
+    ∙ sym (append_assoc (event_rows trace before first) (events_rows trace (before ++ first ∷ []) events) (event_rows trace (before ++ first ∷ events) event))
+
+next-cons : (event : Event) (later : List Event) → next_of (event ∷ later) ≡ cond (is_open event) 1 0 + next_of later
+next-cons event later = sum_by-cons (λ e. cond (is_open e) 1 0) event later
+
+pub next-push : (before : List Event) (event : Event) → next_of (before ++ event ∷ []) ≡ next_of before + cond (is_open event) 1 0
+next-push before event = sum_by_push (λ e. cond (is_open e) 1 0) before event
+
+event-stays : (rules : Rules) (trace : List TimedFrame) (sent : TimedFrame) (later : List TimedFrame) (before : List Event) (event : Event)
+    → sent.frame.identifier ≡ 0 → IsRight rules before event → next_of before + cond (is_open event) 1 0 ≤ triggers_in trace
+    → event_rows (trace ++ sent ∷ later) before event ≡ event_rows trace before event
+event-stays rules trace sent later before (Submit caller change from verdict trail) trigger right few = refl
+event-stays rules trace sent later before (Look caller next) trigger right few = refl
+event-stays rules trace sent later before (Open cycle mask) trigger right few =
+    let now : cycle ≡ next_of before = right.0 in
+    let same : started_in cycle 0 (trace ++ sent ∷ later) ≡ started_in cycle 0 trace =
+    started-append cycle 0 trace (sent ∷ later)
+    ∙ ap (λ l. started_in cycle 0 trace ++ l) (started-later cycle (triggers_in trace) sent later trigger (omega arith))
+    ∙ append-nil (started_in cycle 0 trace) in
+    ap (λ l. open_row (record { cycle = cycle; mask = mask; placed = placed_of before }) ++ flat_map frame_row l) same
+
+-- frames of a later cycle change no rows before it
+pub rows-stay : (rules : Rules) (trace : List TimedFrame) (sent : TimedFrame) (later : List TimedFrame) (before events : List Event)
+    → sent.frame.identifier ≡ 0 → AllAfter (IsRight rules) before events → next_of before + next_of events ≤ triggers_in trace
+    → events_rows (trace ++ sent ∷ later) before events ≡ events_rows trace before events
+rows-stay rules trace sent later before [] trigger right few = refl
+rows-stay rules trace sent later before (event ∷ events) trigger right few =
+    let first = next-cons event events in
+    let more = next-push before event in
+    let one = event-stays rules trace sent later before event trigger right.0 (omega arith) in
+    ap (λ l. l ++ events_rows (trace ++ sent ∷ later) (before ++ event ∷ []) events) one
+    ∙ ap (λ l. event_rows trace before event ++ l) (rows-stay rules trace sent later (before ++ event ∷ []) events trigger right.1 (omega arith))
+
+-- a cycle that is opened and run adds the rows of its event
+pub opened-rows : (rules : Rules) (trace : List TimedFrame) (sent : TimedFrame) (later : List TimedFrame) (history : List Event) (cycle mask : ℕ)
+    → AllAfter (IsRight rules) [] history → triggers_in trace ≡ next_of history → cycle ≡ next_of history → sent.frame.identifier ≡ 0
+    → All (λ s. s.frame.identifier ≢ 0) later
+    → window_of (sent ∷ later) ≡ width_of (record { cycle = cycle; mask = mask; placed = placed_of history })
+    → events_rows (trace ++ sent ∷ later) [] (history ++ Open cycle mask ∷ []) ≡ events_rows trace [] history ++ rows_of_event (Open cycle mask) (sent ∷ later)
+opened-rows rules trace sent later history cycle mask legal so_far now trigger others width =
+    let frames : List TimedFrame = sent ∷ later in
+    let started = started-next trace cycle sent later (so_far ∙ sym now) trigger others in
+    rows-push (trace ++ frames) [] history (Open cycle mask)
+    ∙ ap (λ l. l ++ event_rows (trace ++ frames) history (Open cycle mask)) (rows-stay rules trace sent later [] history trigger legal (omega arith))
+    ∙ ap (λ l. events_rows trace [] history ++ (open_row (record { cycle = cycle; mask = mask; placed = placed_of history }) ++ flat_map frame_row l)) started
+    ∙ ap (λ w. events_rows trace [] history ++ (opened_row cycle mask w ++ flat_map frame_row frames)) (sym width)
+
+-- a change or a look adds its own
+pub called-rows : (trace : List TimedFrame) (history : List Event) (event : Event) → is_open event ≡ false
+    → events_rows trace [] (history ++ event ∷ []) ≡ events_rows trace [] history ++ rows_of_event event []
+called-rows trace history (Submit caller change from verdict trail) closed = rows-push trace [] history (Submit caller change from verdict trail)
+called-rows trace history (Look caller next) closed = rows-push trace [] history (Look caller next)
+called-rows trace history (Open cycle mask) closed = absurd (cc)

@@ -1,0 +1,5 @@
+mod Cutting
+mod EventRows
+mod Going
+mod RowsSoFar
+mod Whole
