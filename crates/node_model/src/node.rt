@@ -219,7 +219,9 @@ impl Node {
         if window <= at {
             cycle::least_due(&open_cycle)
         } else {
-            self.mailboxes.offer(&self.layout, at, open_cycle.width)
+            let layout = &self.layout;
+            self.mailboxes
+                .offer_in(layout, open_cycle.cycle, at, open_cycle.width)
         }
     }
 
@@ -245,7 +247,11 @@ impl Node {
         if window <= at {
             return cycle::next_due(&open_cycle, at, window, end);
         }
-        match self.mailboxes.wake(&self.layout, at, open_cycle.width) {
+        let layout = &self.layout;
+        match self
+            .mailboxes
+            .wake_in(layout, open_cycle.cycle, at, open_cycle.width)
+        {
             Some(next) => Some(next),
             None => cycle::next_due(&open_cycle, at, window, end),
         }
