@@ -7,7 +7,7 @@ ghost use Rattle.requirement_table.specs.Table.{IsWellPlaced, instance_in};
 ghost use Rattle.async_window.specs.Mailbox.{IsNextInCycle, left};
 ghost use Rattle.async_window.specs.Owners.{AreOwners};
 ghost use Rattle.node_model.specs.Opening.{first_identifier};
-ghost use Rattle.node_model.specs.Node.{IsNextOffer, IsNode, after_hearing, after_opening, after_request, after_slot, fresh_node, is_own_slot, learnt, next_trigger, node_frame, node_offer};
+ghost use Rattle.node_model.specs.Node.{IsNextOffer, IsNode, after_hearing, after_opening, after_request, after_slot, counted, fresh_node, is_own_slot, learnt, next_trigger, node_frame, node_offer};
 ghost use Rattle.node_model.specs.Kept.{IsClosedAt, IsOpenAt, sends_from};
 
 use crate::cycle::{self, FIRST_IDENTIFIER, Open};
@@ -149,14 +149,26 @@ impl Node {
         ensures heard { self.new.state ≡ after_hearing self.old.state heard.now }
         ensures spare { self.new.spare ≡ self.old.spare }
     {
+        let _ = self.hear_own(heard);
+    }
+
+    /// The same. The answer is whether the frame is a trigger or one of the node's own; another one is only counted.
+    pub fn hear_own(&mut self, heard: &TimedFrame) -> bool
+        requires cycle { heard.now.frame.identifier ≡ 0 → self.old.state.next < 2 ^ 42 }
+        ensures heard { self.new.state ≡ after_hearing self.old.state heard.now }
+        ensures spare { self.new.spare ≡ self.old.spare }
+        ensures other { result ≡ false → self.new.state ≡ record self.old.state { frames = counted self.old.state.frames } }
+    {
         self.frames = self.frames.saturating_add(1);
         let id = heard.frame.id();
         if id == TRIGGER_IDENTIFIER {
             self.open_next(&heard.frame);
+            true
         } else if let Some(slot) = self.own_slot(id) {
             self.mark(slot);
+            true
         } else {
-            self.take_request(id);
+            self.take_request(id)
         }
     }
 
@@ -198,13 +210,17 @@ impl Node {
         self.opened = cycle::after_slot(&self.opened, slot);
     }
 
-    /// Takes away the first unsent request of an identifier, where there is one.
-    fn take_request(&mut self, id: u16)
+    /// Takes away the first unsent request of an identifier, where there is one, and answers whether there was.
+    fn take_request(&mut self, id: u16) -> bool
         ensures taken { self.new.state ≡ after_request self.old.state id }
         ensures spare { self.new.spare ≡ self.old.spare }
+        ensures nothing { result ≡ false → self.new.state ≡ self.old.state }
     {
         if self.mailboxes.head(id).is_some() {
             self.mailboxes.sent(id);
+            true
+        } else {
+            false
         }
     }
 
