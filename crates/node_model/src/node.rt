@@ -361,6 +361,40 @@ impl Node {
         }
     }
 
+    /// The frame that the node offers at a time under an identifier, where it offers that one.
+    pub fn offered_frame(&self, at: u64, id: u16) -> Option<Frame>
+        requires time { at < 2 ^ 60 }
+        ensures frame { MatchOption result (node_offer self.now.state at ≡ Some id → ⊥)
+            (λ frame. (node_offer self.now.state at ≡ Some id) × (frame ≡ node_frame self.now.state at id) × (frame.identifier ≡ id)) }
+    {
+        if !self.may_offer(id) {
+            return None;
+        }
+        match self.offer(at) {
+            Some(offered) => {
+                if offered == id {
+                    Some(self.frame(at, id))
+                } else {
+                    None
+                }
+            }
+            None => None,
+        }
+    }
+
+    /// Whether the node may offer an identifier at some time: an asynchronous one only where it has an unsent request of it.
+    fn may_offer(&self, id: u16) -> bool
+        ensures never { result ≡ false → (at : ℕ) → node_offer self.now.state at ≡ Some id → ⊥ }
+    {
+        if id < LEAST_ASYNCHRONOUS {
+            return true;
+        }
+        match self.mailboxes.head(id) {
+            Some(_) => true,
+            None => false,
+        }
+    }
+
     /// The frame of the first unsent request of an offered identifier.
     fn request_frame(&self, at: u64, id: u16) -> Frame
         requires time { at < 2 ^ 60 }
