@@ -1,5 +1,5 @@
 -- What mailboxes offer, by the arrivals of their first requests.
-use Rattle.std.proofs.Common.{◌≡◌, ℕ, ◌+◌, ◌*◌, ◌/◌, ◌^◌, ◌<◌, ◌≤◌, cond, leb, Option, Some, None, List, [], ◌∷◌, ◌++◌, length, get_or, inl, inr, refl, sym, ap, ◌∙◌, subst, arith}
+use Rattle.std.proofs.Common.{◌≡◌, ℕ, ◌+◌, ◌*◌, ◌/◌, ◌^◌, ◌<◌, ◌≤◌, cond, leb, false, true, Option, Some, None, List, [], ◌∷◌, ◌++◌, length, get_or, inl, inr, refl, sym, ap, ◌∙◌, subst, arith}
 use Rattle.std.specs.List.{slice_get}
 use Rattle.std.specs.Option.{IsSome, option_to_list}
 use Rattle.std.proofs.Math.Nat.{div-eq_of_lt-le, div-mul-le_self}
@@ -143,6 +143,45 @@ module _ (layout : CycleLayout) (l : ℕ) (ids : List ℕ) (boxes : List Mail) (
   is-offer at least is =
       IsLeastWith-one (Offers layout l (mail_of ids boxes) at) least (mail_offer layout l (mail_of ids boxes) at) is
       (Offers-least layout l at (mail_of ids boxes) kept.mail)
+
+  -- where no first request has arrived, nothing is offered
+  pub none-waits : (at : ℕ) → ((place : ℕ) (d : Mail) → place < length boxes → at < arrival_within 8 (get_or boxes place d).unsent)
+      → IsLeastWith (Offers layout l (mail_of ids boxes) at) None
+  none-waits at none = none-arrived at 8 (λ bytes few whole. few) none
+
+  never-offered : (at : ℕ) → IsLeastWith (Offers layout l (mail_of ids boxes) at) None → IsSome (mail_offer layout l (mail_of ids boxes) at) → ⊥
+  never-offered at none some =
+      let nothing : false ≡ true = subst (λ (o : Option ℕ). IsSome o) (sym (is-offer at None none)) some in
+      let impossible : ⊥ = cc (nothing) in
+      impossible
+
+  -- nothing is offered behind a time from which on no frame fits any more, and nothing where no first request arrives before the
+  -- synchronous window
+  pub none-behind : (at : ℕ) → sync_start layout (at / layout.cycle) l ≤ at + worst 0
+      → IsNextInCycle layout.cycle at (λ later. IsSome (mail_offer layout l (mail_of ids boxes) later)) None
+  none-behind at over = λ later found.
+      never-offered later
+      (none-fits later (λ bytes few opened whole.
+      let here : later + worst bytes ≤ sync_start layout (at / layout.cycle) l
+      = subst (λ c. later + worst bytes ≤ sync_start layout c l) found.1 whole in
+      let behind : at < later = found.0 in
+      omega arith))
+      found.2
+
+  pub none-until : (at : ℕ)
+      → ((place : ℕ) (d : Mail) → place < length boxes
+      → sync_start layout (at / layout.cycle) l < arrival_within 8 (get_or boxes place d).unsent)
+      → IsNextInCycle layout.cycle at (λ later. IsSome (mail_offer layout l (mail_of ids boxes) later)) None
+  none-until at none = λ later found.
+      never-offered later
+      (elim (cases_lt (sync_start layout (at / layout.cycle) l) later) [
+        | inl past ↦ none-fits later (λ bytes few opened whole.
+            let here : later + worst bytes ≤ sync_start layout (at / layout.cycle) l
+            = subst (λ c. later + worst bytes ≤ sync_start layout c l) found.1 whole in
+            omega arith)
+        | inr within ↦ none-waits later (λ place d is. let high = none place d is in omega arith)
+      ])
+      found.2
 
 pub IsSoonest-none : (nodes : List (List ℕ)) (boxes : List Mail) (opened closed at : ℕ) → IsSoonest nodes boxes opened closed at 0 None
 IsSoonest-none nodes boxes opened closed at = λ later found. let below : found.0 < 0 = found.1 in absurd (omega arith)

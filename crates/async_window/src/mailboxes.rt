@@ -1,6 +1,6 @@
 //! Mailboxes: the requests of some identifiers, first in, first out for each identifier.
 
-ghost use Rattle.std.specs.Prelude.{◌≡◌, ◌≢◌, ◌↔◌, ℕ, ◌+◌, ◌^◌, ◌<◌, ◌≤◌, ◌==◌, [], ◌++◌, All, AllPairs, IfOk, IsSome, MatchOption, Some, drop, if◌then◌else◌, length, map, min, option_map, slice_get, slice_index_or};
+ghost use Rattle.std.specs.Prelude.{◌≡◌, ◌≢◌, ◌↔◌, ℕ, ◌+◌, ◌/◌, ◌^◌, ◌<◌, ◌≤◌, ◌==◌, [], ◌++◌, All, AllPairs, IfOk, IsSome, MatchOption, Some, drop, if◌then◌else◌, length, map, min, option_map, slice_get, slice_index_or};
 ghost use Rattle.std.specs.Option.{option_map_or, option_to_list};
 ghost use Rattle.async_window.specs.Mailbox.{IsLeastWith, IsMail, IsNextInCycle, Mail, Offers, least_of, left, mail_after, mail_offer, unsent_of, without_first};
 ghost use Rattle.async_window.specs.Adding.{with_request};
@@ -10,7 +10,7 @@ use crate::mailbox::Mailbox;
 use crate::places::{in_order, place_of, places};
 use crate::request::Request;
 use crate::tournament::Tournament;
-use crate::window::window_at;
+use crate::window::window_in;
 use can_frame::Frame;
 use cycle_layout::Layout;
 use std::alloc::{AllocError, Global};
@@ -85,8 +85,23 @@ impl Mailboxes {
         ensures value { result ≡ mail_offer layout.now l self.now at }
         ensures known { IsMail self.now }
     {
+        self.offer_in(layout, at / u64::from(layout.cycle()), at, l)
+    }
+
+    /// The same, where the cycle of `at` is known. No division is made, and where no request waits, the window is not looked at.
+    pub fn offer_in(&self, layout: &Layout, cycle: u64, at: u64, l: u32) -> Option<u16>
+        requires window { l ≤ layout.now.window }
+        requires time { at < 2 ^ 60 }
+        requires cycle { cycle ≡ at / layout.now.cycle }
+        ensures least { IsLeastWith (Offers layout.now l self.now at) result }
+        ensures value { result ≡ mail_offer layout.now l self.now at }
+        ensures known { IsMail self.now }
+    {
         let boxes = self.boxes.as_slice();
-        match window_at(layout, at, l).room(at) {
+        if !self.firsts.has_arrived(boxes, at) {
+            return None;
+        }
+        match window_in(layout, cycle, at, l).room(at) {
             Some(bytes) => match self.firsts.first(boxes, usize::from(bytes), at) {
                 Some(place) => Some(boxes[place].id()),
                 None => None,
@@ -129,8 +144,26 @@ impl Mailboxes {
         requires time { at < 2 ^ 60 }
         ensures next { IsNextInCycle layout.now.cycle at (λ later. IsSome (mail_offer layout.now l self.now later)) result }
     {
-        let window = window_at(layout, at, l);
-        self.firsts.next(self.boxes.as_slice(), &window, at)
+        self.wake_in(layout, at / u64::from(layout.cycle()), at, l)
+    }
+
+    /// The same, where the cycle of `at` is known. No division is made, and where no request arrives before the synchronous window, or
+    /// none may start behind `at`, no further look is taken.
+    pub fn wake_in(&self, layout: &Layout, cycle: u64, at: u64, l: u32) -> Option<u64>
+        requires window { l ≤ layout.now.window }
+        requires time { at < 2 ^ 60 }
+        requires cycle { cycle ≡ at / layout.now.cycle }
+        ensures next { IsNextInCycle layout.now.cycle at (λ later. IsSome (mail_offer layout.now l self.now later)) result }
+    {
+        let window = window_in(layout, cycle, at, l);
+        let boxes = self.boxes.as_slice();
+        if window.is_over(at) {
+            return None;
+        }
+        if !self.firsts.has_arrived(boxes, window.closed) {
+            return None;
+        }
+        self.firsts.next(boxes, &window, at)
     }
 
     /// The number of requests that are not sent.

@@ -1,7 +1,7 @@
 //! The least arrivals of the mailboxes' first requests, as a tournament: which is the first mailbox whose request has arrived and is
 //! short enough is found in as many steps as the tree has levels.
 
-ghost use Rattle.std.specs.Prelude.{◌≡◌, ℕ, ◌+◌, ◌*◌, ◌/◌, ◌^◌, ◌<◌, ◌≤◌, ◌++◌, IfOk, MatchOption, length, min, slice_index_or};
+ghost use Rattle.std.specs.Prelude.{◌≡◌, ℕ, ◌+◌, ◌*◌, ◌/◌, ◌^◌, ◌<◌, ◌≤◌, ◌++◌, IfOk, MatchOption, false, length, min, slice_index_or};
 ghost use Rattle.std.specs.Option.{option_to_list};
 ghost use Rattle.async_window.specs.Mailbox.{Mail, least_of};
 ghost use Rattle.async_window.specs.Tournament.{IsSoonest, IsTournament, IsTournamentBut, Renews, arrival_within, never, node_value};
@@ -79,6 +79,15 @@ impl Tournament {
                 .min(self.value(boxes, node + 1, bytes));
         }
         least
+    }
+
+    /// Whether some first request has arrived at `at`. Where none has, all of them come later.
+    pub fn has_arrived(&self, boxes: &[Mailbox], at: u64) -> bool
+        requires tournament { IsTournament self.now.levels self.now.nodes.items boxes.now }
+        ensures none { result ≡ false → (place : ℕ) (d : Mail) → place < length boxes.now
+            → at < arrival_within 8 (slice_index_or boxes.now place d).unsent }
+    {
+        self.soonest(boxes, LENGTHS - 1) <= at
     }
 
     /// The value of the top: the least arrival of a first request that has at most so many data bytes, in bit times.

@@ -1,6 +1,6 @@
 //! The asynchronous window of one cycle, and when a frame of some length may start in it. All times are bit times.
 
-ghost use Rattle.std.specs.Prelude.{◌≡◌, ℕ, ◌+◌, ◌/◌, ◌^◌, ◌<◌, ◌≤◌, MatchOption};
+ghost use Rattle.std.specs.Prelude.{◌≡◌, ℕ, ◌+◌, ◌/◌, ◌^◌, ◌<◌, ◌≤◌, ◌↔◌, IsTrue, MatchOption};
 ghost use Rattle.stuff_bound.specs.Stuffing.{worst};
 ghost use Rattle.cycle_layout.specs.Layout.{IsLayout, async_open, sync_start};
 ghost use Rattle.async_window.specs.Mailbox.{IsLeastWith};
@@ -20,15 +20,16 @@ pub struct Window {
     pub closed: u64,
 }
 
-/// The window of the cycle of `at`, whose synchronous window has the length `l`.
-pub fn window_at(layout: &Layout, at: u64, l: u32) -> Window
+/// The window of a cycle, which is that of `at`, whose synchronous window has the length `l`. No division is made.
+pub fn window_in(layout: &Layout, cycle: u64, at: u64, l: u32) -> Window
     requires window { l ≤ layout.now.window }
     requires time { at < 2 ^ 60 }
+    requires cycle { cycle ≡ at / layout.now.cycle }
     ensures opened { result.opened ≡ async_open layout.now (at / layout.now.cycle) }
     ensures closed { result.closed ≡ sync_start layout.now (at / layout.now.cycle) l }
     ensures known { IsLayout layout.now }
 {
-    let start = at - at % u64::from(layout.cycle());
+    let start = cycle * u64::from(layout.cycle());
     Window {
         opened: start + layout.async_open(0),
         closed: start + layout.sync_start(0, l),
@@ -54,6 +55,14 @@ impl Window {
             }
         }
         None
+    }
+
+    /// Whether no frame may start behind `at`, since even the shortest one would not end before the synchronous window.
+    pub fn is_over(&self, at: u64) -> bool
+        requires time { at < 2 ^ 60 }
+        ensures over { IsTrue result ↔ (self.now.closed ≤ at + worst 0) }
+    {
+        self.closed <= at + u64::from(bound(0))
     }
 
     /// The least time behind `at` at which a frame of so many data bytes, which arrives at `arrival`, may start.

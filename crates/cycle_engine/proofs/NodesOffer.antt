@@ -1,10 +1,9 @@
 -- Loops over the nodes of a bus, which put together what they offer, and find a frame.
-use Rattle.std.proofs.Common.{◌≡◌, ℕ, ◌+◌, ◌<◌, ◌≤◌, true, false, cond, List, [], ◌∷◌, ◌++◌, length, drop, get_or, nat_eq, Contains, Option, None, Some, refl, sym, ap, ◌∙◌, subst, arith, append_assoc, append-nil, length-append}
+use Rattle.std.proofs.Common.{◌≡◌, ℕ, ◌+◌, ◌<◌, ◌≤◌, true, false, cond, List, [], ◌∷◌, ◌++◌, length, drop, get_or, Contains, Option, None, Some, refl, sym, ap, ◌∙◌, subst, arith, append_assoc, append-nil, length-append}
 use Rattle.std.specs.Prelude.{filter_map, find}
 use Rattle.std.specs.List.{cons_option}
-use Rattle.std.specs.Option.{option_eq}
 use Rattle.std.proofs.Math.Seq.{get_or-append_seam}
-use Rattle.std.proofs.lemmas.Bool.{eq-eqb}
+use Rattle.std.proofs.lemmas.Bool.{eq-eqb, ne_eqb}
 use Rattle.std.proofs.lemmas.List.{at_drop_more, at_drop_all, get_or_append_left}
 use Rattle.arbitration.specs.Arbitration.{AreDistinct}
 use Rattle.node_model.specs.Node.{NodeState, NodeView}
@@ -71,9 +70,9 @@ module _ (offer : NodeState → Option ℕ) (nodes : List NodeView) where
 offers_this-is : (o : Option ℕ) (id : ℕ) → o ≡ Some id → offers_this id o ≡ true
 offers_this-is o id is = ap (offers_this id) is ∙ eq-eqb id id refl
 
-option_eq-this : (o : Option ℕ) (id : ℕ) → option_eq nat_eq o (Some id) ≡ offers_this id o
-option_eq-this None id = refl
-option_eq-this (Some own) id = refl
+offers_this-not : (o : Option ℕ) (id : ℕ) → (o ≡ Some id → ⊥) → offers_this id o ≡ false
+offers_this-not None id never = refl
+offers_this-not (Some own) id never = ne_eqb own id (λ same. never (ap (λ n. Some n) same))
 
 -- no node before a place offers the identifier
 module _ (offer : NodeState → Option ℕ) (nodes : List NodeView) (id : ℕ) where
@@ -86,17 +85,17 @@ module _ (offer : NodeState → Option ℕ) (nodes : List NodeView) (id : ℕ) w
       at_drop_more (λ xs. find (λ n. offers_this id (offer n)) (states_of xs)) nodes place node inside
       ∙ ap (λ x. cond (offers_this id (offer x.state)) (Some x.state) (first_from (place + 1))) (sym is)
 
-  pub first_from-this : (place : ℕ) (node : NodeView) (o : Option ℕ) → place < length nodes → node ≡ get_or nodes place node
-      → o ≡ offer node.state → option_eq nat_eq o (Some id) ≡ true → first_from place ≡ Some node.state
-  first_from-this place node o inside is offers equal =
+  pub first_from-offers : (place : ℕ) (node : NodeView) → place < length nodes → node ≡ get_or nodes place node
+      → offer node.state ≡ Some id → first_from place ≡ Some node.state
+  first_from-offers place node inside is offers =
       first_from-more place node inside is
-      ∙ ap (λ b. cond b (Some node.state) (first_from (place + 1))) (ap (offers_this id) (sym offers) ∙ sym (option_eq-this o id) ∙ equal)
+      ∙ ap (λ b. cond b (Some node.state) (first_from (place + 1))) (offers_this-is (offer node.state) id offers)
 
-  pub first_from-other : (place : ℕ) (node : NodeView) (o : Option ℕ) → place < length nodes → node ≡ get_or nodes place node
-      → o ≡ offer node.state → option_eq nat_eq o (Some id) ≡ false → first_from place ≡ first_from (place + 1)
-  first_from-other place node o inside is offers equal =
+  pub first_from-never : (place : ℕ) (node : NodeView) → place < length nodes → node ≡ get_or nodes place node
+      → (offer node.state ≡ Some id → ⊥) → first_from place ≡ first_from (place + 1)
+  first_from-never place node inside is never =
       first_from-more place node inside is
-      ∙ ap (λ b. cond b (Some node.state) (first_from (place + 1))) (ap (offers_this id) (sym offers) ∙ sym (option_eq-this o id) ∙ equal)
+      ∙ ap (λ b. cond b (Some node.state) (first_from (place + 1))) (offers_this-not (offer node.state) id never)
 
   pub first_from-none : (place : ℕ) → length nodes ≤ place → first_from place ≡ None
   first_from-none place behind = at_drop_all (λ xs. find (λ n. offers_this id (offer n)) (states_of xs)) nodes place behind

@@ -117,8 +117,8 @@ pub fn frame(nodes: &[Node], at: u64, id: u16) -> Frame
     ensures identifier { result.identifier ≡ id }
 {
     for node in nodes {
-        if node.offer(at) == Some(id) {
-            return node.frame(at, id);
+        if let Some(frame) = node.offered_frame(at, id) {
+            return frame;
         }
     }
     unreachable!()

@@ -8,6 +8,7 @@ mod due;
 mod entries;
 pub mod laws;
 mod node;
+mod quiet;
 
 pub use cycle::FIRST_IDENTIFIER;
 pub use node::Node;

@@ -7,11 +7,12 @@ ghost use Rattle.requirement_table.specs.Table.{IsWellPlaced, instance_in};
 ghost use Rattle.async_window.specs.Mailbox.{IsNextInCycle, left};
 ghost use Rattle.async_window.specs.Owners.{AreOwners};
 ghost use Rattle.node_model.specs.Opening.{first_identifier};
-ghost use Rattle.node_model.specs.Node.{IsNextOffer, IsNode, after_hearing, after_opening, after_request, after_slot, fresh_node, is_own_slot, learnt, next_trigger, node_frame, node_offer};
+ghost use Rattle.node_model.specs.Node.{IsNextOffer, IsNode, after_hearing, after_opening, after_request, after_slot, counted, fresh_node, is_own_slot, learnt, next_trigger, node_frame, node_offer};
 ghost use Rattle.node_model.specs.Kept.{IsClosedAt, IsOpenAt, sends_from};
 
 use crate::cycle::{self, FIRST_IDENTIFIER, Open};
 use crate::entries::{self, Remaining};
+use crate::quiet::Quiet;
 use async_window::{Mailboxes, Owner, Request};
 use can_frame::{Frame, TimedFrame};
 use cycle_layout::Layout;
@@ -22,6 +23,9 @@ use trigger_codec::{TRIGGER_IDENTIFIER, Trigger, decode};
 
 /// The least identifier of a frame that is sent in an asynchronous window.
 const LEAST_ASYNCHRONOUS: u16 = 0x200;
+
+/// All times are below this one, in bit times.
+const TIMES: u64 = 1 << 60;
 
 /// A node of the bus. Contracts see what it knows, and the greatest length of a list that it can learn without memory.
 #[derive(Drop)]
@@ -39,6 +43,8 @@ pub struct Node {
     pub(crate) opened: Option<Open>,
     next: u64,
     pub(crate) frames: u64,
+    /// What the node found when it last looked ahead, where nothing has changed since.
+    pub(crate) quiet: Option<Quiet>,
 }
 
 impl Model for Node {
@@ -69,7 +75,7 @@ impl Model for Node {
       opened = option_map opened_of n.opened;
       next = n.next;
       frames = n.frames;
-    }) n.own n.remaining.entries.items n.opened };
+    }) n.own n.remaining.entries.items n.opened n.quiet };
 }
 
 impl Node {
@@ -101,6 +107,7 @@ impl Node {
             opened: None,
             next: 0,
             frames: 0,
+            quiet: None,
         })
     }
 
@@ -136,6 +143,7 @@ impl Node {
         ensures learnt { self.new.state ≡ learnt placed.now self.old.state }
         ensures spare { self.old.spare ≤ self.new.spare }
     {
+        self.quiet = None;
         entries::keep_own(self.number, placed, &mut self.entries);
         self.own = entries::slots_of(self.entries.as_slice());
         let from = cycle::sends_from(&self.opened, self.next);
@@ -149,14 +157,45 @@ impl Node {
         ensures heard { self.new.state ≡ after_hearing self.old.state heard.now }
         ensures spare { self.new.spare ≡ self.old.spare }
     {
-        self.frames = self.frames.saturating_add(1);
+        if self.hear_own(heard) {
+            self.look_ahead(heard.start);
+        }
+    }
+
+    /// The same without a look ahead. The answer is whether the frame is a trigger or one of the node's own; another one is only counted.
+    fn hear_own(&mut self, heard: &TimedFrame) -> bool
+        requires cycle { heard.now.frame.identifier ≡ 0 → self.old.state.next < 2 ^ 42 }
+        ensures heard { self.new.state ≡ after_hearing self.old.state heard.now }
+        ensures spare { self.new.spare ≡ self.old.spare }
+    {
+        self.count();
         let id = heard.frame.id();
         if id == TRIGGER_IDENTIFIER {
             self.open_next(&heard.frame);
+            true
         } else if let Some(slot) = self.own_slot(id) {
             self.mark(slot);
+            true
         } else {
-            self.take_request(id);
+            self.take_request(id)
+        }
+    }
+
+    /// Counts a frame.
+    fn count(&mut self)
+        ensures counted { self.new.state ≡ record self.old.state { frames = counted self.old.state.frames } }
+        ensures spare { self.new.spare ≡ self.old.spare }
+    {
+        self.frames = self.frames.saturating_add(1);
+    }
+
+    /// Keeps what the node offers next behind a time, so that it need not look again before that time comes or something changes.
+    fn look_ahead(&mut self, at: u64)
+        ensures same { self.new ≡ self.old }
+    {
+        if at < TIMES {
+            let next = self.next_offer(at);
+            self.quiet = Some(Quiet { since: at, next });
         }
     }
 
@@ -166,6 +205,7 @@ impl Node {
         ensures opened { self.new.state ≡ after_opening self.old.state frame.now }
         ensures spare { self.new.spare ≡ self.old.spare }
     {
+        self.quiet = None;
         let trigger = self.next_trigger(frame);
         self.remaining.pass(self.next);
         self.opened = Some(cycle::opened_by(self.next, trigger, self.remaining.entries.as_slice()));
@@ -195,16 +235,21 @@ impl Node {
         ensures marked { self.new.state ≡ after_slot self.old.state slot }
         ensures spare { self.new.spare ≡ self.old.spare }
     {
+        self.quiet = None;
         self.opened = cycle::after_slot(&self.opened, slot);
     }
 
-    /// Takes away the first unsent request of an identifier, where there is one.
-    fn take_request(&mut self, id: u16)
+    /// Takes away the first unsent request of an identifier, where there is one, and answers whether there was.
+    fn take_request(&mut self, id: u16) -> bool
         ensures taken { self.new.state ≡ after_request self.old.state id }
         ensures spare { self.new.spare ≡ self.old.spare }
     {
         if self.mailboxes.head(id).is_some() {
+            self.quiet = None;
             self.mailboxes.sent(id);
+            true
+        } else {
+            false
         }
     }
 
@@ -214,12 +259,37 @@ impl Node {
         ensures offer { result ≡ node_offer self.now.state at }
         ensures known { IsNode self.now.state }
     {
+        match self.quiet_at(at) {
+            Some(_) => None,
+            None => self.find_offer(at),
+        }
+    }
+
+    /// What the node found when it looked ahead, where by that nothing is offered at a time. The next offer behind it is then the same.
+    fn quiet_at(&self, at: u64) -> Option<Quiet>
+        ensures quiet { IfSome result (λ quiet. (node_offer self.now.state at ≡ None) × IsNextOffer self.now.state at quiet.next) }
+        ensures known { IsNode self.now.state }
+    {
+        match self.quiet {
+            Some(quiet) => { if quiet.holds(at) { Some(quiet) } else { None } }
+            None => None,
+        }
+    }
+
+    /// The identifier that the node offers at a time, with no use of a look ahead.
+    fn find_offer(&self, at: u64) -> Option<u16>
+        requires time { at < 2 ^ 60 }
+        ensures offer { result ≡ node_offer self.now.state at }
+        ensures known { IsNode self.now.state }
+    {
         let open_cycle = self.open_at(at)?;
         let window = self.layout.sync_start(open_cycle.cycle, open_cycle.width);
         if window <= at {
             cycle::least_due(&open_cycle)
         } else {
-            self.mailboxes.offer(&self.layout, at, open_cycle.width)
+            let layout = &self.layout;
+            self.mailboxes
+                .offer_in(layout, open_cycle.cycle, at, open_cycle.width)
         }
     }
 
@@ -245,7 +315,11 @@ impl Node {
         if window <= at {
             return cycle::next_due(&open_cycle, at, window, end);
         }
-        match self.mailboxes.wake(&self.layout, at, open_cycle.width) {
+        let layout = &self.layout;
+        match self
+            .mailboxes
+            .wake_in(layout, open_cycle.cycle, at, open_cycle.width)
+        {
             Some(next) => Some(next),
             None => cycle::next_due(&open_cycle, at, window, end),
         }
@@ -254,6 +328,17 @@ impl Node {
     /// The least time behind `at`, in whatever cycle, at which `offer` is something while nothing is heard; `None` exactly where there is
     /// none.
     pub fn next_offer(&self, at: u64) -> Option<u64>
+        requires time { at < 2 ^ 60 }
+        ensures next { IsNextOffer self.now.state at result }
+    {
+        match self.quiet_at(at) {
+            Some(quiet) => quiet.next,
+            None => self.find_next_offer(at),
+        }
+    }
+
+    /// The same, with no use of a look ahead.
+    fn find_next_offer(&self, at: u64) -> Option<u64>
         requires time { at < 2 ^ 60 }
         ensures next { IsNextOffer self.now.state at result }
     {
@@ -273,6 +358,40 @@ impl Node {
             self.request_frame(at, id)
         } else {
             self.slot_frame(at, id)
+        }
+    }
+
+    /// The frame that the node offers at a time under an identifier, where it offers that one.
+    pub fn offered_frame(&self, at: u64, id: u16) -> Option<Frame>
+        requires time { at < 2 ^ 60 }
+        ensures frame { MatchOption result (node_offer self.now.state at ≡ Some id → ⊥)
+            (λ frame. (node_offer self.now.state at ≡ Some id) × (frame ≡ node_frame self.now.state at id) × (frame.identifier ≡ id)) }
+    {
+        if !self.may_offer(id) {
+            return None;
+        }
+        match self.offer(at) {
+            Some(offered) => {
+                if offered == id {
+                    Some(self.frame(at, id))
+                } else {
+                    None
+                }
+            }
+            None => None,
+        }
+    }
+
+    /// Whether the node may offer an identifier at some time: an asynchronous one only where it has an unsent request of it.
+    fn may_offer(&self, id: u16) -> bool
+        ensures never { result ≡ false → (at : ℕ) → node_offer self.now.state at ≡ Some id → ⊥ }
+    {
+        if id < LEAST_ASYNCHRONOUS {
+            return true;
+        }
+        match self.mailboxes.head(id) {
+            Some(_) => true,
+            None => false,
         }
     }
 

@@ -19,6 +19,7 @@ invariant_of-self c =
       placed = old.placed;
       instances = old.instances;
       due = old.due;
+      ahead = tt;
     }
 
 pub returns-else-is_some-clause-taken : goal.returns-else-is_some-clause-taken

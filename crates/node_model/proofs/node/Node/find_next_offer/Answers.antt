@@ -3,7 +3,7 @@ use Rattle.async_window.specs.Mailbox.{IsNextInCycle}
 use Rattle.node_model.specs.Node.{IsNode, NodeView, node_offer}
 use Rattle.node_model.specs.Kept.{opened_of}
 use Rattle.node_model.proofs.Offers.{next-offer}
-use Rattle.node_model.proofs.node.Node.next_offer.Goals as goal
+use Rattle.node_model.proofs.node.Node.find_next_offer.Goals as goal
 
 pub returns : goal.returns
 returns c =

@@ -2,7 +2,7 @@ use Rattle.std.proofs.Common.{◌≡◌, ◌≤◌, ap, sym, ◌∙◌}
 use Rattle.cycle_layout.specs.Layout.{sync_start}
 use Rattle.node_model.specs.Node.{NodeView}
 use Rattle.node_model.proofs.Offers.{node_offer-late}
-use Rattle.node_model.proofs.node.Node.offer.Goals as goal
+use Rattle.node_model.proofs.node.Node.find_offer.Goals as goal
 
 pub returns-then-window-at-clause-offer : goal.returns-then-window-at-clause-offer
 returns-then-window-at-clause-offer c =
