@@ -13,8 +13,8 @@ use Rattle.admission.specs.Verdict.{masks_of}
 abbrev pub Agree : (ℕ → Bool) → (ℕ → Bool) → Type 0
 Agree p q = (slot : ℕ) → slot < slots → p slot ≡ q slot
 
--- in cycle `c` of one list and in cycle `d` of another the same slots release, and what may be sent costs the same, stands in the same order
--- and is in its last cycle for the same slots
+-- in cycle `c` of one list and in cycle `d` of another the same slots release, and what may be sent costs the same,
+-- stands in the same order and is in its last cycle for the same slots
 pub record IsLike (policy : Policy) (one other : List Placed) (c d : ℕ) : Type 0 where
   pub releases : (slot : ℕ) → releases_in one c slot ≡ releases_in other d slot
   pub worst : (slot : ℕ) → worst_in one c slot ≡ worst_in other d slot

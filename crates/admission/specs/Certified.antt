@@ -1,4 +1,5 @@
--- *Certificates of a table*: what is answered where a certificate is asked for. Cycles are elementary cycles, counted from 0.
+-- *Certificates of a table*: what is answered where a certificate is asked for. Cycles are elementary cycles, counted
+-- from 0.
 use Rattle.std.specs.Prelude.{◌≡◌, ℕ, ◌+◌, ◌-◌, List, ◌++◌}
 use Rattle.requirement_table.specs.declared.entries.Placed.{Placed}
 use Rattle.planner_policies.specs.Plan.{HasNoMiss, IsMissAt, Planning}
@@ -15,16 +16,17 @@ use Rattle.admission.specs.Verdict.{IsVerdictOnPlan, masks_of, plan_from}
 abbrev pub end_of : CertificateView → ℕ
 end_of certificate = certificate.first + length_of certificate
 
--- the certificate begins at cycle 0 with nothing pending. It lists the masks of the cycles that were opened before the state, and behind
--- them the plan that goes on from the state. The part that is repeated is the recurrence of that plan, which is found within the horizon
+-- the certificate begins at cycle 0 with nothing pending. It lists the masks of the cycles that were opened before the
+-- state, and behind them the plan that goes on from the state. The part that is repeated is the recurrence of that
+-- plan, which is found within the horizon
 pub record IsCertificateOf (rules : Rules) (placed : List Placed) (opened : List ℕ) (state : PlanState) (certificate : CertificateView) : Type 0 where
   pub start : certificate.from ≡ 0
   pub nothing_pending : certificate.pending ≡ 0
   pub listed : certificate.masks ≡ opened ++ masks_of (plan_from rules placed state.cycle state.pending) (end_of certificate - state.cycle)
   pub repeats : IsVerdictOnPlan rules.horizon (plan_from rules placed state.cycle state.pending) (Accepted certificate.first (length_of certificate))
 
--- there is no certificate exactly where the plan that goes on has a first miss within the horizon, or else no recurrence within it; want of
--- memory says nothing
+-- there is no certificate exactly where the plan that goes on has a first miss within the horizon, or else no
+-- recurrence within it; want of memory says nothing
 abbrev pub IsFaultOnPlan : ℕ → Planning → CertifyFault → Type 0
 IsFaultOnPlan horizon plan (Miss slot release cycle) = IsVerdictOnPlan horizon plan (Missed slot release cycle)
 IsFaultOnPlan horizon plan (NoRepeat walked) = IsVerdictOnPlan horizon plan (Horizon plan.from walked)

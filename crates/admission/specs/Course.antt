@@ -24,8 +24,8 @@ state_behind ranking window state =
     if nat_eq (missed_from ranking window state) 0 then Some (record { cycle = state.cycle + 1; pending = left_from ranking window state })
     else None
 
--- two states are the same: all entries have settled by both, which is so from `bound` on, they have one place in the period, and the same
--- slots are pending before them
+-- two states are the same: all entries have settled by both, which is so from `bound` on, they have one place in the
+-- period, and the same slots are pending before them
 pub record IsSameState (bound period : ℕ) (one other : PlanState) : Type 0 where
   pub one_settled : bound ≤ one.cycle
   pub other_settled : bound ≤ other.cycle

@@ -19,8 +19,8 @@ pub record IsLeastCommonPeriod (placed : List Placed) (multiple : ℕ) : Type 0 
   pub common : IsCommonPeriod placed multiple
   pub least : (other : ℕ) → IsCommonPeriod placed other → multiple ≤ other
 
--- *State*: two cycles of a planning, the `one`-th and the `other`-th from its first one, have the same plan state. All entries have
--- settled by both, they have one place in the period, and the same slots are pending before them
+-- *State*: two cycles of a planning, the `one`-th and the `other`-th from its first one, have the same plan state. All
+-- entries have settled by both, they have one place in the period, and the same slots are pending before them
 pub record AreAlike (plan : Planning) (period one other : ℕ) : Type 0 where
   pub one_settled : bound_of plan.from plan.placed ≤ plan.from + one
   pub other_settled : bound_of plan.from plan.placed ≤ plan.from + other

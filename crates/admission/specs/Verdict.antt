@@ -43,8 +43,8 @@ pub record IsInTime (rules : Rules) (placed : List Placed) (next : ℕ) (change 
   pub well_formed : IsWellFormed placed rules.nodes change
   pub ahead : next ≤ change.start
 
--- what is to be answered of a planning within a horizon: its first miss, where that lies within it; else there is none in it, and the
--- answer is the recurrence that lies within it, or that there is none
+-- what is to be answered of a planning within a horizon: its first miss, where that lies within it; else there is none
+-- in it, and the answer is the recurrence that lies within it, or that there is none
 abbrev pub IsVerdictOnPlan : ℕ → Planning → Verdict → Type 0
 IsVerdictOnPlan horizon plan (Malformed op why) = ⊥
 IsVerdictOnPlan horizon plan (Passed start next) = ⊥
@@ -54,8 +54,8 @@ IsVerdictOnPlan horizon plan (Horizon from walked) =
 IsVerdictOnPlan horizon plan (Accepted first length) =
     HasNoMiss plan horizon × IsRecurrence plan first length × (first + length ≤ plan.from + horizon)
 
--- *Verdict*: on a change of this list, planned from the cycle `from`, before which these slots are pending, when `next` is the next
--- cycle to be opened
+-- *Verdict*: on a change of this list, planned from the cycle `from`, before which these slots are pending, when `next`
+-- is the next cycle to be opened
 abbrev pub IsVerdict : Rules → List Placed → ℕ → ℕ → ℕ → Change → Verdict → Type 0
 IsVerdict rules placed pending from next change (Malformed op why) = first_fault placed rules.nodes change ≡ Some (broken op why)
 IsVerdict rules placed pending from next change (Passed start opened) =
@@ -75,7 +75,8 @@ abbrev pub masks_of : Planning → ℕ → List ℕ
 masks_of plan zero = []
 masks_of plan (suc n) = masks_of plan n ++ mask_at plan n ∷ []
 
--- the plan that goes with a verdict: for a miss that of the cycles from the first one to the one of the miss, both included
+-- the plan that goes with a verdict: for a miss that of the cycles from the first one to the one of the miss, both
+-- included
 abbrev pub trail_of : Planning → Verdict → List ℕ
 trail_of plan (Malformed op why) = []
 trail_of plan (Passed start next) = []
@@ -129,9 +130,9 @@ pub record IsSafe (rules : Rules) (placed : List Placed) (from pending : ℕ) : 
   pub held : IsValid placed from pending
   pub in_time : NeverMisses (plan_from rules placed from pending)
 
--- *Completeness of admission*: a change that breaks no rule, whose start has not passed, and whose planning has no miss, is accepted
--- wherever there is a cycle by which all entries have settled, in which each live entry releases an instance, and which lies a whole
--- common period within the horizon
+-- *Completeness of admission*: a change that breaks no rule, whose start has not passed, and whose planning has no
+-- miss, is accepted wherever there is a cycle by which all entries have settled, in which each live entry releases an
+-- instance, and which lies a whole common period within the horizon
 abbrev pub IsTakenWhereDue : Rules → Planning → Verdict → Type 0
 IsTakenWhereDue rules plan verdict = NeverMisses plan → (c period : ℕ) → bound_of plan.from plan.placed ≤ c → AllRelease plan.placed c
     → IsLeastCommonPeriod plan.placed period → c + period ≤ plan.from + rules.horizon → is_accepted verdict ≡ true

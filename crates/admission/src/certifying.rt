@@ -19,17 +19,18 @@ use requirement_table::laws::flagged_once;
 use requirement_table::{Mask, Placed};
 use std::alloc::{AllocError, Global};
 
-/// The certificate of a table: the plan from cycle 0 on with nothing pending, up to the end of its first repeat at or behind the state.
+/// The certificate of a table: the plan from cycle 0 on with nothing pending, up to the end of its first repeat at or
+/// behind the state.
 ///
-/// `opened` are the masks of the cycles from 0 to below the state's cycle, at most 2^41: the plan of the placed entries, in which nothing
-/// is missed. `state` is the state behind them. The rules have 1 to 30 nodes, a window of 55 to 16,383 bit times and a horizon of 1 to
-/// 100,000 cycles. It takes time for about twice the cycles that are walked times the entries that are not over, and memory for their
-/// states and for all masks.
+/// `opened` are the masks of the cycles from 0 to below the state's cycle, at most 2^41: the plan of the placed
+/// entries, in which nothing is missed. `state` is the state behind them. The rules have 1 to 30 nodes, a window of 55
+/// to 16,383 bit times and a horizon of 1 to 100,000 cycles. It takes time for about twice the cycles that are walked
+/// times the entries that are not over, and memory for their states and for all masks.
 ///
 /// # Errors
 ///
-/// `Miss` exactly where an instance would miss its deadline in a cycle below the state's cycle + horizon. `NoRepeat` exactly where none
-/// would and the plan has no repeat at or below that. `Memory` says nothing of the table.
+/// `Miss` exactly where an instance would miss its deadline in a cycle below the state's cycle + horizon. `NoRepeat`
+/// exactly where none would and the plan has no repeat at or below that. `Memory` says nothing of the table.
 pub fn certify(
     alloc: Global,
     rules: &Rules,

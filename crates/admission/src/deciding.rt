@@ -21,11 +21,12 @@ use recurrence_check::{Repeat, WalkEnd, lasso_keyed};
 use requirement_table::{Mask, Placed, PlacedList, not_over};
 use std::alloc::{AllocError, Global};
 
-/// Decides of a change of the table. `state` is the next cycle to be opened, from which the changed table is planned, and the slots that are
-/// pending before it.
+/// Decides of a change of the table. `state` is the next cycle to be opened, from which the changed table is planned,
+/// and the slots that are pending before it.
 ///
-/// The state is valid, and its cycle is at most 2^41. The rules have 1 to 30 nodes, a window of 55 to 16,383 bit times and a horizon of 1
-/// to 100,000 cycles. It takes time for about the cycles that are walked times the entries that are not over, and memory for the states.
+/// The state is valid, and its cycle is at most 2^41. The rules have 1 to 30 nodes, a window of 55 to 16,383 bit times
+/// and a horizon of 1 to 100,000 cycles. It takes time for about the cycles that are walked times the entries that are
+/// not over, and memory for the states.
 ///
 /// # Errors
 ///

@@ -1,5 +1,5 @@
-//! The admission of changes to the table of an FTT-CAN master: a change is taken only where no deadline can be missed at any later
-//! cycle, and each refusal says why.
+//! The admission of changes to the table of an FTT-CAN master: a change is taken only where no deadline can be missed
+//! at any later cycle, and each refusal says why.
 //!
 //! Cycles are elementary cycles, counted from 0. Lengths are bit times.
 #![tactic(auto)]

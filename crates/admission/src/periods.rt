@@ -8,7 +8,8 @@ ghost use Rattle.admission.specs.Recurrence.{bound_of};
 
 use requirement_table::Placed;
 
-/// The cycle by which a placed entry has settled: a live one with its first release, and one with an end when its slot is free again.
+/// The cycle by which a placed entry has settled: a live one with its first release, and one with an end when its slot
+/// is free again.
 fn settled(placed: &Placed) -> u64
     requires { IsInRange placed.now }
     ensures cycle { result ≡ settled_at placed.now }
@@ -34,7 +35,8 @@ pub fn bound(placed: &[Placed], from: u64) -> u64
     bound
 }
 
-/// The least common multiple of the periods of the live entries, 1 where there is none; `None` where it is above `limit`.
+/// The least common multiple of the periods of the live entries, 1 where there is none; `None` where it is above
+/// `limit`.
 pub fn period(placed: &[Placed], limit: u64) -> Option<u64>
     requires well_placed { IsWellPlaced placed.now }
     requires limit { 1 ≤ limit }
@@ -47,7 +49,8 @@ pub fn period(placed: &[Placed], limit: u64) -> Option<u64>
     Some(common)
 }
 
-/// The least multiple of `common` that the period of the entry divides too, where it is live; `None` where it is above `limit`.
+/// The least multiple of `common` that the period of the entry divides too, where it is live; `None` where it is above
+/// `limit`.
 fn with_period(common: u64, placed: &Placed, limit: u64) -> Option<u64>
     requires in_range { IsInRange placed.now }
     requires positive { 0 < common }
@@ -73,7 +76,8 @@ fn common_multiple(one: u64, other: u64, limit: u64) -> Option<u64>
     }
 }
 
-/// The least number above 0 that both divide, where it is at most `limit`: it tries the multiples of `step`, the greater one.
+/// The least number above 0 that both divide, where it is at most `limit`: it tries the multiples of `step`, the
+/// greater one.
 fn multiple_of_both(step: u64, other: u64, limit: u64) -> Option<u64>
     requires step { 0 < step }
     requires other { 0 < other }

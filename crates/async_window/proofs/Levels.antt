@@ -7,7 +7,8 @@ use Rattle.std.proofs.lemmas.Bool.{cases_lt}
 abbrev pub IsLesser : (ℕ → ℕ) → ℕ → Type 0
 IsLesser value levels = (node : ℕ) → 1 ≤ node → node < 2 ^ levels → value node ≡ min (value (2 * node)) (value (2 * node + 1))
 
--- the leaves below a node that stands so many levels above them are those from node * 2 ^ rest to below (node + 1) * 2 ^ rest
+-- the leaves below a node that stands so many levels above them are those from node * 2 ^ rest to below (node + 1) * 2
+-- ^ rest
 pub record IsAbove (levels rest node : ℕ) : Type 0 where
   pub one : 1 ≤ node
   pub starts : 2 ^ levels ≤ node * 2 ^ rest

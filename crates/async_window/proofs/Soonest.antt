@@ -155,8 +155,8 @@ module _ (layout : CycleLayout) (l : ℕ) (ids : List ℕ) (boxes : List Mail) (
       let impossible : ⊥ = cc (nothing) in
       impossible
 
-  -- nothing is offered behind a time from which on no frame fits any more, and nothing where no first request arrives before the
-  -- synchronous window
+  -- nothing is offered behind a time from which on no frame fits any more, and nothing where no first request arrives
+  -- before the synchronous window
   pub none-behind : (at : ℕ) → sync_start layout (at / layout.cycle) l ≤ at + worst 0
       → IsNextInCycle layout.cycle at (λ later. IsSome (mail_offer layout l (mail_of ids boxes) later)) None
   none-behind at over = λ later found.

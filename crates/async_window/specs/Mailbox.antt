@@ -32,7 +32,8 @@ without_first id mail = map (taken_from id) mail
 abbrev pub left : List Mail → ℕ
 left mail = sum_by (λ box. length box.unsent) mail
 
--- what holds of all mail: the identifiers are distinct and asynchronous ones, and each request has the identifier of its mailbox
+-- what holds of all mail: the identifiers are distinct and asynchronous ones, and each request has the identifier of
+-- its mailbox
 pub record IsMail (mail : List Mail) : Type 0 where
   pub distinct : AllPairs (λ one other. one.identifier ≢ other.identifier) mail
   pub least : All (λ box. 0x200 ≤ box.identifier) mail
@@ -40,8 +41,8 @@ pub record IsMail (mail : List Mail) : Type 0 where
   pub own : All (λ box. All (λ request. request.frame.identifier ≡ box.identifier) box.unsent) mail
   pub early : All (λ box. All (λ request. request.at < 2 ^ 40) box.unsent) mail
 
--- the identifier is offered at this time: its first unsent request waits and may start, in the cycle of that time, whose synchronous
--- window has the length l
+-- the identifier is offered at this time: its first unsent request waits and may start, in the cycle of that time,
+-- whose synchronous window has the length l
 abbrev pub Offers : CycleLayout → ℕ → List Mail → ℕ → ℕ → Type 0
 Offers layout l mail at id = (request : Request) × MayStart layout (at / layout.cycle) l (unsent_of mail id) at request
 
@@ -50,7 +51,8 @@ abbrev pub IsLeastWith : (ℕ → Type 0) → Option ℕ → Type 0
 IsLeastWith Has None = (number : ℕ) → Has number → ⊥
 IsLeastWith Has (Some least) = Has least × ((number : ℕ) → Has number → least ≤ number)
 
--- the least time behind `at` that lies in the same cycle, of the length `cycle`, and has a property; none where no such time has it
+-- the least time behind `at` that lies in the same cycle, of the length `cycle`, and has a property; none where no such
+-- time has it
 abbrev pub IsNextInCycle : ℕ → ℕ → (ℕ → Type 0) → Option ℕ → Type 0
 IsNextInCycle cycle at Has time = IsLeastWith (λ later. (at < later) × (later / cycle ≡ at / cycle) × Has later) time
 

@@ -1,4 +1,5 @@
--- Mailboxes in the order of their identifiers, which stand for mail in another order: words for contracts inside the crate.
+-- Mailboxes in the order of their identifiers, which stand for mail in another order: words for contracts inside the
+-- crate.
 use Rattle.std.specs.Prelude.{◌≡◌, ◌↔◌, ℕ, ◌<◌, ◌≤◌, Some, List, length, map, slice_get, All, AllPairs}
 use Rattle.async_window.specs.declared.request.Request.{Request}
 use Rattle.async_window.specs.Mailbox.{Mail, IsMail, unsent_of, left}
@@ -26,8 +27,8 @@ pub record IsPlaceOf (table : List ℕ) (id place : ℕ) : Type 0 where
 abbrev pub AreShort : List Request → Type 0
 AreShort requests = All (λ request. length request.frame.bytes ≤ 8) requests
 
--- what holds of mailboxes that stand for the mail of `ids`: they are in the order of their identifiers, with a table of their places, a
--- tournament of their first arrivals and the number of requests that are left
+-- what holds of mailboxes that stand for the mail of `ids`: they are in the order of their identifiers, with a table of
+-- their places, a tournament of their first arrivals and the number of requests that are left
 pub record AreKept (ids : List ℕ) (boxes : List Mail) (table : List ℕ) (levels : ℕ) (nodes : List (List ℕ)) (remaining : ℕ) : Type 0 where
   pub mail : IsMail (mail_of ids boxes)
   pub same : (id : ℕ) → unsent_of (mail_of ids boxes) id ≡ unsent_of boxes id

@@ -1,4 +1,5 @@
--- The least arrivals of first requests, as a tournament over mailboxes: words for contracts inside the crate. Times are bit times.
+-- The least arrivals of first requests, as a tournament over mailboxes: words for contracts inside the crate. Times are
+-- bit times.
 use Rattle.std.specs.Prelude.{◌≡◌, ◌≢◌, ℕ, ◌+◌, ◌*◌, ◌-◌, ◌^◌, ◌<◌, ◌≤◌, nat_le, if◌then◌else◌, List, [], ◌∷◌, ◌++◌, length, map, min, slice_index_or, Option}
 use Rattle.async_window.specs.declared.request.Request.{Request}
 use Rattle.stuff_bound.specs.Stuffing.{worst}
@@ -13,7 +14,8 @@ abbrev pub arrival_within : ℕ → List Request → ℕ
 arrival_within bytes [] = never
 arrival_within bytes (request ∷ later) = if nat_le (length request.frame.bytes) bytes then request.at else never
 
--- the nodes of the tree for first requests of at most so many bytes: the inner nodes, and behind them a leaf for each mailbox
+-- the nodes of the tree for first requests of at most so many bytes: the inner nodes, and behind them a leaf for each
+-- mailbox
 abbrev pub tree : ℕ → List (List ℕ) → List Mail → List ℕ
 tree bytes nodes mail =
     map (λ node. slice_index_or node bytes never) nodes ++ map (λ box. arrival_within bytes box.unsent) mail
@@ -34,7 +36,8 @@ pub record Renews (old new : List (List ℕ)) (mail : List Mail) (node : ℕ) : 
       → node_value bytes new mail node ≡ min (node_value bytes old mail (2 * node)) (node_value bytes old mail (2 * node + 1))
   pub others : (bytes other : ℕ) → other ≢ node → node_value bytes new mail other ≡ node_value bytes old mail other
 
--- a tree with room for the mailboxes in which each inner node has the lesser value of the two below it, but perhaps for one
+-- a tree with room for the mailboxes in which each inner node has the lesser value of the two below it, but perhaps for
+-- one
 pub record IsTournamentBut (gap levels : ℕ) (nodes : List (List ℕ)) (mail : List Mail) : Type 0 where
   pub size : length nodes ≡ 2 ^ levels
   pub low : levels ≤ 11
@@ -45,8 +48,8 @@ pub record IsTournamentBut (gap levels : ℕ) (nodes : List (List ℕ)) (mail : 
 abbrev pub IsTournament : ℕ → List (List ℕ) → List Mail → Type 0
 IsTournament levels nodes mail = IsTournamentBut 0 levels nodes mail
 
--- the least time behind `at` at which some first request has arrived and may start, which has less than `count` data bytes, in a window
--- that has opened at `opened` and in which the longest frame of so many bytes ends before `closed`
+-- the least time behind `at` at which some first request has arrived and may start, which has less than `count` data
+-- bytes, in a window that has opened at `opened` and in which the longest frame of so many bytes ends before `closed`
 abbrev pub IsSoonest : List (List ℕ) → List Mail → ℕ → ℕ → ℕ → ℕ → Option ℕ → Type 0
 IsSoonest nodes mail opened closed at count least =
     IsLeastWith (λ later. (bytes : ℕ) × (bytes < count) × (at < later) × (node_value bytes nodes mail 1 ≤ later) × (opened ≤ later)

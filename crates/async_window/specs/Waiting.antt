@@ -1,4 +1,5 @@
--- Requests to send in an asynchronous window: which one of an identifier waits, and when it may start. Times are bit times.
+-- Requests to send in an asynchronous window: which one of an identifier waits, and when it may start. Times are bit
+-- times.
 use Rattle.std.specs.Prelude.{◌≡◌, ℕ, ◌≤◌, ◌==◌, List, length, filter, count_by, drop, slice_get, Some}
 use Rattle.can_frame.specs.declared.data_frame.TimedFrame.{TimedFrame}
 use Rattle.cycle_layout.specs.Layout.{CycleLayout, IsAllowed}
@@ -12,8 +13,8 @@ requests_of requests id = filter (λ request. request.frame.identifier == id) re
 abbrev pub frames_with : List TimedFrame → ℕ → ℕ
 frames_with frames id = count_by (λ sent. sent.frame.identifier == id) frames
 
--- the requests of an identifier that have not started, where the frames `past` have: each frame of the identifier was the first one
--- of them that was left
+-- the requests of an identifier that have not started, where the frames `past` have: each frame of the identifier was
+-- the first one of them that was left
 abbrev pub unsent_after : List Request → List TimedFrame → ℕ → List Request
 unsent_after requests past id = drop (frames_with past id) (requests_of requests id)
 

@@ -72,8 +72,8 @@ impl Mailbox {
         self.first().map(|request| request.frame)
     }
 
-    /// The arrival of the first request that is not sent, in bit times, where there is one and it has at most so many data bytes;
-    /// otherwise `NEVER`.
+    /// The arrival of the first request that is not sent, in bit times, where there is one and it has at most so many
+    /// data bytes; otherwise `NEVER`.
     pub fn arrival(&self, bytes: usize) -> u64
         ensures value { result ≡ arrival_within bytes self.now.unsent }
     {

@@ -19,7 +19,8 @@ use std::marker::Model;
 /// How many identifiers there may be: those of 11 bits.
 const IDENTIFIERS: usize = 2_048;
 
-/// The unsent requests of some identifiers. Contracts see a list of identifiers, each with its unsent requests in their order.
+/// The unsent requests of some identifiers. Contracts see a list of identifiers, each with its unsent requests in their
+/// order.
 #[derive(Drop)]
 pub struct Mailboxes {
     /// The identifiers in the order in which they were given, which is that of the list.
@@ -76,8 +77,8 @@ impl Mailboxes {
         })
     }
 
-    /// The least identifier whose first unsent request waits at `at` and may start then, in the cycle of `at`, whose synchronous
-    /// window has the length `l`; `None` exactly where there is none.
+    /// The least identifier whose first unsent request waits at `at` and may start then, in the cycle of `at`, whose
+    /// synchronous window has the length `l`; `None` exactly where there is none.
     pub fn offer(&self, layout: &Layout, at: u64, l: u32) -> Option<u16>
         requires window { l ≤ layout.now.window }
         requires time { at < 2 ^ 60 }
@@ -88,7 +89,8 @@ impl Mailboxes {
         self.offer_in(layout, at / u64::from(layout.cycle()), at, l)
     }
 
-    /// The same, where the cycle of `at` is known. No division is made, and where no request waits, the window is not looked at.
+    /// The same, where the cycle of `at` is known. No division is made, and where no request waits, the window is not
+    /// looked at.
     pub fn offer_in(&self, layout: &Layout, cycle: u64, at: u64, l: u32) -> Option<u16>
         requires window { l ≤ layout.now.window }
         requires time { at < 2 ^ 60 }
@@ -137,8 +139,8 @@ impl Mailboxes {
         self.remaining -= 1;
     }
 
-    /// The least time behind `at`, in the cycle of `at`, at which `offer` is something while nothing is taken away; `None` exactly
-    /// where there is none. The cycle's synchronous window has the length `l`.
+    /// The least time behind `at`, in the cycle of `at`, at which `offer` is something while nothing is taken away;
+    /// `None` exactly where there is none. The cycle's synchronous window has the length `l`.
     pub fn wake(&self, layout: &Layout, at: u64, l: u32) -> Option<u64>
         requires window { l ≤ layout.now.window }
         requires time { at < 2 ^ 60 }
@@ -147,8 +149,8 @@ impl Mailboxes {
         self.wake_in(layout, at / u64::from(layout.cycle()), at, l)
     }
 
-    /// The same, where the cycle of `at` is known. No division is made, and where no request arrives before the synchronous window, or
-    /// none may start behind `at`, no further look is taken.
+    /// The same, where the cycle of `at` is known. No division is made, and where no request arrives before the
+    /// synchronous window, or none may start behind `at`, no further look is taken.
     pub fn wake_in(&self, layout: &Layout, cycle: u64, at: u64, l: u32) -> Option<u64>
         requires window { l ≤ layout.now.window }
         requires time { at < 2 ^ 60 }
@@ -199,8 +201,8 @@ fn empty_boxes(alloc: Global, ids: &[u16], rooms: &[u32]) -> Result<Vec<Mailbox>
     Ok(boxes)
 }
 
-/// Puts a request into the mailbox of its identifier, where there is one, and answers how many mailboxes it was put in. `places`
-/// has the place of each identifier's mailbox.
+/// Puts a request into the mailbox of its identifier, where there is one, and answers how many mailboxes it was put in.
+/// `places` has the place of each identifier's mailbox.
 fn put(boxes: &mut [Mailbox], places: &[u16], request: &Request) -> Result<usize, AllocError>
     requires length { length places.now ≡ 2048 }
     requires places { IsPlaceTable boxes.old places.now }

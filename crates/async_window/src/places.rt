@@ -23,7 +23,8 @@ pub fn in_order(alloc: Global, ids: &[u16]) -> Result<Vec<u16>, AllocError>
     Ok(sorted)
 }
 
-/// For each identifier of 11 bits the place at which it stands in a list of them in their order; `NOWHERE` where it does not.
+/// For each identifier of 11 bits the place at which it stands in a list of them in their order; `NOWHERE` where it
+/// does not.
 pub fn places(alloc: Global, ids: &[u16]) -> Result<Vec<u16>, AllocError>
     requires rising { AllPairs (λ one other. one < other) ids.now }
     requires small { All (λ id. id < 2048) ids.now }

@@ -1,5 +1,5 @@
-//! The least arrivals of the mailboxes' first requests, as a tournament: which is the first mailbox whose request has arrived and is
-//! short enough is found in as many steps as the tree has levels.
+//! The least arrivals of the mailboxes' first requests, as a tournament: which is the first mailbox whose request has
+//! arrived and is short enough is found in as many steps as the tree has levels.
 
 ghost use Rattle.std.specs.Prelude.{◌≡◌, ℕ, ◌+◌, ◌*◌, ◌/◌, ◌^◌, ◌<◌, ◌≤◌, ◌++◌, IfOk, MatchOption, false, length, min, slice_index_or};
 ghost use Rattle.std.specs.Option.{option_to_list};
@@ -13,12 +13,12 @@ use std::alloc::{AllocError, Global};
 /// How many numbers of data bytes a frame may have: 0 to 8.
 const LENGTHS: usize = 9;
 
-/// A binary tree whose leaves are mailboxes, in their order. A node's value for a number of data bytes is the least arrival, in bit times,
-/// of a first request below it that has at most so many.
+/// A binary tree whose leaves are mailboxes, in their order. A node's value for a number of data bytes is the least
+/// arrival, in bit times, of a first request below it that has at most so many.
 #[derive(Drop)]
 pub struct Tournament {
-    /// The inner nodes: below node `n` are `2 * n` and `2 * n + 1`, and node 1 is the top. Leaves are numbered behind them. Node 0 is not
-    /// used.
+    /// The inner nodes: below node `n` are `2 * n` and `2 * n + 1`, and node 1 is the top. Leaves are numbered behind
+    /// them. Node 0 is not used.
     nodes: Vec<[u64; LENGTHS]>,
     /// The number of levels above the leaves.
     levels: u32,

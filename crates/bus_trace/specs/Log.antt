@@ -1,4 +1,5 @@
--- *Log text*: the text of a history and a trace. Each row ends with one line feed; numbers are decimal without leading zeros.
+-- *Log text*: the text of a history and a trace. Each row ends with one line feed; numbers are decimal without leading
+-- zeros.
 use Rattle.std.specs.Prelude.{ℕ, ◌+◌, ◌==◌, List, [], ◌∷◌, ◌++◌, Option, Some, None, if◌then◌else◌, codes}
 use Rattle.std.specs.List.{flat_map}
 use Rattle.std.specs.Fmt.{decimal}
@@ -24,8 +25,8 @@ abbrev pub last_field : Option ℕ → List ℕ
 last_field None = []
 last_field (Some number) = codes "," ++ decimal number
 
--- the fields of a verdict: `malformed,OP,WHY[,UNTIL]`, `passed,START,NEXT`, `miss,SLOT,RELEASE,CYCLE`, `horizon,FROM,WALKED` or
--- `accepted,FIRST,LENGTH`
+-- the fields of a verdict: `malformed,OP,WHY[,UNTIL]`, `passed,START,NEXT`, `miss,SLOT,RELEASE,CYCLE`,
+-- `horizon,FROM,WALKED` or `accepted,FIRST,LENGTH`
 abbrev pub verdict_fields : Verdict → List ℕ
 verdict_fields (Malformed op why) = codes "malformed," ++ decimal op ++ codes "," ++ decimal (code_of why) ++ last_field (until_of why)
 verdict_fields (Passed start next) = codes "passed," ++ decimal start ++ codes "," ++ decimal next
@@ -70,15 +71,15 @@ end_row next = codes "end," ++ decimal next ++ codes "\n"
 abbrev pub triggers_with : ℕ → TimedFrame → ℕ
 triggers_with seen sent = if sent.frame.identifier == 0 then seen + 1 else seen
 
--- the frames of a trace that start in a cycle: those up to which, themselves included, just cycle + 1 frames have the trigger's
--- identifier 0, where `seen` such frames came before
+-- the frames of a trace that start in a cycle: those up to which, themselves included, just cycle + 1 frames have the
+-- trigger's identifier 0, where `seen` such frames came before
 abbrev pub started_in : ℕ → ℕ → List TimedFrame → List TimedFrame
 started_in cycle seen [] = []
 started_in cycle seen (sent ∷ later) =
     (if triggers_with seen sent == cycle + 1 then sent ∷ [] else []) ++ started_in cycle (triggers_with seen sent) later
 
--- the rows of an event, after the events before it: a change that is refused for a miss is followed by its plan up to the miss, and an
--- opening by the frames of its cycle
+-- the rows of an event, after the events before it: a change that is refused for a miss is followed by its plan up to
+-- the miss, and an opening by the frames of its cycle
 abbrev pub event_rows : List TimedFrame → List Event → Event → List ℕ
 event_rows trace before (Submit caller change from verdict trail) = submit_row caller from verdict ++ plan_rows from trail
 event_rows trace before (Look caller next) = look_row caller next

@@ -1,4 +1,5 @@
--- What is written of a log while it is made: which events are done, which frames are left, and which entries may still be sent.
+-- What is written of a log while it is made: which events are done, which frames are left, and which entries may still
+-- be sent.
 use Rattle.std.specs.Prelude.{◌≡◌, ℕ, ◌^◌, ◌<◌, ◌≤◌, ◌==◌, ◌&&◌, Bool, true, is_some, if◌then◌else◌, List, [], ◌∷◌, ◌++◌, codes}
 use Rattle.std.specs.List.{flat_map}
 use Rattle.std.specs.Fmt.{decimal}
@@ -55,7 +56,8 @@ abbrev pub opened_row : ℕ → ℕ → ℕ → List ℕ
 opened_row cycle mask width =
     codes "open," ++ decimal cycle ++ codes "," ++ hex_digits 10 mask ++ codes "," ++ decimal width ++ codes "\n"
 
--- the rows of an event, by the entries whose instances may be sent in the cycle that it opens, and the rows of these frames
+-- the rows of an event, by the entries whose instances may be sent in the cycle that it opens, and the rows of these
+-- frames
 abbrev pub rows_with : List Placed → List TimedFrame → Event → List ℕ
 rows_with placed frames (Submit caller change from verdict trail) = submit_row caller from verdict ++ plan_rows from trail
 rows_with placed frames (Look caller next) = look_row caller next
@@ -83,6 +85,7 @@ pub record HasEntries (list : List Placed) (next : ℕ) (placed left : List Plac
   pub left_well_placed : IsWellPlaced left
   pub same : (slot c : ℕ) → next ≤ c → instance_in left slot c ≡ instance_in placed slot c
 
--- what an entry costs in a cycle, in bit times: the worst length of its frame, where its slot is flagged and an instance of it may be sent
+-- what an entry costs in a cycle, in bit times: the worst length of its frame, where its slot is flagged and an
+-- instance of it may be sent
 abbrev pub cost_in : ℕ → (ℕ → Bool) → Placed → ℕ
 cost_in c flagged p = if flagged p.entry.slot && is_some (instance_of p c) then worst p.entry.length else 0

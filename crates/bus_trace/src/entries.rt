@@ -93,7 +93,8 @@ fn width(placed: &[Placed], cycle: u64, mask: Mask) -> u32
     width
 }
 
-/// What the entry costs in a cycle: the worst length of its frame where its slot is flagged and an instance of it may be sent.
+/// What the entry costs in a cycle: the worst length of its frame where its slot is flagged and an instance of it may
+/// be sent.
 fn cost_in(p: &Placed, cycle: u64, mask: Mask) -> u32
     requires range { IsInRange p.now }
     ensures cost { result ≡ cost_in cycle (contains_slot mask) p.now }

@@ -95,8 +95,8 @@ fn place_event(
     Ok(())
 }
 
-/// The log of a history and a trace: the rows of its events in their order, each opened cycle followed by the frames that start in it, and
-/// the last row.
+/// The log of a history and a trace: the rows of its events in their order, each opened cycle followed by the frames
+/// that start in it, and the last row.
 ///
 /// # Errors
 ///

@@ -8,8 +8,8 @@ use requirement_table::Mask;
 pub enum LogVerdict {
     /// The change was taken; from cycle `first` on the plan repeats after `length` cycles.
     Accepted { first: u64, length: u64 },
-    /// The change breaks a rule: the operation that breaks the first one, the number of the rule, and the cycle up to which a slot is in
-    /// use, which stands behind rule 10 alone.
+    /// The change breaks a rule: the operation that breaks the first one, the number of the rule, and the cycle up to
+    /// which a slot is in use, which stands behind rule 10 alone.
     Malformed { op: u8, why: u8, until: Option<u64> },
     /// The cycle in which the change was to begin was opened already.
     Passed { start: u64, next: u64 },

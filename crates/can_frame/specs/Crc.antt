@@ -20,7 +20,8 @@ pub record IsRemainder (dividend remainder : ℕ) : Type 0 where
   pub division : dividend ≡ bit_xor (product quotient generator) remainder
   pub below : remainder < 2 ^ 15
 
--- *CRC sequence*: the covered bits, the first of them the coefficient of the highest power, times x^15, leave it as remainder
+-- *CRC sequence*: the covered bits, the first of them the coefficient of the highest power, times x^15, leave it as
+-- remainder
 abbrev pub IsSequence : List Bool → ℕ → Type 0
 IsSequence covered sequence = IsRemainder (number covered * 2 ^ 15) sequence
 
@@ -29,8 +30,8 @@ unfoldable pub power : ℕ → ℕ
 power zero = 1
 power (suc k) = let next = 2 * power k in if nat_lt next (2 ^ 15) then next else bit_xor next generator
 
--- the CRC sequence of the covered bits (`laws` says that it is the one): each recessive bit that is followed by k more of
--- them adds x^(15 + k) modulo the generator
+-- the CRC sequence of the covered bits (`laws` says that it is the one): each recessive bit that is followed by k more
+-- of them adds x^(15 + k) modulo the generator
 unfoldable pub sequence_of : List Bool → ℕ
 sequence_of [] = 0
 sequence_of (bit ∷ covered) =

@@ -1,5 +1,5 @@
--- *Wire*: the bits of a data frame in the order of sending (CAN 2.0 Part A, data frame and bit stream coding), and the three
--- bits of intermission of the interframe space behind it, which are counted with the frame here.
+-- *Wire*: the bits of a data frame in the order of sending (CAN 2.0 Part A, data frame and bit stream coding), and the
+-- three bits of intermission of the interframe space behind it, which are counted with the frame here.
 use Rattle.std.specs.Prelude.{ℕ, Bool, true, false, List, [], ◌∷◌, ◌++◌, length, replicate}
 use Rattle.std.specs.List.{flat_map}
 use Rattle.stuff_bound.specs.Stuffing.{stuffed}

@@ -1,7 +1,7 @@
 //! The CRC sequence, as the sum of what each covered byte adds to it (CAN 2.0 Part A, CRC field).
 //!
-//! Division by the generator leaves of a sum of polynomials the sum of what it leaves of each. So the covered bits are taken
-//! as a number, in bytes, and leading zeros add nothing.
+//! Division by the generator leaves of a sum of polynomials the sum of what it leaves of each. So the covered bits are
+//! taken as a number, in bytes, and leading zeros add nothing.
 
 ghost use Rattle.std.specs.Prelude.{◌≡◌, ◌+◌, ◌*◌, ◌<◌, ◌^◌, length};
 ghost use Rattle.can_frame.specs.Crc.{IsRemainder, IsSequence, sequence_of};

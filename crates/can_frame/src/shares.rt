@@ -1,7 +1,7 @@
 //! What each byte that the CRC covers adds to the CRC sequence.
 
-/// What division by the generator leaves of a byte times x^(15 + 8k), at 256k plus the byte, where k bytes stand behind it.
-/// `tools/print-tables SHARES` prints it.
+/// What division by the generator leaves of a byte times x^(15 + 8k), at 256k plus the byte, where k bytes stand behind
+/// it. `tools/print-tables SHARES` prints it.
 pub static SHARES: [u16; 2816] = [
     0x0000, 0x4599, 0x4eab, 0x0b32, 0x58cf, 0x1d56, 0x1664, 0x53fd, 0x7407, 0x319e, 0x3aac, 0x7f35,
     0x2cc8, 0x6951, 0x6263, 0x27fa, 0x2d97, 0x680e, 0x633c, 0x26a5, 0x7558, 0x30c1, 0x3bf3, 0x7e6a,

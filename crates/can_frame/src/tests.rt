@@ -230,8 +230,8 @@ fn refuses_the_first_wrong_place(rt: HostRuntime) -> Result<(), Fail> {
     Ok(())
 }
 
-/// A wrong CRC sequence that ends with five recessive bits is told behind the stuff bit that closes it: with an equal bit there it is
-/// a sixth one, and without a bit there the frame is short.
+/// A wrong CRC sequence that ends with five recessive bits is told behind the stuff bit that closes it: with an equal
+/// bit there it is a sixth one, and without a bit there the frame is short.
 #[test]
 fn tells_a_wrong_sequence_behind_its_last_stuff_bit(rt: HostRuntime) -> Result<(), Fail> {
     let wrong = WireFault::Crc {

@@ -19,7 +19,8 @@ lives_in slot p = nat_eq p.entry.slot slot && is_none p.end
 abbrev pub live_in : List Placed → ℕ → Option Placed
 live_in placed slot = find (lives_in slot) placed
 
--- the cycle from which the slot is free again after this entry of it, end + deadline - 1; 0 where the entry is live or has another slot
+-- the cycle from which the slot is free again after this entry of it, end + deadline - 1; 0 where the entry is live or
+-- has another slot
 abbrev pub freed_by : ℕ → Placed → ℕ
 freed_by slot p = if nat_eq p.entry.slot slot then option_map_or (λ from. from) (free_from p) 0 else 0
 
@@ -32,7 +33,8 @@ free_in (p ∷ placed) slot = max (freed_by slot p) (free_in placed slot)
 abbrev pub ended : ℕ → List Op → Placed → Placed
 ended start ops p = if is_none p.end && list_any (ends p.entry.slot) ops then record p { end = Some start } else p
 
--- the origin of the entry that follows the slot's live entry, which ends at `start`: start + deadline of the live entry - 1
+-- the origin of the entry that follows the slot's live entry, which ends at `start`: start + deadline of the live entry
+-- - 1
 abbrev pub origin_behind : List Placed → ℕ → ℕ → ℕ
 origin_behind placed start slot = option_map_or (λ live. start + live.entry.deadline - 1) (live_in placed slot) start
 
@@ -42,7 +44,8 @@ placed_by placed start (Add entry) = Some (record { entry = entry; origin = star
 placed_by placed start (Remove slot) = None
 placed_by placed start (Change entry) = Some (record { entry = entry; origin = origin_behind placed start entry.slot; end = None })
 
--- the placed entries after a change: the ends are set in place, and the new entries stand behind, in the order of the operations
+-- the placed entries after a change: the ends are set in place, and the new entries stand behind, in the order of the
+-- operations
 abbrev pub applied : List Placed → TableChange → List Placed
 applied placed change = map (ended change.start change.ops) placed ++ filter_map (placed_by placed change.start) change.ops
 
@@ -55,7 +58,8 @@ pub record IsNewFrom (start : ℕ) (q : Placed) : Type 0 where
   pub after : start ≤ q.origin
   pub live : q.end ≡ None
 
--- the list `new` came from `old` by a change with this start: each old entry stands in its place, and those behind are new
+-- the list `new` came from `old` by a change with this start: each old entry stands in its place, and those behind are
+-- new
 abbrev pub IsChangedAt : ℕ → List Placed → List Placed → Type 0
 IsChangedAt start [] new = All (IsNewFrom start) new
 IsChangedAt start (p ∷ old) [] = ⊥

@@ -1,5 +1,5 @@
--- When a change is malformed. `faults` lists every rule that it breaks, in the order in which they are tested: the rules of the whole
--- change, and then those of each operation in its order. The first of these is the answer.
+-- When a change is malformed. `faults` lists every rule that it breaks, in the order in which they are tested: the
+-- rules of the whole change, and then those of each operation in its order. The first of these is the answer.
 use Rattle.std.specs.Prelude.{◌≡◌, ℕ, ◌^◌, ◌||◌, Bool, false, nat_eq, nat_lt, nat_le, if◌then◌else◌, Option, Some, None, is_none, List, [], ◌∷◌, ◌++◌, length, map, slice_get}
 use Rattle.std.specs.List.{list_any}
 use Rattle.std.specs.Option.{option_map_or}
@@ -55,7 +55,8 @@ abbrev pub deadline_range : Op → List Why
 deadline_range op =
     where_holds (places (λ entry. nat_eq entry.deadline 0 || nat_lt entry.period entry.deadline) op) DeadlineRange
 
--- an entry is added: the slot's live entry is in the way, with no known end, or else its last entry, to the greatest end + deadline - 1
+-- an entry is added: the slot's live entry is in the way, with no known end, or else its last entry, to the greatest
+-- end + deadline - 1
 abbrev pub add_busy_by : Option Placed → ℕ → ℕ → List Why
 add_busy_by (Some live) free start = SlotBusy None ∷ []
 add_busy_by None free start = where_holds (nat_lt start free) (SlotBusy (Some free))

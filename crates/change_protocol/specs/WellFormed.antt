@@ -1,4 +1,5 @@
--- A change that breaks no rule, in the words of its operations and of the placed entries. A law says that this is a well formed change.
+-- A change that breaks no rule, in the words of its operations and of the placed entries. A law says that this is a
+-- well formed change.
 use Rattle.std.specs.Prelude.{◌≡◌, ◌≢◌, ℕ, ◌^◌, ◌<◌, ◌≤◌, None, IfSome, List, All, AllPairs, Any, length}
 use Rattle.requirement_table.specs.declared.entries.Entry.{Entry}
 use Rattle.requirement_table.specs.declared.entries.Placed.{Placed}

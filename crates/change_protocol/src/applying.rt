@@ -142,16 +142,16 @@ fn place(list: &mut Vec<Placed>, table: &Table, start: u64, ops: &[Op]) -> Resul
     Ok(())
 }
 
-/// The placed entries after a change: the ends that its operations set are set in place, and the entries that they place
-/// stand behind, in the order of the operations. The new list is well placed, and below the change's start it has the same
-/// instances as the old one.
+/// The placed entries after a change: the ends that its operations set are set in place, and the entries that they
+/// place stand behind, in the order of the operations. The new list is well placed, and below the change's start it has
+/// the same instances as the old one.
 ///
 /// `nodes` is the number of nodes. A change costs time linear in the placed entries.
 ///
 /// # Errors
 ///
-/// `Malformed` exactly where the change breaks a rule, with the first rule that it breaks. `Memory` where memory ran out,
-/// which is only asked for where no rule is broken.
+/// `Malformed` exactly where the change breaks a rule, with the first rule that it breaks. `Memory` where memory ran
+/// out, which is only asked for where no rule is broken.
 pub fn apply(
     alloc: Global,
     placed: &[Placed],

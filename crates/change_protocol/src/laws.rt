@@ -11,9 +11,9 @@ ghost use Rattle.change_protocol.specs.Malformed.{IsWellFormed};
 ghost use Rattle.change_protocol.specs.WellFormed.{BreaksNoRule};
 ghost use Rattle.change_protocol.specs.Operations.{HasTypes};
 
-/// A change is well formed exactly where it has 1 to 16 operations on distinct slots, starts below 2^40, and each of its
-/// operations has a known slot, an entry that can be placed, and finds its slot as it needs it: free at the start, or with a
-/// live entry that does not begin behind it.
+/// A change is well formed exactly where it has 1 to 16 operations on distinct slots, starts below 2^40, and each of
+/// its operations has a known slot, an entry that can be placed, and finds its slot as it needs it: free at the start,
+/// or with a live entry that does not begin behind it.
 pub fn well_formed_changes()
     ensures formed { (placed : List Placed) (nodes : ℕ) (change : Change) → IsWellPlaced placed
         → IsWellFormed placed nodes change ↔ BreaksNoRule placed nodes change }
@@ -28,8 +28,8 @@ pub fn lists_after_a_change()
         → All HasTypes change.ops → IsWellFormed placed nodes change → IsWellPlaced (applied placed change) }
 {}
 
-/// After a change each entry stands in its place, unchanged or with the start of the change as its end, where it was live. Those
-/// behind are new.
+/// After a change each entry stands in its place, unchanged or with the start of the change as its end, where it was
+/// live. Those behind are new.
 pub fn entries_after_a_change()
     ensures kept { (start place : ℕ) (old new : List Placed) (p : Placed) → IsChangedAt start old new
         → slice_get old place ≡ Some p → IsSomeAnd (slice_get new place) (IsKept start p) }
@@ -37,8 +37,8 @@ pub fn entries_after_a_change()
         → length old ≤ place → slice_get new place ≡ Some q → IsNewFrom start q }
 {}
 
-/// A change is not felt before its start: in each cycle before it the same slots have a release, and each slot may send the
-/// same instance, which costs the same and has the same last cycle.
+/// A change is not felt before its start: in each cycle before it the same slots have a release, and each slot may send
+/// the same instance, which costs the same and has the same last cycle.
 pub fn cycles_before_the_start()
     ensures released { (start c : ℕ) (old new : List Placed) → IsChangedAt start old new → c < start
         → released_in new c ≡ released_in old c }

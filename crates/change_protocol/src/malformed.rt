@@ -7,8 +7,8 @@ use std::alloc::AllocFailed;
 use std::error::Error;
 use std::fmt;
 
-/// The rule that a malformed change breaks. The rules are tested in this order: the first three of the whole change, and
-/// then the others for each operation in its order.
+/// The rule that a malformed change breaks. The rules are tested in this order: the first three of the whole change,
+/// and then the others for each operation in its order.
 #[derive(Clone, Copy, PartialEq, Eq, Debug)]
 pub enum Why {
     /// There is no operation.
@@ -29,10 +29,11 @@ pub enum Why {
     PeriodZero,
     /// The entry's deadline is 0 or above its period.
     DeadlineRange,
-    /// An added entry finds the slot in use at the start, or the entry to be removed or changed begins only behind the start.
+    /// An added entry finds the slot in use at the start, or the entry to be removed or changed begins only behind the
+    /// start.
     SlotBusy {
-        /// For an added entry the cycle from which the slot is free, `None` where an entry of the slot is live. For a removal
-        /// or a change the origin of the slot's live entry.
+        /// For an added entry the cycle from which the slot is free, `None` where an entry of the slot is live. For a
+        /// removal or a change the origin of the slot's live entry.
         until: Option<u64>,
     },
     /// No entry of the slot is live that could be removed or changed.
@@ -84,8 +85,8 @@ impl fmt::Display for Why {
 pub enum ApplyFault {
     /// The change breaks a rule; this is the first one.
     Malformed {
-        /// The operation that breaks it, from 0: 0 where there is none or the start is out of range, and 16 where there are
-        /// more than 16.
+        /// The operation that breaks it, from 0: 0 where there is none or the start is out of range, and 16 where there
+        /// are more than 16.
         op: u8,
         /// The rule.
         why: Why,

@@ -13,8 +13,8 @@ pub enum Op {
     Add { entry: Entry },
     /// Sets the end of the slot's live entry to `start`.
     Remove { slot: u8 },
-    /// Sets the end of the live entry of the entry's slot to `start`, and places the entry with no end and with the origin
-    /// `start` + deadline - 1, where the deadline is that of the ended entry.
+    /// Sets the end of the live entry of the entry's slot to `start`, and places the entry with no end and with the
+    /// origin `start` + deadline - 1, where the deadline is that of the ended entry.
     Change { entry: Entry },
 }
 

@@ -12,8 +12,8 @@ use requirement_table::{Placed, SLOTS};
 pub struct SlotUse {
     // The slot's live entry.
     pub live: Option<Placed>,
-    // The cycle from which the slot is free of its entries that have an end: the greatest end + deadline - 1, or 0 where
-    // none has an end.
+    // The cycle from which the slot is free of its entries that have an end: the greatest end + deadline - 1, or 0
+    // where none has an end.
     pub free: u64,
 }
 

@@ -1,4 +1,5 @@
--- A run of the bus over the nodes and the trigger of a cycle gives the frames that are offered in the cycle, and the nodes stand for them.
+-- A run of the bus over the nodes and the trigger of a cycle gives the frames that are offered in the cycle, and the
+-- nodes stand for them.
 use Rattle.std.proofs.Common.{◌≡◌, ◌≢◌, ℕ, ◌/◌, ◌^◌, ◌<◌, ◌≤◌, Bool, true, false, cond, List, [], ◌∷◌, ◌++◌, All, Contains, map, inl, inr, refl, sym, ap, ◌∙◌, subst, arith, append_assoc, append-nil, get_or}
 use Rattle.std.specs.Prelude.{◌==◌, fold}
 use Rattle.std.proofs.Math.Nat.{add-mul, div-eq_of_lt-le}

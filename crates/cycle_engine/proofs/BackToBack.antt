@@ -1,4 +1,5 @@
--- In a synchronous window the frames that the nodes are to send, in the order of their slots, are those that arbitration decides.
+-- In a synchronous window the frames that the nodes are to send, in the order of their slots, are those that
+-- arbitration decides.
 use Rattle.std.proofs.Common.{◌≡◌, ◌≢◌, ℕ, zero, suc, ◌+◌, ◌-◌, ◌*◌, ◌<◌, ◌≤◌, ◌&&◌, Bool, true, false, not, cond, eqb, List, [], ◌∷◌, ◌++◌, All, Contains, map, length, length-append, take, drop, replicate, get_or, Option, None, Some, inl, inr, refl, sym, ap, ◌∙◌, subst, arith}
 use Rattle.std.specs.Prelude.{◌==◌, MatchOption, nat_lt, find}
 use Rattle.std.specs.List.{cons_option, filter_map}

@@ -1,4 +1,5 @@
--- A cycle in two parts: the bus runs over its stations up to the synchronous window, and then over the nodes in that window.
+-- A cycle in two parts: the bus runs over its stations up to the synchronous window, and then over the nodes in that
+-- window.
 use Rattle.std.proofs.Common.{◌≡◌, ◌≢◌, ℕ, ◌+◌, ◌-◌, ◌*◌, ◌^◌, ◌<◌, ◌≤◌, List, [], ◌∷◌, ◌++◌, All, None, Some, length, max, get_or, refl, sym, ap, ◌∙◌, subst, arith}
 use Rattle.std.proofs.Math.Nat.{add-mul}
 use Rattle.std.proofs.lemmas.List.Elements.{All-map, All-weaker}

@@ -1,5 +1,5 @@
--- What a cycle sends: frames of requests that end before its synchronous window, and in that window each pending slot, one after the other
--- without a gap.
+-- What a cycle sends: frames of requests that end before its synchronous window, and in that window each pending slot,
+-- one after the other without a gap.
 use Rattle.std.proofs.Common.{◌≡◌, ℕ, zero, suc, ◌+◌, ◌<◌, ◌≤◌, ◌⊎◌, ◌&&◌, not, eqb, true, false, Option, Some, None, List, [], ◌∷◌, ◌++◌, length, refl, ap, sym, ◌∙◌, arith, subst, inl, inr}
 use Rattle.std.specs.Prelude.{option_map}
 use Rattle.std.specs.Option.{option_map_or}
@@ -236,8 +236,8 @@ pending_width-other layout opening past sent least =
     sum_where-same slots (is_pending layout opening (past ++ sent ∷ [])) (is_pending layout opening past) (worst_in opening.placed opening.cycle)
     (λ x known. is_pending-other layout opening past sent x (λ same. let all : slots ≡ 40 = refl in omega arith))
 
--- the frames behind the trigger: from the time `now` on, at which the bus is free and the synchronous window has begun, the pending slots
--- have room until the cycle's end, and so each is sent by then
+-- the frames behind the trigger: from the time `now` on, at which the bus is free and the synchronous window has begun,
+-- the pending slots have room until the cycle's end, and so each is sent by then
 sends_pending : (layout : CycleLayout) (requests : List Request) (opening : Opening) (past : List TimedFrame) (free now : ℕ) (frames : List TimedFrame)
     → IsFit layout opening → AreAsynchronous requests → start_of layout opening < free → free ≤ now → window_start layout opening ≤ now
     → (now ≡ free) ⊎ (now ≡ window_start layout opening)

@@ -23,8 +23,8 @@ frames_in layout cycle trace = filter (λ sent. cycle_of layout sent == cycle) t
 abbrev pub of_slot : ℕ → List TimedFrame → List TimedFrame
 of_slot slot frames = filter (λ sent. sent.frame.identifier == first_identifier + slot) frames
 
--- exactly one frame of the slot is among these; it lies in the cycle's synchronous window, and carries the bytes of the instance that may
--- be sent in the cycle
+-- exactly one frame of the slot is among these; it lies in the cycle's synchronous window, and carries the bytes of the
+-- instance that may be sent in the cycle
 pub record IsSentOnce (layout : CycleLayout) (opening : Opening) (frames : List TimedFrame) (slot : ℕ) : Type 0 where
   pub sent : TimedFrame
   pub once : of_slot slot frames ≡ sent ∷ []
@@ -42,14 +42,16 @@ pub record IsSlotFrame (layout : CycleLayout) (opening : Opening) (sent : TimedF
   pub after : window_start layout opening ≤ sent.start
   pub before : end_of sent ≤ end_of_cycle layout opening
 
--- a frame of a request, within the cycle's asynchronous window: it touches neither the trigger's time nor the synchronous window
+-- a frame of a request, within the cycle's asynchronous window: it touches neither the trigger's time nor the
+-- synchronous window
 pub record IsRequestFrame (layout : CycleLayout) (opening : Opening) (sent : TimedFrame) : Type 0 where
   pub identifier : 0x200 ≤ sent.frame.identifier
   pub after : async_open layout opening.cycle ≤ sent.start
   pub before : end_of sent ≤ window_start layout opening
 
--- the frames of a cycle: its trigger at its start, ended before the synchronous window; behind it only frames of requests in the
--- asynchronous window and frames of flagged slots in the synchronous window, and of each flagged slot exactly one
+-- the frames of a cycle: its trigger at its start, ended before the synchronous window; behind it only frames of
+-- requests in the asynchronous window and frames of flagged slots in the synchronous window, and of each flagged slot
+-- exactly one
 pub record RunsCycle (layout : CycleLayout) (opening : Opening) (frames : List TimedFrame) : Type 0 where
   pub trigger : TimedFrame
   pub later : List TimedFrame
@@ -65,7 +67,8 @@ pub record RunsCycle (layout : CycleLayout) (opening : Opening) (frames : List T
 abbrev pub RunsCycles : CycleLayout → List Opening → List TimedFrame → Type 0
 RunsCycles layout openings trace = All (λ opening. RunsCycle layout opening (frames_in layout opening.cycle trace)) openings
 
--- each flagged slot has an instance that may be sent in the cycle, and together they fit into the largest synchronous window
+-- each flagged slot has an instance that may be sent in the cycle, and together they fit into the largest synchronous
+-- window
 pub record FitsWindow (layout : CycleLayout) (opening : Opening) : Type 0 where
   pub present : (slot : ℕ) → slot < slots → contains_slot opening.mask slot ≡ true → IsSome (instance_in opening.placed slot opening.cycle)
   pub width : width_of opening ≤ layout.window

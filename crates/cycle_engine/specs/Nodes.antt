@@ -47,8 +47,8 @@ pub record IsOwned (owners : List Owner) (nodes : List NodeState) (request : Req
   pub identifier : owner.id ≡ request.frame.identifier
   pub node : IsNumber nodes owner.node
 
--- the nodes of a bus before the cycle `next`: each knows its entries of a list, and its unsent requests after the frames `past`; and
--- each request is that of a node
+-- the nodes of a bus before the cycle `next`: each knows its entries of a list, and its unsent requests after the
+-- frames `past`; and each request is that of a node
 pub record IsBus (layout : CycleLayout) (owners : List Owner) (requests : List Request) (placed : List Placed) (past : List TimedFrame) (next : ℕ) (nodes : List NodeState) : Type 0 where
   pub well_placed : IsWellPlaced placed
   pub are_owners : AreOwners owners
@@ -59,7 +59,8 @@ pub record IsBus (layout : CycleLayout) (owners : List Owner) (requests : List R
 abbrev pub IsKnown : List NodeState → ℕ → ℕ → Type 0
 IsKnown nodes cycle slot = Any (λ node. IsSome (instance_in node.entries slot cycle)) nodes
 
--- of each flagged slot one of the nodes knows an instance that may be sent in the cycle, and the window has the length of their frames
+-- of each flagged slot one of the nodes knows an instance that may be sent in the cycle, and the window has the length
+-- of their frames
 pub record FitsOrder (l : ℕ) (opening : Opening) (nodes : List NodeState) : Type 0 where
   pub width : l ≡ width_of opening
   pub present : (slot : ℕ) → slot < slots → contains_slot opening.mask slot ≡ true → IsKnown nodes opening.cycle slot

@@ -1,4 +1,5 @@
--- A synchronous window: the nodes are asked once for the frames that they are to send in it, and these leave in the order of their slots.
+-- A synchronous window: the nodes are asked once for the frames that they are to send in it, and these leave in the
+-- order of their slots.
 use Rattle.std.specs.Prelude.{◌≡◌, ◌≢◌, ℕ, ◌+◌, ◌*◌, ◌<◌, ◌≤◌, nat_lt, if◌then◌else◌, List, [], ◌∷◌, ◌++◌, All, filter_map, length, Option, None, Some, slice_index_or}
 use Rattle.can_frame.specs.DataFrame.{DataFrame}
 use Rattle.can_frame.specs.Wire.{wire_length}
@@ -13,7 +14,8 @@ use Rattle.node_model.specs.Window.{IsInWindow, due_frame, is_due_slot}
 use Rattle.cycle_engine.specs.Nodes.{heard_by}
 use Rattle.cycle_engine.specs.Stations.{Stationed, announced, cycle_line}
 
--- the frame of the first of these nodes that is to send the slot in the cycle that is open for it; none where no node is
+-- the frame of the first of these nodes that is to send the slot in the cycle that is open for it; none where no node
+-- is
 abbrev pub due_by : List NodeState → ℕ → Option DataFrame
 due_by [] slot = None
 due_by (node ∷ later) slot = if is_due_slot node slot then Some (due_frame node slot) else due_by later slot
@@ -49,8 +51,8 @@ pub record IsSentBy (before after : List NodeState) (from until : ℕ) (old new 
   pub no_trigger : All (λ sent. sent.frame.identifier ≢ 0) frames
   pub follows : (layout : CycleLayout) → Follows (offers_of cycle_line (nodes_alone layout before)) [] from until frames
 
--- a cycle has run up to its synchronous window: these frames were sent and heard, from the time `from` on the nodes are in the window, and
--- what arbitration decides in it makes the frames those of the cycle
+-- a cycle has run up to its synchronous window: these frames were sent and heard, from the time `from` on the nodes are
+-- in the window, and what arbitration decides in it makes the frames those of the cycle
 pub record IsBeforeWindow (layout : CycleLayout) (cycle l mask : ℕ) (before after : List NodeState) (frames : List TimedFrame) (from : ℕ) : Type 0 where
   pub in_window : All (IsInWindow from ((cycle + 1) * layout.cycle)) after
   pub few : cycle * layout.cycle + 47 * length frames ≤ from

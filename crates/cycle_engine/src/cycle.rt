@@ -20,12 +20,13 @@ use std::alloc::{AllocError, Global};
 /// The length of the shortest frame, in bit times.
 const SHORTEST_FRAME: u32 = 47;
 
-/// Runs one cycle on the bus: the nodes learn the order's list, where there is one, the master sends the trigger, and the nodes send what
-/// they are to send.
+/// Runs one cycle on the bus: the nodes learn the order's list, where there is one, the master sends the trigger, and
+/// the nodes send what they are to send.
 ///
-/// The order's cycle is the nodes' next one, below 2^42. `l` is the sum of the worst lengths of the flagged slots, and at most the largest
-/// synchronous window. A list that is learned is well placed. Of each flagged slot some node knows, once the list is learnt, an instance
-/// that may be sent in the cycle. All memory is taken first: after an error the nodes are as before, and the call may be made again.
+/// The order's cycle is the nodes' next one, below 2^42. `l` is the sum of the worst lengths of the flagged slots, and
+/// at most the largest synchronous window. A list that is learned is well placed. Of each flagged slot some node knows,
+/// once the list is learnt, an instance that may be sent in the cycle. All memory is taken first: after an error the
+/// nodes are as before, and the call may be made again.
 pub fn run_cycle(alloc: Global, order: &Order, nodes: &mut Nodes) -> Result<Segment, AllocError>
     requires cycle { order.now.cycle < 2 ^ 42 }
     requires next { All (λ node. node.next ≡ order.now.cycle) (states_of nodes.old.nodes) }

@@ -85,7 +85,8 @@ pub fn push_offers(nodes: &[Node], at: u64, ids: &mut Contenders)
     }
 }
 
-/// The least time behind `at` at which a node offers something while nothing is heard; `None` exactly where no node does.
+/// The least time behind `at` at which a node offers something while nothing is heard; `None` exactly where no node
+/// does.
 pub fn wake(nodes: &[Node], at: u64) -> Option<u64>
     requires time { at < 2 ^ 60 }
     ensures wake { IsWake (offered_by_nodes (states_of nodes.now)) at result }

@@ -1,4 +1,5 @@
-//! Laws about the definitions of this crate. Each function has an empty body but for calls of other laws, and its contract is the law.
+//! Laws about the definitions of this crate. Each function has an empty body but for calls of other laws, and its
+//! contract is the law.
 
 ghost use Rattle.std.specs.Prelude.{◌≡◌, ℕ, ◌+◌, ◌≤◌, List, [], ◌∷◌, ◌++◌, All};
 ghost use Rattle.can_frame.specs.declared.data_frame.TimedFrame.{TimedFrame};
@@ -42,10 +43,11 @@ pub fn one_can_trace()
     trace_laws::<OpenedCycles>();
 }
 
-/// One opened cycle more. Where the trace so far is the CAN trace of the openings so far, all of cycles below the new one, and has ended
-/// by its start, and the frames of the new cycle follow it by what is offered in that cycle, then trace and frames are the CAN trace of
-/// the openings with the new one. Where its flagged slots each have an instance that may be sent, and together fit into the largest
-/// synchronous window, all frames end by the cycle's end, and the cycle sends what its opening says.
+/// One opened cycle more. Where the trace so far is the CAN trace of the openings so far, all of cycles below the new
+/// one, and has ended by its start, and the frames of the new cycle follow it by what is offered in that cycle, then
+/// trace and frames are the CAN trace of the openings with the new one. Where its flagged slots each have an instance
+/// that may be sent, and together fit into the largest synchronous window, all frames end by the cycle's end, and the
+/// cycle sends what its opening says.
 pub fn next_cycle()
     ensures can_trace { (layout : CycleLayout) (requests : List Request) (openings : List Opening) (opening : Opening)
         → (trace frames : List TimedFrame) → IsLayout layout → FollowsTrace layout requests openings opening trace frames

@@ -47,8 +47,8 @@ impl Model for Nodes {
 impl Nodes {
     /// The nodes 0 to `nodes` - 1 before cycle 0, which is 1 to 30 nodes.
     ///
-    /// The owners' identifiers are distinct and 0x200 to 0x7EF, each owner's node is below `nodes`, and each request's identifier has an
-    /// owner. Arrivals never fall and are below 2^40.
+    /// The owners' identifiers are distinct and 0x200 to 0x7EF, each owner's node is below `nodes`, and each request's
+    /// identifier has an owner. Arrivals never fall and are below 2^40.
     pub fn new(
         alloc: Global,
         layout: Layout,
@@ -115,7 +115,8 @@ impl Nodes {
         Ok(())
     }
 
-    /// Runs the bus over the nodes through the cycle of an order, and puts the frames into `frames`, which has room for them.
+    /// Runs the bus over the nodes through the cycle of an order, and puts the frames into `frames`, which has room for
+    /// them.
     pub(crate) fn run(&mut self, order: &Order, frames: &mut Vec<TimedFrame>)
         requires cycle { order.now.cycle < 2 ^ 42 }
         requires next { All (λ node. node.next ≡ order.now.cycle) (states_of self.old.nodes) }
@@ -134,8 +135,8 @@ impl Nodes {
         self.stations.run_window(from, end, frames);
     }
 
-    /// Runs the bus over the nodes through the cycle of an order up to its synchronous window, and puts the frames into `frames`, which has
-    /// room for them. The answer is the first time in that window at which the bus is free.
+    /// Runs the bus over the nodes through the cycle of an order up to its synchronous window, and puts the frames into
+    /// `frames`, which has room for them. The answer is the first time in that window at which the bus is free.
     fn run_up_to_window(&mut self, order: &Order, frames: &mut Vec<TimedFrame>) -> u64
         requires cycle { order.now.cycle < 2 ^ 42 }
         requires next { All (λ node. node.next ≡ order.now.cycle) (states_of self.old.nodes) }

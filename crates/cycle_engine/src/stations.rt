@@ -110,8 +110,8 @@ impl NodeStations {
         self.trigger = Some(DueTrigger { at, frame });
     }
 
-    /// Runs the bus over the nodes in their synchronous window from `from` on, and puts the frames that start before `until` behind `out`,
-    /// which has room for them. The trigger was sent.
+    /// Runs the bus over the nodes in their synchronous window from `from` on, and puts the frames that start before
+    /// `until` behind `out`, which has room for them. The trigger was sent.
     pub fn run_window(&mut self, from: u64, until: u64, out: &mut Vec<TimedFrame>)
         requires time { until < 2 ^ 60 }
         requires window { All (IsInWindow from until) (states_of self.old.nodes) }

@@ -1,5 +1,5 @@
-//! The synchronous window of a cycle. In it nothing is newly offered, and a frame that is sent goes away: the nodes are asked once, and their
-//! frames leave in the order of their slots.
+//! The synchronous window of a cycle. In it nothing is newly offered, and a frame that is sent goes away: the nodes are
+//! asked once, and their frames leave in the order of their slots.
 
 ghost use Rattle.std.specs.Prelude.{◌≡◌, ℕ, ◌+◌, ◌-◌, ◌*◌, ◌/◌, ◌^◌, ◌<◌, ◌≤◌, ◌++◌, [], None, All, length, slice_index_or, vec_len, vec_capacity};
 ghost use Rattle.requirement_table.specs.Slots.{slots};
@@ -19,8 +19,8 @@ use requirement_table::{Mask, SLOTS};
 /// The number of places of a row: one for each slot.
 const PLACES: usize = SLOTS as usize;
 
-/// Runs the bus over nodes in their synchronous window from `from` on, and puts the frames that start before `until` behind `out`, which has
-/// spare room for one frame more than `(until - from) / 47`. Times are below 2^60.
+/// Runs the bus over nodes in their synchronous window from `from` on, and puts the frames that start before `until`
+/// behind `out`, which has spare room for one frame more than `(until - from) / 47`. Times are below 2^60.
 pub fn run_window(nodes: &mut [Node], from: u64, until: u64, out: &mut Vec<TimedFrame>)
     requires time { until < 2 ^ 60 }
     requires nodes { All IsNode (states_of nodes.old) }

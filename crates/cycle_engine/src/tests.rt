@@ -1,5 +1,5 @@
-//! Cycles of three nodes on a bus, against traces that were worked out bit time by bit time. Node 1 owns 0x200, node 2 owns 0x201, and node 0
-//! owns 0x210.
+//! Cycles of three nodes on a bus, against traces that were worked out bit time by bit time. Node 1 owns 0x200, node 2
+//! owns 0x201, and node 0 owns 0x210.
 
 ghost use Rattle.std.specs.Prelude.{◌≡◌, ◌⊎◌, ◌<◌, ◌≤◌, All, AllPairs, IfOk, IfSome};
 ghost use Rattle.requirement_table.specs.Table.{IsWellPlaced};
@@ -54,8 +54,8 @@ fn list_if(alloc: Global, placed: &[Placed], wanted: bool) -> Result<Option<Plac
     }
 }
 
-/// The frames of the first cycles, in which the list is learnt at first, and each of its entries is flagged. Their worst lengths are `l`
-/// together.
+/// The frames of the first cycles, in which the list is learnt at first, and each of its entries is flagged. Their
+/// worst lengths are `l` together.
 fn first_cycles(
     alloc: Global,
     nodes: &mut Nodes,
@@ -82,7 +82,8 @@ fn first_cycles(
     Ok(trace)
 }
 
-/// The starts, lengths and identifiers of the frames of the first cycles of three nodes with these requests, and how many requests are left.
+/// The starts, lengths and identifiers of the frames of the first cycles of three nodes with these requests, and how
+/// many requests are left.
 fn sent_in(
     alloc: Global,
     layout: Layout,
@@ -210,8 +211,8 @@ fn three_nodes_at_the_edges(rt: HostRuntime) -> Result<(), Fail> {
     let layout = Layout::new(700, 30, 195)?;
     let placed = [entry(3, 1, 2), entry(0, 0, 0), entry(39, 2, 1)];
     assert!(rt; well_placed(&placed) && layout.window() == 195);
-    // Arrivals in the trigger, at a frame's end, at the guard's last bit time and one later, and in the synchronous window; and the requests
-    // of one identifier, of which the last one waits two cycles.
+    // Arrivals in the trigger, at a frame's end, at the guard's last bit time and one later, and in the synchronous
+    // window; and the requests of one identifier, of which the last one waits two cycles.
     let requests = [
         request(0, 0x210, 1)?,
         request(50, 0x200, 8)?,

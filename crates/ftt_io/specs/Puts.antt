@@ -1,4 +1,5 @@
--- What was put to a sink, where the sink tells the bytes that it took. These are the words of std for a writer and what it holds.
+-- What was put to a sink, where the sink tells the bytes that it took. These are the words of std for a writer and what
+-- it holds.
 use Rattle.std.specs.Prelude.{◌≡◌, ℕ, List, ◌++◌, Option}
 use Rattle.std.specs.Io.KnownBytes.{Keeps, Appends}
 

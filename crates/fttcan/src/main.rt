@@ -1,5 +1,5 @@
-//! The program: words, files, streams and threads of the operating system, given to [`fttcan_top::plain`] or [`fttcan_top::live`], and to
-//! [`fttcan_top::flushed`].
+//! The program: words, files, streams and threads of the operating system, given to [`fttcan_top::plain`] or
+//! [`fttcan_top::live`], and to [`fttcan_top::flushed`].
 #![tactic(auto)]
 
 use ftt_io::{FileShelf, StdSink, write_all};

@@ -25,7 +25,8 @@ stopped_by (Requests fault) = wrong_requests fault
 stopped_by (Plan line) = wrong_plan line
 stopped_by LaterPlan = later_plan
 
--- the reason is one for which the words ask for nothing, or a fault of the shelf where its count rose; memory may run out at any time
+-- the reason is one for which the words ask for nothing, or a fault of the shelf where its count rose; memory may run
+-- out at any time
 abbrev pub Explains : {A : Type 0} → (Result A Stopped → Type 0) → Type 0 → Stop → Type 0
 Explains IsFor rose (Input refusal) = IsFor (Err (stopped_by refusal))
 Explains IsFor rose Read = rose ⊎ IsFor (Err absent)

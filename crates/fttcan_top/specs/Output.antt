@@ -45,8 +45,9 @@ use Rattle.fttcan_top.specs.Words.{Command, RunWords, admit, check, command_of, 
 
 -- What is asked
 
--- why a call has nothing to do: the words are no command's; a file is longer than its limit; the text of one breaks a rule of its format, of a
--- plan at this line; the plan does not begin at cycle 0 with nothing pending; or a file is not there
+-- why a call has nothing to do: the words are no command's; a file is longer than its limit; the text of one breaks a
+-- rule of its format, of a plan at this line; the plan does not begin at cycle 0 with nothing pending; or a file is not
+-- there
 pub data Stopped : Type 0 where
   no_command : Stopped
   too_long : Source → Stopped
@@ -63,8 +64,9 @@ pub record Job : Type 0 where
   pub steps : List Step
   pub requests : List Request
 
--- what is asked for: the log of a run or so many of its last rows, and the report behind it or not; the plan of the table behind a run; the
--- check of a plan; the summary of the run of the input that a number makes; or the log of a run by threads, and the report behind it or not
+-- what is asked for: the log of a run or so many of its last rows, and the report behind it or not; the plan of the
+-- table behind a run; the check of a plan; the summary of the run of the input that a number makes; or the log of a run
+-- by threads, and the report behind it or not
 pub data Asked : Type 0 where
   log_of : Job → Option ℕ → Bool → Asked
   summary_of : ℕ → Asked
@@ -210,8 +212,8 @@ status_of history = if all_accepted history then Done else Refused
 abbrev pub report_if : Bool → List Event → List TimedFrame → List Owner → List Request → List ℕ
 report_if report history trace owners requests = if report then report_text history trace owners requests else []
 
--- the log of a run, or so many of its last rows, and the report behind it where that is asked for: the history answers the steps, and history
--- and trace keep what is promised
+-- the log of a run, or so many of its last rows, and the report behind it where that is asked for: the history answers
+-- the steps, and history and trace keep what is promised
 pub record IsLog (job : Job) (tail : Option ℕ) (report : Bool) (status : Status) (text : List ℕ) : Type 0 where
   pub history : List Event
   pub trace : List TimedFrame
@@ -219,7 +221,8 @@ pub record IsLog (job : Job) (tail : Option ℕ) (report : Bool) (status : Statu
   pub ended : status ≡ status_of history
   pub written : text ≡ last_rows tail (log_text history trace) ++ report_if report history trace job.system.owners job.requests
 
--- the plan of the table that stands when a master has answered the steps: from cycle 0 on, and it keeps that table for ever
+-- the plan of the table that stands when a master has answered the steps: from cycle 0 on, and it keeps that table for
+-- ever
 pub record IsPlanText (job : Job) (status : Status) (text : List ℕ) : Type 0 where
   pub history : List Event
   pub answers : AnswersSteps history job.steps
@@ -257,8 +260,8 @@ IsCheckText job certificate Read text = ⊥
 IsCheckText job certificate Write text = ⊥
 IsCheckText job certificate Memory text = ⊥
 
--- the summary of the run of the input that a number makes: the history answers its steps, and history and trace keep what is promised; the
--- call is done also where a change was refused
+-- the summary of the run of the input that a number makes: the history answers its steps, and history and trace keep
+-- what is promised; the call is done also where a change was refused
 pub record IsSummary (number : ℕ) (status : Status) (text : List ℕ) : Type 0 where
   pub history : List Event
   pub trace : List TimedFrame
@@ -266,8 +269,8 @@ pub record IsSummary (number : ℕ) (status : Status) (text : List ℕ) : Type 0
   pub ended : status ≡ Done
   pub written : text ≡ summary_text number history trace (length (requests_made number))
 
--- the log of a run by threads, and the report behind it where that is asked for: the history answers the steps of each operator, in whatever
--- order they came, and history and trace keep what is promised
+-- the log of a run by threads, and the report behind it where that is asked for: the history answers the steps of each
+-- operator, in whatever order they came, and history and trace keep what is promised
 pub record IsLiveLog (job : Job) (report : Bool) (status : Status) (text : List ℕ) : Type 0 where
   pub history : List Event
   pub trace : List TimedFrame
@@ -296,8 +299,8 @@ pub record TellsFront (asked_for : Asked) (old new : Option (List ℕ)) : Type 0
   pub output : IsOutput asked_for status text
   pub puts : PutsPrefix old new text
 
--- a run was cut short: it had answered the first calls of its steps, and what was put are the first bytes of its rows, and the first bytes
--- of the output of every run of all the calls
+-- a run was cut short: it had answered the first calls of its steps, and what was put are the first bytes of its rows,
+-- and the first bytes of the output of every run of all the calls
 pub record TellsBegun (job : Job) (report : Bool) (old new : Option (List ℕ)) : Type 0 where
   pub history : List Event
   pub trace : List TimedFrame
@@ -360,8 +363,8 @@ IsRefusal (wrong_plan line) = ⊤
 IsRefusal later_plan = ⊤
 IsRefusal absent = ⊥
 
--- the status is a true answer to what was asked, where `IsFor` says what was asked, and `shelf_rose` and `out_rose` that the shelf's and the
--- output's count of faults rose in this call; memory may run out in any call
+-- the status is a true answer to what was asked, where `IsFor` says what was asked, and `shelf_rose` and `out_rose`
+-- that the shelf's and the output's count of faults rose in this call; memory may run out in any call
 abbrev pub IsAnswer : (Result Asked Stopped → Type 0) → Type 0 → Type 0 → Status → Type 0
 IsAnswer IsFor shelf_rose out_rose Done = (asked_for : Asked) × IsFor (Ok asked_for)
 IsAnswer IsFor shelf_rose out_rose Refused = (asked_for : Asked) × IsFor (Ok asked_for)

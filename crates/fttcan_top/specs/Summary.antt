@@ -1,4 +1,5 @@
--- *Summary*: the counts of a run, as the text that `gen` writes. Each row ends with one line feed; numbers are decimal without leading zeros.
+-- *Summary*: the counts of a run, as the text that `gen` writes. Each row ends with one line feed; numbers are decimal
+-- without leading zeros.
 use Rattle.std.specs.Prelude.{ℕ, ◌-◌, ◌&&◌, Bool, true, false, not, List, ◌++◌, length, codes, count_by, nat_le, nat_lt}
 use Rattle.std.specs.List.{sum_by}
 use Rattle.std.specs.Fmt.{decimal}
@@ -38,7 +39,8 @@ history_rows history =
     row (codes "accepted") (count_by accepts history)
     ++ (row (codes "refused") (count_by refuses history) ++ row (codes "cycles") (count_by is_open history))
 
--- how many of so many requests were left, where each asynchronous frame sent one; and the bit times that the frames took
+-- how many of so many requests were left, where each asynchronous frame sent one; and the bit times that the frames
+-- took
 unfoldable pub rest_rows : List TimedFrame → ℕ → List ℕ
 rest_rows trace requests =
     row (codes "left") (requests - count_by is_asynchronous trace) ++ row (codes "busy") (sum_by (λ sent. sent.len) trace)

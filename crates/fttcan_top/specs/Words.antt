@@ -1,5 +1,6 @@
--- The words of a call, the program's name left out: which command they ask for. The first word names the command. The words are in the
--- table of commands exactly where clap's simple command of that row takes them, which gets the first word as its program's name.
+-- The words of a call, the program's name left out: which command they ask for. The first word names the command. The
+-- words are in the table of commands exactly where clap's simple command of that row takes them, which gets the first
+-- word as its program's name.
 use Rattle.std.specs.Prelude.{ℕ, ◌+◌, ◌^◌, pos, List, [], ◌∷◌, Bool, true, false, ◌&&◌, Option, Some, None, if◌then◌else◌, codes, nat_lt, unwrap_or, option_and_then}
 use Rattle.std.specs.Option.{option_map_or}
 use Rattle.std.specs.Str.{bytes_eq}
@@ -20,8 +21,8 @@ pub record RunWords : Type 0 where
   pub requests : Option Text
   pub report : Bool
 
--- a command: a replay, of which only the last rows of the log may be asked for; the plan of the table behind steps; the check of a plan; or
--- the run of the input that a number makes
+-- a command: a replay, of which only the last rows of the log may be asked for; the plan of the table behind steps; the
+-- check of a plan; or the run of the input that a number makes
 pub data Command : Type 0 where
   replay : RunWords → Option ℕ → Command
   admit : Text → Text → Command

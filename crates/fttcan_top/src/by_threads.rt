@@ -1,4 +1,5 @@
-//! The top call of a run by threads: from the words of a call and the files that they name to the bytes that are written.
+//! The top call of a run by threads: from the words of a call and the files that they name to the bytes that are
+//! written.
 
 ghost use Rattle.std.specs.Prelude.{◌≡◌, ◌+◌, ◌≤◌, ◌⊎◌, map, string_bytes, IsSome, None, Ok, Err};
 ghost use Rattle.std.specs.Option.{ForSome};
@@ -87,13 +88,14 @@ fn call<T: Threads + Wait + Sync, S: Shelf, O: Sink, G: Gate>(
     }
 }
 
-/// Carries out the words of a call whose first word is `live`, the program's name left out. Lines on what went wrong go to `err`; a failure
-/// of `err` changes no status.
+/// Carries out the words of a call whose first word is `live`, the program's name left out. Lines on what went wrong go
+/// to `err`; a failure of `err` changes no status.
 ///
-/// `live SYSTEM STEPS [REQUESTS] [--report]` runs the steps of a file in the system of another, with the requests of a third where one is
-/// named. One thread opens and runs as many cycles as all `cycle` rows together ask for. Each operator has its own rows answered, in their
-/// order, in a thread of its own. The log of the history that stands in the end goes to `out`, and behind it with `--report` the report.
-/// Each thread passes the gate at the points of [`Point`](crate::Point).
+/// `live SYSTEM STEPS [REQUESTS] [--report]` runs the steps of a file in the system of another, with the requests of a
+/// third where one is named. One thread opens and runs as many cycles as all `cycle` rows together ask for. Each
+/// operator has its own rows answered, in their order, in a thread of its own. The log of the history that stands in
+/// the end goes to `out`, and behind it with `--report` the report. Each thread passes the gate at the points of
+/// [`Point`](crate::Point).
 ///
 /// The call may wait for its threads; what it promises holds if it returns.
 pub fn live<T: Threads + Wait + Sync, S: Shelf, O: Sink, R: Sink, G: Gate>(
@@ -105,7 +107,8 @@ pub fn live<T: Threads + Wait + Sync, S: Shelf, O: Sink, R: Sink, G: Gate>(
     err: &mut R,
     gate: &G,
 ) -> Status
-    // How it ended: what was asked of the files, where the shelf tells them; words alone; and each fault where its count rose.
+    // How it ended: what was asked of the files, where the shelf tells them; words alone; and each fault where its
+    // count rose.
     ensures answer { ForSome (S.told_files shelf.old) (λ files. IsAnswer (IsLiveAsked (map string_bytes words.now) files)
         (Rose (S.faults shelf.old) (S.faults shelf.new)) (Rose (O.faults out.old) (O.faults out.new)) result) }
     ensures words { result ≡ Status.Words → live_of (map string_bytes words.now) ≡ None }

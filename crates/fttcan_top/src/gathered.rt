@@ -13,8 +13,9 @@ use std::io::{BufWriter, Write};
 /// The line for the error sink where the end of the output could not be written.
 const WRITE_FAULT: &[u8] = b"write fault\n";
 
-/// Writes the rest of a gathered log, behind [`plain`](crate::plain), and answers how the call ends: with the status of `plain`, or
-/// with [`Status::Write`] where a run was done and its log could not be written to the end. That is told to `err`.
+/// Writes the rest of a gathered log, behind [`plain`](crate::plain), and answers how the call ends: with the status of
+/// `plain`, or with [`Status::Write`] where a run was done and its log could not be written to the end. That is told to
+/// `err`.
 pub fn flushed<W: Write + Drop, R: Sink>(
     status: Status,
     out: &mut StdSink<BufWriter<W>>,

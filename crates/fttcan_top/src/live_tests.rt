@@ -33,7 +33,8 @@ const ROOM: usize = 65_536;
 /// How often a thread looks whether it may go on.
 const TURNS: u64 = 200_000_000;
 
-/// A gate that holds the first answer until cycle 3 was opened, and that cycle before it is run until the second answer.
+/// A gate that holds the first answer until cycle 3 was opened, and that cycle before it is run until the second
+/// answer.
 #[derive(Drop)]
 struct HeldCycle {
     opened: AtomicU64,

@@ -196,7 +196,8 @@ fn load_named_requests<S: Shelf>(
     }
 }
 
-/// The run that files of these names ask for: the system's file and its text first, then the steps', then the requests' where one is named.
+/// The run that files of these names ask for: the system's file and its text first, then the steps', then the requests'
+/// where one is named.
 fn load_job<S: Shelf>(
     alloc: Global,
     shelf: &mut S,

@@ -95,7 +95,8 @@ fn line_of(status: Status) -> &'static str
     }
 }
 
-/// Says on the error sink how the call ended, and answers its status. Where memory runs out for the line of a refused file, it ends so.
+/// Says on the error sink how the call ended, and answers its status. Where memory runs out for the line of a refused
+/// file, it ends so.
 pub fn tell<R: Sink>(alloc: Global, end: &End, err: &mut R) -> Status
     ensures status { IsStatusOf end.now result }
     ensures message { Says (R.told_bytes err.old) (R.told_bytes err.new) (Rose (R.faults err.old) (R.faults err.new)) (message_of result (end_reason end.now)) }
@@ -192,7 +193,8 @@ fn work_and_put<O: Sink>(alloc: Global, task: &Task, out: &mut O) -> End
     }
 }
 
-/// Does what was asked, and writes the answer: a whole log while the run goes on, and anything else when it is worked out.
+/// Does what was asked, and writes the answer: a whole log while the run goes on, and anything else when it is worked
+/// out.
 fn carry_out<O: Sink>(alloc: Global, task: &Task, out: &mut O) -> End
     requires task { IsTask task.now }
     ensures faults_never_fall { O.faults out.old ≤ O.faults out.new }
@@ -244,13 +246,16 @@ fn call<S: Shelf, O: Sink>(alloc: Global, words: &[String], shelf: &mut S, out: 
     }
 }
 
-/// Carries out the words of a call, the program's name left out. Lines on what went wrong go to `err`; a failure of `err` changes no status.
+/// Carries out the words of a call, the program's name left out. Lines on what went wrong go to `err`; a failure of
+/// `err` changes no status.
 ///
-/// - `replay SYSTEM STEPS` runs the steps of a file in the system of another and writes the log to `out`, and
-///   `replay SYSTEM STEPS REQUESTS` with the requests of a third; with `--tail N`, from 1 to 10,000, only the last N rows of the log, and with
-///   `--report` the report behind it.
-/// - `admit SYSTEM STEPS` runs them without requests, and writes the plan of the table that stands then, from cycle 0 on.
-/// - `check SYSTEM STEPS PLAN` checks such a plan against the changes of the steps, and writes `yes` or the first breach.
+/// - `replay SYSTEM STEPS` runs the steps of a file in the system of another and writes the log to `out`, and `replay
+///   SYSTEM STEPS REQUESTS` with the requests of a third; with `--tail N`, from 1 to 10,000, only the last N rows of
+///   the log, and with `--report` the report behind it.
+/// - `admit SYSTEM STEPS` runs them without requests, and writes the plan of the table that stands then, from cycle 0
+///   on.
+/// - `check SYSTEM STEPS PLAN` checks such a plan against the changes of the steps, and writes `yes` or the first
+///   breach.
 /// - `gen NUMBER` makes an input from a number of 0 to 4,294,967,295, runs it and writes a summary; it reads no file.
 pub fn plain<S: Shelf, O: Sink, R: Sink>(
     alloc: Global,
@@ -259,7 +264,8 @@ pub fn plain<S: Shelf, O: Sink, R: Sink>(
     out: &mut O,
     err: &mut R,
 ) -> Status
-    // How it ended: what was asked of the files, where the shelf tells them; words alone; and each fault where its count rose.
+    // How it ended: what was asked of the files, where the shelf tells them; words alone; and each fault where its
+    // count rose.
     ensures answer { ForSome (S.told_files shelf.old) (λ files. IsAnswer (IsAsked (map string_bytes words.now) files)
         (Rose (S.faults shelf.old) (S.faults shelf.new)) (Rose (O.faults out.old) (O.faults out.new)) result) }
     ensures words { result ≡ Status.Words → command_of (map string_bytes words.now) ≡ None }
@@ -267,7 +273,8 @@ pub fn plain<S: Shelf, O: Sink, R: Sink>(
     ensures read { result ≡ Status.Read → Rose (S.faults shelf.old) (S.faults shelf.new) ⊎ IsSome (S.told_files shelf.old) }
     ensures write { result ≡ Status.Write → Rose (O.faults out.old) (O.faults out.new) }
 
-    // What was put to `out`: the answer to what was asked, its first bytes, the first rows of a run that was begun, or nothing.
+    // What was put to `out`: the answer to what was asked, its first bytes, the first rows of a run that was begun, or
+    // nothing.
     ensures done { IsDone result → (asked_for : Asked)
         × ForSome (S.told_files shelf.old) (λ files. IsAsked (map string_bytes words.now) files (Ok asked_for))
         × Tells asked_for result (O.told_bytes out.old) (O.told_bytes out.new) }

@@ -24,7 +24,8 @@ fn row_len(text: &[u8]) -> usize
     text.len()
 }
 
-/// Puts the text, or its first bytes where the sink fails. The body puts each row by a call of its own; no clause says so.
+/// Puts the text, or its first bytes where the sink fails. The body puts each row by a call of its own; no clause says
+/// so.
 pub fn put_rows<O: Sink>(out: &mut O, text: &[u8]) -> Result<(), Failed>
     ensures faults_never_fall { O.faults out.old ≤ O.faults out.new }
     ensures all { OnOk result (Puts (O.told_bytes out.old) (O.told_bytes out.new) text.now) }

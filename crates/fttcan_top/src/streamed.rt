@@ -39,10 +39,11 @@ fn put_report<O: Sink>(
     }
 }
 
-/// Runs the steps and writes the log meanwhile, and the report behind it where that is asked for. Answers the status of the run.
+/// Runs the steps and writes the log meanwhile, and the report behind it where that is asked for. Answers the status of
+/// the run.
 ///
-/// The rows of an event are put when its cycle was run, so what is put is never searched or kept. The frames are kept for the report
-/// alone.
+/// The rows of an event are put when its cycle was run, so what is put is never searched or kept. The frames are kept
+/// for the report alone.
 ///
 /// # Errors
 ///

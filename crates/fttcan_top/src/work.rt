@@ -82,7 +82,8 @@ fn push_report(
     Ok(())
 }
 
-/// Runs the steps, and answers with the log, or with so many of its last rows, and with the report behind it where that is asked for.
+/// Runs the steps, and answers with the log, or with so many of its last rows, and with the report behind it where that
+/// is asked for.
 fn log_of(alloc: Global, job: &Job, tail: Option<u16>, report: bool) -> Result<Outcome, AllocError>
     requires job { IsJob job.now }
     ensures log { IfOk result (λ outcome. IsLog (job_of job.now) tail report outcome.status outcome.text.items) }
@@ -110,7 +111,8 @@ fn log_of(alloc: Global, job: &Job, tail: Option<u16>, report: bool) -> Result<O
     })
 }
 
-/// Runs the steps by threads, each of which passes the gate, and answers with the log, and with the report behind it where that is asked for.
+/// Runs the steps by threads, each of which passes the gate, and answers with the log, and with the report behind it
+/// where that is asked for.
 pub fn live_log_of<T: Threads + Wait + Sync, G: Gate>(
     rt: &T,
     alloc: Global,

@@ -151,8 +151,8 @@ read_one rem a b fields left config source read =
 abbrev pub rows_left : State → List ℕ → List (List (List ℕ))
 rows_left s xs = map (map trimmed) (records_left s xs)
 
--- how a reader stands between two rows: it has these bytes left, the rows that were read, and then those left, are all rows, and a byte at
--- least was read for each
+-- how a reader stands between two rows: it has these bytes left, the rows that were read, and then those left, are all
+-- rows, and a byte at least was read for each
 pub record Reads (bytes : List ℕ) (reader : Reader (Bor (List ℕ))) (read : List (List (List ℕ))) : Type 0 where
   pub trim : reader.trim ≡ trim.None
   pub ready : Ready reader

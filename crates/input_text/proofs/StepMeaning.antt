@@ -1,4 +1,5 @@
--- What a row of a steps file says where it says something: its numbers are in their ranges, and it may stand where it stands.
+-- What a row of a steps file says where it says something: its numbers are in their ranges, and it may stand where it
+-- stands.
 use Rattle.std.proofs.Common.{◌≡◌, ℕ, ◌+◌, ◌-◌, ◌^◌, ◌≤◌, ◌<◌, ◌&&◌, Bool, true, false, List, length, Option, Some, None, option_map, option_and_then, Result, Ok, Err, inl, inr, nat_le, nat_lt, refl, sym, ap, ◌∙◌, arith, subst}
 use Rattle.std.proofs.lemmas.Bool.{and_parts, cases_Bool}
 use Rattle.std.proofs.lemmas.Bool.Decides.{nat_tests}

@@ -15,7 +15,8 @@ without_leading_spaces (byte ∷ rest) = if byte == 32 then without_leading_spac
 abbrev pub trimmed : List ℕ → List ℕ
 trimmed field = reverse (without_leading_spaces (reverse (without_leading_spaces field)))
 
--- the rows of a text: its records of comma-separated fields, without a byte order mark at the start and without a header, each field trimmed
+-- the rows of a text: its records of comma-separated fields, without a byte order mark at the start and without a
+-- header, each field trimmed
 abbrev pub rows_of : List ℕ → List (List (List ℕ))
 rows_of bytes = map (map trimmed) (records default_config (strip_bom bytes))
 

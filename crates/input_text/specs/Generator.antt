@@ -89,8 +89,8 @@ byte_made number before place = draw number (before + 4 + place) % 256
 unfoldable pub bytes_made : ℕ → ℕ → List ℕ
 bytes_made number before = each_below (size_made number before) (byte_made number before)
 
--- how many draws stand before those of the request of this place, from 0: those of the 40 changes, and three and one for each byte of each request
--- before it
+-- how many draws stand before those of the request of this place, from 0: those of the 40 changes, and three and one
+-- for each byte of each request before it
 unfoldable pub draws_before : ℕ → ℕ → ℕ
 draws_before number zero = 6 * 40
 draws_before number (suc place) = draws_before number place + 3 + size_made number (draws_before number place)

@@ -58,7 +58,8 @@ arrival_above above = unwrap_or (option_map (λ request. request.at) (slice_get 
 abbrev pub frame_with : ℕ → List ℕ → DataFrame
 frame_with identifier bytes = record { identifier = identifier; bytes = bytes }
 
--- the request of a row below the requests of the rows above it, or the first why, in this order, for which it asks for none
+-- the request of a row below the requests of the rows above it, or the first why, in this order, for which it asks for
+-- none
 unfoldable pub meaning : List Owner → List Request → List (List ℕ) → Result Request RequestWhy
 meaning owners above row = do
   fields ← where_holds (length row == 3) row Fields

@@ -1,5 +1,5 @@
--- What the rows of a file mean one by one, where what a row means may depend on the rows above it. `meaning above row` is what a row means below
--- the meanings of the rows above it, or why it means nothing.
+-- What the rows of a file mean one by one, where what a row means may depend on the rows above it. `meaning above row`
+-- is what a row means below the meanings of the rows above it, or why it means nothing.
 use Rattle.std.specs.Prelude.{◌≡◌, ℕ, ◌+◌, List, [], ◌∷◌, ◌++◌, length, take, Some, Result, Ok, Err}
 use Rattle.std.specs.List.{slice_get}
 

@@ -38,7 +38,8 @@ fields_of_verb Add = 7
 fields_of_verb Remove = 1
 fields_of_verb Change = 7
 
--- whether a row of this form has so many fields: `cycle,COUNT`, `look,OPERATOR`, a word with OPERATOR, START and an operation, or `and` with a word and an operation
+-- whether a row of this form has so many fields: `cycle,COUNT`, `look,OPERATOR`, a word with OPERATOR, START and an
+-- operation, or `and` with a word and an operation
 abbrev pub has_fields : Form → ℕ → Bool
 has_fields Cycle fields = fields == 2
 has_fields Look fields = fields == 2

@@ -1,5 +1,6 @@
--- What a system file means. It is a TOML document; the rows below are the table of its paths, in its order. A file is taken where nothing is
--- wrong with it: `faults_of` lists all that is wrong, in the order in which it is looked for, and the first of these is the answer.
+-- What a system file means. It is a TOML document; the rows below are the table of its paths, in its order. A file is
+-- taken where nothing is wrong with it: `faults_of` lists all that is wrong, in the order in which it is looked for,
+-- and the first of these is the answer.
 use Rattle.std.specs.Prelude.{◌≡◌, ℕ, ◌+◌, ◌-◌, ◌<◌, ◌≤◌, ◌&&◌, not, pos, Bool, false, if◌then◌else◌, nat_eq, nat_le, List, [], ◌∷◌, ◌++◌, map, take, All, Option, Some, None, is_some, is_none, Result, Ok, Err, codes}
 use Rattle.std.specs.Cmp.Lexicographic.{slice_cmp}
 use Rattle.std.specs.Fmt.{decimal}

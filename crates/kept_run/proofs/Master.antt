@@ -13,8 +13,8 @@ pub record MasterLaws : Type 0 where
   -- the placed entries are well placed, and no deadline of theirs is ever missed
   pub well_placed : (rules : Rules) (history : List Event) → IsLegal rules history → IsWellPlaced (placed_of history)
   pub in_time : (rules : Rules) (history : List Event) → IsLegal rules history → NeverMisses (plan_of rules (placed_of history))
-  -- the cycles below the next one are opened, in their order, each once; each with the plan of the final list, and with its instances, but
-  -- for ends that came later
+  -- the cycles below the next one are opened, in their order, each once; each with the plan of the final list, and with
+  -- its instances, but for ends that came later
   pub cycles : (rules : Rules) (history : List Event) → IsLegal rules history
       → map (λ o. o.cycle) (openings_of history) ≡ range_with_len 0 (next_of history)
   pub masks : (rules : Rules) (history : List Event) → IsLegal rules history

@@ -14,8 +14,8 @@ use Rattle.cycle_engine.specs.Offered.{AreOfDistinctCycles}
 use Rattle.kept_run.proofs.Lists.{number-below, numbers-differ, of-number}
 use Rattle.kept_run.proofs.Master.{MasterLaws}
 
--- the openings are of the cycles below `next`, each once, and each has the mask and, but for ends that came later, the instances of this
--- list, which is well placed and never misses a deadline
+-- the openings are of the cycles below `next`, each once, and each has the mask and, but for ends that came later, the
+-- instances of this list, which is well placed and never misses a deadline
 pub record AreOpenedBy (rules : Rules) (placed : List Placed) (next : ℕ) (openings : List Opening) : Type 0 where
   pub well : IsWellPlaced placed
   pub in_time : NeverMisses (plan_of rules placed)

@@ -14,31 +14,31 @@ use Rattle.cycle_engine.specs.Cycle.{RunsCycles}
 use Rattle.cycle_engine.specs.Nodes.{IsBus, IsNumber, NodesView, states_of}
 use Rattle.cycle_engine.specs.Offered.{AreAsynchronous, IsCanTrace}
 
--- what a run stands on: the rules by which changes are judged and cycles are planned, the layout of the bus, the owners of its asynchronous
--- identifiers, and the requests
+-- what a run stands on: the rules by which changes are judged and cycles are planned, the layout of the bus, the owners
+-- of its asynchronous identifiers, and the requests
 pub record Setting : Type 0 where
   pub rules : Rules
   pub layout : CycleLayout
   pub owners : List Owner
   pub requests : List Request
 
--- what holds of it: the layout's numbers are in range, the largest synchronous window is the one within which cycles are planned, and the
--- requests have asynchronous identifiers
+-- what holds of it: the layout's numbers are in range, the largest synchronous window is the one within which cycles
+-- are planned, and the requests have asynchronous identifiers
 pub record IsSetting (setting : Setting) : Type 0 where
   pub known : IsLayout setting.layout
   pub same_window : setting.rules.window ≡ setting.layout.window
   pub asynchronous : AreAsynchronous setting.requests
 
--- the history and the trace of a run so far: the history is legal, the trace is that which arbitration decides in the opened cycles, it has
--- ended by the start of the next cycle, and in each opened cycle it sends what the opening says
+-- the history and the trace of a run so far: the history is legal, the trace is that which arbitration decides in the
+-- opened cycles, it has ended by the start of the next cycle, and in each opened cycle it sends what the opening says
 pub record IsUnderWay (setting : Setting) (history : List Event) (trace : List TimedFrame) : Type 0 where
   pub legal : IsLegal setting.rules history
   pub can_trace : IsCanTrace setting.layout setting.requests (openings_of history) (next_of history) trace
   pub ended : All (λ sent. end_of sent ≤ next_of history * setting.layout.cycle) trace
   pub cycles : RunsCycles setting.layout (openings_of history) trace
 
--- the nodes of a run before its next cycle: there is one of each number, they heard the trace, and each knows its entries of a list, which
--- is that of the placed entries where no change was accepted since the last opening
+-- the nodes of a run before its next cycle: there is one of each number, they heard the trace, and each knows its
+-- entries of a list, which is that of the placed entries where no change was accepted since the last opening
 pub record AreReady (setting : Setting) (history : List Event) (trace : List TimedFrame) (nodes : NodesView) : Type 0 where
   pub same_layout : nodes.layout ≡ setting.layout
   pub numbers : (number : ℕ) → number < setting.rules.nodes → IsNumber (states_of nodes.nodes) number

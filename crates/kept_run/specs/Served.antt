@@ -1,5 +1,6 @@
--- What is owed by a trace: each instance whose last cycle was run was sent whole, exactly once, in its time; nothing else was sent in its
--- slot; and no frame of a request touches a trigger's time or a synchronous window. Times are bit times.
+-- What is owed by a trace: each instance whose last cycle was run was sent whole, exactly once, in its time; nothing
+-- else was sent in its slot; and no frame of a request touches a trigger's time or a synchronous window. Times are bit
+-- times.
 use Rattle.std.specs.Prelude.{◌≡◌, ℕ, ◌+◌, ◌<◌, ◌≤◌, ◌&&◌, ◌==◌, nat_le, List, [], ◌∷◌, filter, All, Contains}
 use Rattle.can_frame.specs.declared.data_frame.TimedFrame.{TimedFrame}
 use Rattle.cycle_layout.specs.Layout.{CycleLayout, async_open}
@@ -16,8 +17,8 @@ abbrev pub frames_of : CycleLayout → ℕ → ℕ → ℕ → List TimedFrame �
 frames_of layout identifier first last trace =
     filter (λ sent. (sent.frame.identifier == identifier) && (nat_le first (cycle_of layout sent) && nat_le (cycle_of layout sent) last)) trace
 
--- the frame lies in the synchronous window of the cycle in which it starts: it starts at or after (c + 1)·E - l, and ends at or before
--- (c + 1)·E, where the worst lengths of the cycle's flagged slots sum to l
+-- the frame lies in the synchronous window of the cycle in which it starts: it starts at or after (c + 1)·E - l, and
+-- ends at or before (c + 1)·E, where the worst lengths of the cycle's flagged slots sum to l
 pub record IsInWindow (layout : CycleLayout) (openings : List Opening) (sent : TimedFrame) : Type 0 where
   pub opening : Opening
   pub opened : Contains openings opening
@@ -25,8 +26,9 @@ pub record IsInWindow (layout : CycleLayout) (openings : List Opening) (sent : T
   pub after : window_start layout opening ≤ sent.start
   pub before : end_of sent ≤ end_of_cycle layout opening
 
--- *Served*: of the instance `k` of an entry, whose last cycle is `last`, exactly one frame of the slot starts in the cycles from the
--- instance's release to its last one, within the synchronous window of its cycle, and it carries the instance's bytes
+-- *Served*: of the instance `k` of an entry, whose last cycle is `last`, exactly one frame of the slot starts in the
+-- cycles from the instance's release to its last one, within the synchronous window of its cycle, and it carries the
+-- instance's bytes
 pub record IsServed (layout : CycleLayout) (openings : List Opening) (trace : List TimedFrame) (placed : Placed) (k last : ℕ) : Type 0 where
   pub sent : TimedFrame
   pub once : frames_of layout (first_identifier + placed.entry.slot) (release_of placed k) last trace ≡ sent ∷ []
@@ -59,6 +61,7 @@ pub record IsGuarded (layout : CycleLayout) (openings : List Opening) (sent : Ti
   pub after : async_open layout opening.cycle ≤ sent.start
   pub before : end_of sent ≤ window_start layout opening
 
--- *Guarded*: no frame of a request touches a trigger's time or a synchronous window; identifiers from 0x200 on are those of requests
+-- *Guarded*: no frame of a request touches a trigger's time or a synchronous window; identifiers from 0x200 on are
+-- those of requests
 abbrev pub AllGuarded : CycleLayout → List Opening → List TimedFrame → Type 0
 AllGuarded layout openings trace = All (λ sent. 0x200 ≤ sent.frame.identifier → IsGuarded layout openings sent) trace

@@ -1,7 +1,7 @@
 //! Laws about runs. Each function has an empty body but for calls of other laws, and its contract is the law.
 //!
-//! A run keeps two things between its steps: its history and its trace are under way, and its nodes are ready. It begins so, each step
-//! keeps it, and whatever is under way keeps what is promised.
+//! A run keeps two things between its steps: its history and its trace are under way, and its nodes are ready. It
+//! begins so, each step keeps it, and whatever is under way keeps what is promised.
 
 ghost use Rattle.std.specs.Prelude.{◌≡◌, ℕ, ◌+◌, ◌*◌, ◌<◌, ◌≤◌, ◌↔◌, false, List, [], ◌∷◌, ◌++◌, All, Any, IfSome};
 ghost use Rattle.can_frame.specs.declared.data_frame.TimedFrame.{TimedFrame};
@@ -57,8 +57,8 @@ pub fn beginning()
         → AreReady setting [] [] nodes }
 {}
 
-/// A history is legal with one call more exactly where it is legal and the call is right after it. So what begins a legal history is
-/// legal.
+/// A history is legal with one call more exactly where it is legal and the call is right after it. So what begins a
+/// legal history is legal.
 pub fn one_call_more()
     ensures legal { (rules : Rules) (history : List Event) (event : Event)
         → IsLegal rules (history ++ event ∷ []) ↔ (IsLegal rules history × IsRight rules history event) }
@@ -74,8 +74,9 @@ pub fn calls_between()
         → AreReady setting history trace nodes → AreReady setting (history ++ calls) trace nodes }
 {}
 
-/// An order of the master can be run as it is: its opening is right after the history, its frames fit into the largest window, what the nodes
-/// are to learn is well placed, and when they have learnt it each flagged slot has a node that knows what to send.
+/// An order of the master can be run as it is: its opening is right after the history, its frames fit into the largest
+/// window, what the nodes are to learn is well placed, and when they have learnt it each flagged slot has a node that
+/// knows what to send.
 pub fn orders()
     ensures right { (rules : Rules) (history : List Event) (order : Order) → IsOrder rules history order
         → IsRight rules history (Open order.cycle order.mask) }
@@ -96,8 +97,9 @@ pub fn orders()
     legal_histories();
 }
 
-/// A cycle that is opened right after the history, with whatever slots the plan gives, and whose frames follow the trace by what is
-/// offered in it, keeps a run under way; and the run of an order on the bus keeps it under way and leaves its nodes ready.
+/// A cycle that is opened right after the history, with whatever slots the plan gives, and whose frames follow the
+/// trace by what is offered in it, keeps a run under way; and the run of an order on the bus keeps it under way and
+/// leaves its nodes ready.
 pub fn cycles_run()
     ensures opened { (setting : Setting) (history : List Event) (cycle mask : ℕ) (trace frames : List TimedFrame)
         → IsSetting setting → IsUnderWay setting history trace → IsLegal setting.rules (history ++ Open cycle mask ∷ [])

@@ -12,8 +12,9 @@ use Rattle.master_core.specs.Orders.{IsOrder}
 use Rattle.live_master.specs.declared.fault.TryFault.{TryFault}
 use Rattle.live_master.specs.declared.fault.TryFault.TheVariants.{Busy, Memory}
 
--- another pass held the turn, and this word was found: twice the length of the history then, and one. So it is no less than twice the
--- length of what was seen, and one. The dispatcher finds the turn held only while an operator is out. Nothing else changed
+-- another pass held the turn, and this word was found: twice the length of the history then, and one. So it is no less
+-- than twice the length of what was seen, and one. The dispatcher finds the turn held only while an operator is out.
+-- Nothing else changed
 pub record IsRefused (old new : Known Event Rules) (word : ℕ) : Type 0 where
   pub is : new ≡ knowing old (refused word old.view)
   pub odd : word % 2 ≡ 1
@@ -29,7 +30,8 @@ pub record GaveBack (old new : Known Event Rules) : Type 0 where
     taken = old.view.taken ++ (old.view.number, length (old.view.seen ++ between)) ∷ [];
   })
 
--- the call was answered: the turn was got, behind what was seen and these events, and let go with this event added. Nothing else changed
+-- the call was answered: the turn was got, behind what was seen and these events, and let go with this event added.
+-- Nothing else changed
 pub record Answered (old new : Known Event Rules) (event : Event) : Type 0 where
   pub between : List Event
   pub is : new ≡ knowing old (record old.view {
@@ -49,7 +51,8 @@ pub record Submitted (old new : Known Event Rules) (change : Change) (verdict : 
 abbrev pub LookedAt : Known Event Rules → Known Event Rules → ℕ → Type 0
 LookedAt old new next = Answered old new (Look old.view.number next)
 
--- a cycle was opened by this order, which is that of the history before the opening. No other cycle was opened in between
+-- a cycle was opened by this order, which is that of the history before the opening. No other cycle was opened in
+-- between
 pub record Opened (rules : Rules) (old new : Known Event Rules) (order : Order) : Type 0 where
   pub answered : Answered old new (Open order.cycle order.mask)
   pub is_order : IsOrder rules (old.view.seen ++ answered.between) order

@@ -9,8 +9,8 @@ use crate::desk::Desk;
 use std::marker::Model;
 use turn_lock::Pass;
 
-/// The place of the one dispatcher at a shared master. It has the number 0, makes and retires operators, and opens cycles. Contracts see it
-/// as a pass of the turn lock.
+/// The place of the one dispatcher at a shared master. It has the number 0, makes and retires operators, and opens
+/// cycles. Contracts see it as a pass of the turn lock.
 ///
 /// Where it is dropped, the shared master cannot be closed.
 #[derive(Drop)]
@@ -64,7 +64,8 @@ impl DispatcherPass {
     }
 }
 
-/// The place of an operator at a shared master. Its number, 1 to 8, is its caller number. Contracts see it as a pass of the turn lock.
+/// The place of an operator at a shared master. Its number, 1 to 8, is its caller number. Contracts see it as a pass of
+/// the turn lock.
 ///
 /// Where it is dropped, it is never retired, and then the shared master cannot be closed.
 #[derive(Drop)]

@@ -41,8 +41,8 @@ fn change_of(alloc: Global, start: u64, op: Op) -> Result<Change, AllocError> {
     Ok(Change { start, ops })
 }
 
-/// The number of the pass that made an event, with a number in it: the cycle that was opened, the start of the change, the cycle that was
-/// answered.
+/// The number of the pass that made an event, with a number in it: the cycle that was opened, the start of the change,
+/// the cycle that was answered.
 fn named(event: &Event) -> (u8, u64) {
     match event {
         Event::Open { cycle, .. } => (0, *cycle),
@@ -97,7 +97,8 @@ fn each_call_stands_in_the_history(rt: HostRuntime) -> Result<(), Fail> {
     Ok(())
 }
 
-/// Looks and has a change answered, again and again. The change takes away what is not there, and starts with the number of the round.
+/// Looks and has a change answered, again and again. The change takes away what is not there, and starts with the
+/// number of the round.
 fn ask<R: Wait>(
     rt: &R,
     alloc: Global,
@@ -189,7 +190,8 @@ fn retire(shared: &LiveMaster, pass: &mut DispatcherPass, mut passes: Vec<Operat
     }
 }
 
-/// Whether the cycles that were opened, and the changes of each operator, are counted from 0, each once, in their order.
+/// Whether the cycles that were opened, and the changes of each operator, are counted from 0, each once, in their
+/// order.
 fn is_in_order(history: &[Event]) -> bool {
     let mut counts = [0u64; 9];
     for event in history {

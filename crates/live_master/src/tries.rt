@@ -16,12 +16,13 @@ use requirement_table::Order;
 use std::alloc::Global;
 
 impl LiveMaster {
-    /// Tries once to have a change answered, which this pass's operator asks for. It is planned under the turn, from the next cycle on.
+    /// Tries once to have a change answered, which this pass's operator asks for. It is planned under the turn, from
+    /// the next cycle on.
     ///
     /// # Errors
     ///
-    /// `Busy` exactly where this call found the turn held by another pass, and `Memory` where memory ran out. The call left no event then,
-    /// and may be made again.
+    /// `Busy` exactly where this call found the turn held by another pass, and `Memory` where memory ran out. The call
+    /// left no event then, and may be made again.
     pub fn try_submit(
         &self,
         alloc: Global,
@@ -40,8 +41,8 @@ impl LiveMaster {
     ///
     /// # Errors
     ///
-    /// `Busy` exactly where this call found the turn held by another pass, and `Memory` where memory ran out. The call left no event then,
-    /// and may be made again.
+    /// `Busy` exactly where this call found the turn held by another pass, and `Memory` where memory ran out. The call
+    /// left no event then, and may be made again.
     pub fn try_look(&self, alloc: Global, pass: &mut OperatorPass) -> Result<u64, TryFault>
         requires of { IsOf self.now pass.old }
         ensures looked { IfOk result (λ next. LookedAt pass.old pass.new next) }
@@ -55,8 +56,8 @@ impl LiveMaster {
     ///
     /// # Errors
     ///
-    /// `Busy` exactly where this call found the turn held by another pass, and `Memory` where memory ran out. The call left no event then,
-    /// and may be made again.
+    /// `Busy` exactly where this call found the turn held by another pass, and `Memory` where memory ran out. The call
+    /// left no event then, and may be made again.
     pub fn try_open(&self, alloc: Global, pass: &mut DispatcherPass) -> Result<Order, TryFault>
         requires of { IsOf self.now pass.old }
         requires cycles { next_of pass.old.view.mine < 2 ^ 41 }

@@ -27,8 +27,8 @@ pub record AreFresh (setting : Setting) (nodes : NodesView) : Type 0 where
   pub bus : IsBus setting.layout setting.owners setting.requests [] [] 0 (states_of nodes.nodes)
   pub numbers : (number : ℕ) → number < setting.rules.nodes → IsNumber (states_of nodes.nodes) number
 
--- under this number the pass has the calls of an operator that was retired: they are all calls that the history has of it, and answer these
--- acts, in their order, each once
+-- under this number the pass has the calls of an operator that was retired: they are all calls that the history has of
+-- it, and answer these acts, in their order, each once
 pub record HasAnswered (v : View Event Rules) (number : ℕ) (acts : List Act) : Type 0 where
   pub calls : List Event
   pub under : Contains v.ended (number, calls)
@@ -41,9 +41,9 @@ pub record IsLeft (setting : Setting) (history : List Event) (run : Run) : Type 
   pub ready : AreReady setting history run.trace nodes
   pub left : run.left ≡ left_in (states_of nodes.nodes)
 
--- *The run*: what the dispatcher's pass has seen is plainly legal, and with the trace it keeps what is promised; it opens so many cycles, and
--- these openings are the pass's own calls; and it has the calls of each script, under the number of its operator, which is one above its
--- place, and of no other operator
+-- *The run*: what the dispatcher's pass has seen is plainly legal, and with the trace it keeps what is promised; it
+-- opens so many cycles, and these openings are the pass's own calls; and it has the calls of each script, under the
+-- number of its operator, which is one above its place, and of no other operator
 pub record IsLiveRun (setting : Setting) (cycles : ℕ) (scripts : List Script) (v : View Event Rules) (run : Run) : Type 0 where
   pub plain : IsPlainlyLegal setting.rules v.seen
   pub kept : Kept setting.rules setting.layout setting.requests v.seen run.trace

@@ -31,7 +31,8 @@ pub record IsRunning (setting : Setting) (shared : Lock Rules) (seen : List Even
 abbrev pub CanRun : Lock Rules → List Event → Bus → Type 0
 CanRun shared seen bus = (setting : Setting) × IsRunning setting shared seen bus
 
--- behind what a dispatcher had seen, others made calls that open no cycle, and then it opened one, by the order of the history so far
+-- behind what a dispatcher had seen, others made calls that open no cycle, and then it opened one, by the order of the
+-- history so far
 pub record HasOpened (rules : Rules) (old new : List Event) (order : Order) : Type 0 where
   pub calls : List Event
   pub closed : All (λ call. is_open call ≡ false) calls

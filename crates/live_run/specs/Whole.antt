@@ -11,14 +11,16 @@ use Rattle.live_run.specs.declared.script.Script.{Script}
 use Rattle.live_run.specs.Answers.{AnswersActs}
 use Rattle.live_run.specs.Live.{IsLeft}
 
--- the history opens so many cycles and answers these scripts: the calls of the operator whose number is one above a script's place are its
--- acts, in their order, each once, and nobody else called. In which order calls of different operators and openings stand is left open
+-- the history opens so many cycles and answers these scripts: the calls of the operator whose number is one above a
+-- script's place are its acts, in their order, each once, and nobody else called. In which order calls of different
+-- operators and openings stand is left open
 pub record AnswersScripts (cycles : ℕ) (scripts : List Script) (history : List Event) : Type 0 where
   pub opened : next_of history ≡ cycles
   pub answered : (k : ℕ) (d : Script) → k < length scripts → AnswersActs (k + 1) (slice_index_or scripts k d).acts (own number_of (k + 1) history)
   pub others : All (λ event. number_of event ≤ length scripts) history
 
--- the master's history is plainly legal, answers the scripts, and with the trace keeps what is promised; and so many requests are not sent
+-- the master's history is plainly legal, answers the scripts, and with the trace keeps what is promised; and so many
+-- requests are not sent
 pub record IsWholeRun (setting : Setting) (cycles : ℕ) (scripts : List Script) (ended : Ended) : Type 0 where
   pub rules : ended.master.rules ≡ setting.rules
   pub plain : IsPlainlyLegal setting.rules ended.master.history

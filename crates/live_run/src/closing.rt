@@ -30,11 +30,12 @@ pub struct Ended {
     pub run: Run,
 }
 
-/// Makes a shared master with these rules and nodes before cycle 0, runs them as [`run_live`] does, and closes the master.
+/// Makes a shared master with these rules and nodes before cycle 0, runs them as [`run_live`] does, and closes the
+/// master.
 ///
-/// The largest synchronous window of the rules is that of the layout. The owners' identifiers are distinct and 0x200 to 0x7EF, their nodes
-/// are among those of the rules, each request's identifier has an owner, and arrivals never fall and are below 2^40. There are less than
-/// 2^41 cycles and at most 8 scripts, the first one of operator 1.
+/// The largest synchronous window of the rules is that of the layout. The owners' identifiers are distinct and 0x200 to
+/// 0x7EF, their nodes are among those of the rules, each request's identifier has an owner, and arrivals never fall and
+/// are below 2^40. There are less than 2^41 cycles and at most 8 scripts, the first one of operator 1.
 ///
 /// # Errors
 ///

@@ -1,5 +1,5 @@
-//! The run of a shared master: one dispatcher opens cycles and runs each on a simulated bus, while up to 8 operators have their scripts
-//! answered, all of them threads.
+//! The run of a shared master: one dispatcher opens cycles and runs each on a simulated bus, while up to 8 operators
+//! have their scripts answered, all of them threads.
 //!
 //! Cycles are elementary cycles, counted from 0; times are bit times.
 #![tactic(auto)]

@@ -13,7 +13,8 @@ pub enum Point {
     Answered { caller: u8 },
 }
 
-/// What each thread of a run passes at the points. A gate may hold a thread for a while: it tells nothing, and changes nothing of the run.
+/// What each thread of a run passes at the points. A gate may hold a thread for a while: it tells nothing, and changes
+/// nothing of the run.
 pub trait Gate: Sync {
     /// Is called at a point, and lets the thread go on when it returns.
     fn pass(&self, point: Point);

@@ -19,14 +19,17 @@ use std::alloc::{AllocError, Global};
 use std::sync::Wait;
 use std::thread::Threads;
 
-/// Runs a shared master: one dispatcher opens `cycles` cycles, below 2^41, and runs each on the bus of `nodes`, while the operators have
-/// their scripts answered, up to 8, each in a thread of its own. The script at place `k`, from 0, is that of operator `k` + 1.
+/// Runs a shared master: one dispatcher opens `cycles` cycles, below 2^41, and runs each on the bus of `nodes`, while
+/// the operators have their scripts answered, up to 8, each in a thread of its own. The script at place `k`, from 0, is
+/// that of operator `k` + 1.
 ///
-/// `pass` and `nodes` are as they were made, in a setting with the shared master's rules: its largest window is that of the nodes' layout.
-/// Each cycle's opening passes the gate before the cycle is run and once it was run, and each act once it was answered.
+/// `pass` and `nodes` are as they were made, in a setting with the shared master's rules: its largest window is that of
+/// the nodes' layout. Each cycle's opening passes the gate before the cycle is run and once it was run, and each act
+/// once it was answered.
 ///
-/// Afterwards no operator is out, also after an error. What the pass has seen is then the history of the run: it has the calls of the
-/// dispatcher and of each script, in their orders, and with the trace it keeps what is promised of every run.
+/// Afterwards no operator is out, also after an error. What the pass has seen is then the history of the run: it has
+/// the calls of the dispatcher and of each script, in their orders, and with the trace it keeps what is promised of
+/// every run.
 ///
 /// # Errors
 ///

@@ -20,7 +20,8 @@ use std::thread::Threads;
 /// How often a thread looks whether it may go on.
 const TURNS: u64 = 200_000_000;
 
-/// A gate that holds the first answer until cycle 3 was opened, and that cycle before it is run until the second answer.
+/// A gate that holds the first answer until cycle 3 was opened, and that cycle before it is run until the second
+/// answer.
 #[derive(Drop)]
 struct HeldCycle {
     opened: AtomicU64,
@@ -71,7 +72,8 @@ impl Gate for HeldCycle {
     }
 }
 
-/// The script of an operator that looks, and then asks for an entry without data and with an instance in each cycle from this one on.
+/// The script of an operator that looks, and then asks for an entry without data and with an instance in each cycle
+/// from this one on.
 fn look_and_add(alloc: Global, start: u64) -> Result<Script, AllocError> {
     let entry = Entry {
         slot: 0,
@@ -132,8 +134,8 @@ fn opens_with_slot_0(event: &Event, number: u64) -> bool {
     }
 }
 
-/// A change that is answered while cycle 3 is open stands behind the opening of that cycle, and is planned from cycle 4 on. Where it starts
-/// there, cycle 4 flags its entry.
+/// A change that is answered while cycle 3 is open stands behind the opening of that cycle, and is planned from cycle 4
+/// on. Where it starts there, cycle 4 flags its entry.
 #[test]
 fn change_while_cycle_open(rt: HostRuntime) -> Result<(), Fail> {
     let alloc: Global = rt.alloc();

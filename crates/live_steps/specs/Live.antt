@@ -22,16 +22,17 @@ act_of operator (step.Act caller act) = if caller == operator then Some act else
 abbrev pub acts_of : ℕ → List Step → List Act
 acts_of operator steps = filter_map (act_of operator) steps
 
--- the history opens as many cycles as all counts together; the calls of each operator, 1 to 8, are its acts, in their order, each once; and
--- nobody else called. How the calls of different operators and the openings follow one another is left open
+-- the history opens as many cycles as all counts together; the calls of each operator, 1 to 8, are its acts, in their
+-- order, each once; and nobody else called. How the calls of different operators and the openings follow one another is
+-- left open
 pub record AnswersOperators (history : List Event) (steps : List Step) : Type 0 where
   pub opened : next_of history ≡ sum_by count_of steps
   pub answered : (operator : ℕ) → 1 ≤ operator → operator ≤ 8
       → AnswersActs operator (acts_of operator steps) (filter (is_called_by operator) history)
   pub others : All (λ event. number_of event ≤ 8) history
 
--- *Live run*: the history answers the steps of each operator, each change planned when it is answered, and history and trace keep what is
--- promised
+-- *Live run*: the history answers the steps of each operator, each change planned when it is answered, and history and
+-- trace keep what is promised
 pub record IsLive (system : System) (steps : List Step) (requests : List Request) (history : List Event) (trace : List TimedFrame) : Type 0 where
   pub answers : AnswersOperators history steps
   pub plain : IsPlainlyLegal system.rules history

@@ -15,8 +15,8 @@ use std::alloc::{AllocError, Global};
 use std::sync::Wait;
 use std::thread::Threads;
 
-/// Has the steps of a file answered on the bus of a system with these requests, by a dispatcher and eight operators in threads of their
-/// own, which share a master. Each passes the gate as in a run of `live_run`.
+/// Has the steps of a file answered on the bus of a system with these requests, by a dispatcher and eight operators in
+/// threads of their own, which share a master. Each passes the gate as in a run of `live_run`.
 ///
 /// # Errors
 ///

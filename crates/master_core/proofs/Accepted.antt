@@ -11,7 +11,8 @@ use Rattle.admission.specs.Verdict.{plan_from}
 use Rattle.master_core.specs.History.{plan_of}
 use Rattle.master_core.proofs.Unfelt.{missed-unfelt, pending_set-unfelt}
 
--- the plan of the new list: up to the cycle that was planned from it is that of the old one, and from there on the one that was planned
+-- the plan of the new list: up to the cycle that was planned from it is that of the old one, and from there on the one
+-- that was planned
 module _ (rules : Rules) (old new : List Placed) (start from : ℕ) (changed : IsChangedAt start old new) (ahead : from ≤ start)
     (was : NeverMisses (plan_of rules old)) (goes_on : NeverMisses (plan_from rules new from (pending_at (plan_of rules old) from))) where
   before : (m slot : ℕ) → m < from → slot < slots → is_missed_at (plan_of rules new) m slot ≡ false

@@ -44,7 +44,8 @@ pub record IsBy (rules : Rules) (next : ℕ) (placed : List Placed) (o : Opening
   pub mask : o.mask ≡ mask_at (plan_of rules placed) o.cycle
   pub instances : (slot : ℕ) → option_map without_end (instance_in o.placed slot o.cycle) ≡ option_map without_end (instance_in placed slot o.cycle)
 
--- the openings of a history are those of the cycles below the next one, in their order, each by the plan of the last list
+-- the openings of a history are those of the cycles below the next one, in their order, each by the plan of the last
+-- list
 pub record AreOpened (rules : Rules) (history : List Event) : Type 0 where
   pub cycles : map (λ o. o.cycle) (openings_of history) ≡ range_with_len 0 (next_of history)
   pub each : All (IsBy rules (next_of history) (placed_of history)) (openings_of history)

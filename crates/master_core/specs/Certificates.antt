@@ -14,8 +14,8 @@ abbrev pub onward_of : Rules → List Event → Planning
 onward_of rules history =
     plan_from rules (placed_of history) (next_of history) (pending_at (plan_of rules (placed_of history)) (next_of history))
 
--- the certificate begins at cycle 0 with nothing pending. It lists the plan of the placed entries, and the part that is repeated is the
--- recurrence of the planning that goes on from the next cycle, which is found within the horizon
+-- the certificate begins at cycle 0 with nothing pending. It lists the plan of the placed entries, and the part that is
+-- repeated is the recurrence of the planning that goes on from the next cycle, which is found within the horizon
 pub record IsCertificateOfPlan (rules : Rules) (history : List Event) (certificate : CertificateView) : Type 0 where
   pub start : certificate.from ≡ 0
   pub nothing_pending : certificate.pending ≡ 0

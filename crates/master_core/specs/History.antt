@@ -1,4 +1,5 @@
--- *Histories* of a master: the calls in their order, each with its answer; what follows from them, and which of them are legal.
+-- *Histories* of a master: the calls in their order, each with its answer; what follows from them, and which of them
+-- are legal.
 use Rattle.std.specs.Prelude.{◌≡◌, ℕ, ◌≤◌, Bool, true, false, List, [], ◌∷◌, ◌++◌, Option, Some, None, All, count_by, fold, if◌then◌else◌}
 use Rattle.requirement_table.specs.declared.entries.Placed.{Placed}
 use Rattle.change_protocol.specs.declared.operations.Change.{Change}
@@ -41,13 +42,14 @@ placed_of history = fold placed_after [] history
 abbrev pub plan_of : Rules → List Placed → Planning
 plan_of rules placed = plan_from rules placed 0 0
 
--- no change was accepted in this history after the cycle `from` was opened: at each accepted one the next cycle was `from` or a lower one
+-- no change was accepted in this history after the cycle `from` was opened: at each accepted one the next cycle was
+-- `from` or a lower one
 abbrev pub IsSince : List Event → ℕ → Type 0
 IsSince history from = (front back : List Event) (event : Event) → history ≡ front ++ event ∷ back → accepts event ≡ true → next_of front ≤ from
 
--- a change is answered right after this history: it was planned from a cycle that is not above the next one, and behind which no change
--- was accepted; from what is pending before that cycle in the plan of the placed entries. The numbers of a change are in the ranges of
--- their types, as those of every change that is handed in are
+-- a change is answered right after this history: it was planned from a cycle that is not above the next one, and behind
+-- which no change was accepted; from what is pending before that cycle in the plan of the placed entries. The numbers
+-- of a change are in the ranges of their types, as those of every change that is handed in are
 pub record IsRightAnswer (rules : Rules) (history : List Event) (change : Change) (from : ℕ) (verdict : Verdict) (trail : List ℕ) : Type 0 where
   pub types : All HasTypes change.ops
   pub since : IsSince history from
@@ -82,8 +84,8 @@ pub record IsPlainlyLegal (rules : Rules) (history : List Event) : Type 0 where
   pub legal : IsLegal rules history
   pub now : AllAfter IsPlannedNow [] history
 
--- the list that the nodes are to learn after a history, which they do not know: all placed entries, where a change was accepted since the
--- last opening
+-- the list that the nodes are to learn after a history, which they do not know: all placed entries, where a change was
+-- accepted since the last opening
 abbrev pub is_changed_after : Bool → Event → Bool
 is_changed_after changed (Submit caller change from verdict trail) = if is_accepted verdict then true else changed
 is_changed_after changed (Look caller next) = changed

@@ -14,8 +14,8 @@ pub record MasterView : Type 0 where
   pub history : List Event
   pub spare : ℕ
 
--- the fields agree with the history: the placed entries, the next cycle and what is pending before it, and what the nodes are to learn; the
--- plan is made from the entries that were not over by the cycle `since`
+-- the fields agree with the history: the placed entries, the next cycle and what is pending before it, and what the
+-- nodes are to learn; the plan is made from the entries that were not over by the cycle `since`
 pub record IsKept (rules : Rules) (history : List Event) (list : List Placed) (since : ℕ) (ranked : Ranking) (cycle pending : ℕ) (learned : Option (List Placed)) : Type 0 where
   pub ranges : IsRules rules
   pub legal : IsPlainlyLegal rules history
@@ -27,7 +27,8 @@ pub record IsKept (rules : Rules) (history : List Event) (list : List Placed) (s
   pub left : ranked ≡ record { placed = not_over since list; policy = rules.policy }
   pub to_learn : learned ≡ learned_of history
 
--- the room of a history: it has so many events, a vector that holds them has so much room in all, and so many more are spared
+-- the room of a history: it has so many events, a vector that holds them has so much room in all, and so many more are
+-- spared
 pub record HasRoom (events room spare : ℕ) : Type 0 where
   pub spared : events + spare ≤ room
   pub few : events + spare < 2 ^ 61

@@ -7,8 +7,8 @@ use requirement_table::Mask;
 /// A call of a master with its answer.
 #[derive(Drop, Debug)]
 pub enum Event {
-    /// Operator `caller` asked for a change. It was planned from the cycle `from` on. Where an instance would miss its deadline,
-    /// `trail` are the slots that the plan flags in the cycles from `from` to the one of the miss.
+    /// Operator `caller` asked for a change. It was planned from the cycle `from` on. Where an instance would miss its
+    /// deadline, `trail` are the slots that the plan flags in the cycles from `from` to the one of the miss.
     Submit {
         caller: u8,
         change: Change,

@@ -10,8 +10,8 @@ ghost use Rattle.master_core.specs.declared.event.Event.{Event};
 ghost use Rattle.master_core.specs.History.{IsLegal, next_of, placed_of, plan_of};
 ghost use Rattle.master_core.specs.Openings.{openings_of};
 
-/// The placed entries of a legal history are well placed, and no deadline of theirs is ever missed. So what is pending before the next
-/// cycle can be planned from.
+/// The placed entries of a legal history are well placed, and no deadline of theirs is ever missed. So what is pending
+/// before the next cycle can be planned from.
 pub fn legal_histories()
     ensures well_placed { (rules : Rules) (history : List Event) → IsLegal rules history → IsWellPlaced (placed_of history) }
     ensures in_time { (rules : Rules) (history : List Event) → IsLegal rules history → NeverMisses (plan_of rules (placed_of history)) }
@@ -19,9 +19,9 @@ pub fn legal_histories()
         → IsValid (placed_of history) (next_of history) (pending_at (plan_of rules (placed_of history)) (next_of history)) }
 {}
 
-/// One event more does not change the cycles that were opened: it changes the list from a start on that is not below the next cycle. So
-/// the plan below that cycle stays, and what is pending before it, and each slot has the same instance there, but for an end that its entry
-/// got.
+/// One event more does not change the cycles that were opened: it changes the list from a start on that is not below
+/// the next cycle. So the plan below that cycle stays, and what is pending before it, and each slot has the same
+/// instance there, but for an end that its entry got.
 pub fn one_event_more()
     ensures changed { (rules : Rules) (history : List Event) (event : Event) → IsLegal rules (history ++ event ∷ [])
         → (start : ℕ) × (next_of history ≤ start) × IsChangedAt start (placed_of history) (placed_of (history ++ event ∷ [])) }
@@ -33,8 +33,9 @@ pub fn one_event_more()
         → option_map without_end (instance_in (placed_of (history ++ event ∷ [])) slot c) ≡ option_map without_end (instance_in (placed_of history) slot c) }
 {}
 
-/// A legal history opens the cycles below the next one, in their order, each once. Each was opened with the plan of all placed entries
-/// there are, also of those that were placed later, and each slot had the same instance in it, but for an end that its entry got later.
+/// A legal history opens the cycles below the next one, in their order, each once. Each was opened with the plan of all
+/// placed entries there are, also of those that were placed later, and each slot had the same instance in it, but for
+/// an end that its entry got later.
 pub fn opened_cycles()
     ensures cycles { (rules : Rules) (history : List Event) → IsLegal rules history
         → map (λ o. o.cycle) (openings_of history) ≡ range_with_len 0 (next_of history) }

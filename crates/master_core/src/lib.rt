@@ -1,5 +1,5 @@
-//! The master of an FTT-CAN bus as a state machine: it answers changes of the table and looks, opens elementary cycles, and keeps the
-//! history of all of these.
+//! The master of an FTT-CAN bus as a state machine: it answers changes of the table and looks, opens elementary cycles,
+//! and keeps the history of all of these.
 //!
 //! Cycles are elementary cycles, counted from 0.
 #![tactic(auto)]

@@ -96,8 +96,8 @@ impl Master {
         Ok(())
     }
 
-    /// Answers a change that operator `caller` asks for, 1 to 8. It is planned from the next cycle on. The table changes only where
-    /// the verdict is `Accepted`. It leaves the room as it was.
+    /// Answers a change that operator `caller` asks for, 1 to 8. It is planned from the next cycle on. The table
+    /// changes only where the verdict is `Accepted`. It leaves the room as it was.
     ///
     /// # Errors
     ///
@@ -178,8 +178,8 @@ impl Master {
         next
     }
 
-    /// Plans and opens the next cycle, below 2^41. No deadline is missed in it, nor in any later one. It takes no memory, and one of
-    /// the room.
+    /// Plans and opens the next cycle, below 2^41. No deadline is missed in it, nor in any later one. It takes no
+    /// memory, and one of the room.
     pub fn open(&mut self) -> Order
         requires spare { 1 ≤ self.old.spare }
         requires next { next_of self.old.history < 2 ^ 41 }
@@ -224,11 +224,12 @@ impl Master {
         self.state
     }
 
-    /// The certificate of the table: its plan from cycle 0 on, before which nothing is pending, up to the end of the first repeat of the plan
-    /// that goes on from the next cycle. That repeat is within the horizon of the rules, and no deadline is missed at any cycle.
+    /// The certificate of the table: its plan from cycle 0 on, before which nothing is pending, up to the end of the
+    /// first repeat of the plan that goes on from the next cycle. That repeat is within the horizon of the rules, and
+    /// no deadline is missed at any cycle.
     ///
-    /// It takes time for about twice the cycles up to the end of the repeat times the entries that are not over, and for the history; and
-    /// memory for the masks and the states.
+    /// It takes time for about twice the cycles up to the end of the repeat times the entries that are not over, and
+    /// for the history; and memory for the masks and the states.
     ///
     /// # Errors
     ///

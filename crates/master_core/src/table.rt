@@ -47,7 +47,8 @@ impl Table {
         })
     }
 
-    /// Drops the entries that are over by a cycle from those that are planned, where one of them is: in place and without memory.
+    /// Drops the entries that are over by a cycle from those that are planned, where one of them is: in place and
+    /// without memory.
     pub fn pass(&mut self, cycle: u64)
         requires since { self.old.since ≤ cycle }
         requires left { self.old.ranked.placed ≡ not_over self.old.since self.old.placed.items }

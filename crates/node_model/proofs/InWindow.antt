@@ -1,4 +1,5 @@
--- A node in the synchronous window of its open cycle: what it offers, with which frames, and how it goes on as it hears those of slots.
+-- A node in the synchronous window of its open cycle: what it offers, with which frames, and how it goes on as it hears
+-- those of slots.
 use Rattle.std.proofs.Common.{◌≡◌, ◌≢◌, ℕ, ◌+◌, ◌-◌, ◌*◌, ◌^◌, ◌/◌, ◌%◌, ◌<◌, ◌≤◌, Bool, true, false, ◌&&◌, ◌||◌, ◌==◌, not, cond, eqb, leb, is_some, Option, Some, None, IfSome, MatchOption, List, [], ◌∷◌, All, option_map, slice_get, inl, inr, refl, sym, ap, ◌∙◌, subst, arith}
 use Rattle.std.specs.Option.{option_map_or}
 use Rattle.std.specs.List.{cons_option, filter_map, list_any}

@@ -1,4 +1,5 @@
--- Mail of a node: what is taken away where nothing is left, and what an offered identifier says of its first unsent request.
+-- Mail of a node: what is taken away where nothing is left, and what an offered identifier says of its first unsent
+-- request.
 use Rattle.std.proofs.Common.{◌≡◌, ℕ, ◌/◌, ◌<◌, ◌≤◌, ◌==◌, true, false, Option, Some, None, List, [], ◌∷◌, get_or, map, All, is_some, slice_get, refl, sym, ap, ◌∙◌, subst, arith, ⊎_elim}
 use Rattle.std.specs.Option.{option_map, option_map_or}
 use Rattle.std.proofs.lemmas.Bool.{eqb-true, eqb-false, cases_Bool, false≢true}

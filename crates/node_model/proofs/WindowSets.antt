@@ -1,4 +1,5 @@
--- Sets of slots as words: what stands in both of two, in one of them, in one alone; and that a set without one of its slots is less.
+-- Sets of slots as words: what stands in both of two, in one of them, in one alone; and that a set without one of its
+-- slots is less.
 use Rattle.std.proofs.Common.{◌≡◌, ℕ, zero, suc, ◌+◌, ◌-◌, ◌^◌, ◌<◌, ◌≤◌, ◌&&◌, ◌||◌, Bool, true, false, not, nat_eq, if◌then◌else◌, bit_and, bit_or, min, max, inl, inr, refl, sym, ap, ◌∙◌, arith}
 use Rattle.std.specs.Int.{bit_at, bit_not, w128}
 use Rattle.std.proofs.lemmas.Bool.{cases_lt, false≢true}

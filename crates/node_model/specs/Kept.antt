@@ -1,4 +1,5 @@
--- What a node keeps besides what it knows, so that it answers without a look at its entries, or at those of them that are over.
+-- What a node keeps besides what it knows, so that it answers without a look at its entries, or at those of them that
+-- are over.
 use Rattle.std.specs.Prelude.{◌≡◌, ℕ, ◌/◌, ◌<◌, ◌≤◌, ◌==◌, List, Option, Some, None, IfSome}
 use Rattle.std.specs.Option.{option_map_or}
 use Rattle.std.specs.List.{list_any}

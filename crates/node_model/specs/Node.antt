@@ -16,16 +16,16 @@ use Rattle.async_window.specs.declared.request.Request.{Request}
 use Rattle.async_window.specs.Mailbox.{IsLeastWith, IsMail, Mail, mail_after, mail_offer, unsent_of, without_first}
 use Rattle.node_model.specs.Opening.{first_identifier}
 
--- a cycle that is open for a node: its number, the length of its synchronous window, the slots that are flagged, and the node's slots
--- of which it heard a frame in it, as sets of slots
+-- a cycle that is open for a node: its number, the length of its synchronous window, the slots that are flagged, and
+-- the node's slots of which it heard a frame in it, as sets of slots
 pub record Opened : Type 0 where
   pub cycle : ℕ
   pub width : ℕ
   pub flags : ℕ
   pub heard : ℕ
 
--- what a node knows: its number, the layout, the placed entries that it learnt, its unsent requests, the cycle that is open for it, the
--- next cycle, and the number of frames that it heard
+-- what a node knows: its number, the layout, the placed entries that it learnt, its unsent requests, the cycle that is
+-- open for it, the next cycle, and the number of frames that it heard
 pub record NodeState : Type 0 where
   pub number : ℕ
   pub layout : CycleLayout
@@ -75,8 +75,8 @@ learnt placed node = record node { entries = entries_of node.number placed }
 
 -- What a node does with a frame
 
--- the trigger that opens the next cycle, where the frame is one: its window is at most the largest one, and its byte 0 is that cycle
--- modulo 256
+-- the trigger that opens the next cycle, where the frame is one: its window is at most the largest one, and its byte 0
+-- is that cycle modulo 256
 abbrev pub next_trigger : NodeState → DataFrame → Option Trigger
 next_trigger node frame = trigger_where (λ trigger. nat_le trigger.l node.layout.window && (trigger.low == node.next % 256)) (trigger_of frame)
   where
@@ -109,7 +109,8 @@ after_slot node slot = record node { opened = option_map (with_heard slot) node.
 abbrev pub after_request : NodeState → ℕ → NodeState
 after_request node id = record node { mail = without_first id node.mail }
 
--- what a node does with a frame besides counting it; a frame that is none of these changes nothing, as it takes away no request
+-- what a node does with a frame besides counting it; a frame that is none of these changes nothing, as it takes away no
+-- request
 abbrev pub after_frame : NodeState → DataFrame → NodeState
 after_frame node frame =
     if frame.identifier == 0 then after_opening node frame
@@ -131,14 +132,14 @@ unfoldable pub least_where : ℕ → (ℕ → Bool) → Option ℕ
 least_where zero p = None
 least_where (suc n) p = if is_some (least_where n p) then least_where n p else (if p n then Some n else None)
 
--- whether the node is to send the slot in the open cycle: it is flagged, the node has an instance that may be sent in the cycle, and has
--- not heard it
+-- whether the node is to send the slot in the open cycle: it is flagged, the node has an instance that may be sent in
+-- the cycle, and has not heard it
 abbrev pub is_due : List Placed → Opened → ℕ → Bool
 is_due entries opened slot =
     contains_slot opened.flags slot && (is_some (instance_in entries slot opened.cycle) && not (contains_slot opened.heard slot))
 
--- what a node offers in an open cycle: in the synchronous window the least slot that it is to send, and before it what its mailboxes
--- offer
+-- what a node offers in an open cycle: in the synchronous window the least slot that it is to send, and before it what
+-- its mailboxes offer
 abbrev pub offer_in : NodeState → ℕ → Opened → Option ℕ
 offer_in node at opened =
     if nat_eq (at / node.layout.cycle) opened.cycle
@@ -159,7 +160,8 @@ node_offer node at = offered_by node.opened
 abbrev pub IsNextOffer : NodeState → ℕ → Option ℕ → Type 0
 IsNextOffer node at time = IsLeastWith (λ later. (at < later) × IsSome (node_offer node later)) time
 
--- the bytes of a frame that a node offers at a time: those of its first unsent request of the identifier, or of the instance of the slot
+-- the bytes of a frame that a node offers at a time: those of its first unsent request of the identifier, or of the
+-- instance of the slot
 abbrev pub node_bytes : NodeState → ℕ → ℕ → List ℕ
 node_bytes node at id =
     if nat_le 0x200 id

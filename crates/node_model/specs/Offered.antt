@@ -1,5 +1,5 @@
--- What is offered on the bus in an opened cycle: its trigger, requests in its asynchronous window, and the frames of its flagged slots
--- in its synchronous window. `past` are the frames that started before, on the whole bus.
+-- What is offered on the bus in an opened cycle: its trigger, requests in its asynchronous window, and the frames of
+-- its flagged slots in its synchronous window. `past` are the frames that started before, on the whole bus.
 use Rattle.std.specs.Prelude.{◌≡◌, ℕ, ◌+◌, ◌<◌, ◌≤◌, true, List, All, Some}
 use Rattle.can_frame.specs.DataFrame.{DataFrame}
 use Rattle.can_frame.specs.declared.data_frame.TimedFrame.{TimedFrame}
@@ -16,8 +16,8 @@ pub record OffersTrigger (layout : CycleLayout) (opening : Opening) (at : ℕ) (
   pub time : at ≡ start_of layout opening
   pub trigger : frame ≡ trigger_frame opening.cycle (width_of opening) opening.mask
 
--- in the asynchronous window the first unsent request of an identifier is offered that has arrived, where its longest frame ends before
--- the synchronous window
+-- in the asynchronous window the first unsent request of an identifier is offered that has arrived, where its longest
+-- frame ends before the synchronous window
 pub record OffersRequest (layout : CycleLayout) (requests : List Request) (opening : Opening) (past : List TimedFrame) (at : ℕ) (frame : DataFrame) : Type 0 where
   pub request : Request
   pub may_start : MayStart layout opening.cycle (width_of opening) (unsent_after requests past frame.identifier) at request
@@ -28,8 +28,8 @@ abbrev pub IsUnsent : CycleLayout → Opening → ℕ → List TimedFrame → Ty
 IsUnsent layout opening slot past =
     All (λ sent. sent.frame.identifier ≡ first_identifier + slot → sent.start < start_of layout opening) past
 
--- in the cycle, from the synchronous window's start on, each flagged slot is offered that has not been sent in the cycle: with its
--- identifier, and the bytes of the instance that may be sent in the cycle
+-- in the cycle, from the synchronous window's start on, each flagged slot is offered that has not been sent in the
+-- cycle: with its identifier, and the bytes of the instance that may be sent in the cycle
 pub record OffersSlot (layout : CycleLayout) (opening : Opening) (past : List TimedFrame) (at : ℕ) (frame : DataFrame) (slot : ℕ) : Type 0 where
   pub begun : start_of layout opening ≤ at
   pub late_enough : window_start layout opening ≤ at

@@ -1,4 +1,5 @@
--- How a node stands to the whole bus: which part of what is offered is its own, and what it knows after the frames of a bus.
+-- How a node stands to the whole bus: which part of what is offered is its own, and what it knows after the frames of a
+-- bus.
 use Rattle.std.specs.Prelude.{◌≡◌, ℕ, ◌+◌, ◌<◌, ◌≤◌, ◌⊎◌, ◌==◌, ◌&&◌, nat_le, Bool, true, List, Contains, map, Some, MatchOption}
 use Rattle.std.specs.List.{list_any}
 use Rattle.can_frame.specs.DataFrame.{DataFrame}
@@ -16,8 +17,8 @@ use Rattle.node_model.specs.Opening.{first_identifier, start_of}
 use Rattle.node_model.specs.Offered.{OffersRequest, OffersSlot}
 use Rattle.node_model.specs.Node.{NodeState, Opened, entries_of, identifiers_of, node_offer, node_frame}
 
--- the part of what is offered in a cycle that is a node's own: the requests of its identifiers, and the slots of which it has the
--- instance
+-- the part of what is offered in a cycle that is a node's own: the requests of its identifiers, and the slots of which
+-- it has the instance
 abbrev pub OffersOwn : ℕ → CycleLayout → List Owner → List Request → Opening → List TimedFrame → ℕ → DataFrame → Type 0
 OffersOwn number layout owners requests opening past at frame =
     (OffersRequest layout requests opening past at frame × Contains (identifiers_of number owners) frame.identifier)
@@ -32,8 +33,8 @@ OffersLeastOwn layout owners requests opening past at node =
     (λ id. OffersOwn node.number layout owners requests opening past at (node_frame node at id)
     × ((frame : DataFrame) → OffersOwn node.number layout owners requests opening past at frame → id ≤ frame.identifier))
 
--- a node that has this layout, knows its own entries of a list, and heard the frames `past` of a bus with these owners and requests,
--- so that these of its requests are unsent; `next` is its next cycle
+-- a node that has this layout, knows its own entries of a list, and heard the frames `past` of a bus with these owners
+-- and requests, so that these of its requests are unsent; `next` is its next cycle
 pub record Stands (layout : CycleLayout) (owners : List Owner) (requests : List Request) (placed : List Placed) (past : List TimedFrame) (next : ℕ) (node : NodeState) : Type 0 where
   pub same_layout : node.layout ≡ layout
   pub own_entries : node.entries ≡ entries_of node.number placed

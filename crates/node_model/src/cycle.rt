@@ -107,8 +107,8 @@ pub fn least_due(open_cycle: &Open) -> Option<u16>
     Some(FIRST_IDENTIFIER + u16::from(least_slot(open_cycle.due)?))
 }
 
-/// The least time behind `at` in a cycle that ends at `end`, at which a slot of it can be sent in its synchronous window, which starts at
-/// `window`.
+/// The least time behind `at` in a cycle that ends at `end`, at which a slot of it can be sent in its synchronous
+/// window, which starts at `window`.
 pub fn next_due(open_cycle: &Open, at: u64, window: u64, end: u64) -> Option<u64>
     requires time { at < 2 ^ 60 }
     ensures next { result ≡ (if is_some (least_where slots (contains_slot open_cycle.now.due)) && nat_lt (max (at + 1) window) end

@@ -13,8 +13,8 @@ use can_frame::{Frame, TimedFrame};
 use requirement_table::Mask;
 
 impl Node {
-    /// Puts the frame of each slot that the node is to send in the open cycle at the slot's place in a row of as many places as there are
-    /// slots, where none stands there yet.
+    /// Puts the frame of each slot that the node is to send in the open cycle at the slot's place in a row of as many
+    /// places as there are slots, where none stands there yet.
     pub fn put_due(&self, row: &mut [Option<Frame>])
         requires places { length row.old ≡ slots }
         ensures places { length row.new ≡ slots }

@@ -91,7 +91,8 @@ impl Remaining {
         }
     }
 
-    /// The bytes of the instance of a slot that may be sent in a cycle: that of the slot's first entry, or else of a later one.
+    /// The bytes of the instance of a slot that may be sent in a cycle: that of the slot's first entry, or else of a
+    /// later one.
     pub fn payload(&self, slot: u8, cycle: u64) -> Option<Payload>
         requires well_placed { IsWellPlaced self.now.entries.items }
         ensures bytes { result ≡ option_map bytes_of (instance_in self.now.entries.items slot cycle) }

@@ -1,4 +1,5 @@
-//! Laws about the definitions of this crate. Each function has an empty body or calls other laws, and its contract is the law.
+//! Laws about the definitions of this crate. Each function has an empty body or calls other laws, and its contract is
+//! the law.
 
 ghost use Rattle.std.specs.Prelude.{◌≡◌, ◌≢◌, ℕ, ◌+◌, ◌/◌, ◌^◌, ◌<◌, ◌≤◌, ◌==◌, ◌&&◌, ◌⊎◌, not, List, [], ◌∷◌, ◌++◌, All, MatchOption, Some, false, true};
 ghost use Rattle.can_frame.specs.declared.data_frame.TimedFrame.{TimedFrame};
@@ -54,8 +55,8 @@ pub fn hears_a_cycle()
     unsent_laws();
 }
 
-/// Two nodes of different numbers, with the same layout and owners, that last learnt the same list or of which one has learnt none never
-/// offer one identifier at the same time.
+/// Two nodes of different numbers, with the same layout and owners, that last learnt the same list or of which one has
+/// learnt none never offer one identifier at the same time.
 pub fn nodes_are_apart()
     ensures by_number { (layout : CycleLayout) (owners : List Owner) (requests other_requests : List Request)
         (placed others : List Placed) (past heard : List TimedFrame) (next then : ℕ) (one other : NodeState)
@@ -84,8 +85,8 @@ pub fn stays_a_node()
     taking_laws();
 }
 
-/// A node in the synchronous window of the cycle that is open for it: it offers the least slot that it is to send, and the frame of a slot
-/// takes that slot away and no other one. A trigger opens the cycle.
+/// A node in the synchronous window of the cycle that is open for it: it offers the least slot that it is to send, and
+/// the frame of a slot takes that slot away and no other one. A trigger opens the cycle.
 pub fn sends_its_slots()
     ensures offers { (node : NodeState) (from until at : ℕ) → IsNode node → IsInWindow from until node → from ≤ at → at < until
         → MatchOption (node_offer node at) ((slot : ℕ) → slot < slots → is_due_slot node slot ≡ false)

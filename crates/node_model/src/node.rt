@@ -32,8 +32,8 @@ const TIMES: u64 = 1 << 60;
 pub struct Node {
     number: u8,
     layout: Layout,
-    /// The node's entries, as it learnt them. This vector and that of the remaining ones have room for a list that can be learnt without
-    /// memory.
+    /// The node's entries, as it learnt them. This vector and that of the remaining ones have room for a list that can
+    /// be learnt without memory.
     entries: Vec<Placed>,
     /// Those of them that are not over, from which the node sends.
     remaining: Remaining,
@@ -79,7 +79,8 @@ impl Model for Node {
 }
 
 impl Node {
-    /// A node before cycle 0, of a number, in a layout. It owns the identifiers that `owners` gives to its number, and their requests.
+    /// A node before cycle 0, of a number, in a layout. It owns the identifiers that `owners` gives to its number, and
+    /// their requests.
     ///
     /// The owners' identifiers are distinct and 0x200 to 0x7EF. Arrivals never fall and are below 2^40.
     pub fn new(
@@ -162,7 +163,8 @@ impl Node {
         }
     }
 
-    /// The same without a look ahead. The answer is whether the frame is a trigger or one of the node's own; another one is only counted.
+    /// The same without a look ahead. The answer is whether the frame is a trigger or one of the node's own; another
+    /// one is only counted.
     fn hear_own(&mut self, heard: &TimedFrame) -> bool
         requires cycle { heard.now.frame.identifier ≡ 0 → self.old.state.next < 2 ^ 42 }
         ensures heard { self.new.state ≡ after_hearing self.old.state heard.now }
@@ -189,7 +191,8 @@ impl Node {
         self.frames = self.frames.saturating_add(1);
     }
 
-    /// Keeps what the node offers next behind a time, so that it need not look again before that time comes or something changes.
+    /// Keeps what the node offers next behind a time, so that it need not look again before that time comes or
+    /// something changes.
     fn look_ahead(&mut self, at: u64)
         ensures same { self.new ≡ self.old }
     {
@@ -265,7 +268,8 @@ impl Node {
         }
     }
 
-    /// What the node found when it looked ahead, where by that nothing is offered at a time. The next offer behind it is then the same.
+    /// What the node found when it looked ahead, where by that nothing is offered at a time. The next offer behind it
+    /// is then the same.
     fn quiet_at(&self, at: u64) -> Option<Quiet>
         ensures quiet { IfSome result (λ quiet. (node_offer self.now.state at ≡ None) × IsNextOffer self.now.state at quiet.next) }
         ensures known { IsNode self.now.state }
@@ -325,8 +329,8 @@ impl Node {
         }
     }
 
-    /// The least time behind `at`, in whatever cycle, at which `offer` is something while nothing is heard; `None` exactly where there is
-    /// none.
+    /// The least time behind `at`, in whatever cycle, at which `offer` is something while nothing is heard; `None`
+    /// exactly where there is none.
     pub fn next_offer(&self, at: u64) -> Option<u64>
         requires time { at < 2 ^ 60 }
         ensures next { IsNextOffer self.now.state at result }
@@ -382,7 +386,8 @@ impl Node {
         }
     }
 
-    /// Whether the node may offer an identifier at some time: an asynchronous one only where it has an unsent request of it.
+    /// Whether the node may offer an identifier at some time: an asynchronous one only where it has an unsent request
+    /// of it.
     fn may_offer(&self, id: u16) -> bool
         ensures never { result ≡ false → (at : ℕ) → node_offer self.now.state at ≡ Some id → ⊥ }
     {

@@ -3,7 +3,8 @@
 ghost use Rattle.std.specs.Prelude.{◌≡◌, ◌<◌, true, IfSome};
 ghost use Rattle.node_model.specs.Quiet.{IsQuietAt};
 
-/// A look ahead: behind the time `since` the node offers something first at `next`, and never where that is none. Times are bit times.
+/// A look ahead: behind the time `since` the node offers something first at `next`, and never where that is none. Times
+/// are bit times.
 #[derive(Clone, Copy)]
 pub struct Quiet {
     pub since: u64,

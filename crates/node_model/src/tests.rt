@@ -1,5 +1,5 @@
-//! A node in its cycles, against what is worked out by hand. A cycle has 1,000 bit times, the turnaround 30, and the largest synchronous
-//! window 300: the asynchronous window opens 165 bit times after the cycle's start.
+//! A node in its cycles, against what is worked out by hand. A cycle has 1,000 bit times, the turnaround 30, and the
+//! largest synchronous window 300: the asynchronous window opens 165 bit times after the cycle's start.
 
 ghost use Rattle.std.specs.Prelude.{◌≡◌, ◌≢◌, ◌+◌, ◌<◌, IfOk};
 
@@ -36,7 +36,8 @@ fn request(at: u64, frame: Frame) -> Request
     Request { at, frame }
 }
 
-/// Node 1, which owns 0x205 and 0x210. It has a request of 0x210 with 1 byte from time 0 on, and one of 0x205 with 8 bytes from time 1,300 on.
+/// Node 1, which owns 0x205 and 0x210. It has a request of 0x210 with 1 byte from time 0 on, and one of 0x205 with 8
+/// bytes from time 1,300 on.
 fn node(alloc: Global, layout: Layout) -> Result<Node, Fail>
     ensures next { IfOk result (λ node. node.state.next ≡ 0) }
 {

@@ -1,4 +1,5 @@
--- One listed cycle of a certificate: what the checker finds in the row of the cycle is what the certificate's words say.
+-- One listed cycle of a certificate: what the checker finds in the row of the cycle is what the certificate's words
+-- say.
 use Rattle.std.proofs.Common.{◌≡◌, ℕ, zero, suc, ◌+◌, ◌-◌, ◌<◌, ◌≤◌, nat_le, Bool, true, false, not, ◌&&◌, ◌||◌, nat_eq, Option, Some, None, IsSome, IfSome, option_map, List, [], ◌∷◌, length, get_or, if◌then◌else◌, refl, sym, ap, ◌∙◌, ⊎_elim, arith}
 use Rattle.std.specs.Option.{option_map_or}
 use Rattle.std.specs.List.{list_all, list_any}

@@ -137,7 +137,8 @@ first-in p (suc j) b end is =
 
 -- A table, the slots that are pending before a cycle, and flags
 
--- an instance that the slot holds in the n-th cycle: it is to be sent, may be sent in this cycle, and was not flagged before it
+-- an instance that the slot holds in the n-th cycle: it is to be sent, may be sent in this cycle, and was not flagged
+-- before it
 pub record IsHolder (placed : List Placed) (flags : ℕ → ℕ → Bool) (from : ℕ) (pending : ℕ → Bool) (n slot : ℕ) : Type 0 where
   pub owing : IsOwedIn placed from pending (from + n) slot
   pub unsent : (c : ℕ) → from ≤ c → release_of owing.entry owing.number ≤ c → c < from + n → flags c slot ≡ true → ⊥

@@ -12,8 +12,8 @@ use Rattle.plan_check.specs.PlanKept.{NoSlot, is_bad, is_open}
 
 -- One cycle of the certificate, the n-th one, counted from 0
 
--- whether the slot has an unplanned instance that may be sent in the cycle: one that was released before it and not flagged before it,
--- or one that is released in it
+-- whether the slot has an unplanned instance that may be sent in the cycle: one that was released before it and not
+-- flagged before it, or one that is released in it
 abbrev pub is_waiting : List Placed → CertificateView → ℕ → ℕ → Bool
 is_waiting placed certificate n slot =
     waits placed (flags_of certificate) certificate.from (contains_slot certificate.pending) n slot
@@ -87,7 +87,8 @@ pub record IsNotClosed (placed : List Placed) (window : ℕ) (certificate : Cert
   pub good : (n : ℕ) → n < length certificate.masks → IsGoodAt placed window certificate n
   pub slot_is : IsLeastSlot (is_open placed certificate) slot
 
--- the breach is the first one, in the order of the variants, where those of a cycle are looked for in each cycle before those of the next
+-- the breach is the first one, in the order of the variants, where those of a cycle are looked for in each cycle before
+-- those of the next
 abbrev pub IsBreach : List Placed → ℕ → CertificateView → Breach → Type 0
 IsBreach placed window certificate (BadLoop slot) = IsLeastSlot (is_bad placed certificate) slot
 IsBreach placed window certificate (NotReleased cycle slot) = IsNotReleased placed window certificate cycle slot

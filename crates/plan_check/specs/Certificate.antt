@@ -1,9 +1,10 @@
--- Certificates of a plan: the masks of some cycles, of which the last part is repeated for ever. Cycles are elementary cycles.
+-- Certificates of a plan: the masks of some cycles, of which the last part is repeated for ever. Cycles are elementary
+-- cycles.
 use Rattle.std.specs.Prelude.{ℕ, ◌+◌, ◌-◌, ◌%◌, ◌<◌, ◌≤◌, Bool, nat_lt, if◌then◌else◌, List, length, get_or}
 use Rattle.requirement_table.specs.Slots.{contains_slot}
 
--- what contracts see of a certificate: the cycle of its first mask, the set of the slots that are pending before that cycle, the first
--- cycle of the part that is repeated, and the masks, one for each cycle
+-- what contracts see of a certificate: the cycle of its first mask, the set of the slots that are pending before that
+-- cycle, the first cycle of the part that is repeated, and the masks, one for each cycle
 pub record CertificateView : Type 0 where
   pub from : ℕ
   pub pending : ℕ
@@ -19,7 +20,8 @@ pub record IsCertificate (from first : ℕ) (masks : List ℕ) : Type 0 where
 abbrev pub length_of : CertificateView → ℕ
 length_of certificate = length certificate.masks - (certificate.first - certificate.from)
 
--- the place of a cycle's mask in the list: each cycle before `first` has its own, and those from `first` on go round in the others
+-- the place of a cycle's mask in the list: each cycle before `first` has its own, and those from `first` on go round in
+-- the others
 abbrev pub place_of : CertificateView → ℕ → ℕ
 place_of certificate c =
     if nat_lt c certificate.first then c - certificate.from

@@ -1,4 +1,5 @@
--- The text of a plan: its lines, which certificates have one that is read back, and the first line of a text that breaks the form.
+-- The text of a plan: its lines, which certificates have one that is read back, and the first line of a text that
+-- breaks the form.
 use Rattle.std.specs.Prelude.{◌≡◌, ◌≢◌, ℕ, zero, suc, ◌+◌, ◌-◌, ◌/◌, ◌%◌, ◌^◌, ◌<◌, ◌≤◌, List, [], ◌∷◌, ◌++◌, All, false, codes, get_or, length, map, take}
 use Rattle.std.specs.Fmt.{decimal, digit_glyph}
 use Rattle.requirement_table.specs.Slots.{slots}
@@ -66,8 +67,8 @@ pub record BeginsAsPlan (bytes : List ℕ) (count : ℕ) : Type 0 where
   pub rest : List ℕ
   pub split : bytes ≡ text_of (take count (plan_lines certificate)) ++ rest
 
--- the text is not that of a plan, and the line of this number, counted from 1, is the first one that breaks the form: the lines before it
--- begin a plan, and with it they don't
+-- the text is not that of a plan, and the line of this number, counted from 1, is the first one that breaks the form:
+-- the lines before it begin a plan, and with it they don't
 pub record IsFirstWrongLine (bytes : List ℕ) (number : ℕ) : Type 0 where
   pub count : ℕ
   pub at : number ≡ count + 1

@@ -18,7 +18,8 @@ abbrev pub IsPassed : List Placed → ℕ → ℕ → ℕ → Type 0
 IsPassed placed c slot place =
     (j : ℕ) (p : Placed) → j < place → slice_get placed j ≡ Some p → p.entry.slot ≡ slot → is_over c p ≡ true
 
--- the place is that of the first entry of the slot that is not over by the cycle, or the length of the list where there is none
+-- the place is that of the first entry of the slot that is not over by the cycle, or the length of the list where there
+-- is none
 pub record IsCurrent (placed : List Placed) (c slot place : ℕ) : Type 0 where
   pub within : place ≤ length placed
   pub passed : IsPassed placed c slot place
@@ -57,8 +58,8 @@ is_released c due = option_map_or (λ d. nat_eq d.release c) due false
 abbrev pub is_last : ℕ → Option Due → Bool
 is_last c due = option_map_or (λ d. nat_eq d.deadline (c + 1)) due false
 
--- Breaches in the cycle of a row, where the slots in `held` have an instance that was released before it and not planned, and the cycle
--- flags those in `mask`
+-- Breaches in the cycle of a row, where the slots in `held` have an instance that was released before it and not
+-- planned, and the cycle flags those in `mask`
 
 -- whether the slot has an instance that is not planned before the cycle
 abbrev pub waits_in : List (Option Due) → ℕ → ℕ → ℕ → Bool

@@ -4,11 +4,13 @@ use thiserror::Error;
 
 /// The first reason for which a certificate is not taken. Its text is what a program prints behind `no,`.
 ///
-/// They are looked for in the order of the variants, where the three in the middle are looked for in each listed cycle before the next.
+/// They are looked for in the order of the variants, where the three in the middle are looked for in each listed cycle
+/// before the next.
 #[derive(Clone, Copy, PartialEq, Eq, Debug, Error)]
 pub enum Breach {
-    /// The slot has an entry that doesn't go round with the repeated part: a live one whose period does not divide the length of that part,
-    /// or whose origin + phase is above its first cycle, or one with an end whose end + deadline - 1 is above its first cycle.
+    /// The slot has an entry that doesn't go round with the repeated part: a live one whose period does not divide the
+    /// length of that part, or whose origin + phase is above its first cycle, or one with an end whose end + deadline -
+    /// 1 is above its first cycle.
     #[error("badloop,{slot}")]
     BadLoop {
         /// The least such slot.

@@ -6,8 +6,8 @@ ghost use Rattle.plan_check.specs.Certificate.{length_of};
 use requirement_table::Mask;
 use std::marker::Model;
 
-/// A plan of a table for ever: a mask for each cycle from its first cycle on, of which the last part is repeated. Contracts see its numbers
-/// and the list of masks.
+/// A plan of a table for ever: a mask for each cycle from its first cycle on, of which the last part is repeated.
+/// Contracts see its numbers and the list of masks.
 #[derive(Drop, Debug)]
 pub struct Certificate {
     from: u64,
@@ -28,8 +28,9 @@ impl Model for Certificate {
 }
 
 impl Certificate {
-    /// The certificate whose masks are those of the cycles from `from` on, before which the slots in `pending` have an instance that is
-    /// not sent yet, and which are repeated from those of cycle `first` on. That cycle is one of the listed ones.
+    /// The certificate whose masks are those of the cycles from `from` on, before which the slots in `pending` have an
+    /// instance that is not sent yet, and which are repeated from those of cycle `first` on. That cycle is one of the
+    /// listed ones.
     pub fn new(from: u64, pending: Mask, first: u64, masks: Vec<Mask>) -> Certificate
         requires after { from ≤ first }
         requires within { first < from + length masks.items }

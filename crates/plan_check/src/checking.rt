@@ -17,8 +17,9 @@ use requirement_table::{Mask, Placed, SLOTS};
 
 /// Checks that a certificate keeps the placed entries for ever within a window of `w` bit times.
 ///
-/// Each slot that is pending before its first cycle has an instance that was released before that cycle and whose last cycle is not below
-/// it. `Ok` implies that no instance misses its deadline at any cycle number, whoever made the certificate.
+/// Each slot that is pending before its first cycle has an instance that was released before that cycle and whose last
+/// cycle is not below it. `Ok` implies that no instance misses its deadline at any cycle number, whoever made the
+/// certificate.
 ///
 /// # Errors
 ///
@@ -55,8 +56,8 @@ fn bad_slots(placed: &[Placed], first: u64, length: u64) -> Mask
     bad
 }
 
-/// Whether an entry goes round with the cycles from `first` on, `length` at a time: a live one has had its first release by `first` and its
-/// period divides `length`; one with an end is over by `first`.
+/// Whether an entry goes round with the cycles from `first` on, `length` at a time: a live one has had its first
+/// release by `first` and its period divides `length`; one with an end is over by `first`.
 fn goes_round(p: &Placed, first: u64, length: u64) -> bool
     requires in_range { IsInRange p.now }
     ensures round { result ≡ goes_round first length p.now }
@@ -69,8 +70,8 @@ fn goes_round(p: &Placed, first: u64, length: u64) -> bool
     }
 }
 
-/// Walks the listed cycles of a certificate, whose loop has no bad slot: the slots that are pending before its first repeated cycle, and
-/// those that are pending behind its last one.
+/// Walks the listed cycles of a certificate, whose loop has no bad slot: the slots that are pending before its first
+/// repeated cycle, and those that are pending behind its last one.
 fn check_cycles(
     placed: &[Placed],
     w: u32,
@@ -109,8 +110,8 @@ fn chosen(first: bool, one: Mask, other: Mask) -> Mask
     if first { one } else { other }
 }
 
-/// Checks a cycle in which the slots in `held` have an instance that was released before it and is not planned, and which flags those in
-/// `mask`: the slots that have such an instance behind it.
+/// Checks a cycle in which the slots in `held` have an instance that was released before it and is not planned, and
+/// which flags those in `mask`: the slots that have such an instance behind it.
 fn check_cycle(row: &Row, w: u32, cycle: u64, held: Mask, mask: Mask) -> Result<Mask, Breach>
     requires cycle { cycle < 2 ^ 42 }
     ensures good { IfOk result (λ _. IsGoodRow row.now w cycle held mask) }

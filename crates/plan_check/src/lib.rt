@@ -1,7 +1,8 @@
-//! A checker of plans for the table of an FTT-CAN master: it says whether a plan keeps the table for ever, whoever made the plan.
+//! A checker of plans for the table of an FTT-CAN master: it says whether a plan keeps the table for ever, whoever made
+//! the plan.
 //!
-//! A certificate lists the masks of some elementary cycles, and says from which of them on the list is repeated. The checker knows no
-//! policy and no planner. Time is counted in elementary cycles from 0, and lengths in bit times.
+//! A certificate lists the masks of some elementary cycles, and says from which of them on the list is repeated. The
+//! checker knows no policy and no planner. Time is counted in elementary cycles from 0, and lengths in bit times.
 #![tactic(auto)]
 
 mod breach;

@@ -10,9 +10,10 @@
 //! end
 //! ```
 //!
-//! There is one mask line for each cycle from FROM to FIRST + LENGTH - 1. Each line ends with one line feed. A mask is ten hexadecimal digits
-//! in lower case of the number whose bit s is slot s; the other numbers are decimal, without leading zeros and below 2^42. FIRST is FROM to
-//! FROM + 200,000, and LENGTH is 1 to 200,000. Nothing else stands in the text.
+//! There is one mask line for each cycle from FROM to FIRST + LENGTH - 1. Each line ends with one line feed. A mask is
+//! ten hexadecimal digits in lower case of the number whose bit s is slot s; the other numbers are decimal, without
+//! leading zeros and below 2^42. FIRST is FROM to FROM + 200,000, and LENGTH is 1 to 200,000. Nothing else stands in
+//! the text.
 
 ghost use Rattle.std.specs.Prelude.{◌≡◌, ℕ, ◌+◌, ◌-◌, ◌^◌, ◌<◌, ◌≤◌, ◌++◌, ◌∷◌, [], List, All, Some, IfSome, IfOk, IfErr, OnOk, ◌&&◌, codes, length, map, nat_le, MatchResult};
 ghost use Rattle.std.specs.Fmt.{decimal};

@@ -34,8 +34,8 @@ fn is_over(p: &Placed, cycle: u64) -> bool
         .is_some_and(|end| end + u64::from(p.entry.deadline) - 1 <= cycle)
 }
 
-/// The place of the slot's first entry that is not over by `cycle`, where all those before `place` are; the length of the list where there
-/// is none.
+/// The place of the slot's first entry that is not over by `cycle`, where all those before `place` are; the length of
+/// the list where there is none.
 fn place_at(placed: &[Placed], cycle: u64, slot: u8, place: usize) -> usize
     requires well_placed { IsWellPlaced placed.now }
     requires passed { IsPassed placed.now cycle slot place }

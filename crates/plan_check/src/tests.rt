@@ -38,7 +38,8 @@ fn answer(
     }
 }
 
-/// Compares the answers for the plans in a text. Each has the answer in its first line, and behind it the numbers and the masks of the plan.
+/// Compares the answers for the plans in a text. Each has the answer in its first line, and behind it the numbers and
+/// the masks of the plan.
 fn compare(
     rt: &impl Abort,
     alloc: Global,
@@ -116,7 +117,8 @@ length 4
 0000000001
 ";
 
-/// Plans of an entry that ends at cycle 10, whose last instance may be sent up to cycle 10, and of another one from cycle 12 on.
+/// Plans of an entry that ends at cycle 10, whose last instance may be sent up to cycle 10, and of another one from
+/// cycle 12 on.
 static CHANGED: &str = "yes
 first 12
 length 4

@@ -9,8 +9,8 @@ pub enum PlanTextFault {
     /// The text is not that of a plan.
     #[error("line {number}")]
     Line {
-        /// The first line, from 1, that breaks the form: where the text ends early, the line that is missing or has no line feed; where
-        /// text follows the last line, the line after it.
+        /// The first line, from 1, that breaks the form: where the text ends early, the line that is missing or has no
+        /// line feed; where text follows the last line, the line after it.
         number: u64,
     },
     /// There was no memory for the masks.

@@ -16,7 +16,8 @@ abbrev pub NoOther : List Placed → ℕ → ℕ → ℕ → Type 0
 NoOther placed slot cycle place = (other : ℕ) (p : Placed) → slice_get placed other ≡ Some p → p.entry.slot ≡ slot → (other ≡ place → ⊥)
     → instance_of p cycle ≡ None
 
--- this is the entry of the slot, by its place, and the number of its instance, that may be sent in the cycle; and no other has one
+-- this is the entry of the slot, by its place, and the number of its instance, that may be sent in the cycle; and no
+-- other has one
 pub record IsTheOne (placed : List Placed) (slot cycle : ℕ) (found : Current) : Type 0 where
   pub within : found.place < length placed
   pub here : slice_get placed found.place ≡ Some found.placed

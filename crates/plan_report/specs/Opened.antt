@@ -1,4 +1,5 @@
--- The widths of opened cycles by the entries that are placed in the end: words for contracts inside the crate. Widths are bit times.
+-- The widths of opened cycles by the entries that are placed in the end: words for contracts inside the crate. Widths
+-- are bit times.
 use Rattle.std.specs.Prelude.{ℕ, ◌+◌, if◌then◌else◌, List, [], ◌∷◌, ◌++◌}
 use Rattle.std.specs.List.{sum}
 use Rattle.requirement_table.specs.declared.entries.Placed.{Placed}

@@ -1,5 +1,6 @@
--- *Report*: what was sent of each entry and of each owner's requests, and how wide the synchronous windows were, as the text of a history
--- and a trace. Each row ends with one line feed; numbers are decimal without leading zeros. Delays are elementary cycles, widths are bit times.
+-- *Report*: what was sent of each entry and of each owner's requests, and how wide the synchronous windows were, as the
+-- text of a history and a trace. Each row ends with one line feed; numbers are decimal without leading zeros. Delays
+-- are elementary cycles, widths are bit times.
 use Rattle.std.specs.Prelude.{ℕ, zero, suc, ◌+◌, ◌-◌, ◌==◌, Bool, if◌then◌else◌, List, [], ◌∷◌, ◌++◌, length, map, min, max, Option, Some, None, codes}
 use Rattle.std.specs.List.{flat_map, list_any, reduce, sum}
 use Rattle.std.specs.Fmt.{decimal}
@@ -28,8 +29,9 @@ abbrev pub sending_at : ℕ → Option ℕ → List Sending
 sending_at cycle None = []
 sending_at cycle (Some number) = record { number = number; cycle = cycle } ∷ []
 
--- what a frame sends of an entry, where so many triggers stand in the trace up to it, itself included: behind the first one it is in the
--- cycle that is one less, and sends the entry's instance that may be sent in this cycle, where it has the identifier of the entry's slot
+-- what a frame sends of an entry, where so many triggers stand in the trace up to it, itself included: behind the first
+-- one it is in the cycle that is one less, and sends the entry's instance that may be sent in this cycle, where it has
+-- the identifier of the entry's slot
 abbrev pub sent_by : Placed → ℕ → TimedFrame → List Sending
 sent_by p zero sent = []
 sent_by p (suc cycle) sent =
@@ -95,8 +97,8 @@ unfoldable pub owned_below : List Owner → ℕ → List ℕ
 owned_below owners zero = []
 owned_below owners (suc n) = owned_below owners n ++ (if is_owned owners n then n ∷ [] else [])
 
--- the row of an identifier with its frames that were sent and its requests that were not: `async,ID,SENT,LEFT`, with ID as three
--- hexadecimal digits
+-- the row of an identifier with its frames that were sent and its requests that were not: `async,ID,SENT,LEFT`, with ID
+-- as three hexadecimal digits
 abbrev pub requests_row : ℕ → ℕ → ℕ → List ℕ
 requests_row id sent left =
     codes "async," ++ hex_digits 3 id ++ codes "," ++ decimal sent ++ codes "," ++ decimal left ++ codes "\n"
@@ -110,8 +112,8 @@ abbrev pub load_row : List ℕ → List ℕ
 load_row widths =
     codes "load," ++ field_of (least_of widths) ++ codes "," ++ field_of (greatest_of widths) ++ codes "," ++ decimal (sum widths) ++ codes "\n"
 
--- *Report*: a row of each placed entry, in the order of placing; a row of each owned identifier, the least one first; and the row of the
--- widths of all opened cycles
+-- *Report*: a row of each placed entry, in the order of placing; a row of each owned identifier, the least one first;
+-- and the row of the widths of all opened cycles
 abbrev pub report_text : List Event → List TimedFrame → List Owner → List Request → List ℕ
 report_text history trace owners requests =
     flat_map (entry_row trace) (placed_of history) ++ flat_map (async_row trace requests) (owned_below owners identifiers)

@@ -27,8 +27,8 @@ tally_with tally number delay =
       greatest = Some (option_map_or (λ greatest. max greatest delay) tally.greatest delay);
     }
 
--- of the sendings of an entry, in the cycles of which `seen` triggers tell, this is the last instance: none behind it was sent, and none
--- before it may be sent any more
+-- of the sendings of an entry, in the cycles of which `seen` triggers tell, this is the last instance: none behind it
+-- was sent, and none before it may be sent any more
 abbrev pub IsLast : Placed → ℕ → List Sending → Option ℕ → Type 0
 IsLast p seen sendings None = (number : ℕ) → is_sent sendings number ≡ false
 IsLast p seen sendings (Some last) =

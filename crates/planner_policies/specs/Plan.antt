@@ -1,7 +1,7 @@
 -- Plans: which slots are planned in which cycle, by a policy. Cycles are elementary cycles, lengths are bit times.
 --
--- The words are over tests of slots. A slot stands for its instance that may be sent in the cycle: there is at most one, in a list
--- that is well placed. All words are total, also behind a first miss, and are cited where there is none.
+-- The words are over tests of slots. A slot stands for its instance that may be sent in the cycle: there is at most
+-- one, in a list that is well placed. All words are total, also behind a first miss, and are cited where there is none.
 use Rattle.std.specs.Prelude.{◌≡◌, ℕ, zero, suc, ◌+◌, ◌-◌, ◌<◌, Bool, true, false, not, ◌&&◌, ◌||◌, nat_lt, nat_le, nat_eq, List, Some}
 use Rattle.std.specs.Option.{option_map_or}
 use Rattle.requirement_table.specs.declared.entries.Placed.{Placed}
@@ -11,8 +11,8 @@ use Rattle.requirement_table.specs.Table.{instance_in, is_last_in, releases_in, 
 use Rattle.planner_policies.specs.declared.Policy.{Policy}
 use Rattle.planner_policies.specs.declared.Policy.TheVariants.{Rm, Dm, Edf}
 
--- what is planned: the placed entries, by which policy, the length of the largest synchronous window, the first cycle that is planned,
--- and the set of the slots with an instance that was released before it and is not sent yet
+-- what is planned: the placed entries, by which policy, the length of the largest synchronous window, the first cycle
+-- that is planned, and the set of the slots with an instance that was released before it and is not sent yet
 pub record Planning : Type 0 where
   pub placed : List Placed
   pub policy : Policy
@@ -55,14 +55,15 @@ is_by policy placed c one other =
     by_number (key_in policy placed c one) (key_in policy placed c other)
     (by_number (priority_in placed c one) (priority_in placed c other) (nat_le one other))
 
--- One cycle, where the slots of which `before` holds have an instance that was released before it and not planned before it
+-- One cycle, where the slots of which `before` holds have an instance that was released before it and not planned
+-- before it
 
 -- the slots with an instance that is pending in the cycle: one of these, or one that is released in it
 abbrev pub pending_in : List Placed → ℕ → (ℕ → Bool) → ℕ → Bool
 pending_in placed c before slot = before slot || releases_in placed c slot
 
--- the slot is taken where all pending ones up to it in key order, itself included, fit the window together: so what is taken is the
--- longest front, in key order, that fits
+-- the slot is taken where all pending ones up to it in key order, itself included, fit the window together: so what is
+-- taken is the longest front, in key order, that fits
 abbrev pub is_taken : Policy → ℕ → List Placed → ℕ → (ℕ → Bool) → ℕ → Bool
 is_taken policy window placed c pending slot =
     pending slot && nat_le (width_in placed c (λ other. pending other && is_by policy placed c other slot)) window

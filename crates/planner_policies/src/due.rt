@@ -76,7 +76,8 @@ pub fn due_of(policy: Policy, placed: &Placed, state: &PlanState) -> Option<Due>
     })
 }
 
-/// The number that the policy looks at first; the least goes first. The deadline is that of an instance, the cycle behind its last one.
+/// The number that the policy looks at first; the least goes first. The deadline is that of an instance, the cycle
+/// behind its last one.
 fn key(policy: Policy, placed: &Placed, deadline: u64) -> u64
     ensures key { result ≡ key_with policy placed.now deadline }
 {

@@ -21,7 +21,8 @@ pub fn key_order()
         → is_by policy placed c one other ≡ true → is_by policy placed c other third ≡ true → is_by policy placed c one third ≡ true }
 {}
 
-/// What is planned in a cycle is the longest front of the pending slots, in key order, whose worst lengths fit the window together.
+/// What is planned in a cycle is the longest front of the pending slots, in key order, whose worst lengths fit the
+/// window together.
 pub fn longest_front()
     ensures planned { (plan : Planning) (c : ℕ) (before : ℕ → Bool) (order : List ℕ) (n slot : ℕ) → IsInKeyOrder plan c before order
         → IsLongestFront (worst_in plan.placed c) plan.window order n → slot < slots
@@ -31,7 +32,8 @@ pub fn longest_front()
         → (left_after plan c before slot ≡ true) ↔ Contains (drop n order) slot }
 {}
 
-/// The plan follows from the instances of the slots: two tables that have the same ones in the cycles of a planning have the same plan.
+/// The plan follows from the instances of the slots: two tables that have the same ones in the cycles of a planning
+/// have the same plan.
 pub fn same_instances()
     ensures pending { (plan : Planning) (placed : List Placed) (n : ℕ)
         → ((k slot : ℕ) → k < n → slot < slots → instance_in placed slot (plan.from + k) ≡ instance_in plan.placed slot (plan.from + k))
@@ -47,8 +49,8 @@ pub fn same_instances()
         → (m slot : ℕ) → m < n → slot < slots → is_missed_at (record plan { placed = placed }) m slot ≡ is_missed_at plan m slot }
 {}
 
-/// A planning goes on from what it left: the one that begins at a later cycle, with the slots that are pending before it, has the same
-/// plan from there on.
+/// A planning goes on from what it left: the one that begins at a later cycle, with the slots that are pending before
+/// it, has the same plan from there on.
 pub fn going_on()
     ensures pending { (plan : Planning) (n m slot : ℕ) → slot < slots
         → pending_before plan (n + m) slot ≡ pending_before (record plan { from = plan.from + n; pending = pending_at plan n }) m slot }
@@ -58,8 +60,8 @@ pub fn going_on()
         → is_missed_at plan (n + m) slot ≡ is_missed_at (record plan { from = plan.from + n; pending = pending_at plan n }) m slot }
 {}
 
-/// A state at the n-th cycle of a planning, which is the cycle and the set of the slots pending before it, has what is planned in that
-/// cycle, and leads to the state at the next one.
+/// A state at the n-th cycle of a planning, which is the cycle and the set of the slots pending before it, has what is
+/// planned in that cycle, and leads to the state at the next one.
 pub fn states()
     ensures planned { (plan : Planning) (n : ℕ)
         → set_of slots (planned_in plan (plan.from + n) (contains_slot (pending_at plan n))) ≡ mask_at plan n }
@@ -71,9 +73,10 @@ pub fn states()
         → IsMissIn plan (plan.from + n) (contains_slot (pending_at plan n)) slot release → IsMissAt plan n slot release }
 {}
 
-/// The loop of a plan: where the same slots are pending before two cycles, by which all entries have settled and between which there is a
-/// whole number of periods of each live entry, the plan goes on from the second one as it did from the first one. Where no instance is
-/// missed up to the second one, none is missed at any later cycle, by any policy.
+/// The loop of a plan: where the same slots are pending before two cycles, by which all entries have settled and
+/// between which there is a whole number of periods of each live entry, the plan goes on from the second one as it did
+/// from the first one. Where no instance is missed up to the second one, none is missed at any later cycle, by any
+/// policy.
 pub fn loops()
     ensures pending { (plan : Planning) (n m k slot : ℕ) → IsWellPlaced plan.placed → n < m
         → All (RepeatsFrom (plan.from + n) (m - n)) plan.placed → pending_at plan n ≡ pending_at plan m → slot < slots
@@ -104,7 +107,8 @@ pub fn valid_states()
         → HasNoMiss plan n → IsValid plan.placed (plan.from + n) (pending_at plan n) }
 {}
 
-/// As long as no instance is missed the plan keeps the table: it flags slots that hold an instance, and flags each of them in time.
+/// As long as no instance is missed the plan keeps the table: it flags slots that hold an instance, and flags each of
+/// them in time.
 pub fn keeping()
     ensures held { (plan : Planning) (n slot : ℕ)
         → held_before plan.placed (flags_of plan) plan.from (contains_slot plan.pending) n slot ≡ pending_before plan n slot }

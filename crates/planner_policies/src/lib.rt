@@ -1,7 +1,8 @@
-//! The plan of an elementary cycle: which of the pending instances of the table are sent in it, by one of three policies.
+//! The plan of an elementary cycle: which of the pending instances of the table are sent in it, by one of three
+//! policies.
 //!
-//! A planning goes from cycle to cycle by its state, the slots that have an instance pending before the cycle. Time is counted in
-//! elementary cycles from 0, and lengths in bit times. A cycle number handed to any call is below 2^42.
+//! A planning goes from cycle to cycle by its state, the slots that have an instance pending before the cycle. Time is
+//! counted in elementary cycles from 0, and lengths in bit times. A cycle number handed to any call is below 2^42.
 #![tactic(auto)]
 
 mod due;

@@ -13,8 +13,8 @@ use crate::ranking::Ranked;
 use crate::state::{Miss, PlanState};
 use requirement_table::{Mask, Placed, current, due};
 
-/// Whether a state can be planned from: each pending slot has an instance that was released before the cycle and whose last cycle is
-/// not below it.
+/// Whether a state can be planned from: each pending slot has an instance that was released before the cycle and whose
+/// last cycle is not below it.
 pub fn valid(ranked: &Ranked, state: &PlanState) -> bool
     requires cycle { state.now.cycle < 2 ^ 42 }
     ensures valid { IsTrue result ↔ IsValid ranked.now.placed state.now.cycle state.now.pending }
@@ -42,7 +42,8 @@ fn is_held(placed: &Placed, cycle: u64) -> bool
     }
 }
 
-/// Plans the cycle of the state, within a window of `w` bit times: the slots that are planned in it, and the state at the next cycle.
+/// Plans the cycle of the state, within a window of `w` bit times: the slots that are planned in it, and the state at
+/// the next cycle.
 ///
 /// The state is valid.
 ///
@@ -78,7 +79,8 @@ pub fn plan_cycle(ranked: &Ranked, w: u32, state: &PlanState) -> Result<(Mask, P
     }
 }
 
-/// The slots that are planned in the cycle of the state, within a window of `w` bit times, whether or not an instance is missed in it.
+/// The slots that are planned in the cycle of the state, within a window of `w` bit times, whether or not an instance
+/// is missed in it.
 ///
 /// The state is valid.
 pub fn cycle_mask(ranked: &Ranked, w: u32, state: &PlanState) -> Mask
@@ -92,8 +94,8 @@ pub fn cycle_mask(ranked: &Ranked, w: u32, state: &PlanState) -> Mask
     slots_of(taken)
 }
 
-/// What the slots that are planned in the cycle of the state cost together, in bit times: the length of its synchronous window, at most
-/// `w`.
+/// What the slots that are planned in the cycle of the state cost together, in bit times: the length of its synchronous
+/// window, at most `w`.
 ///
 /// The state is valid.
 pub fn cycle_width(ranked: &Ranked, w: u32, state: &PlanState) -> u32

@@ -23,8 +23,8 @@ fn entry(slot: u8, period: u16, priority: u8) -> Placed {
     }
 }
 
-/// Plans cycle after cycle from cycle 0 with nothing pending, as long as states are valid and both calls plan the same, and gives the
-/// numbers of the masks, and the miss that ends them.
+/// Plans cycle after cycle from cycle 0 with nothing pending, as long as states are valid and both calls plan the same,
+/// and gives the numbers of the masks, and the miss that ends them.
 fn masks(
     alloc: Global,
     ranked: &Ranked,
@@ -85,7 +85,8 @@ fn plans_by_hand(rt: HostRuntime) -> Result<(), Fail> {
 
 #[test]
 fn one_frame_a_cycle(rt: HostRuntime) -> Result<(), Fail> {
-    // Periods 3, 4, 5 and 6, which together ask for 57 of 60 cycles: by rate the last one is missed, by deadline none ever is.
+    // Periods 3, 4, 5 and 6, which together ask for 57 of 60 cycles: by rate the last one is missed, by deadline none
+    // ever is.
     let four = [
         entry(0, 3, 0),
         entry(1, 4, 0),

@@ -1,5 +1,5 @@
--- What begins a legal history is legal, and what is opened behind it are cycles from the next one on. So a run of the first calls of steps
--- begins the run of all calls.
+-- What begins a legal history is legal, and what is opened behind it are cycles from the next one on. So a run of the
+-- first calls of steps begins the run of all calls.
 use Rattle.std.proofs.Common.{◌≡◌, ℕ, ◌+◌, ◌*◌, ◌<◌, ◌≤◌, List, [], ◌∷◌, ◌++◌, All, cond, sym, ap, ◌∙◌, subst, arith, append_assoc, append-nil}
 use Rattle.std.proofs.lemmas.List.Elements.{All-append, All-cons, All-nil, All-weaker}
 use Rattle.std.proofs.lemmas.List.Sums.{sum_by-append, sum_by-cons}

@@ -1,4 +1,5 @@
--- A legal history and its CAN trace are those of a run under way: in each opened cycle the trace sends what the opening says, and ends.
+-- A legal history and its CAN trace are those of a run under way: in each opened cycle the trace sends what the opening
+-- says, and ends.
 use Rattle.std.proofs.Common.{◌≡◌, ℕ, ◌+◌, ◌*◌, ◌<◌, ◌≤◌, ◌↔◌, false, List, [], ◌∷◌, ◌++◌, All, refl, sym, ap, ◌∙◌, subst, arith, inl, inr, append_assoc, append-nil}
 use Rattle.std.proofs.Math.Nat.{mul-le-mul_right}
 use Rattle.std.proofs.lemmas.List.Elements.{All-contains, All-cons, All-head, All-nil, All-tail, Contains-push, Contains-push_cases}

@@ -1,4 +1,5 @@
--- The table that steps ask for, where no admission is asked: each change counts that breaks no rule and whose start has not passed.
+-- The table that steps ask for, where no admission is asked: each change counts that breaks no rule and whose start has
+-- not passed.
 use Rattle.std.specs.Prelude.{ℕ, ◌+◌, Bool, ◌&&◌, nat_le, is_none, List, [], fold, if◌then◌else◌}
 use Rattle.requirement_table.specs.declared.entries.Placed.{Placed}
 use Rattle.change_protocol.specs.Applied.{applied}
@@ -13,7 +14,8 @@ pub record AskedTable : Type 0 where
   pub placed : List Placed
   pub next : ℕ
 
--- whether a change of this list counts, for so many nodes behind so many cycles: it breaks no rule, and its start is not below their number
+-- whether a change of this list counts, for so many nodes behind so many cycles: it breaks no rule, and its start is
+-- not below their number
 abbrev pub counts : ℕ → List Placed → ℕ → Change → Bool
 counts nodes placed next change = nat_le next change.start && is_none (first_fault placed nodes change)
 

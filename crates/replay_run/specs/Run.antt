@@ -13,7 +13,8 @@ use Rattle.master_core.specs.declared.event.Event.TheVariants.{Submit, Look, Ope
 use Rattle.master_core.specs.History.{IsPlainlyLegal}
 use Rattle.kept_run.specs.Kept.{Kept}
 
--- what a master is called for: an operator asks for a change, or for the number of the next cycle, or the next cycle is to be opened
+-- what a master is called for: an operator asks for a change, or for the number of the next cycle, or the next cycle is
+-- to be opened
 pub data Call : Type 0 where
   asks : ℕ → Change → Call
   looks : ℕ → Call
@@ -35,7 +36,8 @@ calls_of (step.Act caller (act.Ask change)) = asks caller change ∷ []
 abbrev pub AnswersSteps : List Event → List Step → Type 0
 AnswersSteps history steps = map call_of history ≡ flat_map calls_of steps
 
--- *Run*: the history answers the steps, each change planned when it is answered, and history and trace keep what is promised
+-- *Run*: the history answers the steps, each change planned when it is answered, and history and trace keep what is
+-- promised
 pub record IsRun (system : System) (steps : List Step) (requests : List Request) (history : List Event) (trace : List TimedFrame) : Type 0 where
   pub answers : AnswersSteps history steps
   pub plain : IsPlainlyLegal system.rules history

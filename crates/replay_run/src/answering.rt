@@ -58,7 +58,8 @@ fn answer_step(master: &mut Master, alloc: Global, step: &Step) -> Result<(), Al
     }
 }
 
-/// Answers the steps of a file by a master alone, with no bus. Its history is the one of every run of these steps by these rules.
+/// Answers the steps of a file by a master alone, with no bus. Its history is the one of every run of these steps by
+/// these rules.
 ///
 /// # Errors
 ///

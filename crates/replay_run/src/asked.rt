@@ -58,8 +58,8 @@ fn take_step(asked: &mut Asked, alloc: Global, nodes: u8, step: &Step) -> Result
     }
 }
 
-/// The placed entries that the steps of a file ask for, on a bus of so many nodes, where no admission is asked: each change counts that breaks
-/// no rule and whose start is not below the number of cycles in the rows before it.
+/// The placed entries that the steps of a file ask for, on a bus of so many nodes, where no admission is asked: each
+/// change counts that breaks no rule and whose start is not below the number of cycles in the rows before it.
 ///
 /// # Errors
 ///

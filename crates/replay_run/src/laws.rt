@@ -21,8 +21,8 @@ use bus_line::laws::trace_laws;
 use cycle_engine::laws::OpenedCycles;
 use kept_run::laws::{beginning, calls_between, cycles_run, requests_of_owners};
 
-/// Steps have one history: two that answer them, each change planned when it is answered, are the same. So each verdict is the one that
-/// the rules give. And they have one run: with these requests there is one trace, too.
+/// Steps have one history: two that answer them, each change planned when it is answered, are the same. So each verdict
+/// is the one that the rules give. And they have one run: with these requests there is one trace, too.
 pub fn one_run()
     ensures one_history { (rules : Rules) (steps : List Step) (one other : List Event) → IsPlainlyLegal rules one → IsPlainlyLegal rules other
         → AnswersSteps one steps → AnswersSteps other steps → one ≡ other }
@@ -47,8 +47,9 @@ pub fn beginnings()
     one_verdict();
 }
 
-/// A history and a trace that keep what is promised, with a system and requests that were read, are those of a run under
-/// way: in each opened cycle the trace sends what the opening says, and it has ended by the start of the next cycle.
+/// A history and a trace that keep what is promised, with a system and requests that were read, are those of a run
+/// under way: in each opened cycle the trace sends what the opening says, and it has ended by the start of the next
+/// cycle.
 pub fn runs_under_way()
     ensures under_way { (system : System) (requests : List Request) (history : List Event) (trace : List TimedFrame)
         → IsSystem system → AreLegal system.owners requests → Kept system.rules system.layout requests history trace

@@ -1,4 +1,5 @@
-//! The run of a steps file on a simulated bus: a master answers the steps, and each cycle that it opens is run by nodes.
+//! The run of a steps file on a simulated bus: a master answers the steps, and each cycle that it opens is run by
+//! nodes.
 //!
 //! Cycles are elementary cycles, counted from 0; times are bit times.
 #![tactic(auto)]

@@ -163,8 +163,8 @@ fn run_steps(
     Ok(run)
 }
 
-/// Answers the steps of a file, in their order, on the bus of a system with these requests. The history answers the steps, and history
-/// and trace keep what is promised.
+/// Answers the steps of a file, in their order, on the bus of a system with these requests. The history answers the
+/// steps, and history and trace keep what is promised.
 ///
 /// # Errors
 ///

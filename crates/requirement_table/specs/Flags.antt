@@ -1,15 +1,17 @@
--- Which slots are flagged in which cycles, and that a table is kept by that: each instance is flagged once, in its time.
+-- Which slots are flagged in which cycles, and that a table is kept by that: each instance is flagged once, in its
+-- time.
 use Rattle.std.specs.Prelude.{◌≡◌, ℕ, ◌+◌, ◌<◌, ◌≤◌, Bool, true, ◌||◌, List}
 use Rattle.requirement_table.specs.declared.entries.Placed.{Placed}
 use Rattle.requirement_table.specs.Slots.{slots}
 use Rattle.requirement_table.specs.Table.{held_before, is_last_in, releases_in}
 
--- whether the slot holds an instance in the cycle `from + n`: one that was released before it and not sent, or one that is released
--- in it
+-- whether the slot holds an instance in the cycle `from + n`: one that was released before it and not sent, or one that
+-- is released in it
 abbrev pub waits : List Placed → (ℕ → ℕ → Bool) → ℕ → (ℕ → Bool) → ℕ → ℕ → Bool
 waits placed flags from held n slot = held_before placed flags from held n slot || releases_in placed (from + n) slot
 
--- the flags of the cycle `from + n` are of slots that hold an instance, and each instance is flagged whose last cycle it is
+-- the flags of the cycle `from + n` are of slots that hold an instance, and each instance is flagged whose last cycle
+-- it is
 pub record IsGoodCycle (placed : List Placed) (flags : ℕ → ℕ → Bool) (from : ℕ) (held : ℕ → Bool) (n : ℕ) : Type 0 where
   pub holding : (slot : ℕ) → slot < slots → flags (from + n) slot ≡ true → waits placed flags from held n slot ≡ true
   pub in_time : (slot : ℕ) → slot < slots → waits placed flags from held n slot ≡ true → is_last_in placed (from + n) slot ≡ true

@@ -71,8 +71,8 @@ released_in placed c = set_of slots (releases_in placed c)
 abbrev pub is_last_in : List Placed → ℕ → ℕ → Bool
 is_last_in placed c slot = option_map_or (λ i. nat_eq (deadline_of i.placed i.number) (c + 1)) (instance_in placed slot c) false
 
--- what the slot costs in cycle `c`, in bit times: the worst length of the frame of its instance that may be sent; 0 where there
--- is none
+-- what the slot costs in cycle `c`, in bit times: the worst length of the frame of its instance that may be sent; 0
+-- where there is none
 abbrev pub worst_in : List Placed → ℕ → ℕ → ℕ
 worst_in placed c slot = option_map_or worst_of (instance_in placed slot c) 0
 
@@ -80,8 +80,8 @@ worst_in placed c slot = option_map_or worst_of (instance_in placed slot c) 0
 abbrev pub width_in : List Placed → ℕ → (ℕ → Bool) → ℕ
 width_in placed c flagged = sum_where slots flagged (worst_in placed c)
 
--- whether the slot holds an instance, released before the cycle `from + n` and not sent before it: `held` are the slots that hold
--- one before `from`, and `flags c slot` says that the slot is sent in cycle `c`
+-- whether the slot holds an instance, released before the cycle `from + n` and not sent before it: `held` are the slots
+-- that hold one before `from`, and `flags c slot` says that the slot is sent in cycle `c`
 unfoldable pub held_before : List Placed → (ℕ → ℕ → Bool) → ℕ → (ℕ → Bool) → ℕ → ℕ → Bool
 held_before placed flags from held zero slot = held slot
 held_before placed flags from held (suc n) slot =

@@ -80,7 +80,8 @@ pub fn drop_over(placed: &mut Vec<Placed>, cycle: u64)
     placed.retain(|p| !is_over(p, cycle));
 }
 
-/// A cycle before which none of these entries is over: the least one by which one of them is, or the greatest number where none ends.
+/// A cycle before which none of these entries is over: the least one by which one of them is, or the greatest number
+/// where none ends.
 pub fn first_over(placed: &[Placed]) -> u64
     requires { IsWellPlaced placed.now }
     ensures none_before { (cycle : ℕ) → cycle < result → list_any (is_over cycle) placed.now ≡ false }

@@ -1,4 +1,5 @@
--- A list of bits has one answer: some list is stuffed by it, or it has one first sixth equal bit, or it ends with five equal bits.
+-- A list of bits has one answer: some list is stuffed by it, or it has one first sixth equal bit, or it ends with five
+-- equal bits.
 use Rattle.std.proofs.Common.{◌≡◌, ℕ, zero, suc, ◌+◌, ◌<◌, ◌≤◌, Bool, true, false, leb, List, [], ◌∷◌, ◌++◌, length, get_or, take, drop, reverse, sym, ap, subst, ◌∙◌, ◌⊎◌, inl, inr, add-one, le_refl, arith}
 use Rattle.std.proofs.lemmas.Bool.{cases_lt, cases_order, leb-true, le-leb}
 use Rattle.std.proofs.lemmas.List.{reverse-append, reverse-reverse, take-append-drop, take-take, take_all}

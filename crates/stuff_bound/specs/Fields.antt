@@ -1,4 +1,5 @@
--- Numbers and bytes on the wire, the most significant bit first: a dominant bit (`false`) is 0, a recessive one (`true`) is 1.
+-- Numbers and bytes on the wire, the most significant bit first: a dominant bit (`false`) is 0, a recessive one
+-- (`true`) is 1.
 use Rattle.std.specs.Prelude.{ℕ, zero, suc, ◌/◌, ◌%◌, ◌==◌, Bool, List, [], ◌∷◌, ◌++◌}
 use Rattle.std.specs.List.{flat_map}
 

@@ -1,8 +1,10 @@
--- Bit stuffing, as CAN 2.0 Part A says it ("Bit stream coding"): whenever a sender has sent five equal bits in a row, stuff
--- bits counted, it sends one bit of the opposite level. A bit is a `Bool`: dominant is `false`, recessive is `true`.
+-- Bit stuffing, as CAN 2.0 Part A says it ("Bit stream coding"): whenever a sender has sent five equal bits in a row,
+-- stuff bits counted, it sends one bit of the opposite level. A bit is a `Bool`: dominant is `false`, recessive is
+-- `true`.
 --
--- The words here look at what was sent newest first, so that the tail of such a list is what stood before its head.
--- A list in the order of sending is turned round by `reverse` once. `ByPlace` says the same by places in the order of sending.
+-- The words here look at what was sent newest first, so that the tail of such a list is what stood before its head. A
+-- list in the order of sending is turned round by `reverse` once. `ByPlace` says the same by places in the order of
+-- sending.
 use Rattle.std.specs.Prelude.{◌≡◌, ℕ, ◌+◌, ◌*◌, ◌<◌, Bool, false, not, if◌then◌else◌, nat_le, List, [], ◌∷◌, min, reverse}
 use Rattle.std.specs.Bool.{beq}
 
@@ -30,8 +32,8 @@ abbrev pub without_stuff : List Bool → List Bool
 without_stuff [] = []
 without_stuff (bit ∷ sent) = if at_stuff_place sent then without_stuff sent else bit ∷ without_stuff sent
 
--- *Stuffing*: `wire` stuffs `plain` where no six neighbouring bits of `wire` are equal, `wire` does not end with five equal
--- bits, and `wire` without its stuff places is `plain`
+-- *Stuffing*: `wire` stuffs `plain` where no six neighbouring bits of `wire` are equal, `wire` does not end with five
+-- equal bits, and `wire` without its stuff places is `plain`
 pub record Stuffs (wire plain : List Bool) : Type 0 where
   pub no_six : HasNoSix (reverse wire)
   pub ended : run (reverse wire) < 5
@@ -50,7 +52,8 @@ with_stuff (bit ∷ plain) = with_opposite (bit ∷ with_stuff plain)
 abbrev pub stuffed : List Bool → List Bool
 stuffed plain = reverse (with_stuff (reverse plain))
 
--- what a sender or a reader keeps of the bits so far: the last one, and how many equal ones came last, counted up to five
+-- what a sender or a reader keeps of the bits so far: the last one, and how many equal ones came last, counted up to
+-- five
 pub record LastRun : Type 0 where
   pub last : Bool
   pub count : ℕ
@@ -63,8 +66,8 @@ last_run sent = record { last = last_bit sent; count = min 5 (run sent) }
 abbrev pub Tracks : LastRun → List Bool → Type 0
 Tracks kept sent = kept ≡ last_run sent
 
--- the worst length of a data frame of `bytes` data bytes, in bit times: 34 + 8 bytes bits from the start of frame to the CRC
--- sequence, at most 8 + 2 bytes stuff bits among and behind them, ten bits to the end of frame, and three of intermission
--- (CAN 2.0 Part A, "Data frame" and "Interframe space")
+-- the worst length of a data frame of `bytes` data bytes, in bit times: 34 + 8 bytes bits from the start of frame to
+-- the CRC sequence, at most 8 + 2 bytes stuff bits among and behind them, ten bits to the end of frame, and three of
+-- intermission (CAN 2.0 Part A, "Data frame" and "Interframe space")
 abbrev pub worst : ℕ → ℕ
 worst bytes = 55 + 10 * bytes

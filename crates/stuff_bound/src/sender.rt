@@ -6,7 +6,8 @@ ghost use Rattle.stuff_bound.specs.Sending.{HasSent, step_at};
 
 use crate::steps::{STATES, STEPS};
 
-/// What a sender keeps of the bits so far. Its clauses speak of every list of plain bits that it was given, newest first.
+/// What a sender keeps of the bits so far. Its clauses speak of every list of plain bits that it was given, newest
+/// first.
 #[derive(Clone, Copy)]
 pub struct Sender {
     /// The run of equal bits that it sent last, as the table of steps counts it.

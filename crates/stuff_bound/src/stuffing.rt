@@ -121,8 +121,8 @@ pub fn stuffed_len(bits: &[bool]) -> usize
     len
 }
 
-/// The number of bits that `stuff` gives for the first `bits` bits of these bytes, the most significant bit of each byte
-/// first, in bit times. It goes from byte to byte, and takes no memory.
+/// The number of bits that `stuff` gives for the first `bits` bits of these bytes, the most significant bit of each
+/// byte first, in bit times. It goes from byte to byte, and takes no memory.
 pub fn stuffed_len_bytes(bytes: &[u8], bits: u32) -> u32
     requires within { bits ≤ 8 * length bytes.now }
     requires few { bits < 2 ^ 30 }

@@ -24,7 +24,8 @@ module _ {T E F : Type 0} (entries : T → List E) (fixed : T → F) (number : E
   abbrev pub Looked : Step (Option T) → Sat → ℕ → Sat → Type 0
   Looked st m word m' = (m' ≡ m) × (2 * length m.0.seen ≤ word) × Facts number m.0
 
-  -- the value found has the fixed part that the pass shows, and stands for a list that begins with what the pass has seen and has its entries
+  -- the value found has the fixed part that the pass shows, and stands for a list that begins with what the pass has
+  -- seen and has its entries
   pub record IsGranted (m : Sat) (m' : Sat) : Type 0 where
     pub value : T
     pub now : m' ≡ (granted (entries value) m.0, (0, Some value) ∷ m.1)

@@ -324,14 +324,14 @@ fn in_ranges(system: &System, requests: &[Request])
     requests_of_owners();
 }
 
-/// Answers the steps of a file, in their order, on the bus of a system with these requests, and puts the log meanwhile: the rows of each
-/// event when it was answered and its cycle was run, each row by a call of its own, and then the last row. The frames are kept where
-/// `keeps` says so. Else it takes memory for the master, the nodes and one cycle alone.
+/// Answers the steps of a file, in their order, on the bus of a system with these requests, and puts the log meanwhile:
+/// the rows of each event when it was answered and its cycle was run, each row by a call of its own, and then the last
+/// row. The frames are kept where `keeps` says so. Else it takes memory for the master, the nodes and one cycle alone.
 ///
 /// # Errors
 ///
-/// `Memory` where memory runs out, `Write` where the sink fails. Then the sink took the first bytes of the rows of a run that was
-/// begun, or of the whole log.
+/// `Memory` where memory runs out, `Write` where the sink fails. Then the sink took the first bytes of the rows of a
+/// run that was begun, or of the whole log.
 pub fn replay_to<O: Sink>(
     alloc: Global,
     system: &System,

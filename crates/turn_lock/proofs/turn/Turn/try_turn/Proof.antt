@@ -1,4 +1,5 @@
--- The call at the lock hands its two arguments, exchanged, to the call at the pass, and what that promises is what it promises.
+-- The call at the lock hands its two arguments, exchanged, to the call at the pass, and what that promises is what it
+-- promises.
 use Rattle.std.proofs.Common.{[], ◌∷◌, refl}
 use mir.Syntax.{a_type, dcons, dnil, named}
 use mir.MapTy.{inst_fn}
