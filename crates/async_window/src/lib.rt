@@ -14,4 +14,4 @@ mod tournament;
 mod window;
 
 pub use mailboxes::Mailboxes;
-pub use request::{Owner, Request};
+pub use request::{LEAST_ASYNCHRONOUS, Owner, Request};

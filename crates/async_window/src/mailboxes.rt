@@ -7,7 +7,7 @@ ghost use Rattle.async_window.specs.Adding.{with_request};
 ghost use Rattle.async_window.specs.Sorted.{IsPlaceTable};
 
 use crate::mailbox::Mailbox;
-use crate::places::{in_order, place_of, places};
+use crate::places::{IDENTIFIERS, in_order, place_of, places};
 use crate::request::Request;
 use crate::tournament::Tournament;
 use crate::window::window_in;
@@ -15,9 +15,6 @@ use can_frame::Frame;
 use cycle_layout::Layout;
 use std::alloc::{AllocError, Global};
 use std::marker::Model;
-
-/// How many identifiers there may be: those of 11 bits.
-const IDENTIFIERS: usize = 2_048;
 
 /// The unsent requests of some identifiers. Contracts see a list of identifiers, each with its unsent requests in their
 /// order.

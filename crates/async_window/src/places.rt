@@ -7,7 +7,7 @@ ghost use Rattle.async_window.specs.Sorted.{IsPlaceOf, nowhere};
 use std::alloc::{AllocError, Global};
 
 /// How many identifiers there may be: those of 11 bits.
-const IDENTIFIERS: usize = 2_048;
+pub const IDENTIFIERS: usize = 2_048;
 
 /// The place of an identifier that is not in a list.
 const NOWHERE: u16 = u16::MAX;

@@ -2,7 +2,7 @@
 use Rattle.std.specs.Prelude.{◌≡◌, ◌≢◌, ℕ, ◌^◌, ◌<◌, ◌≤◌, List, [], ◌∷◌, ◌++◌, All, length}
 use Rattle.std.specs.List.{flat_map}
 use Rattle.can_frame.specs.declared.data_frame.TimedFrame.{TimedFrame}
-use Rattle.trigger_codec.specs.Bytes.{trigger_frame, window_in}
+use Rattle.trigger_codec.specs.Bytes.{trigger_frame, width_told}
 use Rattle.requirement_table.specs.Opening.{Opening, width_of}
 use Rattle.master_core.specs.declared.event.Event.{Event}
 use Rattle.master_core.specs.declared.event.Event.TheVariants.{Submit, Look, Open}
@@ -16,9 +16,9 @@ pub record BeginsCycle (cycle mask : ℕ) (frames : List TimedFrame) : Type 0 wh
   pub trigger : TimedFrame
   pub later : List TimedFrame
   pub frames_are : frames ≡ trigger ∷ later
-  pub window : ℕ
-  pub wide : window < 2 ^ 16
-  pub says : trigger.frame ≡ trigger_frame cycle window mask
+  pub width : ℕ
+  pub wide : width < 2 ^ 16
+  pub says : trigger.frame ≡ trigger_frame cycle width mask
   pub others : All (λ sent. sent.frame.identifier ≢ 0) later
 
 -- no frames follow an event that opens no cycle
@@ -28,16 +28,16 @@ HasItsFrames (Look caller next) frames = frames ≡ []
 HasItsFrames (Open cycle mask) frames = BeginsCycle cycle mask frames
 
 -- the length of the synchronous window that the first of these frames says, a trigger
-abbrev pub window_of : List TimedFrame → ℕ
-window_of [] = 0
-window_of (trigger ∷ later) = window_in trigger.frame.bytes
+abbrev pub width_told_in : List TimedFrame → ℕ
+width_told_in [] = 0
+width_told_in (trigger ∷ later) = width_told trigger.frame.bytes
 
 -- the rows of an event and of the frames that follow it: a change that is refused for a miss is followed by its plan up
 -- to the miss
 abbrev pub rows_of_event : Event → List TimedFrame → List ℕ
 rows_of_event (Submit caller change from verdict trail) frames = submit_row caller from verdict ++ plan_rows from trail
 rows_of_event (Look caller next) frames = look_row caller next
-rows_of_event (Open cycle mask) frames = opened_row cycle mask (window_of frames) ++ flat_map frame_row frames
+rows_of_event (Open cycle mask) frames = opened_row cycle mask (width_told_in frames) ++ flat_map frame_row frames
 
 -- after the events before it, the trigger of the cycle that the event opens says the length of the cycle's synchronous
 -- window
@@ -45,16 +45,16 @@ abbrev pub SaysWidth : List TimedFrame → List Event → Event → Type 0
 SaysWidth trace before (Submit caller change from verdict trail) = Unit {0}
 SaysWidth trace before (Look caller next) = Unit {0}
 SaysWidth trace before (Open cycle mask) =
-    window_of (started_in cycle 0 trace) ≡ width_of (record { cycle = cycle; mask = mask; placed = placed_of before })
+    width_told_in (started_in cycle 0 trace) ≡ width_of (record { cycle = cycle; mask = mask; placed = placed_of before })
 
 -- Words for contracts inside the crate
 
 -- the first frame has the bytes that say the length of a window
-abbrev pub HasWindow : List TimedFrame → Type 0
-HasWindow [] = ⊥
-HasWindow (trigger ∷ later) = 3 ≤ length trigger.frame.bytes
+abbrev pub HasWidth : List TimedFrame → Type 0
+HasWidth [] = ⊥
+HasWidth (trigger ∷ later) = 3 ≤ length trigger.frame.bytes
 
-abbrev pub HasWindowIn : Event → List TimedFrame → Type 0
-HasWindowIn (Submit caller change from verdict trail) frames = Unit {0}
-HasWindowIn (Look caller next) frames = Unit {0}
-HasWindowIn (Open cycle mask) frames = HasWindow frames
+abbrev pub HasWidthIn : Event → List TimedFrame → Type 0
+HasWidthIn (Submit caller change from verdict trail) frames = Unit {0}
+HasWidthIn (Look caller next) frames = Unit {0}
+HasWidthIn (Open cycle mask) frames = HasWidth frames

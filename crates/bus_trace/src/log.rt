@@ -20,13 +20,6 @@ use can_frame::TimedFrame;
 use master_core::Event;
 use std::alloc::{AllocError, Global};
 
-/// Whether the event opens a cycle.
-fn opens_cycle(event: &Event) -> bool
-    ensures opens { result ≡ is_open event.now }
-{
-    matches!(event, Event::Open { .. })
-}
-
 /// The number of frames whose rows follow that of an event.
 fn frame_count(event: &Event, left: &[TimedFrame]) -> usize
     ensures within { result ≤ length left.now }
@@ -117,7 +110,7 @@ pub fn log_text(
         let (frames, later) = left.split_at(frame_count(event, left));
         push_event(&mut text, &entries, event, frames)?;
         place_event(&mut entries, alloc, event, next)?;
-        next += u64::from(opens_cycle(event));
+        next += u64::from(event.opens_cycle());
         left = later;
     }
     push_end_row(&mut text, next)?;

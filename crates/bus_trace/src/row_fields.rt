@@ -9,16 +9,11 @@ ghost use Rattle.std.specs.List.{list_all};
 ghost use Rattle.can_frame.specs.DataFrame.{IsFrame};
 ghost use Rattle.bus_trace.specs.RowFields.{bytes_of, bytes_written, fields_of_line, frame_at, frame_with, has_leading_zero, hex_at, hex_of, is_hex_digit, number_at, number_of, up_to};
 
+use crate::rows::{IDENTIFIER_DIGITS, MASK_DIGITS};
 use can_frame::{Frame, MAX_BYTES, MAX_IDENTIFIER};
 use requirement_table::Mask;
 use std::alloc::{AllocError, Global};
 use std::str;
-
-/// The number of digits of a mask.
-const MASK_DIGITS: usize = 10;
-
-/// The number of digits of an identifier.
-const IDENTIFIER_DIGITS: usize = 3;
 
 /// The most digits of the data bytes of a frame.
 const DATA_DIGITS: usize = 2 * MAX_BYTES;
@@ -129,7 +124,7 @@ pub fn mask(fields: &[&[u8]], place: usize) -> Option<Mask>
     ensures value { result ≡ hex_at (map (λ field. field.now) fields.now) place 10 }
 {
     let field = field(fields, place)?;
-    let bits = read_hex(field, MASK_DIGITS)?;
+    let bits = read_hex(field, usize::from(MASK_DIGITS))?;
     Some(Mask::from_bits(u128::from(bits)))
 }
 
@@ -139,7 +134,7 @@ fn identifier(fields: &[&[u8]]) -> Option<u16>
     ensures range { IfSome result (λ identifier. identifier ≤ 0x7EF) }
 {
     let field = field(fields, 3)?;
-    let number = read_hex(field, IDENTIFIER_DIGITS)?;
+    let number = read_hex(field, usize::from(IDENTIFIER_DIGITS))?;
     if number <= u64::from(MAX_IDENTIFIER) {
         Some(number as u16)
     } else {

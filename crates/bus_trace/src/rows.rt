@@ -14,10 +14,10 @@ use requirement_table::Mask;
 use std::alloc::AllocError;
 
 /// The number of digits of a mask.
-const MASK_DIGITS: u8 = 10;
+pub const MASK_DIGITS: u8 = 10;
 
 /// The number of digits of an identifier.
-const IDENTIFIER_DIGITS: u8 = 3;
+pub const IDENTIFIER_DIGITS: u8 = 3;
 
 /// The cycle that the reason of a refusal names, where it names one.
 fn until_of(why: &Why) -> Option<u64>

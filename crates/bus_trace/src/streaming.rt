@@ -5,8 +5,8 @@ ghost use Rattle.std.specs.List.{flat_map};
 ghost use Rattle.ftt_io.specs.Counts.{Rose};
 ghost use Rattle.ftt_io.specs.Puts.{Puts, PutsPrefix};
 ghost use Rattle.can_frame.specs.DataFrame.{IsFrame};
-ghost use Rattle.trigger_codec.specs.Bytes.{window_in};
-ghost use Rattle.bus_trace.specs.EventRows.{HasItsFrames, HasWindow, HasWindowIn, rows_of_event, window_of};
+ghost use Rattle.trigger_codec.specs.Bytes.{width_told};
+ghost use Rattle.bus_trace.specs.EventRows.{HasItsFrames, HasWidth, HasWidthIn, rows_of_event, width_told_in};
 ghost use Rattle.bus_trace.specs.Log.{end_row, frame_row, plan_rows};
 ghost use Rattle.bus_trace.specs.Logged.{IsNear};
 
@@ -21,28 +21,28 @@ use requirement_table::Mask;
 use std::alloc::{AllocError, Global};
 
 /// The length of the synchronous window that a trigger says, in bit times.
-fn window_in(trigger: &Frame) -> u32
+fn width_told(trigger: &Frame) -> u32
     requires bytes { 3 ≤ length trigger.now.bytes }
-    ensures window { result ≡ window_in trigger.now.bytes }
+    ensures width { result ≡ width_told trigger.now.bytes }
 {
     u32::from(trigger.byte(1)) * 256 + u32::from(trigger.byte(2))
 }
 
 /// The length of the synchronous window that the first of these frames says, in bit times.
-fn window_of(frames: &[TimedFrame]) -> u32
-    requires trigger { HasWindow frames.now }
-    ensures window { result ≡ window_of frames.now }
+fn width_told_in(frames: &[TimedFrame]) -> u32
+    requires trigger { HasWidth frames.now }
+    ensures width { result ≡ width_told_in frames.now }
 {
     match frames {
         [] => 0,
-        [trigger, ..] => window_in(&trigger.frame),
+        [trigger, ..] => width_told(&trigger.frame),
     }
 }
 
 /// Appends the rows of an event and of its frames. Where memory runs out, some of them may stand behind what stood.
 fn push_rows(out: &mut Vec<u8>, event: &Event, frames: &[TimedFrame]) -> Result<(), AllocError>
     requires near { IsNear event.now }
-    requires window { HasWindowIn event.now frames.now }
+    requires width { HasWidthIn event.now frames.now }
     ensures ok { OnOk result (out.new.items ≡ out.old.items ++ rows_of_event event.now frames.now) }
     ensures err { OnErr result (take (length out.old.items) out.new.items ≡ out.old.items) }
 {
@@ -59,7 +59,7 @@ fn push_rows(out: &mut Vec<u8>, event: &Event, frames: &[TimedFrame]) -> Result<
         }
         Event::Look { caller, next } => push_look_row(out, *caller, *next),
         Event::Open { cycle, mask } => {
-            push_open_row(out, *cycle, *mask, window_of(frames))?;
+            push_open_row(out, *cycle, *mask, width_told_in(frames))?;
             push_frame_rows(out, frames)
         }
     }
@@ -152,7 +152,10 @@ pub fn put_event_rows<O: Sink>(
         }
         Event::Look { caller, next } => write_all(out, look_row(*caller, *next).as_slice()),
         Event::Open { cycle, mask } => {
-            write_all(out, open_row(*cycle, *mask, window_of(frames)).as_slice())?;
+            write_all(
+                out,
+                open_row(*cycle, *mask, width_told_in(frames)).as_slice(),
+            )?;
             put_frame_rows(out, frames)
         }
     }

@@ -80,7 +80,7 @@ module _ (in_range : (node : NodeState) (at id : ℕ) → IsNode node → node_o
     → IsInWindow from until node → IsInWindow from until (after_hearing node sent))
     (opens : (node : NodeState) (l mask : ℕ) (sent : TimedFrame) → l ≤ node.layout.window → node.layout.window ≤ 16383
     → mask < 2 ^ slots → sent.frame ≡ trigger_frame node.next l mask
-    → (after_hearing node sent).opened ≡ Some (record { cycle = node.next; width = l; flags = mask; heard = 0 }))
+    → (after_hearing node sent).opened ≡ Some (record { cycle = node.next; width = l; mask = mask; heard = 0 }))
     (layout : CycleLayout) (cycle l mask : ℕ) (is_layout : IsLayout layout) (early : cycle < 2 ^ 42) (small : l ≤ layout.window) (few : mask < 2 ^ slots) where
   -- a node that hears the trigger is in the window of that cycle
   opened-by : (window end : ℕ) (node : NodeState) (sent : TimedFrame) → sync_start layout cycle l ≤ window → end ≤ (cycle + 1) * layout.cycle
@@ -90,7 +90,7 @@ module _ (in_range : (node : NodeState) (at id : ℕ) → IsNode node → node_o
       (trigger ∙ ap (λ c. trigger_frame c l mask) (sym next)) in
       let its : (after_hearing node sent).layout ≡ layout = layout_kept node sent ∙ same in
       record {
-        opened = record { cycle = node.next; width = l; flags = mask; heard = 0 };
+        opened = record { cycle = node.next; width = l; mask = mask; heard = 0 };
         is_open = own;
         begun = subst (λ x. sync_start x node.next l ≤ window) (sym its) (subst (λ c. sync_start layout c l ≤ window) (sym next) begun);
         ends = subst (λ x. end ≤ (node.next + 1) * x.cycle) (sym its) (subst (λ c. end ≤ (c + 1) * layout.cycle) (sym next) ends);
@@ -131,7 +131,7 @@ pub before-window : PartLaws → ((frame : DataFrame) → 47 ≤ wire_length fra
     → IsInWindow from until node → IsInWindow from until (after_hearing node sent))
     → ((node : NodeState) (l mask : ℕ) (sent : TimedFrame) → l ≤ node.layout.window → node.layout.window ≤ 16383
     → mask < 2 ^ slots → sent.frame ≡ trigger_frame node.next l mask
-    → (after_hearing node sent).opened ≡ Some (record { cycle = node.next; width = l; flags = mask; heard = 0 }))
+    → (after_hearing node sent).opened ≡ Some (record { cycle = node.next; width = l; mask = mask; heard = 0 }))
     → (layout : CycleLayout) (cycle l mask : ℕ) → IsLayout layout → cycle < 2 ^ 42 → l ≤ layout.window → mask < 2 ^ slots
     → (nodes : List NodeState) → AreNodes layout nodes → All (λ node. node.next ≡ cycle) nodes
     → (before after : Stationed) (from until : ℕ) (old new : List TimedFrame) (free : ℕ)

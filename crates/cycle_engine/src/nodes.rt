@@ -71,7 +71,7 @@ impl Nodes {
         ensures bus { IfOk result (λ bus. IsBus layout owners.now requests.now [] [] 0 (states_of bus.nodes)) }
     {
         nodes_are_apart();
-        let _ = number_of(requests);
+        fit_into_memory(requests);
         let made = fresh_nodes(alloc, layout, nodes, owners, requests)?;
         Ok(Nodes {
             stations: NodeStations::new(layout, made),
@@ -92,7 +92,7 @@ impl Nodes {
         ensures known { IsLayout self.now.layout }
     {
         let layout = self.stations.layout();
-        let _ = layout.cycle();
+        layout.is_in_range();
         layout
     }
 
@@ -164,11 +164,11 @@ impl Nodes {
     }
 }
 
-/// The number of requests: no more are ever left.
-fn number_of(requests: &[Request]) -> usize
-    ensures number { result ≡ length requests.now }
+/// So many requests fit into memory, and no more are ever left. This does nothing: it brings the fact to a proof.
+fn fit_into_memory(requests: &[Request])
+    ensures few { length requests.now < 2 ^ 64 }
 {
-    requests.len()
+    let _ = requests.len();
 }
 
 /// The nodes 0 to `nodes` - 1 before cycle 0.

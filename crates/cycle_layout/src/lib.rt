@@ -98,6 +98,13 @@ impl Layout {
         })
     }
 
+    /// The lengths are in range. This does nothing: it brings the fact to a proof.
+    pub fn is_in_range(&self)
+        ensures known { IsLayout self.now }
+    {
+        let _ = self.cycle();
+    }
+
     /// The length of a cycle.
     pub fn cycle(&self) -> u32
         ensures value { result ≡ self.now.cycle }

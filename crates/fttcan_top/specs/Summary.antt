@@ -1,19 +1,13 @@
 -- *Summary*: the counts of a run, as the text that `gen` writes. Each row ends with one line feed; numbers are decimal
 -- without leading zeros.
-use Rattle.std.specs.Prelude.{ℕ, ◌-◌, ◌&&◌, Bool, true, false, not, List, ◌++◌, length, codes, count_by, nat_le, nat_lt}
+use Rattle.std.specs.Prelude.{ℕ, ◌-◌, ◌&&◌, Bool, false, not, List, ◌++◌, length, codes, count_by, nat_le, nat_lt}
 use Rattle.std.specs.List.{sum_by}
 use Rattle.std.specs.Fmt.{decimal}
 use Rattle.can_frame.specs.declared.data_frame.TimedFrame.{TimedFrame}
 use Rattle.admission.specs.Verdict.{is_accepted}
 use Rattle.master_core.specs.declared.event.Event.{Event}
 use Rattle.master_core.specs.declared.event.Event.TheVariants.{Submit, Look, Open}
-use Rattle.master_core.specs.History.{is_open}
-
--- whether the event accepts a change
-abbrev pub accepts : Event → Bool
-accepts (Submit caller change from verdict trail) = is_accepted verdict
-accepts (Look caller next) = false
-accepts (Open cycle mask) = false
+use Rattle.master_core.specs.History.{accepts, is_open}
 
 -- whether the event refuses a change
 abbrev pub refuses : Event → Bool

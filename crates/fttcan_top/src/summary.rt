@@ -2,22 +2,15 @@
 
 ghost use Rattle.std.specs.Prelude.{◌≡◌, ◌++◌, IfOk, OnOk, count_by, string_bytes};
 ghost use Rattle.std.specs.List.{sum_by};
-ghost use Rattle.master_core.specs.History.{is_open};
-ghost use Rattle.fttcan_top.specs.Summary.{accepts, is_asynchronous, history_rows, is_synchronous, refuses, rest_rows, row, summary_text, trace_rows};
+ghost use Rattle.master_core.specs.History.{accepts, is_open};
+ghost use Rattle.fttcan_top.specs.Summary.{is_asynchronous, history_rows, is_synchronous, refuses, rest_rows, row, summary_text, trace_rows};
 
+use async_window::LEAST_ASYNCHRONOUS;
 use can_frame::TimedFrame;
 use master_core::Event;
+use node_model::FIRST_IDENTIFIER;
+use requirement_table::SLOTS;
 use std::alloc::{AllocError, Global};
-
-/// Whether the event accepts a change.
-fn accepts(event: &Event) -> bool
-    ensures test { result ≡ accepts event.now }
-{
-    match event {
-        Event::Submit { verdict, .. } => verdict.is_accepted(),
-        Event::Look { .. } | Event::Open { .. } => false,
-    }
-}
 
 /// Whether the event refuses a change.
 fn refuses(event: &Event) -> bool
@@ -29,33 +22,26 @@ fn refuses(event: &Event) -> bool
     }
 }
 
-/// Whether the event opens a cycle.
-fn opens(event: &Event) -> bool
-    ensures test { result ≡ is_open event.now }
-{
-    matches!(event, Event::Open { .. })
-}
-
 /// Whether the frame is a synchronous one.
 fn is_synchronous(sent: &TimedFrame) -> bool
     ensures test { result ≡ is_synchronous sent.now }
 {
     let id = sent.frame.id();
-    0x100 <= id && id < 0x128
+    FIRST_IDENTIFIER <= id && id < FIRST_IDENTIFIER + u16::from(SLOTS)
 }
 
 /// Whether the frame is an asynchronous one.
 fn is_asynchronous(sent: &TimedFrame) -> bool
     ensures test { result ≡ is_asynchronous sent.now }
 {
-    0x200 <= sent.frame.id()
+    LEAST_ASYNCHRONOUS <= sent.frame.id()
 }
 
 /// The number of changes that were accepted.
 fn accepted(history: &[Event]) -> usize
     ensures count { result ≡ count_by accepts history.now }
 {
-    history.iter().filter(|event| accepts(*event)).count()
+    history.iter().filter(|event| event.accepts()).count()
 }
 
 /// The number of changes that were refused.
@@ -69,7 +55,7 @@ fn refused(history: &[Event]) -> usize
 fn opened(history: &[Event]) -> usize
     ensures count { result ≡ count_by is_open history.now }
 {
-    history.iter().filter(|event| opens(*event)).count()
+    history.iter().filter(|event| event.opens_cycle()).count()
 }
 
 /// The number of synchronous frames.

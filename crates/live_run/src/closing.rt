@@ -65,7 +65,7 @@ pub fn run_whole<T: Threads + Wait + Sync, G: Gate>(
     ensures run { IfOk result (λ ended. IsWholeRun setting cycles scripts.items ended) }
 {
     requests_of_owners();
-    let _ = layout.cycle();
+    layout.is_in_range();
     let (shared, mut pass) = LiveMaster::new(alloc, rules)?;
     let nodes = Nodes::new(alloc, layout, rules.nodes, owners, requests)?;
     let run = run_live(rt, alloc, &shared, &mut pass, nodes, cycles, scripts, gate)?;

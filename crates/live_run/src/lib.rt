@@ -21,3 +21,4 @@ pub use frames::{FrameList, Run};
 pub use points::{Gate, OpenGate, Point};
 pub use running::run_live;
 pub use script::{ActList, Script};
+pub use sharing::OPERATORS;

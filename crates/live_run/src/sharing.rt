@@ -18,7 +18,7 @@ use std::thread;
 use std::thread::Threads;
 
 /// The most operators of a run.
-const OPERATORS: usize = 8;
+pub const OPERATORS: usize = 8;
 
 /// Has the script of each operator's place answered, each in a thread of its own.
 fn operate_all<T: Threads + Wait + Sync, G: Gate>(

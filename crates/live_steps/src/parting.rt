@@ -8,11 +8,8 @@ ghost use Rattle.live_steps.specs.Parts.{AreParted};
 
 use change_protocol::Act;
 use input_text::Step;
-use live_run::{ActList, Script};
+use live_run::{ActList, OPERATORS, Script};
 use std::alloc::{AllocError, Global};
-
-/// The most operators of a run.
-const OPERATORS: usize = 8;
 
 /// The steps of a file, parted.
 #[derive(Drop)]

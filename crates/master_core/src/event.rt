@@ -1,5 +1,8 @@
 //! What a master keeps of each call.
 
+ghost use Rattle.std.specs.Prelude.{◌≡◌};
+ghost use Rattle.master_core.specs.History.{accepts, is_open};
+
 use admission::{Trail, Verdict};
 use change_protocol::Change;
 use requirement_table::Mask;
@@ -26,4 +29,23 @@ pub enum Event {
         cycle: u64,
         mask: Mask,
     },
+}
+
+impl Event {
+    /// Whether it opened a cycle.
+    pub fn opens_cycle(&self) -> bool
+        ensures opens { result ≡ is_open self.now }
+    {
+        matches!(self, Event::Open { .. })
+    }
+
+    /// Whether it accepted a change.
+    pub fn accepts(&self) -> bool
+        ensures accepts { result ≡ accepts self.now }
+    {
+        match self {
+            Event::Submit { verdict, .. } => verdict.is_accepted(),
+            Event::Look { .. } | Event::Open { .. } => false,
+        }
+    }
 }

@@ -160,7 +160,7 @@ slot-part : (entries : List Placed) (opened : Opened) (c id : ℕ) (found : Opti
     → (slot : ℕ) × (id ≡ first_identifier + slot) × (slot < slots) × ((i : Instance) × (instance_in entries slot c ≡ Some i))
 slot-part entries opened c id None same none is = absurd (none-some id is)
 slot-part entries opened c id (Some slot) same least is =
-    let parts = and_parts (contains_slot opened.flags slot) (is_some (instance_in entries slot opened.cycle) && not (contains_slot opened.heard slot)) least.1 in
+    let parts = and_parts (contains_slot opened.mask slot) (is_some (instance_in entries slot opened.cycle) && not (contains_slot opened.heard slot)) least.1 in
     let more = and_parts (is_some (instance_in entries slot opened.cycle)) (not (contains_slot opened.heard slot)) parts.1 in
     let found = value-of (instance_in entries slot opened.cycle) more.0 in
     (slot, sym (same_Some _ _ is), least.0, (found.0, ap (instance_in entries slot) same ∙ found.1))

@@ -97,14 +97,14 @@ pub due-heard : (before : Option Open) (o : Open) (all_heard due heard : ℕ) �
     → all_heard ≡ set_of slots (λ slot. contains_slot o.heard slot || contains_slot heard slot)
     → ((slot : ℕ) → slot < slots → contains_slot due slot ≡ (contains_slot o.due slot && not (contains_slot heard slot)))
     → (entries : List Placed) → IfSome before (KnowsDue entries) → (slot : ℕ) → slot < slots
-    → contains_slot due slot ≡ is_due entries (record { cycle = o.cycle; width = o.width; flags = o.flags; heard = all_heard }) slot
+    → contains_slot due slot ≡ is_due entries (record { cycle = o.cycle; width = o.width; mask = o.mask; heard = all_heard }) slot
 due-heard before o all_heard due heard is all without entries knows slot within =
     let known : KnowsDue entries o = subst (λ x. IfSome x (KnowsDue entries)) is knows in
     let some : Bool = is_some (instance_in entries slot o.cycle) in
     without slot within
     ∙ ap (λ b. b && not (contains_slot heard slot)) (known slot within)
-    ∙ not_either (contains_slot o.flags slot) some (contains_slot o.heard slot) (contains_slot heard slot)
-    ∙ ap (λ b. contains_slot o.flags slot && (some && not b))
+    ∙ not_either (contains_slot o.mask slot) some (contains_slot o.heard slot) (contains_slot heard slot)
+    ∙ ap (λ b. contains_slot o.mask slot && (some && not b))
     (sym (ap (λ n. contains_slot n slot) all
     ∙ contains_slot-set_of slots (λ s. contains_slot o.heard s || contains_slot heard s) slot
     ∙ ap (λ b. b && (contains_slot o.heard slot || contains_slot heard slot)) (lt-ltb slot slots within)))

@@ -13,7 +13,7 @@ use Rattle.requirement_table.specs.Slots.{contains_slot, set_of, slots}
 use Rattle.requirement_table.specs.Table.{IsInRange, IsWellPlaced}
 use Rattle.requirement_table.proofs.Shared.{contains_slot-set_of, contains_slot-none}
 use Rattle.trigger_codec.specs.declared.message.Trigger.{Trigger}
-use Rattle.trigger_codec.specs.Bytes.{trigger_bytes, trigger_frame, trigger_of, window_in, flags_in}
+use Rattle.trigger_codec.specs.Bytes.{trigger_bytes, trigger_frame, trigger_of, width_told, flags_in}
 use Rattle.async_window.specs.declared.request.Owner.{Owner}
 use Rattle.async_window.specs.declared.request.Request.{Request}
 use Rattle.async_window.specs.Mailbox.{Mail, mail_after, taken_from, without_first}
@@ -56,7 +56,7 @@ said low window flags l mask same also small =
 pub trigger_of-frame : (cycle l mask : ℕ) → l ≤ 16383 → mask < 2 ^ slots
     → trigger_of (trigger_frame cycle l mask) ≡ Some (record { low = cycle % 256; l = l; mask = mask })
 trigger_of-frame cycle l mask small few =
-    said (cycle % 256) (window_in (trigger_bytes cycle l mask)) (flags_in (trigger_bytes cycle l mask)) l mask (omega arith) (omega arith) small
+    said (cycle % 256) (width_told (trigger_bytes cycle l mask)) (flags_in (trigger_bytes cycle l mask)) l mask (omega arith) (omega arith) small
 
 turn : (is begun was : Bool) → begun ≡ true → (is || was) ≡ (was || ((is && begun) || false))
 turn true true true e = refl
@@ -95,7 +95,7 @@ module _ (layout : CycleLayout) (owners : List Owner) (requests : List Request) 
   in_cycle-stands number past heard frames marked = record {
     stands = record { same_layout = refl; own_entries = refl; own_mail = refl; next_cycle = refl };
     opened = opened_for opening heard;
-    is_open = record { is_open = refl; cycle = refl; width = refl; flags = refl; heard = marked };
+    is_open = record { is_open = refl; cycle = refl; width = refl; mask = refl; heard = marked };
   }
 
   abbrev is_of_slot : ℕ → TimedFrame → Bool

@@ -163,12 +163,12 @@ due-one : (entries : List Placed) (own : Bool) (k slot : ℕ) (opened : Option O
 due-one entries own k slot None within none = due-closed entries k slot own (slot == k)
 due-one entries true k slot (Some o) within none =
     let some = is_some (instance_in entries slot o.cycle) in
-    ap (λ b. contains_slot o.flags slot && (some && not b))
+    ap (λ b. contains_slot o.mask slot && (some && not b))
     (contains_slot-set_of slots (λ s. (s == k) || contains_slot o.heard s) slot
     ∙ ap (λ b. b && ((slot == k) || contains_slot o.heard slot)) (lt-ltb slot slots within))
-    ∙ heard_now (contains_slot o.flags slot) some (contains_slot o.heard slot) (slot == k)
+    ∙ heard_now (contains_slot o.mask slot) some (contains_slot o.heard slot) (slot == k)
 due-one entries false k slot (Some o) within none =
-    never_own (contains_slot o.flags slot) (is_some (instance_in entries slot o.cycle)) (contains_slot o.heard slot) (slot == k)
+    never_own (contains_slot o.mask slot) (is_some (instance_in entries slot o.cycle)) (contains_slot o.heard slot) (slot == k)
     (λ same. none refl (eqb-true slot k same) o.cycle)
 
 neither : (a b : Bool) → (a || b) ≡ false → (a ≡ false) × (b ≡ false)
@@ -197,7 +197,7 @@ due-kept node one k slot known is inside within =
 
 -- a trigger opens the cycle, with its window
 pub opens : (node : NodeState) (one : TimedFrame) (l mask : ℕ) → l ≤ node.layout.window → node.layout.window ≤ 16383 → mask < 2 ^ slots
-    → one.frame ≡ trigger_frame node.next l mask → (after_hearing node one).opened ≡ Some (record { cycle = node.next; width = l; flags = mask; heard = 0 })
+    → one.frame ≡ trigger_frame node.next l mask → (after_hearing node one).opened ≡ Some (record { cycle = node.next; width = l; mask = mask; heard = 0 })
 opens node one l mask small largest few is =
     let frame = trigger_frame node.next l mask in
     let counting : NodeState = record node { frames = counted node.frames } in

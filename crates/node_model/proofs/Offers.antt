@@ -226,7 +226,7 @@ pub record IsOfferedSlot (node : NodeState) (at id : ℕ) : Type 0 where
 
 offered_slot-at : (node : NodeState) (at id slot : ℕ) (o : Opened) → at / node.layout.cycle ≡ o.cycle → first_identifier + slot ≡ id → slot < slots → is_due node.entries o slot ≡ true → IsOfferedSlot node at id
 offered_slot-at node at id slot o cycle is within due =
-    let parts = and_parts (contains_slot o.flags slot) _ due in
+    let parts = and_parts (contains_slot o.mask slot) _ due in
     let more = and_parts (is_some (instance_in node.entries slot o.cycle)) _ parts.1 in
     let slot_is : id - first_identifier ≡ slot = omega arith in
     record { from = omega arith; below = omega arith; instance = rw (slot_is, cycle) more.0 }

@@ -34,7 +34,7 @@ standing layout owners requests placed past next number opened frames = record {
 
 -- the cycle as it is open for a node that heard these slots
 abbrev pub opened_for : Opening → ℕ → Opened
-opened_for opening heard = record { cycle = opening.cycle; width = width_of opening; flags = opening.mask; heard = heard }
+opened_for opening heard = record { cycle = opening.cycle; width = width_of opening; mask = opening.mask; heard = heard }
 
 pub standing-is : (layout : CycleLayout) (owners : List Owner) (requests : List Request) (placed : List Placed) (past : List TimedFrame) (next : ℕ)
     (node : NodeState) → Stands layout owners requests placed past next node
@@ -43,12 +43,12 @@ standing-is layout owners requests placed past next node stands =
     same_node node layout (entries_of node.number placed) (mail_after (identifiers_of node.number owners) requests past) node.opened next
     stands.same_layout stands.own_entries stands.own_mail refl stands.next_cycle
 
-same_opened : (o : Opened) (cycle width flags : ℕ) → o.cycle ≡ cycle → o.width ≡ width → o.flags ≡ flags
-    → o ≡ record { cycle = cycle; width = width; flags = flags; heard = o.heard }
+same_opened : (o : Opened) (cycle width flags : ℕ) → o.cycle ≡ cycle → o.width ≡ width → o.mask ≡ flags
+    → o ≡ record { cycle = cycle; width = width; mask = flags; heard = o.heard }
 same_opened o cycle width flags c w f =
     ap (λ x. record o { cycle = x }) c
     ∙ ap (λ x. record o { cycle = cycle; width = x }) w
-    ∙ ap (λ x. record o { cycle = cycle; width = width; flags = x }) f
+    ∙ ap (λ x. record o { cycle = cycle; width = width; mask = x }) f
 
 pub standing_in-is : (layout : CycleLayout) (owners : List Owner) (requests : List Request) (opening : Opening) (past : List TimedFrame)
     (node : NodeState) (is : StandsIn layout owners requests opening past node)
@@ -57,5 +57,5 @@ standing_in-is layout owners requests opening past node is =
     same_node node layout (entries_of node.number opening.placed) (mail_after (identifiers_of node.number owners) requests past)
     (Some (opened_for opening is.opened.heard)) (opening.cycle + 1)
     is.stands.same_layout is.stands.own_entries is.stands.own_mail
-    (is.is_open.is_open ∙ ap (λ o. Some o) (same_opened is.opened opening.cycle (width_of opening) opening.mask is.is_open.cycle is.is_open.width is.is_open.flags))
+    (is.is_open.is_open ∙ ap (λ o. Some o) (same_opened is.opened opening.cycle (width_of opening) opening.mask is.is_open.cycle is.is_open.width is.is_open.mask))
     is.stands.next_cycle

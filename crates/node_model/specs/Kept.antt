@@ -13,7 +13,7 @@ use Rattle.node_model.specs.declared.quiet.Quiet.{Quiet}
 -- what contracts see of a cycle that is open
 abbrev pub opened_of : Open → Opened
 opened_of open_cycle =
-    record { cycle = open_cycle.cycle; width = open_cycle.width; flags = open_cycle.flags; heard = open_cycle.heard }
+    record { cycle = open_cycle.cycle; width = open_cycle.width; mask = open_cycle.mask; heard = open_cycle.heard }
 
 -- `own` are the slots of these entries
 abbrev pub AreSlotsOf : List Placed → ℕ → Type 0

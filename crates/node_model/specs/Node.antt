@@ -21,7 +21,7 @@ use Rattle.node_model.specs.Opening.{first_identifier}
 pub record Opened : Type 0 where
   pub cycle : ℕ
   pub width : ℕ
-  pub flags : ℕ
+  pub mask : ℕ
   pub heard : ℕ
 
 -- what a node knows: its number, the layout, the placed entries that it learnt, its unsent requests, the cycle that is
@@ -86,8 +86,8 @@ next_trigger node frame = trigger_where (λ trigger. nat_le trigger.l node.layou
 
 -- the next cycle as such a trigger opens it; any other frame with identifier 0 opens it with nothing synchronous
 abbrev pub opened_by : ℕ → Option Trigger → Opened
-opened_by cycle None = record { cycle = cycle; width = 0; flags = 0; heard = 0 }
-opened_by cycle (Some trigger) = record { cycle = cycle; width = trigger.l; flags = trigger.mask; heard = 0 }
+opened_by cycle None = record { cycle = cycle; width = 0; mask = 0; heard = 0 }
+opened_by cycle (Some trigger) = record { cycle = cycle; width = trigger.l; mask = trigger.mask; heard = 0 }
 
 -- a node for which a frame with identifier 0 opens the next cycle
 abbrev pub after_opening : NodeState → DataFrame → NodeState
@@ -136,7 +136,7 @@ least_where (suc n) p = if is_some (least_where n p) then least_where n p else (
 -- the cycle, and has not heard it
 abbrev pub is_due : List Placed → Opened → ℕ → Bool
 is_due entries opened slot =
-    contains_slot opened.flags slot && (is_some (instance_in entries slot opened.cycle) && not (contains_slot opened.heard slot))
+    contains_slot opened.mask slot && (is_some (instance_in entries slot opened.cycle) && not (contains_slot opened.heard slot))
 
 -- what a node offers in an open cycle: in the synchronous window the least slot that it is to send, and before it what
 -- its mailboxes offer

@@ -51,7 +51,7 @@ pub record IsOpenFor (layout : CycleLayout) (opening : Opening) (past : List Tim
   pub is_open : node.opened ≡ Some opened
   pub cycle : opened.cycle ≡ opening.cycle
   pub width : opened.width ≡ width_of opening
-  pub flags : opened.flags ≡ opening.mask
+  pub mask : opened.mask ≡ opening.mask
   pub heard : (slot : ℕ) → slot < slots → list_any (λ p. p.entry.slot == slot) node.entries ≡ true
       → contains_slot opened.heard slot ≡ was_sent layout opening past slot
 

@@ -23,7 +23,7 @@ pub struct Open {
     /// The length of its synchronous window in bit times.
     pub width: u32,
     /// The slots that its trigger flagged.
-    pub flags: Mask,
+    pub mask: Mask,
     /// The node's slots of which it heard a frame in this cycle.
     pub heard: Mask,
     /// The flagged slots of which the node has an instance that may be sent in this cycle, and heard no frame.
@@ -46,7 +46,7 @@ pub fn opened_by(cycle: u64, trigger: Option<Trigger>, entries: &[Placed]) -> Op
     ensures opened { opened_of result ≡ opened_by cycle trigger }
     ensures due { KnowsDue entries.now result }
 {
-    let (width, flags) = match trigger {
+    let (width, mask) = match trigger {
         Some(trigger) => (trigger.l, trigger.mask),
         None => (0, Mask::empty()),
     };
@@ -54,9 +54,9 @@ pub fn opened_by(cycle: u64, trigger: Option<Trigger>, entries: &[Placed]) -> Op
     Open {
         cycle,
         width,
-        flags,
+        mask,
         heard,
-        due: unheard(flags, sendable_slots(entries, cycle), heard),
+        due: unheard(mask, sendable_slots(entries, cycle), heard),
     }
 }
 
@@ -79,7 +79,7 @@ pub fn after_learning(before: &Option<Open>, entries: &[Placed]) -> Option<Open>
     let before = before.as_ref()?;
     let sendable = sendable_slots(entries, before.cycle);
     Some(Open {
-        due: unheard(before.flags, sendable, before.heard),
+        due: unheard(before.mask, sendable, before.heard),
         ..*before
     })
 }

@@ -103,7 +103,7 @@ pub fn sends_its_slots()
         → is_due_slot (after_hearing node sent) other ≡ (not (other == slot) && is_due_slot node other) }
     ensures opens { (node : NodeState) (l mask : ℕ) (sent : TimedFrame) → l ≤ node.layout.window → node.layout.window ≤ 16383
         → mask < 2 ^ slots → sent.frame ≡ trigger_frame node.next l mask
-        → (after_hearing node sent).opened ≡ Some (record { cycle = node.next; width = l; flags = mask; heard = 0 }) }
+        → (after_hearing node sent).opened ≡ Some (record { cycle = node.next; width = l; mask = mask; heard = 0 }) }
 {}
 
 /// What a node offers is the identifier of a slot or an asynchronous one.

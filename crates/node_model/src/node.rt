@@ -13,16 +13,13 @@ ghost use Rattle.node_model.specs.Kept.{IsClosedAt, IsOpenAt, sends_from};
 use crate::cycle::{self, FIRST_IDENTIFIER, Open};
 use crate::entries::{self, Remaining};
 use crate::quiet::Quiet;
-use async_window::{Mailboxes, Owner, Request};
+use async_window::{LEAST_ASYNCHRONOUS, Mailboxes, Owner, Request};
 use can_frame::{Frame, TimedFrame};
 use cycle_layout::Layout;
 use requirement_table::{Mask, Payload, Placed};
 use std::alloc::{AllocError, Global};
 use std::marker::Model;
 use trigger_codec::{TRIGGER_IDENTIFIER, Trigger, decode};
-
-/// The least identifier of a frame that is sent in an asynchronous window.
-const LEAST_ASYNCHRONOUS: u16 = 0x200;
 
 /// All times are below this one, in bit times.
 const TIMES: u64 = 1 << 60;

@@ -59,16 +59,9 @@ pub fn opened_load(placed: &[Placed], history: &[Event]) -> Load
     let mut next = 0u64;
     for event in history {
         load = with_event(&load, &mut places, placed, next, event);
-        next += u64::from(opens_cycle(event));
+        next += u64::from(event.opens_cycle());
     }
     load
-}
-
-/// Whether the event opens a cycle.
-fn opens_cycle(event: &Event) -> bool
-    ensures opens { result ≡ is_open event.now }
-{
-    matches!(event, Event::Open { .. })
 }
 
 /// The load with the width of the cycle that an event opens, where it opens cycle `next`.

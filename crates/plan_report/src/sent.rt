@@ -13,11 +13,9 @@ ghost use Rattle.plan_report.specs.Tally.{AreTallies, triggers_in};
 use crate::current::Places;
 use crate::tally::{NOTHING, Tally};
 use can_frame::TimedFrame;
+use node_model::FIRST_IDENTIFIER;
 use requirement_table::{Placed, SLOTS};
 use std::alloc::{AllocError, Global};
-
-/// The identifier of slot 0; that of slot s is s more.
-const FIRST_IDENTIFIER: u16 = 0x100;
 
 /// What was sent of each of these entries in a trace.
 ///

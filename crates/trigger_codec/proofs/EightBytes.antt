@@ -2,10 +2,10 @@
 use Rattle.std.proofs.Common.{◌≡◌, ℕ, ◌+◌, ◌*◌, ◌/◌, ◌%◌, ◌<◌, List, [], ◌∷◌, All, length, slice_index, ap, ◌∙◌, arith}
 use Rattle.std.specs.Int.{byte_at}
 use Rattle.can_frame.specs.DataFrame.{DataFrame, IsFrame}
-use Rattle.trigger_codec.specs.Bytes.{trigger_bytes, trigger_frame, window_in, flags_in}
+use Rattle.trigger_codec.specs.Bytes.{trigger_bytes, trigger_frame, width_told, flags_in}
 
 -- eight bytes are those of the trigger that they say
-trigger_bytes-read : (bytes : List ℕ) → length bytes ≡ 8 → All (λ byte. byte < 256) bytes → bytes ≡ trigger_bytes (slice_index bytes 0) (window_in bytes) (flags_in bytes)
+trigger_bytes-read : (bytes : List ℕ) → length bytes ≡ 8 → All (λ byte. byte < 256) bytes → bytes ≡ trigger_bytes (slice_index bytes 0) (width_told bytes) (flags_in bytes)
 trigger_bytes-read (a ∷ b ∷ c ∷ d ∷ e ∷ f ∷ g ∷ h ∷ []) eight small =
     let small_a : a < 256 = small 0 0 (omega arith) in
     let small_b : b < 256 = small 1 0 (omega arith) in
@@ -28,7 +28,7 @@ trigger_bytes-read (a ∷ b ∷ c ∷ d ∷ e ∷ f ∷ g ∷ h ∷ []) eight sm
 trigger_bytes-read _ eight small = absurd (omega arith)
 
 -- a frame of identifier 0 with eight bytes is the trigger that it says
-pub trigger_frame-read : (frame : DataFrame) → IsFrame frame → frame.identifier ≡ 0 → length frame.bytes ≡ 8 → frame ≡ trigger_frame (slice_index frame.bytes 0) (window_in frame.bytes) (flags_in frame.bytes)
+pub trigger_frame-read : (frame : DataFrame) → IsFrame frame → frame.identifier ≡ 0 → length frame.bytes ≡ 8 → frame ≡ trigger_frame (slice_index frame.bytes 0) (width_told frame.bytes) (flags_in frame.bytes)
 trigger_frame-read frame legal trigger eight =
     ap (λ id. record { identifier = id; bytes = frame.bytes }) trigger
     ∙ ap (λ bytes. record { identifier = 0; bytes = bytes }) (trigger_bytes-read frame.bytes eight legal.bytes)

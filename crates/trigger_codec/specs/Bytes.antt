@@ -16,8 +16,8 @@ abbrev pub trigger_frame : ℕ → ℕ → ℕ → DataFrame
 trigger_frame cycle l mask = record { identifier = 0; bytes = trigger_bytes cycle l mask }
 
 -- the length of the synchronous window that the data bytes of a trigger say
-abbrev pub window_in : List ℕ → ℕ
-window_in bytes = slice_index bytes 1 * 256 + slice_index bytes 2
+abbrev pub width_told : List ℕ → ℕ
+width_told bytes = slice_index bytes 1 * 256 + slice_index bytes 2
 
 -- the slots that the data bytes of a trigger flag
 abbrev pub flags_in : List ℕ → ℕ
@@ -31,6 +31,6 @@ flags_in bytes =
 -- what a frame says as a trigger, where it is one
 abbrev pub trigger_of : DataFrame → Option Trigger
 trigger_of frame =
-    if nat_eq frame.identifier 0 && nat_eq (length frame.bytes) 8 && nat_le (window_in frame.bytes) 16383
-    then Some (record { low = slice_index frame.bytes 0; l = window_in frame.bytes; mask = flags_in frame.bytes })
+    if nat_eq frame.identifier 0 && nat_eq (length frame.bytes) 8 && nat_le (width_told frame.bytes) 16383
+    then Some (record { low = slice_index frame.bytes 0; l = width_told frame.bytes; mask = flags_in frame.bytes })
     else None

@@ -3,7 +3,7 @@ use Rattle.std.specs.Prelude.{◌≡◌, ◌≢◌, ◌<◌, length}
 use Rattle.can_frame.specs.DataFrame.{DataFrame}
 use Rattle.trigger_codec.specs.declared.trigger_fault.TriggerFault.{TriggerFault}
 use Rattle.trigger_codec.specs.declared.trigger_fault.TriggerFault.TheVariants.{WrongId, WrongLength, Window}
-use Rattle.trigger_codec.specs.Bytes.{window_in}
+use Rattle.trigger_codec.specs.Bytes.{width_told}
 
 -- the identifier is judged first, then the number of bytes, then the window; each fault carries the
 -- number that is wrong
@@ -12,4 +12,4 @@ Refuses frame (WrongId id) = (id ≡ frame.identifier) × (frame.identifier ≢ 
 Refuses frame (WrongLength dlc) =
     (dlc ≡ length frame.bytes) × (frame.identifier ≡ 0) × (length frame.bytes ≢ 8)
 Refuses frame (Window l) =
-    (l ≡ window_in frame.bytes) × (frame.identifier ≡ 0) × (length frame.bytes ≡ 8) × (16383 < window_in frame.bytes)
+    (l ≡ width_told frame.bytes) × (frame.identifier ≡ 0) × (length frame.bytes ≡ 8) × (16383 < width_told frame.bytes)

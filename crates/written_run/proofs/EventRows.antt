@@ -11,7 +11,7 @@ use Rattle.admission_rules.specs.declared.Rules.{Rules}
 use Rattle.master_core.specs.declared.event.Event.{Event}
 use Rattle.master_core.specs.declared.event.Event.TheVariants.{Submit, Look, Open}
 use Rattle.master_core.specs.History.{AllAfter, IsRight, is_open, next_of, placed_of}
-use Rattle.bus_trace.specs.EventRows.{rows_of_event, window_of}
+use Rattle.bus_trace.specs.EventRows.{rows_of_event, width_told_in}
 use Rattle.bus_trace.specs.Log.{event_rows, events_rows, frame_row, open_row, started_in, triggers_with}
 use Rattle.bus_trace.specs.Logged.{opened_row}
 use Rattle.written_run.specs.Progress.{triggers_in}
@@ -159,7 +159,7 @@ rows-stay rules trace sent later before (event ∷ events) trigger right few =
 pub opened-rows : (rules : Rules) (trace : List TimedFrame) (sent : TimedFrame) (later : List TimedFrame) (history : List Event) (cycle mask : ℕ)
     → AllAfter (IsRight rules) [] history → triggers_in trace ≡ next_of history → cycle ≡ next_of history → sent.frame.identifier ≡ 0
     → All (λ s. s.frame.identifier ≢ 0) later
-    → window_of (sent ∷ later) ≡ width_of (record { cycle = cycle; mask = mask; placed = placed_of history })
+    → width_told_in (sent ∷ later) ≡ width_of (record { cycle = cycle; mask = mask; placed = placed_of history })
     → events_rows (trace ++ sent ∷ later) [] (history ++ Open cycle mask ∷ []) ≡ events_rows trace [] history ++ rows_of_event (Open cycle mask) (sent ∷ later)
 opened-rows rules trace sent later history cycle mask legal so_far now trigger others width =
     let frames : List TimedFrame = sent ∷ later in

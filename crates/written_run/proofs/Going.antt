@@ -5,7 +5,7 @@ use Rattle.std.proofs.lemmas.List.{append-nil, get_or-map, length-map}
 use Rattle.std.proofs.lemmas.List.FromFn.{get_or-range_with_len, length-range_with_len}
 use Rattle.std.proofs.lemmas.List.Elements.{All-cons, All-nil, All-weaker}
 use Rattle.can_frame.specs.declared.data_frame.TimedFrame.{TimedFrame}
-use Rattle.trigger_codec.specs.Bytes.{trigger_bytes, trigger_frame, window_in}
+use Rattle.trigger_codec.specs.Bytes.{trigger_bytes, trigger_frame, width_told}
 use Rattle.cycle_layout.specs.Layout.{CycleLayout, IsLayout}
 use Rattle.requirement_table.specs.Opening.{Opening, width_of}
 use Rattle.requirement_table.specs.declared.entries.Order.{Order}
@@ -24,7 +24,7 @@ use Rattle.master_core.specs.History.{IsLegal, IsPlainlyLegal, is_open, next_of,
 use Rattle.master_core.specs.Openings.{openings_of}
 use Rattle.master_core.specs.Orders.{IsOrder}
 use Rattle.kept_run.specs.Progress.{AreReady, IsSetting, IsUnderWay, Setting}
-use Rattle.bus_trace.specs.EventRows.{BeginsCycle, HasItsFrames, rows_of_event, window_of}
+use Rattle.bus_trace.specs.EventRows.{BeginsCycle, HasItsFrames, rows_of_event, width_told_in}
 use Rattle.bus_trace.specs.Log.{events_rows}
 use Rattle.written_run.specs.declared.writing.Written.{Written}
 use Rattle.written_run.specs.Progress.{CanGo, CanPutLast, IsBroughtOn, IsGoing, triggers_in}
@@ -122,8 +122,8 @@ no-trigger : (layout : CycleLayout) (opening : Opening) (sent : TimedFrame) → 
 no-trigger layout opening sent (inl request) = λ is. let above = request.identifier in omega arith
 no-trigger layout opening sent (inr slot) = λ is. let id = slot.identifier in omega arith
 
-says-window : (cycle l mask : ℕ) → window_in (trigger_bytes cycle l mask) ≡ l
-says-window cycle l mask = omega arith
+says-width : (cycle l mask : ℕ) → width_told (trigger_bytes cycle l mask) ≡ l
+says-width cycle l mask = omega arith
 
 -- a cycle's trigger and the frames behind it
 pub record Sends (history : List Event) (order : Order) (frames : List TimedFrame) : Type 0 where
@@ -168,7 +168,7 @@ begins history order frames is = record {
   trigger = is.trigger;
   later = is.later;
   frames_are = is.frames_are;
-  window = width_of (opening_of order (placed_of history));
+  width = width_of (opening_of order (placed_of history));
   wide = is.wide;
   says = is.is_trigger;
   others = is.others;
@@ -191,8 +191,8 @@ ran-rows : (rules : Rules) (trace frames : List TimedFrame) (history : List Even
     → events_rows (trace ++ frames) [] (history ++ Open order.cycle order.mask ∷ []) ≡ events_rows trace [] history ++ rows_of_event (Open order.cycle order.mask) frames
 ran-rows rules trace frames history order legal so_far now is =
     let zero_id : is.trigger.frame.identifier ≡ 0 = ap (λ f. f.identifier) is.is_trigger in
-    let width : window_of (is.trigger ∷ is.later) ≡ width_of (opening_of order (placed_of history)) =
-    ap (λ f. window_in f.bytes) is.is_trigger ∙ says-window order.cycle (width_of (opening_of order (placed_of history))) order.mask in
+    let width : width_told_in (is.trigger ∷ is.later) ≡ width_of (opening_of order (placed_of history)) =
+    ap (λ f. width_told f.bytes) is.is_trigger ∙ says-width order.cycle (width_of (opening_of order (placed_of history))) order.mask in
     subst (λ l. events_rows (trace ++ l) [] (history ++ Open order.cycle order.mask ∷ []) ≡ events_rows trace [] history ++ rows_of_event (Open order.cycle order.mask) l)
     (sym is.frames_are) (opened-rows rules trace is.trigger is.later history order.cycle order.mask legal so_far now zero_id is.others width)
 

@@ -3,7 +3,7 @@ use Rattle.std.specs.Prelude.{OnOk, OnErr}
 use Rattle.std.specs.List.{flat_map}
 use Rattle.ftt_io.specs.Puts.{Puts, PutsPrefix}
 use Rattle.ftt_io.proofs.Shared.{PutsPrefix-longer}
-use Rattle.bus_trace.specs.EventRows.{rows_of_event, window_of}
+use Rattle.bus_trace.specs.EventRows.{rows_of_event, width_told_in}
 use Rattle.bus_trace.specs.Log.{frame_row, plan_rows, submit_row}
 use Rattle.bus_trace.specs.Logged.{opened_row}
 use Rattle.bus_trace.proofs.PutRows.{all-behind, prefix-behind}
@@ -18,7 +18,7 @@ returns-in_err-write_all-in-Submit-clause-prefix g c =
 
 pub returns-in_err-write_all-in-Open-clause-prefix : goal.returns-in_err-write_all-in-Open-clause-prefix
 returns-in_err-write_all-in-Open-clause-prefix g c =
-    let row = c.as_slice-in-Open.ensures.bytes ∙ c.open_row.ensures.row ∙ ap (opened_row c.in-Open.cycle c.in-Open.mask) c.window_of.ensures.window in
+    let row = c.as_slice-in-Open.ensures.bytes ∙ c.open_row.ensures.row ∙ ap (opened_row c.in-Open.cycle c.in-Open.mask) c.width_told_in.ensures.width in
     let front = subst (PutsPrefix (g.O.Sink.told_bytes c.args.out.now) (g.O.Sink.told_bytes c.write_all-in-Open.new.sink)) row c.in_err-write_all-in-Open.ensures.prefix in
     let all = PutsPrefix-longer (flat_map frame_row c.args.frames.now) front in
     search (rules, all)
@@ -39,14 +39,14 @@ returns-in_ok-write_all-in-Submit-clause-prefix g c =
 
 pub returns-in_ok-write_all-in-Open-clause-all : goal.returns-in_ok-write_all-in-Open-clause-all
 returns-in_ok-write_all-in-Open-clause-all g c =
-    let row = c.as_slice-in-Open.ensures.bytes ∙ c.open_row.ensures.row ∙ ap (opened_row c.in-Open.cycle c.in-Open.mask) c.window_of.ensures.window in
+    let row = c.as_slice-in-Open.ensures.bytes ∙ c.open_row.ensures.row ∙ ap (opened_row c.in-Open.cycle c.in-Open.mask) c.width_told_in.ensures.width in
     rw c.in-Open.is (all-behind c.put_frame_rows.result _ _ _ _ _
     (subst (Puts (g.O.Sink.told_bytes c.args.out.now) (g.O.Sink.told_bytes c.write_all-in-Open.new.sink)) row c.in_ok-write_all-in-Open.ensures.all)
     c.put_frame_rows.ensures.all)
 
 pub returns-in_ok-write_all-in-Open-clause-prefix : goal.returns-in_ok-write_all-in-Open-clause-prefix
 returns-in_ok-write_all-in-Open-clause-prefix g c =
-    let row = c.as_slice-in-Open.ensures.bytes ∙ c.open_row.ensures.row ∙ ap (opened_row c.in-Open.cycle c.in-Open.mask) c.window_of.ensures.window in
+    let row = c.as_slice-in-Open.ensures.bytes ∙ c.open_row.ensures.row ∙ ap (opened_row c.in-Open.cycle c.in-Open.mask) c.width_told_in.ensures.width in
     rw c.in-Open.is (prefix-behind c.put_frame_rows.result _ _ _ _ _
     (subst (Puts (g.O.Sink.told_bytes c.args.out.now) (g.O.Sink.told_bytes c.write_all-in-Open.new.sink)) row c.in_ok-write_all-in-Open.ensures.all)
     c.put_frame_rows.ensures.prefix)

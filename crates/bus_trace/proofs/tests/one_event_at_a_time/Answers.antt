@@ -6,7 +6,7 @@ event_rows-requires-2-clause-frames c = λ after. record {
   trigger = record { start = 1000; len = 126; frame = after.encode-frame.result };
   later = [];
   frames_are = refl;
-  window = 55;
+  width = 55;
   wide = omega arith;
   says = after.encode-frame.ensures.frame;
   others = λ k d within. absurd (omega arith);

@@ -15,7 +15,7 @@ pub run_live-requires : goal.run_live-requires
 run_live-requires g c κs within =
     let (of_t, (of_g, (sync_t, (sync_g, (given, (of_rules, (window, (of_owners, (numbers, (owned, (arrivals, (early, (few, eight))))))))))))) = c.requires in
     let setting : IsSetting g.setting = subst (λ (s : Setting). IsSetting s) (sym given) (record {
-      known = c.cycle.ensures.known;
+      known = c.is_in_range.ensures.known;
       same_window = window;
       asynchronous = c.requests_of_owners.ensures.asynchronous c.args.owners.now c.args.requests.now of_owners owned;
     }) in

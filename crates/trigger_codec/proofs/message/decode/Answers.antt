@@ -1,12 +1,12 @@
 use Rattle.std.proofs.Common.{◌≡◌, arith}
-use Rattle.trigger_codec.specs.Bytes.{window_in}
+use Rattle.trigger_codec.specs.Bytes.{width_told}
 use Rattle.trigger_codec.proofs.EightBytes.{trigger_frame-read}
 use Rattle.trigger_codec.proofs.message.decode.Goals as goal
 
 pub returns-clause-trigger : goal.returns-clause-trigger
 returns-clause-trigger c =
     let frame = c.args.frame.now in
-    let window : c.from-l.result ≡ window_in frame.bytes = omega arith in (
+    let window : c.from-l.result ≡ width_told frame.bytes = omega arith in (
       omega arith,
       rw (c.byte-3.ensures.value, window, c.flags-mask.ensures) (trigger_frame-read frame c.id-id.ensures.legal (omega arith) (omega arith)),
     )

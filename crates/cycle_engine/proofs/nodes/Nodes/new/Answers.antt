@@ -64,4 +64,4 @@ invariant_of-result c =
     c.nodes_are_apart.ensures.by_number layout owners requests requests [] [] [] [] 0 0 one other apart are well (inl refl) first second) in
     let few = left-fresh layout owners requests (states_of made) c.args.nodes long each are in
     let nodes = ap (λ v. left_in (states_of v.nodes)) c.new.ensures.stations in
-    omega (arith, few, nodes, c.number_of.ensures.number, c.number_of.type_inv)
+    omega (arith, few, nodes, c.fit_into_memory.ensures.few)
