@@ -1,13 +1,11 @@
 -- A run whose rows are put, and one that is cut short.
-use Rattle.std.proofs.Common.{◌≡◌, ℕ, zero, suc, ◌+◌, ◌-◌, ◌<◌, arith, replicate, length, get_or, take, drop, List, [], ◌∷◌, ◌++◌, map, Option, Result, Ok, Err, refl, sym, ap, ◌∙◌, subst, append_assoc}
-use Rattle.std.specs.Prelude.{OnOk, OnErr}
+use Rattle.std.proofs.Common.{◌≡◌, ℕ, suc, ◌+◌, ◌-◌, ◌<◌, arith, replicate, length, get_or, take, drop, List, [], ◌∷◌, ◌++◌, map, Option, refl, sym, ap, ◌∙◌, subst, append_assoc}
 use Rattle.std.specs.List.{flat_map}
 use Rattle.std.proofs.Math.Seq.{drop-cons}
 use Rattle.std.proofs.lemmas.List.{append-nil, replicate-append-replicate, take-append-drop}
 use Rattle.std.proofs.lemmas.List.Concat.{flat_map-append}
 use Rattle.input_text.specs.declared.steps.Step.{Step}
 use Rattle.can_frame.specs.declared.data_frame.TimedFrame.{TimedFrame}
-use Rattle.master_core.specs.declared.event.Event.{Event}
 use Rattle.master_core.specs.History.{IsPlainlyLegal, next_of}
 use Rattle.master_core.specs.Keeping.{MasterView}
 use Rattle.kept_run.specs.Progress.{AreReady, IsUnderWay}
@@ -17,7 +15,7 @@ use Rattle.bus_trace.specs.EventRows.{rows_of_event}
 use Rattle.bus_trace.specs.Log.{events_rows}
 use Rattle.replay_run.specs.Run.{Call, call_of, calls_of, opens}
 use Rattle.written_run.specs.declared.writing.Written.{Written}
-use Rattle.written_run.specs.Progress.{BringsOn, CanGo, CanWrite, IsCutBehind, IsCutIn, IsWriting, KeepsWriting, PutsFrontOfLast, PutsLast, Start}
+use Rattle.written_run.specs.Progress.{BringsOn, CanGo, CanWrite, IsCutBehind, IsCutIn, KeepsWriting, PutsFrontOfLast, PutsLast, Start}
 
 pub can-go : (run : Written) (told : Option (List ℕ)) → CanWrite run told → CanGo run
 can-go run told can = (can.0.setting, can.1.trace, can.1.going)

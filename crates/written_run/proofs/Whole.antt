@@ -1,6 +1,5 @@
 -- A run whose rows were put, as a whole.
-use Rattle.std.proofs.Common.{◌≡◌, ℕ, List, [], ◌++◌, map, Option, Result, Ok, Err, refl, sym, ap, ◌∙◌, subst, inl, inr}
-use Rattle.std.specs.Prelude.{OnOk, OnErr}
+use Rattle.std.proofs.Common.{◌≡◌, ℕ, List, [], ◌++◌, map, Option, refl, sym, ap, ◌∙◌, subst}
 use Rattle.std.specs.List.{flat_map}
 use Rattle.can_frame.specs.declared.data_frame.TimedFrame.{TimedFrame}
 use Rattle.async_window.specs.declared.request.Request.{Request}
@@ -16,7 +15,7 @@ use Rattle.bus_trace.specs.Log.{end_row, events_rows}
 use Rattle.replay_run.specs.Progress.{setting_of}
 use Rattle.replay_run.specs.Run.{AnswersSteps, IsRun, call_of, calls_of}
 use Rattle.written_run.specs.declared.writing.Written.{Written}
-use Rattle.written_run.specs.Progress.{IsCutBehind, IsCutIn, IsGoing, IsWriting, KeepsWriting, Start}
+use Rattle.written_run.specs.Progress.{IsCutBehind, IsGoing, IsWriting, KeepsWriting, Start}
 use Rattle.written_run.specs.Written.{IsCutInLog, IsCutShort, IsWritten}
 
 -- a run that is under way keeps what is promised

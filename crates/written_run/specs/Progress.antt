@@ -1,12 +1,8 @@
 -- A run between two of its steps, whose rows so far were put.
-use Rattle.std.specs.Prelude.{◌≡◌, ℕ, ◌≤◌, List, [], ◌∷◌, ◌++◌, Option, map, fold}
+use Rattle.std.specs.Prelude.{◌≡◌, ℕ, List, [], ◌∷◌, ◌++◌, Option, map, fold}
 use Rattle.can_frame.specs.declared.data_frame.TimedFrame.{TimedFrame}
-use Rattle.requirement_table.specs.Opening.{Opening}
-use Rattle.admission_rules.specs.declared.Rules.{Rules}
 use Rattle.master_core.specs.declared.event.Event.{Event}
-use Rattle.master_core.specs.History.{IsPlainlyLegal, next_of, placed_of}
-use Rattle.master_core.specs.Keeping.{MasterView}
-use Rattle.cycle_engine.specs.Nodes.{NodesView}
+use Rattle.master_core.specs.History.{IsPlainlyLegal, next_of}
 use Rattle.kept_run.specs.Progress.{AreReady, IsSetting, IsUnderWay, Setting}
 use Rattle.ftt_io.specs.Puts.{Puts, PutsPrefix}
 use Rattle.bus_trace.specs.EventRows.{HasItsFrames, rows_of_event}

@@ -1,4 +1,4 @@
-use Rattle.std.proofs.Common.{rules, inl, inr}
+use Rattle.std.proofs.Common.{rules}
 use Rattle.replay_run.specs.Progress.{setting_of}
 use Rattle.written_run.proofs.Whole.{begins-writing, cut-in_log, cut-short, not-begun, start_at, written}
 use Rattle.written_run.proofs.writing.replay_to.Goals as goal

@@ -1,4 +1,4 @@
-use Rattle.std.proofs.Common.{subst, rules, ◌∷◌, []}
+use Rattle.std.proofs.Common.{subst, rules, []}
 use Rattle.input_text.specs.declared.steps.Step.TheVariants.{Act}
 use Rattle.replay_run.specs.Run.{calls_of}
 use Rattle.written_run.specs.Progress.{PutsFrontOfLast, PutsLast}

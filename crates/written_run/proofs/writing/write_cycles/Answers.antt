@@ -1,4 +1,4 @@
-use Rattle.std.proofs.Common.{◌≡◌, ◌+◌, ◌++◌, ◌∷◌, [], ap, ◌∙◌, sym, arith, refl, rules, map, replicate, add-zero, append_assoc}
+use Rattle.std.proofs.Common.{◌++◌, ◌∷◌, [], ap, ◌∙◌, sym, arith, refl, rules, map, replicate, add-zero, append_assoc}
 use Rattle.std.proofs.lemmas.List.{append-nil, replicate-append-replicate}
 use Rattle.master_core.specs.History.{next_of}
 use Rattle.replay_run.specs.Run.{call_of, opens}

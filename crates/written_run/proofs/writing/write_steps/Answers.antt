@@ -1,4 +1,4 @@
-use Rattle.std.proofs.Common.{◌≡◌, ◌+◌, ◌++◌, ◌∙◌, sym, ap, arith, rules, map, drop}
+use Rattle.std.proofs.Common.{◌+◌, ◌++◌, ◌∙◌, sym, ap, arith, rules, map, drop}
 use Rattle.std.specs.List.{flat_map}
 use Rattle.master_core.specs.History.{next_of}
 use Rattle.replay_run.specs.Run.{call_of, calls_of}
