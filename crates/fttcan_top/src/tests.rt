@@ -16,8 +16,7 @@ const ONE_TRIGGER: &str = "open,0,0000000000,0\nframe,0,127,000,0000000000000000
 /// The rows of one cycle, and the first bytes of the last row behind them.
 const TRIGGER_ROWS: &str = "open,0,0000000000,0\nframe,0,127,000,0000000000000000\n";
 
-const TRIGGER_ROWS_AND_MORE: &str =
-    "open,0,0000000000,0\nframe,0,127,000,0000000000000000\nend";
+const TRIGGER_ROWS_AND_MORE: &str = "open,0,0000000000,0\nframe,0,127,000,0000000000000000\nend";
 
 const USAGE: &str = "\
 usage: fttcan replay SYSTEM STEPS [REQUESTS] [--tail N] [--report]
