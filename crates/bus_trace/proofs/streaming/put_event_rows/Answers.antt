@@ -1,10 +1,9 @@
-use Rattle.std.proofs.Common.{◌≡◌, ◌++◌, sym, ap, ◌∙◌, subst, rules}
+use Rattle.std.proofs.Common.{ap, ◌∙◌, subst, rules}
 use Rattle.std.specs.Prelude.{OnOk, OnErr}
 use Rattle.std.specs.List.{flat_map}
 use Rattle.ftt_io.specs.Puts.{Puts, PutsPrefix}
 use Rattle.ftt_io.proofs.Shared.{PutsPrefix-longer}
-use Rattle.bus_trace.specs.EventRows.{rows_of_event, width_told_in}
-use Rattle.bus_trace.specs.Log.{frame_row, plan_rows, submit_row}
+use Rattle.bus_trace.specs.Log.{frame_row, plan_rows}
 use Rattle.bus_trace.specs.Logged.{opened_row}
 use Rattle.bus_trace.proofs.PutRows.{all-behind, prefix-behind}
 use Rattle.bus_trace.proofs.streaming.put_event_rows.Goals as goal

@@ -1,4 +1,4 @@
-use Rattle.std.proofs.Common.{◌≡◌, ◌++◌, ◌+◌, refl, sym, ap, ◌∙◌, subst, arith, rules, drop}
+use Rattle.std.proofs.Common.{◌+◌, sym, ◌∙◌, subst, arith, rules, drop}
 use Rattle.std.specs.List.{flat_map}
 use Rattle.ftt_io.specs.Puts.{Puts, PutsPrefix}
 use Rattle.ftt_io.proofs.Shared.{PutsUpTo-next, PutsUpTo-stops}

@@ -1,4 +1,4 @@
-use Rattle.std.proofs.Common.{◌≡◌, ◌++◌, ◌+◌, refl, sym, ap, ◌∙◌, subst, arith, rules, drop}
+use Rattle.std.proofs.Common.{◌+◌, sym, ◌∙◌, subst, arith, rules, drop}
 use Rattle.ftt_io.specs.Puts.{Puts, PutsPrefix}
 use Rattle.ftt_io.proofs.Shared.{PutsUpTo-next, PutsUpTo-stops}
 use Rattle.bus_trace.specs.Log.{plan_row, plan_rows}
