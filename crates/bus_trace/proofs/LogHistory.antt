@@ -1,7 +1,8 @@
 -- The rows of a history, event by event, and what is known of each event at its place.
-use Rattle.std.proofs.Common.{◌≡◌, ℕ, suc, ◌+◌, ◌^◌, ◌<◌, ◌≤◌, Bool, true, false, cond, List, [], ◌∷◌, ◌++◌, take, drop, length, get_or, refl, sym, ap, subst, ◌∙◌, arith, append_assoc}
+use Rattle.std.proofs.Common.{◌≡◌, ℕ, suc, ◌+◌, ◌^◌, ◌<◌, ◌≤◌, Bool, true, false, cond, List, [], ◌∷◌, ◌++◌, All, map, take, drop, length, get_or, refl, sym, ap, subst, ◌∙◌, arith, append_assoc}
 use Rattle.std.proofs.lemmas.List.{append-nil, take_more, take-append-drop}
 use Rattle.std.proofs.Math.Seq.{drop-cons}
+use Rattle.std.proofs.lemmas.List.Elements.{All-append}
 use Rattle.std.proofs.lemmas.List.Sums.{fold-append, sum_by_push}
 use Rattle.std.specs.List.{flat_map}
 use Rattle.can_frame.specs.declared.data_frame.TimedFrame.{TimedFrame}
@@ -17,22 +18,38 @@ use Rattle.master_core.specs.declared.event.Event.{Event}
 use Rattle.master_core.specs.declared.event.Event.TheVariants.{Submit, Look, Open}
 use Rattle.master_core.specs.History.{AllAfter, IsLegal, IsRight, is_open, next_of, placed_after, placed_of}
 use Rattle.bus_trace.specs.Log.{event_rows, events_rows, frame_row}
-use Rattle.bus_trace.specs.Logged.{HasEntries, IsFormed, IsFormedIn, IsInTurn, IsLeft, IsNear, frames_of_event, opened_row, rows_with}
+use Rattle.bus_trace.specs.Logged.{HasEntries, IsFormed, IsFormedIn, IsInTurn, IsLeft, IsNear, frames_of_event, opened_row, rows_with, told_with}
+use Rattle.bus_trace.specs.LogRows.{event_told, events_told}
+use Rattle.bus_trace.specs.Row.{IsLogRow}
+use Rattle.bus_trace.specs.declared.row.LogRow.TheVariants as row
 use Rattle.bus_trace.proofs.Width.{width-same}
 
 -- Rows
 
--- the rows of an event by the entries that may still be sent
+-- by the entries that may still be sent a cycle has its synchronous window
+width-left : (before : List Event) (cycle mask next : ℕ) (placed left : List Placed) → HasEntries (placed_of before) next placed left → cycle ≡ next
+    → width_in left cycle (contains_slot mask) ≡ width_in (placed_of before) cycle (contains_slot mask)
+width-left before cycle mask next placed left entries turn =
+    width-same left placed cycle (contains_slot mask) (λ slot. entries.same slot cycle (omega (arith, turn)))
+    ∙ ap (λ l. width_in l cycle (contains_slot mask)) entries.all
+
+-- the rows of an event by these entries
 rows_with-event : (trace : List TimedFrame) (before : List Event) (event : Event) (next : ℕ) (placed left : List Placed)
     → HasEntries (placed_of before) next placed left → IsInTurn next event
     → rows_with left (frames_of_event trace event) event ≡ event_rows trace before event
 rows_with-event trace before (Submit caller change from verdict trail) next placed left entries turn = refl
 rows_with-event trace before (Look caller looked) next placed left entries turn = refl
 rows_with-event trace before (Open cycle mask) next placed left entries turn =
-    let width : width_in left cycle (contains_slot mask) ≡ width_in (placed_of before) cycle (contains_slot mask) =
-    width-same left placed cycle (contains_slot mask) (λ slot. entries.same slot cycle (omega (arith, turn)))
-    ∙ ap (λ l. width_in l cycle (contains_slot mask)) entries.all in
-    ap (λ w. opened_row cycle mask w ++ flat_map frame_row (frames_of_event trace (Open cycle mask))) width
+    ap (λ w. opened_row cycle mask w ++ flat_map frame_row (frames_of_event trace (Open cycle mask))) (width-left before cycle mask next placed left entries turn)
+
+-- and as values
+told_with-event : (trace : List TimedFrame) (before : List Event) (event : Event) (next : ℕ) (placed left : List Placed)
+    → HasEntries (placed_of before) next placed left → IsInTurn next event
+    → told_with left (frames_of_event trace event) event ≡ event_told trace before event
+told_with-event trace before (Submit caller change from verdict trail) next placed left entries turn = refl
+told_with-event trace before (Look caller looked) next placed left entries turn = refl
+told_with-event trace before (Open cycle mask) next placed left entries turn =
+    ap (λ w. row.Open cycle mask w ∷ map row.Frame (frames_of_event trace (Open cycle mask))) (width-left before cycle mask next placed left entries turn)
 
 -- the last event's rows come last
 events_rows-push : (trace : List TimedFrame) (before events : List Event) (event : Event)
@@ -42,6 +59,14 @@ events_rows-push trace before (first ∷ events) event =
     ap (λ l. event_rows trace before first ++ l) (events_rows-push trace (before ++ first ∷ []) events event
     ∙ ap (λ b. events_rows trace (before ++ first ∷ []) events ++ event_rows trace b event) (append_assoc before (first ∷ []) events))
     ∙ sym (append_assoc (event_rows trace before first) _ _)
+
+events_told-push : (trace : List TimedFrame) (before events : List Event) (event : Event)
+    → events_told trace before (events ++ event ∷ []) ≡ events_told trace before events ++ event_told trace (before ++ events) event
+events_told-push trace before [] event = append-nil _ ∙ ap (λ b. event_told trace b event) (sym (append-nil before))
+events_told-push trace before (first ∷ events) event =
+    ap (λ l. event_told trace before first ++ l) (events_told-push trace (before ++ first ∷ []) events event
+    ∙ ap (λ b. events_told trace (before ++ first ∷ []) events ++ event_told trace b event) (append_assoc before (first ∷ []) events))
+    ∙ sym (append_assoc (event_told trace before first) _ _)
 
 -- Places
 
@@ -105,6 +130,7 @@ entries-later list next later placed left on entries = record {
 -- the rows of the events before are written, and the entries, the next cycle and the frames left are those after them
 pub record IsWritten (trace : List TimedFrame) (before : List Event) (text : List ℕ) (placed left : List Placed) (next : ℕ) (frames : List TimedFrame) : Type 0 where
   pub text_is : text ≡ events_rows trace [] before
+  pub in_range : All IsLogRow (events_told trace [] before)
   pub entries : HasEntries (placed_of before) next placed left
   pub next_is : next ≡ next_of before
   pub left_is : IsLeft trace next frames
@@ -136,17 +162,20 @@ module _ (trace : List TimedFrame) (history : List Event) (i : ℕ) (event : Eve
   -- after the event
   pub written-more : (more : List ℕ) (started later : List TimedFrame) (all kept : List Placed) (step : ℕ)
       → IsInTurn next event
-      → more ≡ text ++ rows_with left started event → started ≡ frames_of_event trace event
+      → more ≡ text ++ rows_with left started event → All IsLogRow (told_with left started event) → started ≡ frames_of_event trace event
       → HasEntries (placed_after (placed_of before) event) next all kept
       → step ≡ cond (is_open event) 1 0 → IsLeft trace (next + cond (is_open event) 1 0) later
       → IsWritten trace (take (i + 1) history) more all kept (next + step) later
-  written-more more started later all kept step turn rows all_frames table count after =
+  written-more more started later all kept step turn rows told all_frames table count after =
       let events : take (i + 1) history ≡ before ++ event ∷ [] = take_more history i event within ∙ ap (λ e. before ++ e ∷ []) (sym here) in
       subst (λ l. IsWritten trace l more all kept (next + step) later) (sym events) (record {
         text_is = rows ∙ ap (λ l. l ++ rows_with left started event) is.text_is
             ∙ ap (λ l. events_rows trace [] before ++ rows_with left l event) all_frames
             ∙ ap (λ l. events_rows trace [] before ++ l) (rows_with-event trace before event next placed left is.entries turn)
             ∙ sym (events_rows-push trace [] before event);
+        in_range = subst (All IsLogRow) (sym (events_told-push trace [] before event))
+            (All-append IsLogRow (events_told trace [] before) (event_told trace before event) is.in_range
+            (subst (All IsLogRow) (ap (λ l. told_with left l event) all_frames ∙ told_with-event trace before event next placed left is.entries turn) told));
         entries = subst (λ l. HasEntries l (next + step) all kept) (sym (placed_of-push before event))
             (entries-later (placed_after (placed_of before) event) next (next + step) all kept (omega arith) table);
         next_is = ap (λ n. next + n) count ∙ ap (λ n. n + cond (is_open event) 1 0) is.next_is ∙ sym (sum_by_push (λ e. cond (is_open e) 1 0) before event);

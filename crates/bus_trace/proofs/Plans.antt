@@ -2,6 +2,8 @@
 use Rattle.std.proofs.Common.{◌≡◌, ℕ, ◌+◌, List, [], ◌∷◌, ◌++◌, length, sym, ap, ◌∙◌, arith, append_assoc}
 use Rattle.std.proofs.lemmas.List.{append-nil}
 use Rattle.bus_trace.specs.Log.{plan_row, plan_rows}
+use Rattle.bus_trace.specs.LogRows.{plan_told}
+use Rattle.bus_trace.specs.declared.row.LogRow.TheVariants.{Plan}
 
 -- the last mask's row comes last
 pub plan_rows-push : (cycle at : ℕ) (masks : List ℕ) (mask : ℕ) → at ≡ cycle + length masks
@@ -12,3 +14,11 @@ plan_rows-push cycle at [] mask is =
 plan_rows-push cycle at (first ∷ masks) mask is =
     ap (λ l. plan_row cycle first ++ l) (plan_rows-push (cycle + 1) at masks mask (omega arith))
     ∙ sym (append_assoc (plan_row cycle first) (plan_rows (cycle + 1) masks) (plan_row at mask))
+
+pub plan_told-push : (cycle at : ℕ) (masks : List ℕ) (mask : ℕ) → at ≡ cycle + length masks
+    → plan_told cycle (masks ++ mask ∷ []) ≡ plan_told cycle masks ++ Plan at mask ∷ []
+plan_told-push cycle at [] mask is =
+    let here : at ≡ cycle = omega arith in
+    ap (λ n. Plan n mask ∷ []) (sym here)
+plan_told-push cycle at (first ∷ masks) mask is =
+    ap (λ l. Plan cycle first ∷ l) (plan_told-push (cycle + 1) at masks mask (omega arith))

@@ -1,6 +1,6 @@
 -- What is written of a log while it is made: which events are done, which frames are left, and which entries may still
 -- be sent.
-use Rattle.std.specs.Prelude.{◌≡◌, ℕ, ◌^◌, ◌<◌, ◌≤◌, ◌==◌, ◌&&◌, Bool, true, is_some, if◌then◌else◌, List, [], ◌∷◌, ◌++◌, codes}
+use Rattle.std.specs.Prelude.{◌≡◌, ℕ, ◌^◌, ◌<◌, ◌≤◌, ◌==◌, ◌&&◌, Bool, true, is_some, if◌then◌else◌, List, [], ◌∷◌, ◌++◌, codes, map}
 use Rattle.std.specs.List.{flat_map}
 use Rattle.std.specs.Fmt.{decimal}
 use Rattle.can_frame.specs.declared.data_frame.TimedFrame.{TimedFrame}
@@ -14,6 +14,9 @@ use Rattle.admission.specs.Verdict.{is_accepted}
 use Rattle.master_core.specs.declared.event.Event.{Event}
 use Rattle.master_core.specs.declared.event.Event.TheVariants.{Submit, Look, Open}
 use Rattle.bus_trace.specs.Log.{hex_digits, submit_row, plan_rows, look_row, frame_row, started_in}
+use Rattle.bus_trace.specs.LogRows.{plan_told, verdict_told}
+use Rattle.bus_trace.specs.declared.row.LogRow.{LogRow}
+use Rattle.bus_trace.specs.declared.row.LogRow.TheVariants as row
 
 -- The frames
 
@@ -63,6 +66,13 @@ rows_with placed frames (Submit caller change from verdict trail) = submit_row c
 rows_with placed frames (Look caller next) = look_row caller next
 rows_with placed frames (Open cycle mask) =
     opened_row cycle mask (width_in placed cycle (contains_slot mask)) ++ flat_map frame_row frames
+
+-- the same rows as values
+abbrev pub told_with : List Placed → List TimedFrame → Event → List LogRow
+told_with placed frames (Submit caller change from verdict trail) = row.Submit caller from (verdict_told verdict) ∷ plan_told from trail
+told_with placed frames (Look caller next) = row.Look caller next ∷ []
+told_with placed frames (Open cycle mask) =
+    row.Open cycle mask (width_in placed cycle (contains_slot mask)) ∷ map row.Frame frames
 
 -- The entries
 

@@ -1,6 +1,6 @@
 //! The log as one text.
 
-ghost use Rattle.std.specs.Prelude.{if◌then◌else◌, ◌≡◌, ℕ, ◌+◌, ◌^◌, ◌<◌, ◌≤◌, ◌++◌, List, IfOk, OnOk, length, take, drop};
+ghost use Rattle.std.specs.Prelude.{if◌then◌else◌, ◌≡◌, ℕ, ◌+◌, ◌^◌, ◌<◌, ◌≤◌, ◌++◌, All, List, IfOk, OnOk, length, take, drop};
 ghost use Rattle.can_frame.specs.declared.data_frame.TimedFrame.{TimedFrame};
 ghost use Rattle.requirement_table.specs.declared.entries.Placed.{Placed};
 ghost use Rattle.requirement_table.specs.Table.{IsWellPlaced};
@@ -8,7 +8,9 @@ ghost use Rattle.admission_rules.specs.declared.Rules.{Rules};
 ghost use Rattle.admission.specs.Verdict.{IsRules};
 ghost use Rattle.master_core.specs.History.{IsLegal, is_open, placed_after};
 ghost use Rattle.bus_trace.specs.Log.{log_text};
-ghost use Rattle.bus_trace.specs.Logged.{HasEntries, IsFormedIn, IsInTurn, IsLeft, IsNear, frames_of_event, rows_with};
+ghost use Rattle.bus_trace.specs.LogRows.{log_rows};
+ghost use Rattle.bus_trace.specs.Logged.{HasEntries, IsFormedIn, IsInTurn, IsLeft, IsNear, frames_of_event, rows_with, told_with};
+ghost use Rattle.bus_trace.specs.Row.{IsLogRow};
 
 use crate::entries::Entries;
 use crate::frames::{cycle_len, until_trigger};
@@ -45,6 +47,7 @@ fn push_event(
     requires near { IsNear event.now }
     requires left { IsWellPlaced entries.now.left.items }
     ensures ok { OnOk result (text.new.items ≡ text.old.items ++ rows_with entries.now.left.items frames.now event.now) }
+    ensures in_range { OnOk result (All IsLogRow (told_with entries.now.left.items frames.now event.now)) }
 {
     match event {
         Event::Submit {
@@ -101,6 +104,7 @@ pub fn log_text(
 ) -> Result<Vec<u8>, AllocError>
     requires legal { (rules : Rules) × IsRules rules × IsLegal rules history.now }
     ensures text { IfOk result (λ text. text.items ≡ log_text history.now trace.now) }
+    ensures in_range { IfOk result (λ text. All IsLogRow (log_rows history.now trace.now)) }
 {
     let mut text = Vec::new(alloc);
     let mut entries = Entries::new(alloc);

@@ -1,10 +1,13 @@
 //! The rows of the log. Each is made from its end to its start.
 
-ghost use Rattle.std.specs.Prelude.{◌≡◌, ◌+◌, ◌^◌, ◌<◌, ◌≤◌, ◌++◌, codes, length, take, OnOk, OnErr};
+ghost use Rattle.std.specs.Prelude.{◌≡◌, ◌+◌, ◌^◌, ◌<◌, ◌≤◌, ◌++◌, All, IfSome, codes, length, map, take, OnOk, OnErr};
 ghost use Rattle.std.specs.Fmt.{decimal};
 ghost use Rattle.std.specs.List.{flat_map};
 ghost use Rattle.bus_trace.specs.Log.{end_row, frame_row, last_field, look_row, plan_row, plan_rows, submit_row, until_of, verdict_fields};
+ghost use Rattle.bus_trace.specs.LogRows.{plan_told, verdict_told};
 ghost use Rattle.bus_trace.specs.Logged.{opened_row};
+ghost use Rattle.bus_trace.specs.Row.{IsLogRow, IsLogVerdict};
+ghost use Rattle.bus_trace.specs.declared.row.LogRow.TheVariants.{Submit, Plan, Look, Open, Frame, End};
 
 use crate::row_writer::RowWriter;
 use admission::Verdict;
@@ -22,9 +25,11 @@ pub const IDENTIFIER_DIGITS: u8 = 3;
 /// The cycle that the reason of a refusal names, where it names one.
 fn until_of(why: &Why) -> Option<u64>
     ensures until { result ≡ until_of why.now }
+    ensures in_range { IfSome (until_of why.now) (λ cycle. cycle < 2 ^ 64) }
 {
     match why {
-        Why::SlotBusy { until } => *until,
+        Why::SlotBusy { until: Some(cycle) } => Some(*cycle),
+        Why::SlotBusy { until: None } => None,
         _ => None,
     }
 }
@@ -74,6 +79,7 @@ fn put_verdict(row: &mut RowWriter, verdict: &Verdict)
     requires room { length row.old ≤ 1 }
     ensures row { row.new ≡ verdict_fields verdict.now ++ row.old }
     ensures few { length row.new ≤ 73 }
+    ensures in_range { IsLogVerdict (verdict_told verdict.now) }
 {
     match verdict {
         Verdict::Malformed { op, why } => {
@@ -108,6 +114,7 @@ fn put_verdict(row: &mut RowWriter, verdict: &Verdict)
 /// The row of a change that operator `caller` asked for, planned from the cycle `from` on.
 pub fn submit_row(caller: u8, from: u64, verdict: &Verdict) -> RowWriter
     ensures row { result ≡ submit_row caller from verdict.now }
+    ensures in_range { IsLogRow (Submit caller from (verdict_told verdict.now)) }
 {
     let mut row = ended();
     put_verdict(&mut row, verdict);
@@ -120,6 +127,7 @@ pub fn submit_row(caller: u8, from: u64, verdict: &Verdict) -> RowWriter
 /// The row of a cycle that was planned and not opened, with the slots that are flagged in it.
 pub fn plan_row(cycle: u64, mask: Mask) -> RowWriter
     ensures row { result ≡ plan_row cycle mask }
+    ensures in_range { IsLogRow (Plan cycle mask) }
 {
     let mut row = ended();
     row.hex(MASK_DIGITS, mask.bits() as u64);
@@ -131,6 +139,7 @@ pub fn plan_row(cycle: u64, mask: Mask) -> RowWriter
 /// The row of a look of operator `caller`, with the cycle that was to be opened next.
 pub fn look_row(caller: u8, next: u64) -> RowWriter
     ensures row { result ≡ look_row caller next }
+    ensures in_range { IsLogRow (Look caller next) }
 {
     let mut row = ended();
     put_field(&mut row, next);
@@ -141,6 +150,7 @@ pub fn look_row(caller: u8, next: u64) -> RowWriter
 /// The row of an opened cycle, with its flagged slots and the length of its synchronous window in bit times.
 pub fn open_row(cycle: u64, mask: Mask, width: u32) -> RowWriter
     ensures row { result ≡ opened_row cycle mask width }
+    ensures in_range { IsLogRow (Open cycle mask width) }
 {
     let mut row = ended();
     put_field(&mut row, u64::from(width));
@@ -153,20 +163,23 @@ pub fn open_row(cycle: u64, mask: Mask, width: u32) -> RowWriter
 /// The row of a frame.
 pub fn frame_row(sent: &TimedFrame) -> RowWriter
     ensures row { result ≡ frame_row sent.now }
+    ensures in_range { IsLogRow (Frame sent.now) }
 {
+    let (start, len) = (sent.start, sent.len);
     let mut row = ended();
     row.data_bytes(&sent.frame);
     row.byte(b',');
     row.hex(IDENTIFIER_DIGITS, u64::from(sent.frame.id()));
     row.byte(b',');
-    put_field(&mut row, u64::from(sent.len));
-    put_first(&mut row, b"frame,", sent.start);
+    put_field(&mut row, u64::from(len));
+    put_first(&mut row, b"frame,", start);
     row
 }
 
 /// The last row, with the number of opened cycles.
 pub fn end_row(next: u64) -> RowWriter
     ensures row { result ≡ end_row next }
+    ensures in_range { IsLogRow (End next) }
 {
     let mut row = ended();
     put_first(&mut row, b"end,", next);
@@ -182,6 +195,7 @@ pub fn push_submit_row(
 ) -> Result<(), AllocError>
     ensures ok { OnOk result (text.new.items ≡ text.old.items ++ submit_row caller from verdict.now) }
     ensures err { OnErr result (text.new.items ≡ text.old.items) }
+    ensures in_range { IsLogRow (Submit caller from (verdict_told verdict.now)) }
 {
     text.extend_from_slice(submit_row(caller, from, verdict).as_slice())
 }
@@ -191,6 +205,7 @@ pub fn push_plan_rows(text: &mut Vec<u8>, from: u64, masks: &[Mask]) -> Result<(
     requires from { from < 2 ^ 63 }
     ensures ok { OnOk result (text.new.items ≡ text.old.items ++ plan_rows from masks.now) }
     ensures err { OnErr result (take (length text.old.items) text.new.items ≡ text.old.items) }
+    ensures in_range { OnOk result (All IsLogRow (plan_told from masks.now)) }
 {
     for (number, mask) in masks.iter().enumerate() {
         text.extend_from_slice(plan_row(from + number as u64, *mask).as_slice())?;
@@ -202,6 +217,7 @@ pub fn push_plan_rows(text: &mut Vec<u8>, from: u64, masks: &[Mask]) -> Result<(
 pub fn push_look_row(text: &mut Vec<u8>, caller: u8, next: u64) -> Result<(), AllocError>
     ensures ok { OnOk result (text.new.items ≡ text.old.items ++ look_row caller next) }
     ensures err { OnErr result (text.new.items ≡ text.old.items) }
+    ensures in_range { IsLogRow (Look caller next) }
 {
     text.extend_from_slice(look_row(caller, next).as_slice())
 }
@@ -215,6 +231,7 @@ pub fn push_open_row(
 ) -> Result<(), AllocError>
     ensures ok { OnOk result (text.new.items ≡ text.old.items ++ opened_row cycle mask width) }
     ensures err { OnErr result (text.new.items ≡ text.old.items) }
+    ensures in_range { IsLogRow (Open cycle mask width) }
 {
     text.extend_from_slice(open_row(cycle, mask, width).as_slice())
 }
@@ -223,6 +240,7 @@ pub fn push_open_row(
 pub fn push_frame_rows(text: &mut Vec<u8>, frames: &[TimedFrame]) -> Result<(), AllocError>
     ensures ok { OnOk result (text.new.items ≡ text.old.items ++ flat_map frame_row frames.now) }
     ensures err { OnErr result (take (length text.old.items) text.new.items ≡ text.old.items) }
+    ensures in_range { OnOk result (All IsLogRow (map Frame frames.now)) }
 {
     for sent in frames {
         text.extend_from_slice(frame_row(sent).as_slice())?;
@@ -233,6 +251,7 @@ pub fn push_frame_rows(text: &mut Vec<u8>, frames: &[TimedFrame]) -> Result<(), 
 /// Appends the last row.
 pub fn push_end_row(text: &mut Vec<u8>, next: u64) -> Result<(), AllocError>
     ensures ok { OnOk result (text.new.items ≡ text.old.items ++ end_row next) }
+    ensures in_range { IsLogRow (End next) }
 {
     text.extend_from_slice(end_row(next).as_slice())
 }

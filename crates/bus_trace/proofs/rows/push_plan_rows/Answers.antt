@@ -1,7 +1,11 @@
-use Rattle.std.proofs.Common.{◌+◌, ◌++◌, ◌∷◌, [], take, sym, ap, ◌∙◌, arith, append_assoc}
+use Rattle.std.proofs.Common.{◌+◌, ◌++◌, ◌∷◌, [], All, subst, take, sym, ap, ◌∙◌, arith, append_assoc}
 use Rattle.std.proofs.lemmas.List.{take_more, length-take-le}
+use Rattle.std.proofs.lemmas.List.Elements.{All-push}
 use Rattle.bus_trace.specs.Log.{plan_row, plan_rows}
-use Rattle.bus_trace.proofs.Plans.{plan_rows-push}
+use Rattle.bus_trace.specs.LogRows.{plan_told}
+use Rattle.bus_trace.specs.Row.{IsLogRow}
+use Rattle.bus_trace.specs.declared.row.LogRow.TheVariants.{Plan}
+use Rattle.bus_trace.proofs.Plans.{plan_rows-push, plan_told-push}
 use Rattle.bus_trace.proofs.rows.push_plan_rows.Goals as goal
 
 pub loop-number-preserved : goal.loop-number-preserved
@@ -10,10 +14,16 @@ loop-number-preserved c =
     let masks = c.args.masks.now in
     let mask = c.index-masks-number.result in
     let start = c.args.text.now.items in
+    let at = c.args.from + i in
     let count = length-take-le i masks (omega (arith, c.loop-number-test.true)) in
-    c.in_ok-extend_from_slice.ensures.items
-    ∙ ap (λ l. c.loop-number.text.items ++ l) (c.as_slice.ensures.bytes ∙ c.plan_row.ensures.row)
-    ∙ ap (λ l. l ++ plan_row (c.args.from + i) mask) c.loop-number.invariant
-    ∙ append_assoc start (plan_rows c.args.from (take i masks)) (plan_row (c.args.from + i) mask)
-    ∙ ap (λ l. start ++ l) (sym (plan_rows-push c.args.from (c.args.from + i) (take i masks) mask (omega (arith, count))))
-    ∙ ap (λ l. start ++ plan_rows c.args.from l) (sym (take_more masks i mask c.loop-number-test.true ∙ ap (λ m. take i masks ++ m ∷ []) (sym c.index-masks-number.is)))
+    let more = take_more masks i mask c.loop-number-test.true ∙ ap (λ m. take i masks ++ m ∷ []) (sym c.index-masks-number.is) in (
+      c.in_ok-extend_from_slice.ensures.items
+          ∙ ap (λ l. c.loop-number.text.items ++ l) (c.as_slice.ensures.bytes ∙ c.plan_row.ensures.row)
+          ∙ ap (λ l. l ++ plan_row at mask) c.loop-number.invariant.0
+          ∙ append_assoc start (plan_rows c.args.from (take i masks)) (plan_row at mask)
+          ∙ ap (λ l. start ++ l) (sym (plan_rows-push c.args.from at (take i masks) mask (omega (arith, count))))
+          ∙ ap (λ l. start ++ plan_rows c.args.from l) (sym more),
+      subst (λ l. All IsLogRow (plan_told c.args.from l)) (sym more)
+          (subst (All IsLogRow) (sym (plan_told-push c.args.from at (take i masks) mask (omega (arith, count))))
+          (All-push IsLogRow (plan_told c.args.from (take i masks)) (Plan at mask) c.loop-number.invariant.1 c.plan_row.ensures.in_range)),
+    )
