@@ -1,6 +1,6 @@
 -- The numbers that decimal digits write, as the reader finds them and as the writer writes them.
-use Rattle.std.proofs.Common.{◌≡◌, ℕ, ◌+◌, ◌-◌, ◌^◌, ◌<◌, ◌≤◌, ◌&&◌, not, true, false, cond, ◌==◌, List, [], ◌∷◌, get_or, length, map, Option, Some, None, option_map, option_and_then, Result, Ok, Err, nat_le, nat_lt, nat_eq, zero, suc, refl, sym, ap, ◌∙◌, subst, rules, arith, lit<, OkIff}
-use Rattle.std.proofs.lemmas.Bool.{and_parts, eqb-true}
+use Rattle.std.proofs.Common.{◌≡◌, ℕ, ◌-◌, ◌^◌, ◌<◌, ◌&&◌, not, true, false, cond, ◌==◌, List, [], ◌∷◌, get_or, length, Some, None, option_and_then, Result, Ok, Err, nat_le, nat_lt, zero, suc, refl, sym, ap, ◌∙◌, rules, arith, lit<, OkIff}
+use Rattle.std.proofs.lemmas.Bool.{and_parts}
 use Rattle.std.proofs.lemmas.Bool.Decides.{nat_tests}
 use Rattle.std.proofs.lemmas.Fmt.{decimal-digits_value, digits_value-decimal, decimal_digit, decimal_nonempty, digits_decimal, first_decimal}
 use Rattle.std.proofs.lemmas.Option.{same_Some}

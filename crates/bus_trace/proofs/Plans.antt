@@ -1,8 +1,10 @@
 -- The rows of a plan, row by row.
-use Rattle.std.proofs.Common.{◌≡◌, ℕ, ◌+◌, List, [], ◌∷◌, ◌++◌, length, sym, ap, ◌∙◌, arith, append_assoc}
-use Rattle.std.proofs.lemmas.List.{append-nil}
+use Rattle.std.proofs.Common.{◌≡◌, ℕ, ◌+◌, ◌<◌, List, [], ◌∷◌, ◌++◌, All, get_or, length, subst, sym, take, ap, ◌∙◌, arith, append_assoc}
+use Rattle.std.proofs.lemmas.List.{append-nil, take_more, length-take-le}
+use Rattle.std.proofs.lemmas.List.Elements.{All-push}
 use Rattle.bus_trace.specs.Log.{plan_row, plan_rows}
 use Rattle.bus_trace.specs.LogRows.{plan_told}
+use Rattle.bus_trace.specs.Row.{IsLogRow}
 use Rattle.bus_trace.specs.declared.row.LogRow.TheVariants.{Plan}
 
 -- the last mask's row comes last
@@ -22,3 +24,13 @@ plan_told-push cycle at [] mask is =
     ap (λ n. Plan n mask ∷ []) (sym here)
 plan_told-push cycle at (first ∷ masks) mask is =
     ap (λ l. Plan cycle first ∷ l) (plan_told-push (cycle + 1) at masks mask (omega arith))
+
+-- with the row at a place the rows up to it are in range
+pub plan_told-more : (cycle place : ℕ) (masks : List ℕ) (mask : ℕ) → place < length masks → mask ≡ get_or masks place mask
+    → All IsLogRow (plan_told cycle (take place masks)) → IsLogRow (Plan (cycle + place) mask) → All IsLogRow (plan_told cycle (take (place + 1) masks))
+plan_told-more cycle place masks mask within is before here =
+    let count = length-take-le place masks (omega (arith, within)) in
+    let more : take (place + 1) masks ≡ take place masks ++ mask ∷ [] = take_more masks place mask within ∙ ap (λ m. take place masks ++ m ∷ []) (sym is) in
+    subst (λ l. All IsLogRow (plan_told cycle l)) (sym more)
+    (subst (All IsLogRow) (sym (plan_told-push cycle (cycle + place) (take place masks) mask (omega (arith, count))))
+    (All-push IsLogRow (plan_told cycle (take place masks)) (Plan (cycle + place) mask) before here))

@@ -1,12 +1,16 @@
 -- What a sink took of rows that were put one after the other.
-use Rattle.std.proofs.Common.{◌≡◌, ℕ, ◌+◌, ◌<◌, suc, List, ◌++◌, Option, Result, Ok, Err, length, get_or, drop, sym, ap, ◌∙◌, arith}
+use Rattle.std.proofs.Common.{◌≡◌, ℕ, ◌+◌, ◌<◌, suc, List, ◌++◌, ◌∷◌, [], All, Option, Result, Ok, Err, length, get_or, map, take, drop, sym, ap, ◌∙◌, subst, arith}
 use Rattle.std.specs.Prelude.{OnOk, OnErr}
 use Rattle.std.specs.List.{flat_map}
+use Rattle.std.proofs.lemmas.List.{map-append, take_more}
+use Rattle.std.proofs.lemmas.List.Elements.{All-push}
 use Rattle.std.proofs.Math.Seq.{drop-cons}
 use Rattle.ftt_io.specs.Puts.{Puts, PutsPrefix}
 use Rattle.ftt_io.proofs.Shared.{Puts-append, PutsPrefix-append}
 use Rattle.can_frame.specs.declared.data_frame.TimedFrame.{TimedFrame}
 use Rattle.bus_trace.specs.Log.{frame_row, plan_row, plan_rows}
+use Rattle.bus_trace.specs.Row.{IsLogRow}
+use Rattle.bus_trace.specs.declared.row.LogRow.TheVariants.{Frame}
 
 -- the rows from a place on begin with the row at the place
 pub frame_rows-at : (frames : List TimedFrame) (place : ℕ) (d sent : TimedFrame) → place < length frames → get_or frames place d ≡ sent
@@ -26,6 +30,14 @@ plan_rows-at from masks place d mask within is =
     ∙ ap (λ m. plan_row (from + place) m ++ plan_rows (from + place + 1) (drop (suc place) masks)) is
     ∙ ap (λ n. plan_row (from + place) mask ++ plan_rows n (drop (suc place) masks)) later
     ∙ ap (λ n. plan_row (from + place) mask ++ plan_rows (from + (place + 1)) (drop n masks)) (sym next)
+
+-- with the frame at a place the rows up to it are in range
+pub frames_told-more : (frames : List TimedFrame) (place : ℕ) (sent : TimedFrame) → place < length frames → sent ≡ get_or frames place sent
+    → All IsLogRow (map Frame (take place frames)) → IsLogRow (Frame sent) → All IsLogRow (map Frame (take (place + 1) frames))
+frames_told-more frames place sent within is before here =
+    let more : take (place + 1) frames ≡ take place frames ++ sent ∷ [] = take_more frames place sent within ∙ ap (λ s. take place frames ++ s ∷ []) (sym is) in
+    subst (λ l. All IsLogRow (map Frame l)) (sym more)
+    (subst (All IsLogRow) (sym (map-append Frame (take place frames) (sent ∷ []))) (All-push IsLogRow (map Frame (take place frames)) (Frame sent) before here))
 
 -- rows behind others
 pub all-behind : {T E : Type 0} (result : Result T E) (old between new : Option (List ℕ)) (first second : List ℕ) → Puts old between first

@@ -1,12 +1,11 @@
 -- The line of a row: its fields are found again between its commas, and it has no line feed.
-use Rattle.std.proofs.Common.{◌≡◌, ◌≢◌, ℕ, zero, suc, ◌+◌, ◌^◌, ◌<◌, ◌≤◌, ◌&&◌, not, true, false, ◌==◌, Bool, List, [], ◌∷◌, ◌++◌, All, codes, get_or, length, slice_index_or, Option, Some, None, refl, sym, ap, ◌∙◌, subst, arith, rules}
+use Rattle.std.proofs.Common.{◌≡◌, ◌≢◌, ℕ, zero, suc, ◌^◌, ◌<◌, ◌&&◌, not, true, false, ◌==◌, Bool, List, [], ◌∷◌, ◌++◌, All, Some, None, refl, sym, ap, ◌∙◌, subst, arith}
 use Rattle.std.proofs.lemmas.Bool.{and_parts, and_from}
 use Rattle.std.proofs.lemmas.Bool.Decides.{nat_tests}
-use Rattle.std.proofs.lemmas.Fmt.{digits_decimal}
 use Rattle.std.proofs.lemmas.List.Splits.{join_with_byte-slice_split, slice_split_at, slice_split_none}
 use Rattle.std.specs.Char.{is_ascii_digit}
 use Rattle.std.specs.Fmt.{decimal}
-use Rattle.std.specs.List.{flat_map, join_with_byte, list_all, slice_split}
+use Rattle.std.specs.List.{flat_map, join_with_byte, list_all}
 use Rattle.plan_check.specs.PlanText.{HasNoFeed}
 use Rattle.bus_trace.specs.Log.{hex_digits}
 use Rattle.bus_trace.specs.Row.{IsLogRow, IsLogVerdict, fields_of_row, fields_of_verdict, row_line}
@@ -17,7 +16,7 @@ use Rattle.bus_trace.specs.declared.row.LogVerdict.{LogVerdict}
 use Rattle.bus_trace.specs.declared.row.LogVerdict.TheVariants as verdict
 use Rattle.bus_trace.proofs.FieldNumbers.{all-decimal}
 use Rattle.bus_trace.proofs.HexFields.{all-data, all-hex}
-use Rattle.bus_trace.proofs.RowForms.{HasForm, row-found, row-read}
+use Rattle.bus_trace.proofs.RowForms.{row-found, row-read}
 
 -- neither a comma nor a line feed
 abbrev is_plain : ℕ → Bool

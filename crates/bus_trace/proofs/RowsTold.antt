@@ -6,7 +6,7 @@ use Rattle.std.specs.Fmt.{decimal}
 use Rattle.std.specs.List.{flat_map, join_with_byte}
 use Rattle.can_frame.specs.declared.data_frame.TimedFrame.{TimedFrame}
 use Rattle.change_protocol.specs.Code.{code_of}
-use Rattle.requirement_table.specs.Opening.{Opening, width_of}
+use Rattle.requirement_table.specs.Opening.{width_of}
 use Rattle.admission.specs.declared.verdict.Verdict.{Verdict}
 use Rattle.admission.specs.declared.verdict.Verdict.TheVariants.{Malformed, Passed, Miss, Horizon, Accepted}
 use Rattle.master_core.specs.declared.event.Event.{Event}
@@ -16,7 +16,6 @@ use Rattle.bus_trace.specs.Log.{event_rows, events_rows, frame_row, hex_digits, 
 use Rattle.bus_trace.specs.Logged.{opened_row}
 use Rattle.bus_trace.specs.LogRows.{event_told, events_told, log_rows, plan_told, verdict_told}
 use Rattle.bus_trace.specs.Row.{field_of_until, fields_of_verdict, row_text, text_of_rows}
-use Rattle.bus_trace.specs.declared.row.LogRow.{LogRow}
 use Rattle.bus_trace.specs.declared.row.LogRow.TheVariants as row
 
 -- Fields, and the commas between them

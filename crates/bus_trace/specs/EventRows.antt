@@ -1,14 +1,17 @@
 -- The rows of one event, by the frames that follow it.
-use Rattle.std.specs.Prelude.{◌≡◌, ◌≢◌, ℕ, ◌^◌, ◌<◌, ◌≤◌, List, [], ◌∷◌, ◌++◌, All, length}
+use Rattle.std.specs.Prelude.{◌≡◌, ◌≢◌, ℕ, ◌^◌, ◌<◌, ◌≤◌, List, [], ◌∷◌, ◌++◌, All, length, map}
 use Rattle.std.specs.List.{flat_map}
 use Rattle.can_frame.specs.declared.data_frame.TimedFrame.{TimedFrame}
 use Rattle.trigger_codec.specs.Bytes.{trigger_frame, width_told}
-use Rattle.requirement_table.specs.Opening.{Opening, width_of}
+use Rattle.requirement_table.specs.Opening.{width_of}
 use Rattle.master_core.specs.declared.event.Event.{Event}
 use Rattle.master_core.specs.declared.event.Event.TheVariants.{Submit, Look, Open}
 use Rattle.master_core.specs.History.{placed_of}
 use Rattle.bus_trace.specs.Log.{frame_row, look_row, plan_rows, started_in, submit_row}
+use Rattle.bus_trace.specs.LogRows.{plan_told, verdict_told}
 use Rattle.bus_trace.specs.Logged.{opened_row}
+use Rattle.bus_trace.specs.declared.row.LogRow.{LogRow}
+use Rattle.bus_trace.specs.declared.row.LogRow.TheVariants as row
 
 -- the frames of an opened cycle: first its trigger, which says some length of the synchronous window, and then no other
 -- frame with identifier 0
@@ -38,6 +41,12 @@ abbrev pub rows_of_event : Event → List TimedFrame → List ℕ
 rows_of_event (Submit caller change from verdict trail) frames = submit_row caller from verdict ++ plan_rows from trail
 rows_of_event (Look caller next) frames = look_row caller next
 rows_of_event (Open cycle mask) frames = opened_row cycle mask (width_told_in frames) ++ flat_map frame_row frames
+
+-- the same rows as values
+abbrev pub told_of_event : Event → List TimedFrame → List LogRow
+told_of_event (Submit caller change from verdict trail) frames = row.Submit caller from (verdict_told verdict) ∷ plan_told from trail
+told_of_event (Look caller next) frames = row.Look caller next ∷ []
+told_of_event (Open cycle mask) frames = row.Open cycle mask (width_told_in frames) ∷ map row.Frame frames
 
 -- after the events before it, the trigger of the cycle that the event opens says the length of the cycle's synchronous
 -- window

@@ -2,7 +2,7 @@
 use Rattle.std.specs.Prelude.{ℕ, ◌+◌, List, [], ◌∷◌, ◌++◌, map}
 use Rattle.can_frame.specs.declared.data_frame.TimedFrame.{TimedFrame}
 use Rattle.change_protocol.specs.Code.{code_of}
-use Rattle.requirement_table.specs.Opening.{Opening, width_of}
+use Rattle.requirement_table.specs.Opening.{width_of}
 use Rattle.admission.specs.declared.verdict.Verdict.{Verdict}
 use Rattle.admission.specs.declared.verdict.Verdict.TheVariants.{Malformed, Passed, Miss, Horizon, Accepted}
 use Rattle.master_core.specs.declared.event.Event.{Event}

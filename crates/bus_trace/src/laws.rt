@@ -1,21 +1,24 @@
 //! Laws about logs. Each function has an empty body, and its contract is the law.
 
-ghost use Rattle.std.specs.Prelude.{◌≡◌, ◌++◌, [], List};
+ghost use Rattle.std.specs.Prelude.{◌≡◌, ◌++◌, [], ◌∷◌, List};
 ghost use Rattle.std.specs.List.{flat_map};
 ghost use Rattle.can_frame.specs.declared.data_frame.TimedFrame.{TimedFrame};
 ghost use Rattle.master_core.specs.declared.event.Event.{Event};
 ghost use Rattle.master_core.specs.History.{AllAfter, next_of};
-ghost use Rattle.bus_trace.specs.EventRows.{SaysWidth, rows_of_event};
+ghost use Rattle.bus_trace.specs.EventRows.{SaysWidth, rows_of_event, told_of_event};
 ghost use Rattle.bus_trace.specs.Log.{end_row, log_text};
 ghost use Rattle.bus_trace.specs.LogRows.{log_rows};
 ghost use Rattle.bus_trace.specs.Row.{text_of_rows};
 ghost use Rattle.bus_trace.specs.Logged.{frames_of_event};
+ghost use Rattle.bus_trace.specs.declared.row.LogRow.TheVariants.{End};
 
 /// Where each trigger says the length of its cycle's synchronous window, the rows of the events of a history, each with
-/// the frames that start in the cycle that it opens, and then the last row, are the log.
+/// the frames that start in the cycle that it opens, and then the last row, are the log: as texts, and as values.
 pub fn events_make_the_log()
     ensures rows { (trace : List TimedFrame) (history : List Event) → AllAfter (SaysWidth trace) [] history
         → flat_map (λ event. rows_of_event event (frames_of_event trace event)) history ++ end_row (next_of history) ≡ log_text history trace }
+    ensures values { (trace : List TimedFrame) (history : List Event) → AllAfter (SaysWidth trace) [] history
+        → flat_map (λ event. told_of_event event (frames_of_event trace event)) history ++ End (next_of history) ∷ [] ≡ log_rows history trace }
 {}
 
 /// The log is the text of its rows. So where they are in the ranges of their types, reading the log gives them back.

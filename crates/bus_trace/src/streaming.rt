@@ -1,14 +1,17 @@
 //! The rows of one event, for a log that is written while the run goes on.
 
-ghost use Rattle.std.specs.Prelude.{◌≡◌, ◌+◌, ◌*◌, ◌^◌, ◌<◌, ◌≤◌, ◌++◌, length, take, OnOk, OnErr};
+ghost use Rattle.std.specs.Prelude.{◌≡◌, ◌+◌, ◌*◌, ◌^◌, ◌<◌, ◌≤◌, ◌++◌, All, length, map, take, OnOk, OnErr};
 ghost use Rattle.std.specs.List.{flat_map};
 ghost use Rattle.ftt_io.specs.Counts.{Rose};
 ghost use Rattle.ftt_io.specs.Puts.{Puts, PutsPrefix};
 ghost use Rattle.can_frame.specs.DataFrame.{IsFrame};
 ghost use Rattle.trigger_codec.specs.Bytes.{width_told};
-ghost use Rattle.bus_trace.specs.EventRows.{HasItsFrames, HasWidth, HasWidthIn, rows_of_event, width_told_in};
+ghost use Rattle.bus_trace.specs.EventRows.{HasItsFrames, HasWidth, HasWidthIn, rows_of_event, told_of_event, width_told_in};
 ghost use Rattle.bus_trace.specs.Log.{end_row, frame_row, plan_rows};
+ghost use Rattle.bus_trace.specs.LogRows.{plan_told};
 ghost use Rattle.bus_trace.specs.Logged.{IsNear};
+ghost use Rattle.bus_trace.specs.Row.{IsLogRow};
+ghost use Rattle.bus_trace.specs.declared.row.LogRow.TheVariants.{Frame as FrameRow, End};
 
 use crate::rows::{
     end_row, frame_row, look_row, open_row, plan_row, push_frame_rows, push_look_row,
@@ -45,6 +48,7 @@ fn push_rows(out: &mut Vec<u8>, event: &Event, frames: &[TimedFrame]) -> Result<
     requires width { HasWidthIn event.now frames.now }
     ensures ok { OnOk result (out.new.items ≡ out.old.items ++ rows_of_event event.now frames.now) }
     ensures err { OnErr result (take (length out.old.items) out.new.items ≡ out.old.items) }
+    ensures in_range { OnOk result (All IsLogRow (told_of_event event.now frames.now)) }
 {
     match event {
         Event::Submit {
@@ -84,6 +88,7 @@ pub fn event_rows(
     requires frames { HasItsFrames event.now frames.now }
     ensures rows { OnOk result (out.new.items ≡ out.old.items ++ rows_of_event event.now frames.now) }
     ensures memory { OnErr result (out.new.items ≡ out.old.items) }
+    ensures in_range { OnOk result (All IsLogRow (told_of_event event.now frames.now)) }
 {
     let before = out.len();
     match push_rows(out, event, frames) {
@@ -102,6 +107,7 @@ fn put_plan_rows<O: Sink>(out: &mut O, from: u64, masks: &[Mask]) -> Result<(), 
     ensures all { OnOk result (Puts (O.told_bytes out.old) (O.told_bytes out.new) (plan_rows from masks.now)) }
     ensures failed { OnErr result (Rose (O.faults out.old) (O.faults out.new)) }
     ensures prefix { OnErr result (PutsPrefix (O.told_bytes out.old) (O.told_bytes out.new) (plan_rows from masks.now)) }
+    ensures in_range { OnOk result (All IsLogRow (plan_told from masks.now)) }
 {
     for (number, mask) in masks.iter().enumerate() {
         write_all(out, plan_row(from + number as u64, *mask).as_slice())?;
@@ -115,6 +121,7 @@ fn put_frame_rows<O: Sink>(out: &mut O, frames: &[TimedFrame]) -> Result<(), Fai
     ensures all { OnOk result (Puts (O.told_bytes out.old) (O.told_bytes out.new) (flat_map frame_row frames.now)) }
     ensures failed { OnErr result (Rose (O.faults out.old) (O.faults out.new)) }
     ensures prefix { OnErr result (PutsPrefix (O.told_bytes out.old) (O.told_bytes out.new) (flat_map frame_row frames.now)) }
+    ensures in_range { OnOk result (All IsLogRow (map FrameRow frames.now)) }
 {
     for sent in frames {
         write_all(out, frame_row(sent).as_slice())?;
@@ -138,6 +145,7 @@ pub fn put_event_rows<O: Sink>(
     ensures all { OnOk result (Puts (O.told_bytes out.old) (O.told_bytes out.new) (rows_of_event event.now frames.now)) }
     ensures failed { OnErr result (Rose (O.faults out.old) (O.faults out.new)) }
     ensures prefix { OnErr result (PutsPrefix (O.told_bytes out.old) (O.told_bytes out.new) (rows_of_event event.now frames.now)) }
+    ensures in_range { OnOk result (All IsLogRow (told_of_event event.now frames.now)) }
 {
     match event {
         Event::Submit {
@@ -171,6 +179,7 @@ pub fn put_end_row<O: Sink>(out: &mut O, next: u64) -> Result<(), Failed>
     ensures all { OnOk result (Puts (O.told_bytes out.old) (O.told_bytes out.new) (end_row next)) }
     ensures failed { OnErr result (Rose (O.faults out.old) (O.faults out.new)) }
     ensures prefix { OnErr result (PutsPrefix (O.told_bytes out.old) (O.told_bytes out.new) (end_row next)) }
+    ensures in_range { IsLogRow (End next) }
 {
     write_all(out, end_row(next).as_slice())
 }

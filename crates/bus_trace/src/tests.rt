@@ -1,8 +1,13 @@
 //! Logs that were worked out by hand.
 
-ghost use Rattle.std.specs.Prelude.{◌≡◌, ◌≤◌, IfOk};
+ghost use Rattle.std.specs.Prelude.{◌≡◌, ◌≤◌, IfOk, MatchResult};
+ghost use Rattle.admission_rules.specs.declared.Rules.{Rules};
 ghost use Rattle.admission.specs.Verdict.{IsRules};
+ghost use Rattle.master_core.specs.History.{IsLegal};
+ghost use Rattle.bus_trace.specs.LogRows.{log_rows};
+ghost use Rattle.bus_trace.specs.declared.log_fault.LogFault.TheVariants.{Memory};
 
+use crate::laws::logs_are_rows;
 use crate::{LogFault, LogRow, LogVerdict, Recent, event_rows, log_text, read_log};
 use admission::Rules;
 use can_frame::{Frame, TimedFrame};
@@ -87,6 +92,30 @@ fn is_log(
     Ok(text.as_slice() == expected.as_bytes())
 }
 
+/// A log, read back: the rows of the history and the trace, as values.
+fn read_back(
+    alloc: Global,
+    history: &[Event],
+    trace: &[TimedFrame],
+) -> Result<Vec<LogRow>, LogFault>
+    requires legal { (rules : Rules) × IsRules rules × IsLegal rules history.now }
+    ensures rows { MatchResult result (λ rows. rows.items ≡ log_rows history.now trace.now) (λ fault. fault ≡ Memory) }
+{
+    let text = log_text(alloc, history, trace)?;
+    logs_are_rows();
+    read_log(alloc, text.as_slice())
+}
+
+/// How many rows the log of the master's history and the trace has.
+fn count_back(alloc: Global, master: &Master, trace: &[TimedFrame]) -> Result<usize, AllocError>
+    requires rules { IsRules master.now.rules }
+{
+    match read_back(alloc, master.history(), trace) {
+        Ok(rows) => Ok(rows.len()),
+        Err(_) => Err(AllocError),
+    }
+}
+
 /// A frame on the bus.
 fn sent(start: u64, len: u32, id: u16, bytes: &[u8]) -> Result<TimedFrame, AllocError> {
     match Frame::new(id, bytes) {
@@ -164,6 +193,7 @@ fn opened_cycles(rt: HostRuntime) -> Result<(), Fail> {
         sent(1945, 51, 0x100, &[])?,
     ];
     assert!(rt; is_log(alloc, &master, &trace, CYCLES)?);
+    assert!(rt; count_back(alloc, &master, &trace)? == 10);
     Ok(())
 }
 

@@ -1,6 +1,5 @@
-use Rattle.std.proofs.Common.{◌≡◌, ◌≢◌, ◌⊎◌, ℕ, ◌+◌, List, [], length, false, true, nat_eq, ap, sym, subst, ◌∙◌, inl, arith}
-use Rattle.bus_trace.specs.RowFields.{fields_of_line, row_of}
-use Rattle.bus_trace.specs.declared.log_fault.LogFault.TheVariants.{Memory, Row}
+use Rattle.std.proofs.Common.{◌≡◌, ◌+◌, ap, sym, subst, ◌∙◌, inl, arith}
+use Rattle.bus_trace.specs.declared.log_fault.LogFault.TheVariants.{Row}
 use Rattle.bus_trace.proofs.Readings.{AreRead, empty-list, faulty-row, none-empty, none-formed, none-unended, one-fault, read-more, some-list, whole-back, NoRow}
 use Rattle.bus_trace.proofs.log_reading.read_log.Goals as goal
 

@@ -1,11 +1,7 @@
-use Rattle.std.proofs.Common.{◌+◌, ◌++◌, ◌∷◌, [], All, subst, take, sym, ap, ◌∙◌, arith, append_assoc}
+use Rattle.std.proofs.Common.{◌+◌, ◌++◌, ◌∷◌, [], take, sym, ap, ◌∙◌, arith, append_assoc}
 use Rattle.std.proofs.lemmas.List.{take_more, length-take-le}
-use Rattle.std.proofs.lemmas.List.Elements.{All-push}
 use Rattle.bus_trace.specs.Log.{plan_row, plan_rows}
-use Rattle.bus_trace.specs.LogRows.{plan_told}
-use Rattle.bus_trace.specs.Row.{IsLogRow}
-use Rattle.bus_trace.specs.declared.row.LogRow.TheVariants.{Plan}
-use Rattle.bus_trace.proofs.Plans.{plan_rows-push, plan_told-push}
+use Rattle.bus_trace.proofs.Plans.{plan_rows-push, plan_told-more}
 use Rattle.bus_trace.proofs.rows.push_plan_rows.Goals as goal
 
 pub loop-number-preserved : goal.loop-number-preserved
@@ -23,7 +19,5 @@ loop-number-preserved c =
           ∙ append_assoc start (plan_rows c.args.from (take i masks)) (plan_row at mask)
           ∙ ap (λ l. start ++ l) (sym (plan_rows-push c.args.from at (take i masks) mask (omega (arith, count))))
           ∙ ap (λ l. start ++ plan_rows c.args.from l) (sym more),
-      subst (λ l. All IsLogRow (plan_told c.args.from l)) (sym more)
-          (subst (All IsLogRow) (sym (plan_told-push c.args.from at (take i masks) mask (omega (arith, count))))
-          (All-push IsLogRow (plan_told c.args.from (take i masks)) (Plan at mask) c.loop-number.invariant.1 c.plan_row.ensures.in_range)),
+      plan_told-more c.args.from i masks mask c.loop-number-test.true c.index-masks-number.is c.loop-number.invariant.1 c.plan_row.ensures.in_range,
     )

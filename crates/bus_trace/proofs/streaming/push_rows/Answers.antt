@@ -1,4 +1,3 @@
-use Rattle.std.proofs.Common.{sym}
 use Rattle.std.proofs.lemmas.Result.{on_err_weaker}
 use Rattle.bus_trace.proofs.EventByEvent.{still-begins}
 use Rattle.bus_trace.proofs.streaming.push_rows.Goals as goal

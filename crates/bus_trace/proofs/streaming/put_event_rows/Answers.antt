@@ -1,10 +1,15 @@
-use Rattle.std.proofs.Common.{ap, ◌∙◌, subst, rules}
+use Rattle.std.proofs.Common.{ap, ◌∙◌, map, subst, rules}
 use Rattle.std.specs.Prelude.{OnOk, OnErr}
 use Rattle.std.specs.List.{flat_map}
+use Rattle.std.proofs.lemmas.List.Elements.{All-cons}
+use Rattle.std.proofs.lemmas.Result.{on_ok_weaker}
 use Rattle.ftt_io.specs.Puts.{Puts, PutsPrefix}
 use Rattle.ftt_io.proofs.Shared.{PutsPrefix-longer}
+use Rattle.bus_trace.specs.EventRows.{width_told_in}
 use Rattle.bus_trace.specs.Log.{frame_row, plan_rows}
 use Rattle.bus_trace.specs.Logged.{opened_row}
+use Rattle.bus_trace.specs.Row.{IsLogRow}
+use Rattle.bus_trace.specs.declared.row.LogRow.TheVariants as row
 use Rattle.bus_trace.proofs.PutRows.{all-behind, prefix-behind}
 use Rattle.bus_trace.proofs.streaming.put_event_rows.Goals as goal
 
@@ -49,3 +54,13 @@ returns-in_ok-write_all-in-Open-clause-prefix g c =
     rw c.in-Open.is (prefix-behind c.put_frame_rows.result _ _ _ _ _
     (subst (Puts (g.O.Sink.told_bytes c.args.out.now) (g.O.Sink.told_bytes c.write_all-in-Open.new.sink)) row c.in_ok-write_all-in-Open.ensures.all)
     c.put_frame_rows.ensures.prefix)
+
+pub returns-in_ok-write_all-in-Open-clause-in_range : goal.returns-in_ok-write_all-in-Open-clause-in_range
+returns-in_ok-write_all-in-Open-clause-in_range g c =
+    let cycle = c.in-Open.cycle in
+    let mask = c.in-Open.mask in
+    let frames = c.args.frames.now in
+    let opened = subst (λ w. IsLogRow (row.Open cycle mask w)) c.width_told_in.ensures.width c.open_row.ensures.in_range in
+    rw c.in-Open.is (on_ok_weaker c.put_frame_rows.result
+    (All-cons IsLogRow (row.Open cycle mask (width_told_in frames)) (map row.Frame frames) opened)
+    c.put_frame_rows.ensures.in_range)

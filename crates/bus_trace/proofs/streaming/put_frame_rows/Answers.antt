@@ -3,7 +3,7 @@ use Rattle.std.specs.List.{flat_map}
 use Rattle.ftt_io.specs.Puts.{Puts, PutsPrefix}
 use Rattle.ftt_io.proofs.Shared.{PutsUpTo-next, PutsUpTo-stops}
 use Rattle.bus_trace.specs.Log.{frame_row}
-use Rattle.bus_trace.proofs.PutRows.{frame_rows-at}
+use Rattle.bus_trace.proofs.PutRows.{frame_rows-at, frames_told-more}
 use Rattle.bus_trace.proofs.streaming.put_frame_rows.Goals as goal
 
 pub returns-in_err-write_all-clause-prefix : goal.returns-in_err-write_all-clause-prefix
@@ -23,5 +23,6 @@ loop-sent-preserved g c =
       put = PutsUpTo-next (frame_row sent) _ c.loop-sent.invariant.put
           (frame_rows-at c.args.frames.now c.loop-sent.sent-index sent sent c.loop-sent-test.true (sym c.sent-item.is))
           (subst (Puts (g.O.Sink.told_bytes c.loop-sent.out) (g.O.Sink.told_bytes c.write_all.new.sink)) row c.in_ok-write_all.ensures.all);
+      told = frames_told-more c.args.frames.now c.loop-sent.sent-index sent c.loop-sent-test.true c.sent-item.is c.loop-sent.invariant.told c.frame_row.ensures.in_range;
       faults = omega (arith, c.in_ok-write_all.ensures.faults_never_fall, c.loop-sent.invariant.faults);
     }

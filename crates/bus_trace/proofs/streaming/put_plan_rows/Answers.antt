@@ -2,6 +2,7 @@ use Rattle.std.proofs.Common.{◌+◌, sym, ◌∙◌, subst, arith, rules, drop
 use Rattle.ftt_io.specs.Puts.{Puts, PutsPrefix}
 use Rattle.ftt_io.proofs.Shared.{PutsUpTo-next, PutsUpTo-stops}
 use Rattle.bus_trace.specs.Log.{plan_row, plan_rows}
+use Rattle.bus_trace.proofs.Plans.{plan_told-more}
 use Rattle.bus_trace.proofs.PutRows.{plan_rows-at}
 use Rattle.bus_trace.proofs.streaming.put_plan_rows.Goals as goal
 
@@ -24,5 +25,6 @@ loop-number-preserved g c =
       put = PutsUpTo-next (plan_row (c.args.from + i) mask) _ c.loop-number.invariant.put
           (plan_rows-at c.args.from c.args.masks.now i mask mask c.loop-number-test.true (sym c.index-masks-number.is))
           (subst (Puts (g.O.Sink.told_bytes c.loop-number.out) (g.O.Sink.told_bytes c.write_all.new.sink)) row c.in_ok-write_all.ensures.all);
+      told = plan_told-more c.args.from i c.args.masks.now mask c.loop-number-test.true c.index-masks-number.is c.loop-number.invariant.told c.plan_row.ensures.in_range;
       faults = omega (arith, c.in_ok-write_all.ensures.faults_never_fall, c.loop-number.invariant.faults);
     }

@@ -1,4 +1,4 @@
-use Rattle.std.proofs.Common.{length, arith}
+use Rattle.std.proofs.Common.{arith}
 use Rattle.bus_trace.proofs.RowDigits.{data-size}
 use Rattle.bus_trace.proofs.row_writer.RowWriter.data_bytes.Goals as goal
 

@@ -1,4 +1,4 @@
-use Rattle.std.proofs.Common.{◌≡◌, ℕ, ◌+◌, ◌/◌, ◌%◌, ◌++◌, ◌≤◌, List, length, ap, sym, ◌∙◌, subst, arith}
+use Rattle.std.proofs.Common.{◌/◌, ◌++◌, ap, ◌∙◌, arith}
 use Rattle.std.specs.Fmt.{decimal}
 use Rattle.bus_trace.proofs.RowDigits.{decimal-few, decimal-size, last-digit, last-pair, many-digits, one-digit, pair-put, two-digits}
 use Rattle.bus_trace.proofs.row_writer.RowWriter.decimal.Goals as goal
