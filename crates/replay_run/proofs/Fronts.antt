@@ -13,21 +13,7 @@ use Rattle.async_window.specs.declared.request.Request.{Request}
 use Rattle.bus_line.specs.Trace.{IsLeastOffered, end_of, started_before}
 use Rattle.node_model.specs.Opening.{end_of_cycle, start_of}
 use Rattle.cycle_engine.specs.Offered.{IsCanTrace, offered, offered_in}
-
--- Lists
-
--- an element that passes is kept
-pub Contains-filter : {X : Type 0} (p : X → Bool) (xs : List X) (x : X) → Contains xs x → p x ≡ true
-    → Contains (filter p xs) x
-Contains-filter p [] x (k, within, same) passes = absurd (omega arith)
-Contains-filter p (y ∷ ys) x (zero, within, same) passes =
-    subst (λ l. Contains l x) (sym (cond-true (p y) _ _ (ap p same ∙ passes))) (0, omega arith, same)
-Contains-filter p (y ∷ ys) x (suc k, within, same) passes =
-    kept (p y) (Contains-filter p ys x (k, omega arith, same) passes)
-  where
-    kept : (b : Bool) → Contains (filter p ys) x → Contains (cond b (y ∷ filter p ys) (filter p ys)) x
-    kept true (j, early, is) = (suc j, omega arith, is)
-    kept false among = among
+use Rattle.kept_run.proofs.Shared.{Contains-filter}
 
 -- what starts before a time, and what starts from it on
 
