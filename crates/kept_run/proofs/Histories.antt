@@ -21,7 +21,7 @@ AllAfter-push holds before (x ∷ events) event all last = (
   AllAfter-push holds (before ++ x ∷ []) events event all.1 (subst (λ h. holds h event) (sym (append_assoc before (x ∷ []) events)) last),
 )
 
-AllAfter-parts : (holds : List Event → Event → Type 0) (before events later : List Event) → AllAfter holds before (events ++ later)
+pub AllAfter-parts : (holds : List Event → Event → Type 0) (before events later : List Event) → AllAfter holds before (events ++ later)
     → AllAfter holds before events × AllAfter holds (before ++ events) later
 AllAfter-parts holds before [] later all = (tt, subst (λ h. AllAfter holds h later) (sym (append-nil before)) all)
 AllAfter-parts holds before (x ∷ events) later all =

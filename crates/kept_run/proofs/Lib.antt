@@ -6,4 +6,5 @@ mod Opened
 mod Plans
 mod Ready
 mod Served
+pub mod Shared
 mod Steps

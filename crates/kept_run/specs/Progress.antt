@@ -45,3 +45,9 @@ pub record AreReady (setting : Setting) (history : List Event) (trace : List Tim
   pub known : List Placed
   pub bus : IsBus setting.layout setting.owners setting.requests known trace (next_of history) (states_of nodes.nodes)
   pub up_to_date : is_changed history ≡ false → known ≡ placed_of history
+
+-- both before the next cycle: in this setting history and trace are under way, and the nodes are ready
+pub record IsOnTheWay (setting : Setting) (history : List Event) (trace : List TimedFrame) (nodes : NodesView) : Type 0 where
+  pub known : IsSetting setting
+  pub under_way : IsUnderWay setting history trace
+  pub ready : AreReady setting history trace nodes

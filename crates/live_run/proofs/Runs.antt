@@ -4,15 +4,14 @@ use mathlib.Core.List.{IsPrefix}
 use Rattle.std.proofs.lemmas.List.Elements.{All-cons, All-nil, filter-append}
 use Rattle.std.proofs.lemmas.List.{take_all, take-append-le}
 use Rattle.turn_lock.specs.History.{own}
-use Rattle.can_frame.specs.declared.data_frame.TimedFrame.{TimedFrame}
 use Rattle.admission_rules.specs.declared.Rules.{Rules}
 use Rattle.turn_lock.specs.declared.view.View.{View}
 use Rattle.turn_lock.specs.Passes.{Facts, Known, Lock}
 use Rattle.cycle_engine.specs.Nodes.{IsBus, IsNumber, NodesView, left_in, states_of}
 use Rattle.master_core.specs.declared.event.Event.{Event}
 use Rattle.master_core.specs.History.{IsLegal, IsPlainlyLegal, is_open, next_of}
-use Rattle.kept_run.specs.Kept.{Kept}
-use Rattle.kept_run.specs.Progress.{AreReady, IsSetting, IsUnderWay, Setting}
+use Rattle.kept_run.specs.Progress.{AreReady, IsOnTheWay, IsSetting, IsUnderWay, Setting}
+use Rattle.kept_run.proofs.Shared.{CallsBetween, Promises, way-called}
 use Rattle.live_master.specs.Callers.{number_of}
 use Rattle.live_master.specs.Passes.{IsPassOf}
 use Rattle.live_run.specs.declared.crew.Operator.{Operator}
@@ -22,7 +21,6 @@ use Rattle.live_run.specs.declared.script.Script.{Script}
 use Rattle.live_run.specs.Crew.{AreDone}
 use Rattle.live_run.specs.Live.{AreFresh, HasAnswered, IsLiveRun}
 use Rattle.live_run.specs.Running.{CanRun, IsRunning}
-use Rattle.live_run.proofs.Cycles.{CallsBetween}
 
 -- a run begins with no calls, no frames, and nodes as they were made
 pub record Beginning : Type 0 where
@@ -91,8 +89,7 @@ closed-behind seen later whole_history mine parts before after =
 -- the laws that a whole run goes by
 pub record Laws : Type 0 where
   pub between : CallsBetween
-  pub kept : (setting : Setting) (history : List Event) (trace : List TimedFrame) → IsSetting setting → IsUnderWay setting history trace
-      → Kept setting.rules setting.layout setting.requests history trace
+  pub promises : Promises
   pub openings : (v : View Event Rules) → Facts number_of v → v.number ≡ 0 → filter is_open v.seen ≡ v.mine
   pub cycles : (v : View Event Rules) → Facts number_of v → v.number ≡ 0 → next_of v.seen ≡ next_of v.mine
 
@@ -135,21 +132,18 @@ left-behind laws setting shared cycles scripts operators before after bus run kn
     let closed = closed-behind seen later after.view.seen after.view.mine begins.1 (laws.openings before.view stands.facts zeroth ∙ sym mine) openings in
     let plain : IsPlainlyLegal setting.rules after.view.seen = subst (λ r. IsPlainlyLegal r after.view.seen) rules retired.legal in
     let legal : IsLegal setting.rules (seen ++ later) = subst (λ h. IsLegal setting.rules h) (sym begins.1) plain.legal in
-    let under_way : IsUnderWay setting after.view.seen run.trace =
-    subst (λ h. IsUnderWay setting h run.trace) begins.1 (subst (λ t. IsUnderWay setting (seen ++ later) t) (sym trace)
-    (laws.between.under_way setting seen later bus.trace.items closed legal running.way.under_way)) in
-    let ready : AreReady setting after.view.seen run.trace bus.nodes =
-    subst (λ h. AreReady setting h run.trace bus.nodes) begins.1 (subst (λ t. AreReady setting (seen ++ later) t bus.nodes) (sym trace)
-    (laws.between.ready setting seen later bus.trace.items bus.nodes closed legal running.way.ready)) in
+    let way : IsOnTheWay setting after.view.seen run.trace bus.nodes =
+    subst (λ h. IsOnTheWay setting h run.trace bus.nodes) begins.1 (subst (λ t. IsOnTheWay setting (seen ++ later) t bus.nodes) (sym trace)
+    (way-called laws.between setting seen later bus.trace.items bus.nodes closed legal running.way)) in
     let counted = retired.facts.counted in
     record {
       plain = plain;
-      kept = laws.kept setting after.view.seen run.trace known under_way;
+      kept = laws.promises.kept setting after.view.seen run.trace known way.under_way;
       opened = laws.cycles after.view retired.facts last ∙ (ap (λ (l : List Event). next_of l) mine ∙ count);
       dispatcher = last;
       openings = openings;
       answered = answered-all after.view shared scripts operators same done ended answered retired.facts;
       others = omega arith;
       numbers = few;
-      left = record { nodes = bus.nodes; ready = ready; left = left };
+      left = record { nodes = bus.nodes; ready = way.ready; left = left };
     }

@@ -8,24 +8,18 @@ use Rattle.master_core.specs.declared.event.Event.{Event}
 use Rattle.master_core.specs.declared.event.Event.TheVariants.{Open}
 use Rattle.master_core.specs.History.{IsLegal, is_open}
 use Rattle.master_core.specs.Orders.{IsOrder}
-use Rattle.kept_run.specs.Progress.{AreReady, IsSetting, IsUnderWay, Setting}
+use Rattle.kept_run.specs.Progress.{IsOnTheWay, Setting}
 use Rattle.live_run.specs.declared.dispatching.Bus.{Bus}
 
--- the history and the bus's trace are under way in this setting, and the nodes are ready for the next cycle
-pub record IsOnTheWay (setting : Setting) (history : List Event) (bus : Bus) : Type 0 where
-  pub known : IsSetting setting
-  pub under_way : IsUnderWay setting history bus.trace.items
-  pub ready : AreReady setting history bus.trace.items bus.nodes
-
--- the same before a cycle is run by this order, which is that of the history
+-- history and bus are on the way in this setting, before a cycle is run by this order, which is that of the history
 pub record IsBeforeOrder (setting : Setting) (history : List Event) (order : Order) (bus : Bus) : Type 0 where
-  pub way : IsOnTheWay setting history bus
+  pub way : IsOnTheWay setting history bus.trace.items bus.nodes
   pub ordered : IsOrder setting.rules history order
 
--- the same of what a dispatcher has seen, where the shared master has the rules of the setting
+-- what a dispatcher has seen and its bus are on the way, and the shared master has the rules of the setting
 pub record IsRunning (setting : Setting) (shared : Lock Rules) (seen : List Event) (bus : Bus) : Type 0 where
   pub same_rules : shared.fixed ≡ setting.rules
-  pub way : IsOnTheWay setting seen bus
+  pub way : IsOnTheWay setting seen bus.trace.items bus.nodes
 
 -- in some setting it is so
 abbrev pub CanRun : Lock Rules → List Event → Bus → Type 0

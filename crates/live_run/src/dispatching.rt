@@ -6,9 +6,9 @@ ghost use Rattle.master_core.specs.declared.event.Event.{Event};
 ghost use Rattle.master_core.specs.declared.event.Event.TheVariants.{Open};
 ghost use Rattle.master_core.specs.History.{next_of};
 ghost use Rattle.master_core.specs.Orders.{IsOrder};
-ghost use Rattle.kept_run.specs.Progress.{Setting};
+ghost use Rattle.kept_run.specs.Progress.{IsOnTheWay, Setting};
 ghost use Rattle.live_master.specs.Passes.{IsPassOf};
-ghost use Rattle.live_run.specs.Running.{CanRun, HasOpened, IsBeforeOrder, IsOnTheWay, IsRunning, Stays};
+ghost use Rattle.live_run.specs.Running.{CanRun, HasOpened, IsBeforeOrder, IsRunning, Stays};
 
 use crate::points::{Gate, Point};
 use can_frame::TimedFrame;
@@ -55,7 +55,7 @@ fn run_order(alloc: Global, order: &Order, bus: &mut Bus) -> Result<(), AllocErr
     requires early { order.now.cycle < 2 ^ 41 }
     requires before { (setting : Setting) × (history : List Event) × IsBeforeOrder setting history order.now bus.old }
     ensures ran { OnOk result ((setting : Setting) (history : List Event) → IsBeforeOrder setting history order.now bus.old
-        → IsOnTheWay setting (history ++ Open order.now.cycle order.now.mask ∷ []) bus.new) }
+        → IsOnTheWay setting (history ++ Open order.now.cycle order.now.mask ∷ []) bus.new.trace.items bus.new.nodes) }
 {
     orders();
     cycles_run();

@@ -14,6 +14,7 @@ use Rattle.master_core.specs.Openings.{opening_of, openings_after, openings_of}
 use Rattle.async_window.specs.declared.request.Request.{Request}
 use Rattle.bus_line.specs.Trace.{started_before}
 use Rattle.cycle_engine.specs.Offered.{IsCanTrace}
+use Rattle.kept_run.proofs.Shared.{AllAfter-parts}
 use Rattle.input_text.specs.SystemFile.{IsSystem}
 use Rattle.input_text.specs.declared.steps.Step.{Step}
 use Rattle.input_text.specs.declared.system.System.{System}
@@ -28,14 +29,6 @@ next_of-append events later = sum_by-append (λ e. cond (is_open e) 1 0) events 
 pub next_of-cons : (event : Event) (later : List Event)
     → next_of (event ∷ later) ≡ cond (is_open event) 1 0 + next_of later
 next_of-cons event later = sum_by-cons (λ e. cond (is_open e) 1 0) event later
-
-pub AllAfter-parts : (holds : List Event → Event → Type 0) (before events later : List Event)
-    → AllAfter holds before (events ++ later)
-    → AllAfter holds before events × AllAfter holds (before ++ events) later
-AllAfter-parts holds before [] later all = (tt, subst (λ h. AllAfter holds h later) (sym (append-nil before)) all)
-AllAfter-parts holds before (event ∷ events) later all =
-    let rest = AllAfter-parts holds (before ++ event ∷ []) events later all.1 in
-    ((all.0, rest.0), subst (λ h. AllAfter holds h later) (append_assoc before (event ∷ []) events) rest.1)
 
 openings_after-append : (before events later : List Event)
     → openings_after before (events ++ later) ≡ openings_after before events ++ openings_after (before ++ events) later

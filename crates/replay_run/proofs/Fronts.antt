@@ -1,7 +1,7 @@
 -- What a CAN trace sends before the start of a cycle is the CAN trace of the cycles opened below it.
-use Rattle.std.proofs.Common.{◌≡◌, ℕ, ◌*◌, ◌<◌, ◌≤◌, nat_lt, Bool, true, false, List, [], ◌∷◌, ◌++◌, All, AllPairs, Contains, cond, filter, get_or, refl, sym, ap, ◌∙◌, subst, arith, inl, inr, zero, suc}
+use Rattle.std.proofs.Common.{◌≡◌, ℕ, ◌*◌, ◌<◌, ◌≤◌, nat_lt, Bool, List, [], ◌∷◌, ◌++◌, All, AllPairs, get_or, refl, sym, ap, ◌∙◌, subst, arith, inl, inr, suc}
 use Rattle.std.proofs.Math.Nat.{add-mul, mul-le-mul_right}
-use Rattle.std.proofs.lemmas.Bool.{cases_lt, cond-true, le-ltb, lt-ltb, ltb-true}
+use Rattle.std.proofs.lemmas.Bool.{cases_lt, le-ltb, lt-ltb, ltb-true}
 use Rattle.std.proofs.lemmas.List.Elements.{All-cons, All-contains, All-filter, All-head, All-nil, All-tail, Contains-append_cases, Contains-append_left, filter_passes}
 use Rattle.std.proofs.lemmas.List.Kept.{AllPairs-filter}
 use Rattle.can_frame.specs.DataFrame.{DataFrame}
@@ -13,21 +13,7 @@ use Rattle.async_window.specs.declared.request.Request.{Request}
 use Rattle.bus_line.specs.Trace.{IsLeastOffered, end_of, started_before}
 use Rattle.node_model.specs.Opening.{end_of_cycle, start_of}
 use Rattle.cycle_engine.specs.Offered.{IsCanTrace, offered, offered_in}
-
--- Lists
-
--- an element that passes is kept
-pub Contains-filter : {X : Type 0} (p : X → Bool) (xs : List X) (x : X) → Contains xs x → p x ≡ true
-    → Contains (filter p xs) x
-Contains-filter p [] x (k, within, same) passes = absurd (omega arith)
-Contains-filter p (y ∷ ys) x (zero, within, same) passes =
-    subst (λ l. Contains l x) (sym (cond-true (p y) _ _ (ap p same ∙ passes))) (0, omega arith, same)
-Contains-filter p (y ∷ ys) x (suc k, within, same) passes =
-    kept (p y) (Contains-filter p ys x (k, omega arith, same) passes)
-  where
-    kept : (b : Bool) → Contains (filter p ys) x → Contains (cond b (y ∷ filter p ys) (filter p ys)) x
-    kept true (j, early, is) = (suc j, omega arith, is)
-    kept false among = among
+use Rattle.kept_run.proofs.Shared.{Contains-filter}
 
 -- what starts before a time, and what starts from it on
 

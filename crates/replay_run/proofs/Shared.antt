@@ -8,7 +8,7 @@ use Rattle.admission.specs.Verdict.{IsRules}
 use Rattle.input_text.specs.SystemFile.{IsSystem}
 use Rattle.input_text.specs.declared.system.System.{System}
 pub use Rattle.replay_run.proofs.Steps.{calls-more, cycles-more, step-next}
-pub use Rattle.replay_run.proofs.Fronts.{Contains-filter, cut-at, started-all, started-early, started-within}
+pub use Rattle.replay_run.proofs.Fronts.{cut-at, started-all, started-early, started-within}
 
 -- the rules of a system are in range
 pub is_rules : (system : System) → IsSystem system → IsRules system.rules

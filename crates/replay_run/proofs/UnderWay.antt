@@ -15,7 +15,8 @@ use Rattle.master_core.specs.History.{IsLegal, IsRight, is_open, next_of, placed
 use Rattle.master_core.specs.Openings.{openings_of}
 use Rattle.cycle_engine.specs.Offered.{IsCanTrace, offered, offered_in}
 use Rattle.kept_run.specs.Progress.{IsSetting, IsUnderWay, Setting}
-use Rattle.replay_run.proofs.Beginnings.{AllAfter-parts, cycles-between, front-trace, next_of-append, openings_of-append}
+use Rattle.kept_run.proofs.Shared.{AllAfter-parts}
+use Rattle.replay_run.proofs.Beginnings.{cycles-between, front-trace, next_of-append, openings_of-append}
 use Rattle.replay_run.proofs.Fronts.{cut-at, in_cycle, started-all, started-none, started-within}
 
 -- the laws of runs and of traces on which this stands

@@ -3,7 +3,7 @@ use Rattle.std.specs.Prelude.{◌≡◌, List}
 use Rattle.async_window.specs.declared.request.Request.{Request}
 use Rattle.input_text.specs.declared.system.System.{System}
 use Rattle.master_core.specs.History.{IsPlainlyLegal}
-use Rattle.kept_run.specs.Progress.{AreReady, IsSetting, IsUnderWay, Setting}
+use Rattle.kept_run.specs.Progress.{IsOnTheWay, Setting}
 use Rattle.replay_run.specs.declared.stepping.Run.{Run}
 
 -- what a system and its requests give a run to stand on
@@ -11,10 +11,8 @@ abbrev pub setting_of : System → List Request → Setting
 setting_of system requests =
     record { rules = system.rules; layout = system.layout; owners = system.owners; requests = requests }
 
--- a run in this setting is under way, and its nodes are ready for the next cycle
-pub record IsOnTheWay (setting : Setting) (run : Run) : Type 0 where
-  pub known : IsSetting setting
+-- a run is on the way in this setting, and its master has the rules of the setting and a plainly legal history
+pub record IsGoing (setting : Setting) (run : Run) : Type 0 where
   pub same_rules : run.master.rules ≡ setting.rules
   pub plain : IsPlainlyLegal setting.rules run.master.history
-  pub under_way : IsUnderWay setting run.master.history run.trace.items
-  pub ready : AreReady setting run.master.history run.trace.items run.nodes
+  pub way : IsOnTheWay setting run.master.history run.trace.items run.nodes

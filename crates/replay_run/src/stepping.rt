@@ -7,7 +7,7 @@ ghost use Rattle.input_text.specs.RequestsFile.{AreLegal};
 ghost use Rattle.input_text.specs.StepsFile.{AreLegalSteps, IsStep, count_of};
 ghost use Rattle.master_core.specs.History.{next_of};
 ghost use Rattle.kept_run.specs.Progress.{IsSetting, Setting};
-ghost use Rattle.replay_run.specs.Progress.{IsOnTheWay, setting_of};
+ghost use Rattle.replay_run.specs.Progress.{IsGoing, setting_of};
 ghost use Rattle.replay_run.specs.Run.{AnswersSteps, IsRun, asks, call_of, calls_of, looks, opens};
 
 use async_window::Request;
@@ -33,10 +33,10 @@ pub struct Run {
 /// Opens the next cycle, and runs it on the bus.
 fn open_cycle(run: &mut Run, alloc: Global) -> Result<(), AllocError>
     ghost setting: { Setting }
-    requires on_the_way { IsOnTheWay setting run.old }
+    requires on_the_way { IsGoing setting run.old }
     requires few { next_of run.old.master.history < 20000 }
     requires spare { 1 ≤ run.old.master.spare }
-    ensures on_the_way { OnOk result (IsOnTheWay setting run.new) }
+    ensures on_the_way { OnOk result (IsGoing setting run.new) }
     ensures calls { OnOk result (map call_of run.new.master.history ≡ map call_of run.old.master.history ++ opens ∷ []) }
     ensures next { OnOk result (next_of run.new.master.history ≡ next_of run.old.master.history + 1) }
     ensures spare { OnOk result (run.new.master.spare + 1 ≡ run.old.master.spare) }
@@ -52,9 +52,9 @@ fn open_cycle(run: &mut Run, alloc: Global) -> Result<(), AllocError>
 /// Opens so many cycles, and runs each on the bus.
 fn open_cycles(run: &mut Run, alloc: Global, count: u64) -> Result<(), AllocError>
     ghost setting: { Setting }
-    requires on_the_way { IsOnTheWay setting run.old }
+    requires on_the_way { IsGoing setting run.old }
     requires few { next_of run.old.master.history + count ≤ 20000 }
-    ensures on_the_way { OnOk result (IsOnTheWay setting run.new) }
+    ensures on_the_way { OnOk result (IsGoing setting run.new) }
     ensures calls { OnOk result (map call_of run.new.master.history ≡ map call_of run.old.master.history ++ replicate count opens) }
     ensures next { OnOk result (next_of run.new.master.history ≡ next_of run.old.master.history + count) }
 {
@@ -68,9 +68,9 @@ fn open_cycles(run: &mut Run, alloc: Global, count: u64) -> Result<(), AllocErro
 /// Answers a change.
 fn submit(run: &mut Run, alloc: Global, caller: u8, change: &Change) -> Result<(), AllocError>
     ghost setting: { Setting }
-    requires on_the_way { IsOnTheWay setting run.old }
+    requires on_the_way { IsGoing setting run.old }
     requires caller { (1 ≤ caller) × (caller ≤ 8) }
-    ensures on_the_way { OnOk result (IsOnTheWay setting run.new) }
+    ensures on_the_way { OnOk result (IsGoing setting run.new) }
     ensures calls { OnOk result (map call_of run.new.master.history ≡ map call_of run.old.master.history ++ asks caller change.now ∷ []) }
     ensures next { OnOk result (next_of run.new.master.history ≡ next_of run.old.master.history) }
 {
@@ -82,9 +82,9 @@ fn submit(run: &mut Run, alloc: Global, caller: u8, change: &Change) -> Result<(
 /// Answers a look.
 fn look(run: &mut Run, alloc: Global, caller: u8) -> Result<(), AllocError>
     ghost setting: { Setting }
-    requires on_the_way { IsOnTheWay setting run.old }
+    requires on_the_way { IsGoing setting run.old }
     requires caller { (1 ≤ caller) × (caller ≤ 8) }
-    ensures on_the_way { OnOk result (IsOnTheWay setting run.new) }
+    ensures on_the_way { OnOk result (IsGoing setting run.new) }
     ensures calls { OnOk result (map call_of run.new.master.history ≡ map call_of run.old.master.history ++ looks caller ∷ []) }
     ensures next { OnOk result (next_of run.new.master.history ≡ next_of run.old.master.history) }
 {
@@ -97,10 +97,10 @@ fn look(run: &mut Run, alloc: Global, caller: u8) -> Result<(), AllocError>
 /// Answers a step.
 fn run_step(run: &mut Run, alloc: Global, step: &Step) -> Result<(), AllocError>
     ghost setting: { Setting }
-    requires on_the_way { IsOnTheWay setting run.old }
+    requires on_the_way { IsGoing setting run.old }
     requires step { IsStep step.now }
     requires few { next_of run.old.master.history + count_of step.now ≤ 20000 }
-    ensures on_the_way { OnOk result (IsOnTheWay setting run.new) }
+    ensures on_the_way { OnOk result (IsGoing setting run.new) }
     ensures calls { OnOk result (map call_of run.new.master.history ≡ map call_of run.old.master.history ++ calls_of step.now) }
     ensures next { OnOk result (next_of run.new.master.history ≡ next_of run.old.master.history + count_of step.now) }
 {
@@ -123,7 +123,7 @@ fn begin(alloc: Global, system: &System, requests: &[Request]) -> Result<Run, Al
     requires given { setting ≡ setting_of system.now requests.now }
     requires system { IsSystem system.now }
     requires requests { AreLegal system.now.owners requests.now }
-    ensures on_the_way { IfOk result (IsOnTheWay setting) }
+    ensures on_the_way { IfOk result (IsGoing setting) }
     ensures empty { IfOk result (λ run. run.master.history ≡ []) }
 {
     beginning();
@@ -153,7 +153,7 @@ fn run_steps(
     requires system { IsSystem system.now }
     requires steps { AreLegalSteps steps.now }
     requires requests { AreLegal system.now.owners requests.now }
-    ensures on_the_way { IfOk result (IsOnTheWay setting) }
+    ensures on_the_way { IfOk result (IsGoing setting) }
     ensures answers { IfOk result (λ run. AnswersSteps run.master.history steps.now) }
 {
     let mut run = begin(alloc, system, requests)?;

@@ -8,7 +8,7 @@ use Rattle.input_text.specs.declared.steps.Step.{Step}
 use Rattle.can_frame.specs.declared.data_frame.TimedFrame.{TimedFrame}
 use Rattle.master_core.specs.History.{IsPlainlyLegal, next_of}
 use Rattle.master_core.specs.Keeping.{MasterView}
-use Rattle.kept_run.specs.Progress.{AreReady, IsUnderWay}
+use Rattle.kept_run.specs.Progress.{IsOnTheWay}
 use Rattle.ftt_io.specs.Puts.{Puts, PutsPrefix}
 use Rattle.ftt_io.proofs.Shared.{Puts-append, PutsPrefix-all, PutsPrefix-append}
 use Rattle.bus_trace.specs.EventRows.{rows_of_event}
@@ -44,9 +44,9 @@ cut-behind run after frames calls told now brings answered puts = λ start writi
       trace = writing.trace ++ frames;
       later = [];
       answers = append-nil (map call_of after.master.history) ∙ answered;
-      known = on.going.known;
+      known = on.going.way.known;
       plain = on.going.plain;
-      under_way = on.going.under_way;
+      under_way = on.going.way.under_way;
       puts = subst (PutsPrefix start.told now) (sym on.rows)
           (PutsPrefix-append start.told told now (events_rows writing.trace [] run.master.history) writing.puts
           (puts on.event (record { before = run.master.history; is = on.history })));
@@ -59,9 +59,9 @@ cut-before run calls told = λ start writing. record {
   trace = writing.trace;
   later = calls;
   answers = refl;
-  known = writing.going.known;
+  known = writing.going.way.known;
   plain = writing.going.plain;
-  under_way = writing.going.under_way;
+  under_way = writing.going.way.under_way;
   puts = PutsPrefix-all start.told told (events_rows writing.trace [] run.master.history) writing.puts;
 }
 
@@ -92,11 +92,9 @@ spared run master told rules history = λ start writing.
     let going = writing.going in record {
       trace = writing.trace;
       going = record {
-        known = going.known;
         same_rules = rules ∙ going.same_rules;
         plain = subst (IsPlainlyLegal start.setting.rules) (sym history) going.plain;
-        under_way = subst (λ h. IsUnderWay start.setting h writing.trace) (sym history) going.under_way;
-        ready = subst (λ h. AreReady start.setting h writing.trace run.nodes) (sym history) going.ready;
+        way = subst (λ h. IsOnTheWay start.setting h writing.trace run.nodes) (sym history) going.way;
         triggers = going.triggers ∙ ap next_of (sym history);
         frames = going.frames;
       };

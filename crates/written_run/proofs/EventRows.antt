@@ -4,13 +4,14 @@ use Rattle.std.specs.List.{flat_map}
 use Rattle.std.proofs.lemmas.Bool.{cases_Bool, ne_eqb, eq-eqb, cond-true, cond-false}
 use Rattle.std.proofs.lemmas.List.{append-nil}
 use Rattle.std.proofs.lemmas.List.Elements.{All-head, All-tail}
-use Rattle.std.proofs.lemmas.List.Sums.{fold-append, sum_by-cons, sum_by_push}
+use Rattle.std.proofs.lemmas.List.Sums.{fold-append, sum_by-cons}
 use Rattle.can_frame.specs.declared.data_frame.TimedFrame.{TimedFrame}
 use Rattle.requirement_table.specs.Opening.{width_of}
 use Rattle.admission_rules.specs.declared.Rules.{Rules}
 use Rattle.master_core.specs.declared.event.Event.{Event}
 use Rattle.master_core.specs.declared.event.Event.TheVariants.{Submit, Look, Open}
 use Rattle.master_core.specs.History.{AllAfter, IsRight, is_open, next_of, placed_of}
+use Rattle.kept_run.proofs.Shared.{next_of-push}
 use Rattle.bus_trace.specs.EventRows.{rows_of_event, width_told_in}
 use Rattle.bus_trace.specs.Log.{event_rows, events_rows, frame_row, open_row, started_in, triggers_with}
 use Rattle.bus_trace.specs.Logged.{opened_row}
@@ -127,9 +128,6 @@ rows-push trace before (first ∷ events) event =
 next-cons : (event : Event) (later : List Event) → next_of (event ∷ later) ≡ cond (is_open event) 1 0 + next_of later
 next-cons event later = sum_by-cons (λ e. cond (is_open e) 1 0) event later
 
-pub next-push : (before : List Event) (event : Event) → next_of (before ++ event ∷ []) ≡ next_of before + cond (is_open event) 1 0
-next-push before event = sum_by_push (λ e. cond (is_open e) 1 0) before event
-
 event-stays : (rules : Rules) (trace : List TimedFrame) (sent : TimedFrame) (later : List TimedFrame) (before : List Event) (event : Event)
     → sent.frame.identifier ≡ 0 → IsRight rules before event → next_of before + cond (is_open event) 1 0 ≤ triggers_in trace
     → event_rows (trace ++ sent ∷ later) before event ≡ event_rows trace before event
@@ -150,7 +148,7 @@ pub rows-stay : (rules : Rules) (trace : List TimedFrame) (sent : TimedFrame) (l
 rows-stay rules trace sent later before [] trigger right few = refl
 rows-stay rules trace sent later before (event ∷ events) trigger right few =
     let first = next-cons event events in
-    let more = next-push before event in
+    let more = next_of-push before event in
     let one = event-stays rules trace sent later before event trigger right.0 (omega arith) in
     ap (λ l. l ++ events_rows (trace ++ sent ∷ later) (before ++ event ∷ []) events) one
     ∙ ap (λ l. event_rows trace before event ++ l) (rows-stay rules trace sent later (before ++ event ∷ []) events trigger right.1 (omega arith))

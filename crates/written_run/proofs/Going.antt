@@ -1,44 +1,34 @@
 -- What keeps a run going whose rows are put.
-use Rattle.std.proofs.Common.{◌≡◌, ◌≢◌, ℕ, ◌+◌, ◌*◌, ◌^◌, ◌<◌, ◌≤◌, ◌⊎◌, false, cond, List, [], ◌∷◌, ◌++◌, length, get_or, map, All, sym, ap, ◌∙◌, subst, arith, inl, inr, zero-add, add-zero}
+use Rattle.std.proofs.Common.{◌≡◌, ◌≢◌, ℕ, ◌+◌, ◌*◌, ◌/◌, ◌%◌, ◌^◌, ◌<◌, ◌≤◌, ◌⊎◌, true, false, cond, List, [], ◌∷◌, ◌++◌, map, All, refl, sym, ap, ◌∙◌, subst, arith, inl, inr, add-zero, length, get_or, zero-add}
 use Rattle.std.specs.List.{range_with_len}
-use Rattle.std.proofs.lemmas.List.{append-nil, get_or-map, length-map}
-use Rattle.std.proofs.lemmas.List.FromFn.{get_or-range_with_len, length-range_with_len}
+use Rattle.std.proofs.lemmas.List.{append-nil}
 use Rattle.std.proofs.lemmas.List.Elements.{All-cons, All-nil, All-weaker}
 use Rattle.can_frame.specs.declared.data_frame.TimedFrame.{TimedFrame}
 use Rattle.trigger_codec.specs.Bytes.{trigger_bytes, trigger_frame, width_told}
 use Rattle.cycle_layout.specs.Layout.{CycleLayout, IsLayout}
 use Rattle.requirement_table.specs.Opening.{Opening, width_of}
 use Rattle.requirement_table.specs.declared.entries.Order.{Order}
-use Rattle.requirement_table.specs.declared.entries.Placed.{Placed}
-use Rattle.async_window.specs.declared.request.Owner.{Owner}
 use Rattle.async_window.specs.declared.request.Request.{Request}
 use Rattle.admission_rules.specs.declared.Rules.{Rules}
 use Rattle.bus_line.specs.Trace.{Follows, end_of}
 use Rattle.cycle_engine.specs.Cycle.{FitsWindow, FollowsTrace, IsRequestFrame, IsSlotFrame, RunsCycle}
-use Rattle.cycle_engine.specs.Nodes.{IsBefore, IsBus, NodesView, heard_by, learnt_by, opening_of, states_of}
+use Rattle.cycle_engine.specs.Nodes.{NodesView, opening_of}
 use Rattle.cycle_engine.specs.Offered.{AreAsynchronous, IsCanTrace, offered_in}
 use Rattle.master_core.specs.declared.event.Event.{Event}
 use Rattle.master_core.specs.declared.event.Event.TheVariants.{Open}
 use Rattle.master_core.specs.History.{IsLegal, IsPlainlyLegal, is_open, next_of, placed_of}
 use Rattle.master_core.specs.Openings.{openings_of}
 use Rattle.master_core.specs.Orders.{IsOrder}
-use Rattle.kept_run.specs.Progress.{AreReady, IsSetting, IsUnderWay, Setting}
-use Rattle.bus_trace.specs.EventRows.{BeginsCycle, rows_of_event, width_told_in}
+use Rattle.kept_run.specs.Progress.{IsOnTheWay, IsSetting, Setting, AreReady, IsUnderWay}
+use Rattle.kept_run.proofs.Shared.{CallsBetween, CyclesRun, RanOrder, next_of-push, number-below, way-called, way-run}
+use Rattle.bus_trace.specs.EventRows.{BeginsCycle, HasItsFrames, rows_of_event, width_told_in}
 use Rattle.bus_trace.specs.Log.{events_rows}
 use Rattle.written_run.specs.declared.writing.Written.{Written}
 use Rattle.written_run.specs.Progress.{CanGo, CanPutLast, IsBroughtOn, IsGoing, triggers_in}
 use Rattle.written_run.specs.Written.{KeepsFrames}
-use Rattle.written_run.proofs.EventRows.{called-rows, next-push, opened-rows, triggers-more}
+use Rattle.written_run.proofs.EventRows.{called-rows, opened-rows, triggers-more}
 
--- calls that open no cycle keep a run under way and its nodes ready
-pub record CallsBetween : Type 0 where
-  pub under_way : (setting : Setting) (history calls : List Event) (trace : List TimedFrame) → All (λ call. is_open call ≡ false) calls
-      → IsLegal setting.rules (history ++ calls) → IsUnderWay setting history trace → IsUnderWay setting (history ++ calls) trace
-  pub ready : (setting : Setting) (history calls : List Event) (trace : List TimedFrame) (nodes : NodesView)
-      → All (λ call. is_open call ≡ false) calls → IsLegal setting.rules (history ++ calls)
-      → AreReady setting history trace nodes → AreReady setting (history ++ calls) trace nodes
-
--- a run whose master has answered such a call goes on
+-- a run whose master has answered a call that opens no cycle goes on
 pub answered : CallsBetween → (setting : Setting) (trace : List TimedFrame) (run after : Written) (call : Event) → is_open call ≡ false
     → after.master.rules ≡ run.master.rules → after.master.history ≡ run.master.history ++ call ∷ [] → IsPlainlyLegal after.master.rules after.master.history
     → after.nodes ≡ run.nodes → after.trace ≡ run.trace
@@ -50,15 +40,12 @@ answered laws setting trace run after call closed same_rules history legal same_
     All-cons (λ event. is_open event ≡ false) call [] closed (All-nil (λ event. is_open event ≡ false)) in
     let whole : IsLegal setting.rules (run.master.history ++ call ∷ []) = subst (λ h. IsLegal setting.rules h) history plain.legal in
     let next : next_of after.master.history ≡ next_of run.master.history =
-    ap next_of history ∙ next-push run.master.history call ∙ ap (λ b. next_of run.master.history + cond b 1 0) closed ∙ add-zero (next_of run.master.history) in
+    ap next_of history ∙ next_of-push run.master.history call ∙ ap (λ b. next_of run.master.history + cond b 1 0) closed ∙ add-zero (next_of run.master.history) in
     let on : IsGoing setting trace after = record {
-      known = going.known;
       same_rules = rules;
       plain = plain;
-      under_way = subst (λ h. IsUnderWay setting h trace) (sym history)
-          (laws.under_way setting run.master.history (call ∷ []) trace one whole going.under_way);
-      ready = subst (λ h. AreReady setting h trace after.nodes) (sym history) (subst (λ n. AreReady setting (run.master.history ++ call ∷ []) trace n) (sym same_nodes)
-          (laws.ready setting run.master.history (call ∷ []) trace run.nodes one whole going.ready));
+      way = subst (λ h. IsOnTheWay setting h trace after.nodes) (sym history) (subst (λ n. IsOnTheWay setting (run.master.history ++ call ∷ []) trace n) (sym same_nodes)
+          (way-called laws setting run.master.history (call ∷ []) trace run.nodes one whole going.way));
       triggers = going.triggers ∙ sym next;
       frames = subst (λ t. KeepsFrames t trace) (sym same_trace) going.frames;
     } in
@@ -71,50 +58,17 @@ answered laws setting trace run after call closed same_rules history legal same_
           (ap (events_rows trace []) history ∙ called-rows trace run.master.history call closed);
     }
 
--- a cycle that is run by the master's order keeps a run under way and leaves its nodes ready
-pub record CyclesRun : Type 0 where
-  pub before : (setting : Setting) (history : List Event) (trace : List TimedFrame) (nodes : NodesView) (order : Order)
-      → IsUnderWay setting history trace → AreReady setting history trace nodes → IsOrder setting.rules history order
-      → IsBefore nodes.layout setting.owners setting.requests (placed_of history) trace order (learnt_by order.learned (states_of nodes.nodes))
-  pub under_way : (setting : Setting) (history : List Event) (trace frames : List TimedFrame) (nodes : NodesView) (order : Order)
-      → IsSetting setting → IsUnderWay setting history trace → AreReady setting history trace nodes → IsOrder setting.rules history order
-      → Follows (offered_in nodes.layout setting.requests (opening_of order (placed_of history)))
-      trace (order.cycle * nodes.layout.cycle) ((order.cycle + 1) * nodes.layout.cycle) frames
-      → IsUnderWay setting (history ++ Open order.cycle order.mask ∷ []) (trace ++ frames)
-  pub ready : (setting : Setting) (history : List Event) (trace frames : List TimedFrame) (nodes new : NodesView) (order : Order)
-      → IsUnderWay setting history trace → AreReady setting history trace nodes → IsOrder setting.rules history order
-      → new.layout ≡ nodes.layout → states_of new.nodes ≡ heard_by frames (learnt_by order.learned (states_of nodes.nodes))
-      → IsBus nodes.layout setting.owners setting.requests (placed_of history) (trace ++ frames) (order.cycle + 1) (states_of new.nodes)
-      → AreReady setting (history ++ Open order.cycle order.mask ∷ []) (trace ++ frames) new
-  -- and its frames are what the opening says
+-- a cycle that is run by the master's order keeps a run on the way, and its frames are what the opening says
+pub record CyclesSent : Type 0 where
+  pub run : CyclesRun
   pub fits : (setting : Setting) (history : List Event) (order : Order) → IsSetting setting → IsOrder setting.rules history order
       → FitsWindow setting.layout (opening_of order (placed_of history))
   pub cycles : (rules : Rules) (history : List Event) → IsLegal rules history → map (λ o. o.cycle) (openings_of history) ≡ range_with_len 0 (next_of history)
-  pub runs : (layout : CycleLayout) (requests : List Request) (openings : List Opening) (opening : Opening) (trace frames : List TimedFrame)
+  pub sends : (layout : CycleLayout) (requests : List Request) (openings : List Opening) (opening : Opening) (trace frames : List TimedFrame)
       → IsLayout layout → FollowsTrace layout requests openings opening trace frames → AreAsynchronous requests → FitsWindow layout opening
       → RunsCycle layout opening frames
 
--- what the run of an order gives
-pub record RanOrder (order : Order) (nodes new : NodesView) (frames : List TimedFrame) : Type 0 where
-  pub layout : new.layout ≡ nodes.layout
-  pub heard : states_of new.nodes ≡ heard_by frames (learnt_by order.learned (states_of nodes.nodes))
-  pub runs : (owners : List Owner) (requests : List Request) (placed : List Placed) (past : List TimedFrame)
-      → IsBefore nodes.layout owners requests placed past order (learnt_by order.learned (states_of nodes.nodes))
-      → Follows (offered_in nodes.layout requests (opening_of order placed)) past
-      (order.cycle * nodes.layout.cycle) ((order.cycle + 1) * nodes.layout.cycle) frames
-  pub stand : (owners : List Owner) (requests : List Request) (placed : List Placed) (past : List TimedFrame)
-      → IsBefore nodes.layout owners requests placed past order (learnt_by order.learned (states_of nodes.nodes))
-      → IsBus nodes.layout owners requests placed (past ++ frames) (order.cycle + 1) (states_of new.nodes)
-
 -- The frames of an opened cycle
-
--- where the openings have the cycles below `n`, in their order, each is below it
-number-below : (openings : List Opening) (n : ℕ) → map (λ o. o.cycle) openings ≡ range_with_len 0 n → All (λ o. o.cycle < n) openings
-number-below openings n in_order k d within =
-    let all : length openings ≡ n = sym (length-map openings (λ o. o.cycle)) ∙ ap length in_order ∙ length-range_with_len 0 n in
-    let is : (get_or openings k d).cycle ≡ k =
-    sym (get_or-map (λ o. o.cycle) openings k d d.cycle within) ∙ ap (λ l. get_or l k d.cycle) in_order ∙ get_or-range_with_len 0 n k d.cycle (omega arith) ∙ zero-add k in
-    omega arith
 
 no-trigger : (layout : CycleLayout) (opening : Opening) (sent : TimedFrame) → IsRequestFrame layout opening sent ⊎ IsSlotFrame layout opening sent
     → sent.frame.identifier ≢ 0
@@ -133,23 +87,25 @@ pub record Sends (history : List Event) (order : Order) (frames : List TimedFram
   pub others : All (λ sent. sent.frame.identifier ≢ 0) later
   pub wide : width_of (opening_of order (placed_of history)) < 2 ^ 16
 
-sends : CyclesRun → (setting : Setting) (history : List Event) (trace frames : List TimedFrame) (nodes new : NodesView) (order : Order)
-    → IsOrder setting.rules history order → RanOrder order nodes new frames → IsSetting setting → IsUnderWay setting history trace
-    → AreReady setting history trace nodes → Sends history order frames
-sends laws setting history trace frames nodes new order ordered did known way ready =
+sends : CyclesSent → (setting : Setting) (history : List Event) (trace frames : List TimedFrame) (nodes new : NodesView) (order : Order)
+    → IsOrder setting.rules history order → RanOrder order nodes new frames → IsOnTheWay setting history trace nodes → Sends history order frames
+sends laws setting history trace frames nodes new order ordered did way =
     let layout = setting.layout in
+    let so_far = way.under_way in
+    let known = way.known in
+    let openings : List Opening = openings_of history in
     let opening : Opening = opening_of order (placed_of history) in
-    let before = laws.before setting history trace nodes order way ready ordered in
+    let before = laws.run.before setting history trace nodes order so_far way.ready ordered in
     let follows = did.runs setting.owners setting.requests (placed_of history) trace before in
     let fits = laws.fits setting history order known ordered in
     let now : order.cycle ≡ next_of history = ordered.cycle in
-    let behind : FollowsTrace layout setting.requests (openings_of history) opening trace frames = record {
-      below = subst (λ n. All (λ o. o.cycle < n) (openings_of history)) (sym now) (number-below (openings_of history) (next_of history) (laws.cycles setting.rules history way.legal));
-      can_trace = subst (λ n. IsCanTrace layout setting.requests (openings_of history) n trace) (sym now) way.can_trace;
-      ended = subst (λ n. All (λ sent. end_of sent ≤ n * layout.cycle) trace) (sym now) way.ended;
-      follows = subst (λ l. Follows (offered_in l setting.requests opening) trace (order.cycle * l.cycle) ((order.cycle + 1) * l.cycle) frames) ready.same_layout follows;
+    let behind : FollowsTrace layout setting.requests openings opening trace frames = record {
+      below = subst (λ n. All (λ o. o.cycle < n) openings) (sym now) (number-below (λ (o : Opening). o.cycle) openings (next_of history) (laws.cycles setting.rules history so_far.legal));
+      can_trace = subst (λ n. IsCanTrace layout setting.requests openings n trace) (sym now) so_far.can_trace;
+      ended = subst (λ n. All (λ sent. end_of sent ≤ n * layout.cycle) trace) (sym now) so_far.ended;
+      follows = subst (λ l. Follows (offered_in l setting.requests opening) trace (order.cycle * l.cycle) ((order.cycle + 1) * l.cycle) frames) way.ready.same_layout follows;
     } in
-    let run = laws.runs layout setting.requests (openings_of history) opening trace frames known.known behind known.asynchronous fits in
+    let run = laws.sends layout setting.requests openings opening trace frames known.known behind known.asynchronous fits in
     let within = fits.width in
     let range = known.known.window_range.below in
     record {
@@ -173,15 +129,14 @@ begins history order frames is = record {
   others = is.others;
 }
 
-pub its-frames : CyclesRun → (run : Written) (new : NodesView) (order : Order) (frames : List TimedFrame) (history : List Event)
+pub its-frames : CyclesSent → (run : Written) (new : NodesView) (order : Order) (frames : List TimedFrame) (history : List Event)
     → CanGo run → IsOrder run.master.rules run.master.history order → RanOrder order run.nodes new frames
     → history ≡ run.master.history ++ Open order.cycle order.mask ∷ [] → CanPutLast history frames
 its-frames laws run new order frames history can ordered did is =
     let setting = can.0 in
     let going = can.2 in
     let its = begins run.master.history order frames
-    (sends laws setting run.master.history can.1 frames run.nodes new order (subst (λ r. IsOrder r run.master.history order) going.same_rules ordered) did
-    going.known going.under_way going.ready) in
+    (sends laws setting run.master.history can.1 frames run.nodes new order (subst (λ r. IsOrder r run.master.history order) going.same_rules ordered) did going.way) in
     record { event = Open order.cycle order.mask; ends = record { before = run.master.history; is = is }; near = tt; its = its }
 
 -- the rows of a cycle that was run
@@ -200,7 +155,7 @@ ran-triggers trace frames history order is =
     ap (λ l. triggers_in (trace ++ l)) is.frames_are ∙ triggers-more trace is.trigger is.later (ap (λ f. f.identifier) is.is_trigger) is.others
 
 -- a run whose next cycle was opened and run goes on, and its rows are those of the event behind those before it
-pub ran : CyclesRun → (setting : Setting) (trace : List TimedFrame) (run after : Written) (order : Order) (frames : List TimedFrame)
+pub ran : CyclesSent → (setting : Setting) (trace : List TimedFrame) (run after : Written) (order : Order) (frames : List TimedFrame)
     → IsOrder run.master.rules run.master.history order → RanOrder order run.nodes after.nodes frames
     → after.master.rules ≡ run.master.rules → after.master.history ≡ run.master.history ++ Open order.cycle order.mask ∷ []
     → IsPlainlyLegal after.master.rules after.master.history → (KeepsFrames run.trace trace → KeepsFrames after.trace (trace ++ frames))
@@ -208,25 +163,19 @@ pub ran : CyclesRun → (setting : Setting) (trace : List TimedFrame) (run after
 ran laws setting trace run after order frames right did same_rules history legal kept going =
     let rules : after.master.rules ≡ setting.rules = same_rules ∙ going.same_rules in
     let ordered : IsOrder setting.rules run.master.history order = subst (λ r. IsOrder r run.master.history order) going.same_rules right in
-    let before = laws.before setting run.master.history trace run.nodes order going.under_way going.ready ordered in
-    let follows = did.runs setting.owners setting.requests (placed_of run.master.history) trace before in
-    let bus = did.stand setting.owners setting.requests (placed_of run.master.history) trace before in
-    let under_way = laws.under_way setting run.master.history trace frames run.nodes order going.known going.under_way going.ready ordered follows in
-    let ready = laws.ready setting run.master.history trace frames run.nodes after.nodes order going.under_way going.ready ordered did.layout did.heard bus in
-    let sent = sends laws setting run.master.history trace frames run.nodes after.nodes order ordered did going.known going.under_way going.ready in
-    let next : next_of after.master.history ≡ next_of run.master.history + 1 = ap next_of history ∙ next-push run.master.history (Open order.cycle order.mask) in
+    let way = way-run laws.run setting run.master.history trace frames run.nodes after.nodes order ordered did going.way in
+    let sent = sends laws setting run.master.history trace frames run.nodes after.nodes order ordered did going.way in
+    let next : next_of after.master.history ≡ next_of run.master.history + 1 = ap next_of history ∙ next_of-push run.master.history (Open order.cycle order.mask) in
     record {
       event = Open order.cycle order.mask;
       history = history;
       going = record {
-        known = going.known;
         same_rules = rules;
         plain = subst (λ r. IsPlainlyLegal r after.master.history) rules legal;
-        under_way = subst (λ h. IsUnderWay setting h (trace ++ frames)) (sym history) under_way;
-        ready = subst (λ h. AreReady setting h (trace ++ frames) after.nodes) (sym history) ready;
+        way = subst (λ h. IsOnTheWay setting h (trace ++ frames) after.nodes) (sym history) way;
         triggers = ran-triggers trace frames run.master.history order sent ∙ ap (λ n. n + 1) going.triggers ∙ sym next;
         frames = kept going.frames;
       };
       rows = ap (events_rows (trace ++ frames) []) history
-          ∙ ran-rows setting.rules trace frames run.master.history order going.under_way.legal going.triggers ordered.cycle sent;
+          ∙ ran-rows setting.rules trace frames run.master.history order going.way.under_way.legal going.triggers ordered.cycle sent;
     }

@@ -30,7 +30,8 @@ use Rattle.bus_trace.specs.Log.{end_row, event_rows, events_rows, log_text, trig
 use Rattle.replay_run.specs.Begun.{IsBegun}
 use Rattle.replay_run.specs.Progress.{setting_of}
 use Rattle.replay_run.specs.Run.{IsRun}
-use Rattle.replay_run.proofs.Shared.{Contains-filter, cut-at, started-all, started-early, started-within}
+use Rattle.kept_run.proofs.Shared.{Contains-filter}
+use Rattle.replay_run.proofs.Shared.{cut-at, started-all, started-early, started-within}
 use Rattle.written_run.specs.Progress.{triggers_in}
 use Rattle.written_run.proofs.EventRows.{counted-trigger, rows-stay, triggers-all-up}
 

@@ -5,10 +5,9 @@ use Rattle.can_frame.specs.declared.data_frame.TimedFrame.{TimedFrame}
 use Rattle.async_window.specs.declared.request.Request.{Request}
 use Rattle.input_text.specs.declared.steps.Step.{Step}
 use Rattle.input_text.specs.declared.system.System.{System}
-use Rattle.master_core.specs.declared.event.Event.{Event}
 use Rattle.master_core.specs.History.{next_of}
-use Rattle.kept_run.specs.Kept.{Kept}
-use Rattle.kept_run.specs.Progress.{IsSetting, IsUnderWay, Setting}
+use Rattle.kept_run.specs.Progress.{IsSetting, IsUnderWay}
+use Rattle.kept_run.proofs.Shared.{Promises}
 use Rattle.ftt_io.specs.Puts.{Puts, PutsPrefix}
 use Rattle.ftt_io.proofs.Shared.{Puts-append, Puts-nothing, PutsPrefix-append, PutsPrefix-nothing, Stays-same}
 use Rattle.bus_trace.specs.Log.{end_row, events_rows}
@@ -17,11 +16,6 @@ use Rattle.replay_run.specs.Run.{AnswersSteps, IsRun, call_of, calls_of}
 use Rattle.written_run.specs.declared.writing.Written.{Written}
 use Rattle.written_run.specs.Progress.{IsCutBehind, IsGoing, IsWriting, KeepsWriting, Start}
 use Rattle.written_run.specs.Written.{IsCutInLog, IsCutShort, IsWritten}
-
--- a run that is under way keeps what is promised
-pub record Promises : Type 0 where
-  pub kept : (setting : Setting) (history : List Event) (trace : List TimedFrame) → IsSetting setting → IsUnderWay setting history trace
-      → Kept setting.rules setting.layout setting.requests history trace
 
 -- where the writing begins
 pub start_at : System → List Request → Option (List ℕ) → Start
@@ -76,7 +70,7 @@ is-run : Promises → (system : System) (steps : List Step) (requests : List Req
 is-run laws system steps requests after trace going answers = record {
   answers = answers;
   plain = going.plain;
-  kept = laws.kept (setting_of system requests) after.master.history trace going.known going.under_way;
+  kept = laws.kept (setting_of system requests) after.master.history trace going.way.known going.way.under_way;
 }
 
 pub written : Promises → (system : System) (steps : List Step) (requests : List Request) (run after : Written) (told middle now : Option (List ℕ)) (next : ℕ)

@@ -2,8 +2,10 @@
 use Rattle.std.specs.Prelude.{◌≡◌, ℕ, List, [], ◌∷◌, ◌++◌, Option, map, fold}
 use Rattle.can_frame.specs.declared.data_frame.TimedFrame.{TimedFrame}
 use Rattle.master_core.specs.declared.event.Event.{Event}
-use Rattle.master_core.specs.History.{IsPlainlyLegal, next_of}
-use Rattle.kept_run.specs.Progress.{AreReady, IsSetting, IsUnderWay, Setting}
+use Rattle.master_core.specs.History.{IsPlainlyLegal, next_of, placed_of}
+use Rattle.master_core.specs.Keeping.{MasterView}
+use Rattle.cycle_engine.specs.Nodes.{NodesView}
+use Rattle.kept_run.specs.Progress.{IsOnTheWay, IsSetting, IsUnderWay, Setting, AreReady}
 use Rattle.ftt_io.specs.Puts.{Puts, PutsPrefix}
 use Rattle.bus_trace.specs.EventRows.{HasItsFrames, rows_of_event}
 use Rattle.bus_trace.specs.Log.{events_rows, triggers_with}
@@ -23,11 +25,9 @@ pub record Start : Type 0 where
 
 -- master and nodes are those of a run in this setting with this trace
 pub record IsGoing (setting : Setting) (trace : List TimedFrame) (run : Written) : Type 0 where
-  pub known : IsSetting setting
   pub same_rules : run.master.rules ≡ setting.rules
   pub plain : IsPlainlyLegal setting.rules run.master.history
-  pub under_way : IsUnderWay setting run.master.history trace
-  pub ready : AreReady setting run.master.history trace run.nodes
+  pub way : IsOnTheWay setting run.master.history trace run.nodes
   pub triggers : triggers_in trace ≡ next_of run.master.history
   pub frames : KeepsFrames run.trace trace
 

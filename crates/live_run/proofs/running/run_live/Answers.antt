@@ -50,7 +50,7 @@ returns-clause-run g c =
     omega (arith, c.len.ensures, c.args.scripts.ok.0))) in
     left-behind (record {
       between = record { under_way = c.calls_between.ensures.under_way; ready = c.calls_between.ensures.ready };
-      kept = c.promise.ensures.kept;
+      promises = record { kept = c.promise.ensures.kept };
       openings = c.openings_of_dispatchers.ensures.openings;
       cycles = c.openings_of_dispatchers.ensures.cycles;
     }) g.setting c.args.shared.now c.args.cycles c.args.scripts.items operators c.share-ran.new.pass c.retire_all-answered.new.pass c.share-ran.new.bus

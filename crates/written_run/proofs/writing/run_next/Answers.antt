@@ -1,4 +1,4 @@
-use Rattle.std.proofs.Common.{subst, ◌++◌}
+use Rattle.std.proofs.Common.{sym, ap, ◌∙◌, subst, ◌++◌, ◌≡◌}
 use Rattle.written_run.proofs.Going.{its-frames, ran}
 use Rattle.written_run.specs.Written.{KeepsFrames}
 use Rattle.written_run.proofs.writing.run_next.Goals as goal
@@ -6,12 +6,10 @@ use Rattle.written_run.proofs.writing.run_next.Goals as goal
 pub returns-clause-on : goal.returns-clause-on
 returns-clause-on c = λ setting trace going.
     ran (record {
-      before = c.orders.ensures.before;
-      under_way = c.cycles_run.ensures.under_way;
-      ready = c.cycles_run.ensures.ready;
+      run = record { before = c.orders.ensures.before; under_way = c.cycles_run.ensures.under_way; ready = c.cycles_run.ensures.ready };
       fits = c.orders.ensures.fits;
       cycles = c.opened_cycles.ensures.cycles;
-      runs = c.next_cycle.ensures.runs;
+      sends = c.next_cycle.ensures.runs;
     })
     setting trace c.args.run.now (record { master = c.open-order.new.self; trace = c.keep.new.trace; nodes = c.run_cycle.new.nodes })
     c.open-order.result c.in_ok-segment.segment c.open-order.ensures.order
@@ -28,12 +26,10 @@ returns-clause-on c = λ setting trace going.
 pub returns-clause-last : goal.returns-clause-last
 returns-clause-last c =
     its-frames (record {
-      before = c.orders.ensures.before;
-      under_way = c.cycles_run.ensures.under_way;
-      ready = c.cycles_run.ensures.ready;
+      run = record { before = c.orders.ensures.before; under_way = c.cycles_run.ensures.under_way; ready = c.cycles_run.ensures.ready };
       fits = c.orders.ensures.fits;
       cycles = c.opened_cycles.ensures.cycles;
-      runs = c.next_cycle.ensures.runs;
+      sends = c.next_cycle.ensures.runs;
     })
     c.args.run.now c.run_cycle.new.nodes c.open-order.result c.in_ok-segment.segment c.open-order.new.self.history c.requires.going c.open-order.ensures.order
     (record {

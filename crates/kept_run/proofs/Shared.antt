@@ -1,0 +1,84 @@
+-- What proofs of the crates above may take from here: what the laws of this crate say of a run, as records of what they
+-- ensure; that each step of a run keeps it on the way by them; and lemmas about lists and histories.
+use Rattle.std.proofs.Common.{◌≡◌, ◌+◌, ◌*◌, ◌++◌, List, [], ◌∷◌, All, false}
+use Rattle.can_frame.specs.declared.data_frame.TimedFrame.{TimedFrame}
+use Rattle.async_window.specs.declared.request.Owner.{Owner}
+use Rattle.async_window.specs.declared.request.Request.{Request}
+use Rattle.requirement_table.specs.declared.entries.Order.{Order}
+use Rattle.requirement_table.specs.declared.entries.Placed.{Placed}
+use Rattle.bus_line.specs.Trace.{Follows}
+use Rattle.cycle_engine.specs.Nodes.{IsBefore, IsBus, NodesView, heard_by, learnt_by, opening_of, states_of}
+use Rattle.cycle_engine.specs.Offered.{offered_in}
+use Rattle.master_core.specs.declared.event.Event.{Event}
+use Rattle.master_core.specs.declared.event.Event.TheVariants.{Open}
+use Rattle.master_core.specs.History.{IsLegal, is_open, placed_of}
+use Rattle.master_core.specs.Orders.{IsOrder}
+use Rattle.kept_run.specs.Kept.{Kept}
+use Rattle.kept_run.specs.Progress.{AreReady, IsOnTheWay, IsSetting, IsUnderWay, Setting}
+pub use Rattle.kept_run.proofs.Histories.{AllAfter-parts, next_of-push}
+pub use Rattle.kept_run.proofs.Lists.{Contains-filter, number-below}
+
+-- a run that is under way keeps what is promised
+pub record Promises : Type 0 where
+  pub kept : (setting : Setting) (history : List Event) (trace : List TimedFrame) → IsSetting setting → IsUnderWay setting history trace
+      → Kept setting.rules setting.layout setting.requests history trace
+
+-- calls that open no cycle keep a run under way and its nodes ready
+pub record CallsBetween : Type 0 where
+  pub under_way : (setting : Setting) (history calls : List Event) (trace : List TimedFrame) → All (λ call. is_open call ≡ false) calls
+      → IsLegal setting.rules (history ++ calls) → IsUnderWay setting history trace → IsUnderWay setting (history ++ calls) trace
+  pub ready : (setting : Setting) (history calls : List Event) (trace : List TimedFrame) (nodes : NodesView)
+      → All (λ call. is_open call ≡ false) calls → IsLegal setting.rules (history ++ calls)
+      → AreReady setting history trace nodes → AreReady setting (history ++ calls) trace nodes
+
+-- so a run that is on the way is so behind such calls
+pub way-called : CallsBetween → (setting : Setting) (history calls : List Event) (trace : List TimedFrame) (nodes : NodesView)
+    → All (λ call. is_open call ≡ false) calls → IsLegal setting.rules (history ++ calls)
+    → IsOnTheWay setting history trace nodes → IsOnTheWay setting (history ++ calls) trace nodes
+way-called laws setting history calls trace nodes closed legal way = record {
+  known = way.known;
+  under_way = laws.under_way setting history calls trace closed legal way.under_way;
+  ready = laws.ready setting history calls trace nodes closed legal way.ready;
+}
+
+-- a cycle that is run by the master's order keeps a run under way and leaves its nodes ready
+pub record CyclesRun : Type 0 where
+  pub before : (setting : Setting) (history : List Event) (trace : List TimedFrame) (nodes : NodesView) (order : Order)
+      → IsUnderWay setting history trace → AreReady setting history trace nodes → IsOrder setting.rules history order
+      → IsBefore nodes.layout setting.owners setting.requests (placed_of history) trace order (learnt_by order.learned (states_of nodes.nodes))
+  pub under_way : (setting : Setting) (history : List Event) (trace frames : List TimedFrame) (nodes : NodesView) (order : Order)
+      → IsSetting setting → IsUnderWay setting history trace → AreReady setting history trace nodes → IsOrder setting.rules history order
+      → Follows (offered_in nodes.layout setting.requests (opening_of order (placed_of history)))
+      trace (order.cycle * nodes.layout.cycle) ((order.cycle + 1) * nodes.layout.cycle) frames
+      → IsUnderWay setting (history ++ Open order.cycle order.mask ∷ []) (trace ++ frames)
+  pub ready : (setting : Setting) (history : List Event) (trace frames : List TimedFrame) (nodes new : NodesView) (order : Order)
+      → IsUnderWay setting history trace → AreReady setting history trace nodes → IsOrder setting.rules history order
+      → new.layout ≡ nodes.layout → states_of new.nodes ≡ heard_by frames (learnt_by order.learned (states_of nodes.nodes))
+      → IsBus nodes.layout setting.owners setting.requests (placed_of history) (trace ++ frames) (order.cycle + 1) (states_of new.nodes)
+      → AreReady setting (history ++ Open order.cycle order.mask ∷ []) (trace ++ frames) new
+
+-- what the run of an order gives
+pub record RanOrder (order : Order) (nodes new : NodesView) (frames : List TimedFrame) : Type 0 where
+  pub layout : new.layout ≡ nodes.layout
+  pub heard : states_of new.nodes ≡ heard_by frames (learnt_by order.learned (states_of nodes.nodes))
+  pub runs : (owners : List Owner) (requests : List Request) (placed : List Placed) (past : List TimedFrame)
+      → IsBefore nodes.layout owners requests placed past order (learnt_by order.learned (states_of nodes.nodes))
+      → Follows (offered_in nodes.layout requests (opening_of order placed)) past
+      (order.cycle * nodes.layout.cycle) ((order.cycle + 1) * nodes.layout.cycle) frames
+  pub stand : (owners : List Owner) (requests : List Request) (placed : List Placed) (past : List TimedFrame)
+      → IsBefore nodes.layout owners requests placed past order (learnt_by order.learned (states_of nodes.nodes))
+      → IsBus nodes.layout owners requests placed (past ++ frames) (order.cycle + 1) (states_of new.nodes)
+
+-- so a run that is on the way is so behind the opening of a cycle that was run by the order of its history
+pub way-run : CyclesRun → (setting : Setting) (history : List Event) (trace frames : List TimedFrame) (nodes new : NodesView) (order : Order)
+    → IsOrder setting.rules history order → RanOrder order nodes new frames → IsOnTheWay setting history trace nodes
+    → IsOnTheWay setting (history ++ Open order.cycle order.mask ∷ []) (trace ++ frames) new
+way-run laws setting history trace frames nodes new order ordered did way =
+    let before = laws.before setting history trace nodes order way.under_way way.ready ordered in
+    let follows = did.runs setting.owners setting.requests (placed_of history) trace before in
+    let bus = did.stand setting.owners setting.requests (placed_of history) trace before in
+    record {
+      known = way.known;
+      under_way = laws.under_way setting history trace frames nodes order way.known way.under_way way.ready ordered follows;
+      ready = laws.ready setting history trace frames nodes new order way.under_way way.ready ordered did.layout did.heard bus;
+    }
