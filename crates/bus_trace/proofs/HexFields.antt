@@ -31,7 +31,7 @@ low-digit v b is low = (grind (arith, nat_tests), grind (arith, nat_tests))
 high-digit : (v b : ℕ) → b ≡ 87 + v → 10 ≤ v → v < 16 → (is_hex_digit b ≡ true) × (digit_value b ≡ v)
 high-digit v b is high small = (grind (arith, nat_tests), grind (arith, nat_tests))
 
-glyph-low : (v : ℕ) → v < 10 → digit_glyph false v ≡ 48 + v
+pub glyph-low : (v : ℕ) → v < 10 → digit_glyph false v ≡ 48 + v
 glyph-low v low = let test : nat_lt v 10 ≡ true = grind (arith, nat_tests) in cond-true (nat_lt v 10) (48 + v) (87 + v) test
 
 glyph-high : (v : ℕ) → 10 ≤ v → digit_glyph false v ≡ 87 + v
@@ -147,7 +147,7 @@ digits-of_hex k field n read =
 
 -- Bytes
 
-hex-two : (b : ℕ) → b < 256 → hex_digits 2 b ≡ digit_glyph false (b / 16) ∷ digit_glyph false (b % 16) ∷ []
+pub hex-two : (b : ℕ) → b < 256 → hex_digits 2 b ≡ digit_glyph false (b / 16) ∷ digit_glyph false (b % 16) ∷ []
 hex-two b small =
     let high : (b / 16) % 16 ≡ b / 16 = omega arith in
     hex_digits-suc 1 b
@@ -167,7 +167,7 @@ more-bytes : (b : ℕ) (bs : List ℕ) → b < 256 → AllBytes bs → AllBytes 
 more-bytes b bs here rest zero d within = here
 more-bytes b bs here rest (suc i) d within = rest i d (omega arith)
 
-pub length-data : (bytes : List ℕ) → length (flat_map (hex_digits 2) bytes) ≡ 2 * length bytes
+length-data : (bytes : List ℕ) → length (flat_map (hex_digits 2) bytes) ≡ 2 * length bytes
 length-data [] = refl
 length-data (b ∷ bs) =
     let rest = length-data bs in

@@ -1,81 +1,52 @@
 -- The digits of a row, as they are put before what stands.
-use Rattle.std.proofs.Common.{◌≡◌, ℕ, suc, ◌+◌, ◌-◌, ◌*◌, ◌/◌, ◌%◌, ◌^◌, ◌<◌, ◌≤◌, false, List, [], ◌∷◌, ◌++◌, drop, length, sym, ap, ◌∙◌, arith, append_assoc}
-use Rattle.std.proofs.lemmas.Fmt.{decimal_digit, decimal_nonempty, decimal_step, length-decimal-le}
-use Rattle.std.proofs.lemmas.List.{length-append, length-drop}
-use Rattle.std.specs.Fmt.{decimal, digit_glyph}
-use Rattle.std.specs.List.{flat_map}
+use Rattle.std.proofs.Common.{◌≡◌, ℕ, suc, ◌+◌, ◌*◌, ◌/◌, ◌%◌, ◌<◌, ◌≤◌, true, false, List, [], ◌∷◌, ◌++◌, get_or, refl, sym, ap, ◌∙◌, arith, append_assoc}
+use Rattle.std.specs.Fmt.{digit_glyph}
+use Rattle.stuff_bound.proofs.Shared.{are_entries, entry-is}
+use Rattle.bus_trace.specs.HexPairs.{digit_at}
 use Rattle.bus_trace.specs.Log.{hex_digits}
-use Rattle.bus_trace.proofs.HexFields.{hex_digits-suc, length-data}
+use Rattle.bus_trace.specs.declared.hex_pairs.TheConstants.{HEX_PAIRS}
+use Rattle.bus_trace.proofs.HexFields.{glyph-low, hex-two, hex_digits-suc, hex_digits-zero}
 
--- Hexadecimal
+-- The table of pairs
 
-pub hex-put : (k n g : ℕ) (xs : List ℕ) → g ≡ digit_glyph false (n % 16) → hex_digits k (n / 16) ++ g ∷ xs ≡ hex_digits (suc k) n ++ xs
-hex-put k n g xs is =
-    ap (λ d. hex_digits k (n / 16) ++ d ∷ xs) is
-    ∙ sym (append_assoc (hex_digits k (n / 16)) (digit_glyph false (n % 16) ∷ []) xs)
-    ∙ ap (λ l. l ++ xs) (sym (hex_digits-suc k n))
+all_digits : are_entries digit_at 0 HEX_PAIRS ≡ true
+unfolding digit_at
+all_digits = refl
 
-pub data-size : (bytes : List ℕ) (place : ℕ) (row xs : List ℕ) → row ≡ flat_map (hex_digits 2) (drop place bytes) ++ xs
-    → length row ≡ 2 * (length bytes - place) + length xs
-data-size bytes place row xs is =
-    let all = ap length is in
-    let whole = length-append (flat_map (hex_digits 2) (drop place bytes)) xs in
-    let digits = length-data (drop place bytes) in
-    let size = length-drop place bytes in
-    omega arith
+pub digit_is : (place : ℕ) → place < 512 → get_or HEX_PAIRS place 0 ≡ digit_at place
+digit_is place within = entry-is digit_at place HEX_PAIRS all_digits within
 
--- Decimal
+-- the two digits of a byte
+pub pair_is : (byte : ℕ) → byte < 256 → digit_at (2 * byte) ∷ digit_at (2 * byte + 1) ∷ [] ≡ hex_digits 2 byte
+unfolding digit_at
+pair_is byte small =
+    let even : 2 * byte % 2 ≡ 0 = omega arith in
+    let odd : (2 * byte + 1) % 2 ≡ 1 = omega arith in
+    let first : 2 * byte / 2 ≡ byte = omega arith in
+    let second : (2 * byte + 1) / 2 ≡ byte = omega arith in
+    rw (even, odd, first, second, hex-two byte small)
 
--- the digits that are left take what is missing of twenty bytes
-pub decimal-size : (n left : ℕ) (row xs : List ℕ) → n < 2 ^ 64 → decimal left ++ row ≡ decimal n ++ xs
-    → length (decimal left) + length row ≤ length xs + 20
-decimal-size n left row xs small is =
-    let all = ap length is in
-    let whole = length-append (decimal left) row in
-    let other = length-append (decimal n) xs in
-    let few = length-decimal-le 20 n (omega arith) (omega arith) small in
-    omega arith
+-- Pairs before what stands
 
-pub many-digits : (left : ℕ) → 100 ≤ left → left < 2 ^ 64 → 3 ≤ length (decimal left)
-many-digits left high small =
-    let one = ap length (decimal_step left (omega arith) small) ∙ length-append (decimal (left / 10)) ((48 + left % 10) ∷ []) in
-    let two = ap length (decimal_step (left / 10) (omega arith) (omega arith)) ∙ length-append (decimal (left / 10 / 10)) ((48 + left / 10 % 10) ∷ []) in
-    let some = decimal_nonempty (left / 10 / 10) (omega arith) in
-    omega arith
+-- two digits more stand behind those of what is left
+hex_digits-pair : (k n : ℕ) → hex_digits (suc (suc k)) n ≡ hex_digits k (n / 256) ++ hex_digits 2 (n % 256)
+hex_digits-pair k n =
+    let front : n / 16 / 16 ≡ n / 256 = omega arith in
+    let high : n % 256 / 16 ≡ n / 16 % 16 = omega arith in
+    let low : n % 256 % 16 ≡ n % 16 = omega arith in
+    let pair : hex_digits 2 (n % 256) ≡ digit_glyph false (n / 16 % 16) ∷ digit_glyph false (n % 16) ∷ [] = rw (hex-two (n % 256) (omega arith), high, low) in
+    let joined = append_assoc (hex_digits k (n / 256)) (digit_glyph false (n / 16 % 16) ∷ []) (digit_glyph false (n % 16) ∷ []) in
+    rw (hex_digits-suc (suc k) n, hex_digits-suc k (n / 16), front, pair, joined)
 
-pub two-digits : (left : ℕ) → 10 ≤ left → left < 2 ^ 64 → 2 ≤ length (decimal left)
-two-digits left high small =
-    let one = ap length (decimal_step left high small) ∙ length-append (decimal (left / 10)) ((48 + left % 10) ∷ []) in
-    let some = decimal_nonempty (left / 10) (omega arith) in
-    omega arith
+pub pair-put : (count k n : ℕ) (xs : List ℕ) → suc (suc k) ≡ count → hex_digits k (n / 256) ++ (hex_digits 2 (n % 256) ++ xs) ≡ hex_digits count n ++ xs
+pair-put count k n xs is =
+    sym (append_assoc (hex_digits k (n / 256)) (hex_digits 2 (n % 256)) xs)
+    ∙ ap (λ digits. digits ++ xs) (sym (hex_digits-pair k n))
+    ∙ ap (λ c. hex_digits c n ++ xs) is
 
-pub one-digit : (left : ℕ) → left < 2 ^ 64 → 1 ≤ length (decimal left)
-one-digit left small = decimal_nonempty left small
-
-pub pair-put : (left : ℕ) (row : List ℕ) → 100 ≤ left → left < 2 ^ 64
-    → decimal (left / 100) ++ (48 + left % 100 / 10) ∷ (48 + left % 100 % 10) ∷ row ≡ decimal left ++ row
-pair-put left row high small =
-    let front : left / 10 / 10 ≡ left / 100 = omega arith in
-    let tens : left / 10 % 10 ≡ left % 100 / 10 = omega arith in
-    let units : left % 10 ≡ left % 100 % 10 = omega arith in
-    sym (ap (λ l. l ++ row) (decimal_step left (omega arith) small)
-    ∙ append_assoc (decimal (left / 10)) ((48 + left % 10) ∷ []) row
-    ∙ ap (λ l. l ++ (48 + left % 10) ∷ row) (decimal_step (left / 10) (omega arith) (omega arith))
-    ∙ append_assoc (decimal (left / 10 / 10)) ((48 + left / 10 % 10) ∷ []) ((48 + left % 10) ∷ row)
-    ∙ ap (λ k. decimal k ++ (48 + left / 10 % 10) ∷ (48 + left % 10) ∷ row) front
-    ∙ ap (λ d. decimal (left / 100) ++ (48 + d) ∷ (48 + left % 10) ∷ row) tens
-    ∙ ap (λ d. decimal (left / 100) ++ (48 + left % 100 / 10) ∷ (48 + d) ∷ row) units)
-
-pub last-pair : (left : ℕ) (row : List ℕ) → 10 ≤ left → left < 100 → (48 + left / 10) ∷ (48 + left % 10) ∷ row ≡ decimal left ++ row
-last-pair left row high low =
-    sym (ap (λ l. l ++ row) (decimal_step left high (omega arith)) ∙ ap (λ l. (l ++ (48 + left % 10) ∷ []) ++ row) (decimal_digit (left / 10) (omega arith)))
-
-pub last-digit : (left : ℕ) (row : List ℕ) → left < 10 → (48 + left) ∷ row ≡ decimal left ++ row
-last-digit left row low = sym (ap (λ l. l ++ row) (decimal_digit left low))
-
-pub decimal-few : (n : ℕ) (row xs : List ℕ) → n < 2 ^ 64 → row ≡ decimal n ++ xs → length row ≤ length xs + 20
-decimal-few n row xs small is =
-    let all = ap length is in
-    let whole = length-append (decimal n) xs in
-    let few = length-decimal-le 20 n (omega arith) (omega arith) small in
-    omega arith
+-- the three digits of an identifier: one, and a pair
+pub identifier-put : (id : ℕ) (xs : List ℕ) → id ≤ 0x7EF → (48 + id / 256) ∷ (hex_digits 2 (id % 256) ++ xs) ≡ hex_digits 3 id ++ xs
+identifier-put id xs small =
+    let low : id / 256 % 16 ≡ id / 256 = omega arith in
+    let first : hex_digits 1 (id / 256) ≡ (48 + id / 256) ∷ [] = rw (hex_digits-suc 0 (id / 256), hex_digits-zero (id / 256 / 16), low, glyph-low (id / 256) (omega arith)) in
+    ap (λ digits. digits ++ (hex_digits 2 (id % 256) ++ xs)) (sym first) ∙ pair-put 3 1 id xs refl

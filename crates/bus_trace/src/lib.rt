@@ -5,6 +5,7 @@
 
 mod entries;
 mod frames;
+mod hex_pairs;
 pub mod laws;
 mod log;
 mod log_fault;
@@ -12,8 +13,8 @@ mod log_reading;
 mod recent;
 mod row;
 mod row_fields;
+mod row_parts;
 mod row_reading;
-mod row_writer;
 mod rows;
 mod streaming;
 

@@ -9,7 +9,7 @@ ghost use Rattle.std.specs.List.{list_all};
 ghost use Rattle.can_frame.specs.DataFrame.{IsFrame};
 ghost use Rattle.bus_trace.specs.RowFields.{bytes_of, bytes_written, fields_of_line, frame_at, frame_with, has_leading_zero, hex_at, hex_of, is_hex_digit, number_at, number_of, up_to};
 
-use crate::rows::{IDENTIFIER_DIGITS, MASK_DIGITS};
+use crate::row_parts::{IDENTIFIER_DIGITS, MASK_DIGITS};
 use can_frame::{Frame, MAX_BYTES, MAX_IDENTIFIER};
 use requirement_table::Mask;
 use std::alloc::{AllocError, Global};

@@ -1,6 +1,7 @@
-//! The rows of the log. Each is made from its end to its start.
+//! The rows of the log. Each is made from its end to its start, at the end of an array that is
+//! lent for it.
 
-ghost use Rattle.std.specs.Prelude.{◌≡◌, ◌+◌, ◌^◌, ◌<◌, ◌≤◌, ◌++◌, All, IfSome, codes, length, map, take, OnOk, OnErr};
+ghost use Rattle.std.specs.Prelude.{◌≡◌, ◌+◌, ◌^◌, ◌<◌, ◌≤◌, ◌++◌, All, IfSome, codes, drop, length, map, take, OnOk, OnErr};
 ghost use Rattle.std.specs.Fmt.{decimal};
 ghost use Rattle.std.specs.List.{flat_map};
 ghost use Rattle.bus_trace.specs.Log.{end_row, frame_row, last_field, look_row, plan_row, plan_rows, submit_row, until_of, verdict_fields};
@@ -9,18 +10,14 @@ ghost use Rattle.bus_trace.specs.Logged.{opened_row};
 ghost use Rattle.bus_trace.specs.Row.{IsLogRow, IsLogVerdict};
 ghost use Rattle.bus_trace.specs.declared.row.LogRow.TheVariants.{Submit, Plan, Look, Open, Frame, End};
 
-use crate::row_writer::RowWriter;
+use crate::row_parts::{
+    ROOM, put_byte, put_data_bytes, put_decimal, put_identifier, put_mask, put_word, row_from,
+};
 use admission::Verdict;
 use can_frame::TimedFrame;
 use change_protocol::Why;
 use requirement_table::Mask;
 use std::alloc::AllocError;
-
-/// The number of digits of a mask.
-pub const MASK_DIGITS: u8 = 10;
-
-/// The number of digits of an identifier.
-pub const IDENTIFIER_DIGITS: u8 = 3;
 
 /// The cycle that the reason of a refusal names, where it names one.
 fn until_of(why: &Why) -> Option<u64>
@@ -34,156 +31,167 @@ fn until_of(why: &Why) -> Option<u64>
     }
 }
 
-/// A row of its line feed alone.
-fn ended() -> RowWriter
-    ensures row { result ≡ codes "\n" }
+/// Puts the line feed that ends a row.
+#[inline(always)]
+fn put_line_feed(row: &mut [u8; ROOM]) -> usize
+    ensures start { result ≡ 127 }
+    ensures row { drop result row.new ≡ codes "\n" }
 {
-    let mut row = RowWriter::new();
-    row.byte(b'\n');
-    row
+    put_byte(row, ROOM, b'\n')
 }
 
 /// Puts a number with a comma before it.
-fn put_field(row: &mut RowWriter, number: u64)
-    requires room { length row.old + 21 ≤ 128 }
-    ensures row { row.new ≡ codes "," ++ (decimal number ++ row.old) }
-    ensures few { length row.new ≤ length row.old + 21 }
+#[inline(always)]
+fn put_field(row: &mut [u8; ROOM], end: usize, number: u64) -> usize
+    requires room { 21 ≤ end }
+    requires within { end ≤ 128 }
+    ensures start { result ≤ end }
+    ensures few { end ≤ result + 21 }
+    ensures row { drop result row.new ≡ codes "," ++ (decimal number ++ drop end row.old) }
 {
-    row.decimal(number);
-    row.byte(b',');
+    let start = put_decimal(row, end, number);
+    put_byte(row, start, b',')
 }
 
 /// Puts a last field, where there is one.
-fn put_last_field(row: &mut RowWriter, field: Option<u64>)
-    requires room { length row.old + 21 ≤ 128 }
-    ensures row { row.new ≡ last_field field ++ row.old }
-    ensures few { length row.new ≤ length row.old + 21 }
+fn put_last_field(row: &mut [u8; ROOM], end: usize, field: Option<u64>) -> usize
+    requires room { 21 ≤ end }
+    requires within { end ≤ 128 }
+    ensures start { result ≤ end }
+    ensures few { end ≤ result + 21 }
+    ensures row { drop result row.new ≡ last_field field ++ drop end row.old }
 {
-    if let Some(number) = field {
-        put_field(row, number);
+    match field {
+        Some(number) => put_field(row, end, number),
+        None => end,
     }
 }
 
 /// Puts a word and the number behind it.
-fn put_first(row: &mut RowWriter, word: &[u8], number: u64)
-    requires room { length row.old + 20 + length word.now ≤ 128 }
-    ensures row { row.new ≡ word.now ++ (decimal number ++ row.old) }
-    ensures few { length row.new ≤ length row.old + 20 + length word.now }
+#[inline(always)]
+fn put_first(row: &mut [u8; ROOM], end: usize, word: &[u8], number: u64) -> usize
+    requires room { 20 + length word.now ≤ end }
+    requires within { end ≤ 128 }
+    ensures start { result ≤ end }
+    ensures few { end ≤ result + 20 + length word.now }
+    ensures row { drop result row.new ≡ word.now ++ (decimal number ++ drop end row.old) }
 {
-    row.decimal(number);
-    row.word(word);
+    let start = put_decimal(row, end, number);
+    put_word(row, start, word)
 }
 
 /// Puts the fields of a verdict.
-fn put_verdict(row: &mut RowWriter, verdict: &Verdict)
-    requires room { length row.old ≤ 1 }
-    ensures row { row.new ≡ verdict_fields verdict.now ++ row.old }
-    ensures few { length row.new ≤ 73 }
+fn put_verdict(row: &mut [u8; ROOM], end: usize, verdict: &Verdict) -> usize
+    requires room { 72 ≤ end }
+    requires within { end ≤ 128 }
+    ensures start { result ≤ end }
+    ensures few { end ≤ result + 72 }
+    ensures row { drop result row.new ≡ verdict_fields verdict.now ++ drop end row.old }
     ensures in_range { IsLogVerdict (verdict_told verdict.now) }
 {
     match verdict {
         Verdict::Malformed { op, why } => {
-            put_last_field(row, until_of(why));
-            put_field(row, u64::from(why.code()));
-            put_first(row, b"malformed,", u64::from(*op));
+            let start = put_last_field(row, end, until_of(why));
+            let start = put_field(row, start, u64::from(why.code()));
+            put_first(row, start, b"malformed,", u64::from(*op))
         }
         Verdict::Passed { start, next } => {
-            put_field(row, *next);
-            put_first(row, b"passed,", *start);
+            let place = put_field(row, end, *next);
+            put_first(row, place, b"passed,", *start)
         }
         Verdict::Miss {
             slot,
             release,
             cycle,
         } => {
-            put_field(row, *cycle);
-            put_field(row, *release);
-            put_first(row, b"miss,", u64::from(*slot));
+            let start = put_field(row, end, *cycle);
+            let start = put_field(row, start, *release);
+            put_first(row, start, b"miss,", u64::from(*slot))
         }
         Verdict::Horizon { from, walked } => {
-            put_field(row, *walked);
-            put_first(row, b"horizon,", *from);
+            let start = put_field(row, end, *walked);
+            put_first(row, start, b"horizon,", *from)
         }
         Verdict::Accepted { first, length } => {
-            put_field(row, *length);
-            put_first(row, b"accepted,", *first);
+            let start = put_field(row, end, *length);
+            put_first(row, start, b"accepted,", *first)
         }
     }
 }
 
-/// The row of a change that operator `caller` asked for, planned from the cycle `from` on.
-pub fn submit_row(caller: u8, from: u64, verdict: &Verdict) -> RowWriter
-    ensures row { result ≡ submit_row caller from verdict.now }
+/// Makes the row of a change that operator `caller` asked for, planned from the cycle `from` on.
+pub fn submit_row<'a>(row: &'a mut [u8; ROOM], caller: u8, from: u64, verdict: &Verdict) -> &'a [u8]
+    ensures row { result.now ≡ submit_row caller from verdict.now }
     ensures in_range { IsLogRow (Submit caller from (verdict_told verdict.now)) }
 {
-    let mut row = ended();
-    put_verdict(&mut row, verdict);
-    row.byte(b',');
-    put_field(&mut row, from);
-    put_first(&mut row, b"submit,", u64::from(caller));
-    row
+    let start = put_line_feed(row);
+    let start = put_verdict(row, start, verdict);
+    let start = put_byte(row, start, b',');
+    let start = put_field(row, start, from);
+    let start = put_first(row, start, b"submit,", u64::from(caller));
+    row_from(row, start)
 }
 
-/// The row of a cycle that was planned and not opened, with the slots that are flagged in it.
-pub fn plan_row(cycle: u64, mask: Mask) -> RowWriter
-    ensures row { result ≡ plan_row cycle mask }
+/// Makes the row of a cycle that was planned and not opened, with the slots that are flagged in it.
+pub fn plan_row<'a>(row: &'a mut [u8; ROOM], cycle: u64, mask: Mask) -> &'a [u8]
+    ensures row { result.now ≡ plan_row cycle mask }
     ensures in_range { IsLogRow (Plan cycle mask) }
 {
-    let mut row = ended();
-    row.hex(MASK_DIGITS, mask.bits() as u64);
-    row.byte(b',');
-    put_first(&mut row, b"plan,", cycle);
-    row
+    let start = put_line_feed(row);
+    let start = put_mask(row, start, mask.bits() as u64);
+    let start = put_byte(row, start, b',');
+    let start = put_first(row, start, b"plan,", cycle);
+    row_from(row, start)
 }
 
-/// The row of a look of operator `caller`, with the cycle that was to be opened next.
-pub fn look_row(caller: u8, next: u64) -> RowWriter
-    ensures row { result ≡ look_row caller next }
+/// Makes the row of a look of operator `caller`, with the cycle that was to be opened next.
+pub fn look_row<'a>(row: &'a mut [u8; ROOM], caller: u8, next: u64) -> &'a [u8]
+    ensures row { result.now ≡ look_row caller next }
     ensures in_range { IsLogRow (Look caller next) }
 {
-    let mut row = ended();
-    put_field(&mut row, next);
-    put_first(&mut row, b"look,", u64::from(caller));
-    row
+    let start = put_line_feed(row);
+    let start = put_field(row, start, next);
+    let start = put_first(row, start, b"look,", u64::from(caller));
+    row_from(row, start)
 }
 
-/// The row of an opened cycle, with its flagged slots and the length of its synchronous window in bit times.
-pub fn open_row(cycle: u64, mask: Mask, width: u32) -> RowWriter
-    ensures row { result ≡ opened_row cycle mask width }
+/// Makes the row of an opened cycle, with its flagged slots and the length of its synchronous window in bit times.
+pub fn open_row<'a>(row: &'a mut [u8; ROOM], cycle: u64, mask: Mask, width: u32) -> &'a [u8]
+    ensures row { result.now ≡ opened_row cycle mask width }
     ensures in_range { IsLogRow (Open cycle mask width) }
 {
-    let mut row = ended();
-    put_field(&mut row, u64::from(width));
-    row.hex(MASK_DIGITS, mask.bits() as u64);
-    row.byte(b',');
-    put_first(&mut row, b"open,", cycle);
-    row
+    let start = put_line_feed(row);
+    let start = put_field(row, start, u64::from(width));
+    let start = put_mask(row, start, mask.bits() as u64);
+    let start = put_byte(row, start, b',');
+    let start = put_first(row, start, b"open,", cycle);
+    row_from(row, start)
 }
 
-/// The row of a frame.
-pub fn frame_row(sent: &TimedFrame) -> RowWriter
-    ensures row { result ≡ frame_row sent.now }
+/// Makes the row of a frame.
+pub fn frame_row<'a>(row: &'a mut [u8; ROOM], sent: &TimedFrame) -> &'a [u8]
+    ensures row { result.now ≡ frame_row sent.now }
     ensures in_range { IsLogRow (Frame sent.now) }
 {
     let (start, len) = (sent.start, sent.len);
-    let mut row = ended();
-    row.data_bytes(&sent.frame);
-    row.byte(b',');
-    row.hex(IDENTIFIER_DIGITS, u64::from(sent.frame.id()));
-    row.byte(b',');
-    put_field(&mut row, u64::from(len));
-    put_first(&mut row, b"frame,", start);
-    row
+    let place = put_line_feed(row);
+    let place = put_data_bytes(row, place, &sent.frame);
+    let place = put_byte(row, place, b',');
+    let place = put_identifier(row, place, sent.frame.id());
+    let place = put_byte(row, place, b',');
+    let place = put_field(row, place, u64::from(len));
+    let place = put_first(row, place, b"frame,", start);
+    row_from(row, place)
 }
 
-/// The last row, with the number of opened cycles.
-pub fn end_row(next: u64) -> RowWriter
-    ensures row { result ≡ end_row next }
+/// Makes the last row, with the number of opened cycles.
+pub fn end_row<'a>(row: &'a mut [u8; ROOM], next: u64) -> &'a [u8]
+    ensures row { result.now ≡ end_row next }
     ensures in_range { IsLogRow (End next) }
 {
-    let mut row = ended();
-    put_first(&mut row, b"end,", next);
-    row
+    let start = put_line_feed(row);
+    let start = put_first(row, start, b"end,", next);
+    row_from(row, start)
 }
 
 /// Appends the row of a change.
@@ -197,7 +205,8 @@ pub fn push_submit_row(
     ensures err { OnErr result (text.new.items ≡ text.old.items) }
     ensures in_range { IsLogRow (Submit caller from (verdict_told verdict.now)) }
 {
-    text.extend_from_slice(submit_row(caller, from, verdict).as_slice())
+    let mut row = [0; ROOM];
+    text.extend_from_slice(submit_row(&mut row, caller, from, verdict))
 }
 
 /// Appends the rows of a plan, one for each cycle from `from` on, below 2^63.
@@ -207,8 +216,9 @@ pub fn push_plan_rows(text: &mut Vec<u8>, from: u64, masks: &[Mask]) -> Result<(
     ensures err { OnErr result (take (length text.old.items) text.new.items ≡ text.old.items) }
     ensures in_range { OnOk result (All IsLogRow (plan_told from masks.now)) }
 {
+    let mut row = [0; ROOM];
     for (number, mask) in masks.iter().enumerate() {
-        text.extend_from_slice(plan_row(from + number as u64, *mask).as_slice())?;
+        text.extend_from_slice(plan_row(&mut row, from + number as u64, *mask))?;
     }
     Ok(())
 }
@@ -219,7 +229,8 @@ pub fn push_look_row(text: &mut Vec<u8>, caller: u8, next: u64) -> Result<(), Al
     ensures err { OnErr result (text.new.items ≡ text.old.items) }
     ensures in_range { IsLogRow (Look caller next) }
 {
-    text.extend_from_slice(look_row(caller, next).as_slice())
+    let mut row = [0; ROOM];
+    text.extend_from_slice(look_row(&mut row, caller, next))
 }
 
 /// Appends the row of an opened cycle.
@@ -233,7 +244,8 @@ pub fn push_open_row(
     ensures err { OnErr result (text.new.items ≡ text.old.items) }
     ensures in_range { IsLogRow (Open cycle mask width) }
 {
-    text.extend_from_slice(open_row(cycle, mask, width).as_slice())
+    let mut row = [0; ROOM];
+    text.extend_from_slice(open_row(&mut row, cycle, mask, width))
 }
 
 /// Appends the rows of frames.
@@ -242,8 +254,9 @@ pub fn push_frame_rows(text: &mut Vec<u8>, frames: &[TimedFrame]) -> Result<(), 
     ensures err { OnErr result (take (length text.old.items) text.new.items ≡ text.old.items) }
     ensures in_range { OnOk result (All IsLogRow (map Frame frames.now)) }
 {
+    let mut row = [0; ROOM];
     for sent in frames {
-        text.extend_from_slice(frame_row(sent).as_slice())?;
+        text.extend_from_slice(frame_row(&mut row, sent))?;
     }
     Ok(())
 }
@@ -253,5 +266,6 @@ pub fn push_end_row(text: &mut Vec<u8>, next: u64) -> Result<(), AllocError>
     ensures ok { OnOk result (text.new.items ≡ text.old.items ++ end_row next) }
     ensures in_range { IsLogRow (End next) }
 {
-    text.extend_from_slice(end_row(next).as_slice())
+    let mut row = [0; ROOM];
+    text.extend_from_slice(end_row(&mut row, next))
 }

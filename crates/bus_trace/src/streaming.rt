@@ -13,6 +13,7 @@ ghost use Rattle.bus_trace.specs.Logged.{IsNear};
 ghost use Rattle.bus_trace.specs.Row.{IsLogRow};
 ghost use Rattle.bus_trace.specs.declared.row.LogRow.TheVariants.{Frame as FrameRow, End};
 
+use crate::row_parts::ROOM;
 use crate::rows::{
     end_row, frame_row, look_row, open_row, plan_row, push_frame_rows, push_look_row,
     push_open_row, push_plan_rows, push_submit_row, submit_row,
@@ -109,8 +110,9 @@ fn put_plan_rows<O: Sink>(out: &mut O, from: u64, masks: &[Mask]) -> Result<(), 
     ensures prefix { OnErr result (PutsPrefix (O.told_bytes out.old) (O.told_bytes out.new) (plan_rows from masks.now)) }
     ensures in_range { OnOk result (All IsLogRow (plan_told from masks.now)) }
 {
+    let mut row = [0; ROOM];
     for (number, mask) in masks.iter().enumerate() {
-        write_all(out, plan_row(from + number as u64, *mask).as_slice())?;
+        write_all(out, plan_row(&mut row, from + number as u64, *mask))?;
     }
     Ok(())
 }
@@ -123,8 +125,9 @@ fn put_frame_rows<O: Sink>(out: &mut O, frames: &[TimedFrame]) -> Result<(), Fai
     ensures prefix { OnErr result (PutsPrefix (O.told_bytes out.old) (O.told_bytes out.new) (flat_map frame_row frames.now)) }
     ensures in_range { OnOk result (All IsLogRow (map FrameRow frames.now)) }
 {
+    let mut row = [0; ROOM];
     for sent in frames {
-        write_all(out, frame_row(sent).as_slice())?;
+        write_all(out, frame_row(&mut row, sent))?;
     }
     Ok(())
 }
@@ -147,6 +150,7 @@ pub fn put_event_rows<O: Sink>(
     ensures prefix { OnErr result (PutsPrefix (O.told_bytes out.old) (O.told_bytes out.new) (rows_of_event event.now frames.now)) }
     ensures in_range { OnOk result (All IsLogRow (told_of_event event.now frames.now)) }
 {
+    let mut row = [0; ROOM];
     match event {
         Event::Submit {
             caller,
@@ -155,14 +159,14 @@ pub fn put_event_rows<O: Sink>(
             trail,
             ..
         } => {
-            write_all(out, submit_row(*caller, *from, verdict).as_slice())?;
+            write_all(out, submit_row(&mut row, *caller, *from, verdict))?;
             put_plan_rows(out, *from, trail.as_slice())
         }
-        Event::Look { caller, next } => write_all(out, look_row(*caller, *next).as_slice()),
+        Event::Look { caller, next } => { write_all(out, look_row(&mut row, *caller, *next)) }
         Event::Open { cycle, mask } => {
             write_all(
                 out,
-                open_row(*cycle, *mask, width_told_in(frames)).as_slice(),
+                open_row(&mut row, *cycle, *mask, width_told_in(frames)),
             )?;
             put_frame_rows(out, frames)
         }
@@ -181,5 +185,6 @@ pub fn put_end_row<O: Sink>(out: &mut O, next: u64) -> Result<(), Failed>
     ensures prefix { OnErr result (PutsPrefix (O.told_bytes out.old) (O.told_bytes out.new) (end_row next)) }
     ensures in_range { IsLogRow (End next) }
 {
-    write_all(out, end_row(next).as_slice())
+    let mut row = [0; ROOM];
+    write_all(out, end_row(&mut row, next))
 }

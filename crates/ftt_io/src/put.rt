@@ -37,7 +37,30 @@ pub trait Sink {
 
 /// Puts all of the bytes, in as many pieces as the sink makes of them. At `Failed` it put those
 /// before the piece that failed.
+///
+/// A sink that takes them at once, as one that gathers bytes does, costs one call.
+#[inline(always)]
 pub fn write_all<O: Sink>(sink: &mut O, bytes: &[u8]) -> Result<(), Failed>
+    ensures faults_never_fall { O.faults sink.old ≤ O.faults sink.new }
+    ensures all { OnOk result (Puts (O.told_bytes sink.old) (O.told_bytes sink.new) bytes.now) }
+    ensures failed { OnErr result (Rose (O.faults sink.old) (O.faults sink.new)) }
+    ensures prefix { OnErr result
+        (PutsPrefix (O.told_bytes sink.old) (O.told_bytes sink.new) bytes.now) }
+{
+    if bytes.is_empty() {
+        return Ok(());
+    }
+    let taken = sink.put(bytes)?;
+    if taken == bytes.len() {
+        return Ok(());
+    }
+    write_rest(sink, &bytes[taken..])
+}
+
+/// Puts the bytes that a first piece has left.
+#[cold]
+#[inline(never)]
+fn write_rest<O: Sink>(sink: &mut O, bytes: &[u8]) -> Result<(), Failed>
     ensures faults_never_fall { O.faults sink.old ≤ O.faults sink.new }
     ensures all { OnOk result (Puts (O.told_bytes sink.old) (O.told_bytes sink.new) bytes.now) }
     ensures failed { OnErr result (Rose (O.faults sink.old) (O.faults sink.new)) }

@@ -60,6 +60,7 @@ impl<W: Write + Drop> Sink for StdSink<W> {
 
     ghost faults = { λ sink. sink.faults };
 
+    #[inline(always)]
     fn put(&mut self, piece: &[u8]) -> Result<usize, Failed> {
         let taken = self.writer.write(piece).unwrap_or(0);
         if taken == 0 {
@@ -70,6 +71,7 @@ impl<W: Write + Drop> Sink for StdSink<W> {
 }
 
 /// Counts a fault, and answers it.
+#[cold]
 fn count_fault(faults: &mut u64) -> Failed
     ensures raised { faults.new ≡ next_count faults.old }
     ensures never_falls { faults.old ≤ faults.new }

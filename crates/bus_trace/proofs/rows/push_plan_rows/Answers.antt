@@ -14,7 +14,7 @@ loop-number-preserved c =
     let count = length-take-le i masks (omega (arith, c.loop-number-test.true)) in
     let more = take_more masks i mask c.loop-number-test.true ∙ ap (λ m. take i masks ++ m ∷ []) (sym c.index-masks-number.is) in (
       c.in_ok-extend_from_slice.ensures.items
-          ∙ ap (λ l. c.loop-number.text.items ++ l) (c.as_slice.ensures.bytes ∙ c.plan_row.ensures.row)
+          ∙ ap (λ l. c.loop-number.text.items ++ l) c.plan_row.ensures.row
           ∙ ap (λ l. l ++ plan_row at mask) c.loop-number.invariant.0
           ∙ append_assoc start (plan_rows c.args.from (take i masks)) (plan_row at mask)
           ∙ ap (λ l. start ++ l) (sym (plan_rows-push c.args.from at (take i masks) mask (omega (arith, count))))

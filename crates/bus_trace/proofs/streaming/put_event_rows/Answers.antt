@@ -15,42 +15,42 @@ use Rattle.bus_trace.proofs.streaming.put_event_rows.Goals as goal
 
 pub returns-in_err-write_all-in-Submit-clause-prefix : goal.returns-in_err-write_all-in-Submit-clause-prefix
 returns-in_err-write_all-in-Submit-clause-prefix g c =
-    let row = c.as_slice.ensures.bytes ∙ c.submit_row.ensures.row in
+    let row = c.submit_row.ensures.row in
     let front = subst (PutsPrefix (g.O.Sink.told_bytes c.args.out.now) (g.O.Sink.told_bytes c.write_all.new.sink)) row c.in_err-write_all-in-Submit.ensures.prefix in
     let all = PutsPrefix-longer (plan_rows c.in-Submit.from c.in-Submit.trail) front in
     search (rules, all)
 
 pub returns-in_err-write_all-in-Open-clause-prefix : goal.returns-in_err-write_all-in-Open-clause-prefix
 returns-in_err-write_all-in-Open-clause-prefix g c =
-    let row = c.as_slice-in-Open.ensures.bytes ∙ c.open_row.ensures.row ∙ ap (opened_row c.in-Open.cycle c.in-Open.mask) c.width_told_in.ensures.width in
+    let row = c.open_row.ensures.row ∙ ap (opened_row c.in-Open.cycle c.in-Open.mask) c.width_told_in.ensures.width in
     let front = subst (PutsPrefix (g.O.Sink.told_bytes c.args.out.now) (g.O.Sink.told_bytes c.write_all-in-Open.new.sink)) row c.in_err-write_all-in-Open.ensures.prefix in
     let all = PutsPrefix-longer (flat_map frame_row c.args.frames.now) front in
     search (rules, all)
 
 pub returns-in_ok-write_all-in-Submit-clause-all : goal.returns-in_ok-write_all-in-Submit-clause-all
 returns-in_ok-write_all-in-Submit-clause-all g c =
-    let row = c.as_slice.ensures.bytes ∙ c.submit_row.ensures.row in
+    let row = c.submit_row.ensures.row in
     rw c.in-Submit.is (all-behind c.put_plan_rows.result _ _ _ _ _
     (subst (Puts (g.O.Sink.told_bytes c.args.out.now) (g.O.Sink.told_bytes c.write_all.new.sink)) row c.in_ok-write_all-in-Submit.ensures.all)
-    (subst (λ masks. OnOk c.put_plan_rows.result (Puts (g.O.Sink.told_bytes c.write_all.new.sink) (g.O.Sink.told_bytes c.put_plan_rows.new.out) (plan_rows c.in-Submit.from masks))) c.as_slice-in-Submit.ensures.list c.put_plan_rows.ensures.all))
+    (subst (λ masks. OnOk c.put_plan_rows.result (Puts (g.O.Sink.told_bytes c.write_all.new.sink) (g.O.Sink.told_bytes c.put_plan_rows.new.out) (plan_rows c.in-Submit.from masks))) c.as_slice.ensures.list c.put_plan_rows.ensures.all))
 
 pub returns-in_ok-write_all-in-Submit-clause-prefix : goal.returns-in_ok-write_all-in-Submit-clause-prefix
 returns-in_ok-write_all-in-Submit-clause-prefix g c =
-    let row = c.as_slice.ensures.bytes ∙ c.submit_row.ensures.row in
+    let row = c.submit_row.ensures.row in
     rw c.in-Submit.is (prefix-behind c.put_plan_rows.result _ _ _ _ _
     (subst (Puts (g.O.Sink.told_bytes c.args.out.now) (g.O.Sink.told_bytes c.write_all.new.sink)) row c.in_ok-write_all-in-Submit.ensures.all)
-    (subst (λ masks. OnErr c.put_plan_rows.result (PutsPrefix (g.O.Sink.told_bytes c.write_all.new.sink) (g.O.Sink.told_bytes c.put_plan_rows.new.out) (plan_rows c.in-Submit.from masks))) c.as_slice-in-Submit.ensures.list c.put_plan_rows.ensures.prefix))
+    (subst (λ masks. OnErr c.put_plan_rows.result (PutsPrefix (g.O.Sink.told_bytes c.write_all.new.sink) (g.O.Sink.told_bytes c.put_plan_rows.new.out) (plan_rows c.in-Submit.from masks))) c.as_slice.ensures.list c.put_plan_rows.ensures.prefix))
 
 pub returns-in_ok-write_all-in-Open-clause-all : goal.returns-in_ok-write_all-in-Open-clause-all
 returns-in_ok-write_all-in-Open-clause-all g c =
-    let row = c.as_slice-in-Open.ensures.bytes ∙ c.open_row.ensures.row ∙ ap (opened_row c.in-Open.cycle c.in-Open.mask) c.width_told_in.ensures.width in
+    let row = c.open_row.ensures.row ∙ ap (opened_row c.in-Open.cycle c.in-Open.mask) c.width_told_in.ensures.width in
     rw c.in-Open.is (all-behind c.put_frame_rows.result _ _ _ _ _
     (subst (Puts (g.O.Sink.told_bytes c.args.out.now) (g.O.Sink.told_bytes c.write_all-in-Open.new.sink)) row c.in_ok-write_all-in-Open.ensures.all)
     c.put_frame_rows.ensures.all)
 
 pub returns-in_ok-write_all-in-Open-clause-prefix : goal.returns-in_ok-write_all-in-Open-clause-prefix
 returns-in_ok-write_all-in-Open-clause-prefix g c =
-    let row = c.as_slice-in-Open.ensures.bytes ∙ c.open_row.ensures.row ∙ ap (opened_row c.in-Open.cycle c.in-Open.mask) c.width_told_in.ensures.width in
+    let row = c.open_row.ensures.row ∙ ap (opened_row c.in-Open.cycle c.in-Open.mask) c.width_told_in.ensures.width in
     rw c.in-Open.is (prefix-behind c.put_frame_rows.result _ _ _ _ _
     (subst (Puts (g.O.Sink.told_bytes c.args.out.now) (g.O.Sink.told_bytes c.write_all-in-Open.new.sink)) row c.in_ok-write_all-in-Open.ensures.all)
     c.put_frame_rows.ensures.prefix)

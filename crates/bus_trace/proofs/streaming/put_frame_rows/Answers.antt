@@ -1,4 +1,4 @@
-use Rattle.std.proofs.Common.{◌+◌, sym, ◌∙◌, subst, arith, rules, drop}
+use Rattle.std.proofs.Common.{◌+◌, sym, subst, arith, rules, drop}
 use Rattle.std.specs.List.{flat_map}
 use Rattle.ftt_io.specs.Puts.{Puts, PutsPrefix}
 use Rattle.ftt_io.proofs.Shared.{PutsUpTo-next, PutsUpTo-stops}
@@ -9,7 +9,7 @@ use Rattle.bus_trace.proofs.streaming.put_frame_rows.Goals as goal
 pub returns-in_err-write_all-clause-prefix : goal.returns-in_err-write_all-clause-prefix
 returns-in_err-write_all-clause-prefix g c =
     let sent = c.sent-item.result in
-    let row = c.as_slice.ensures.bytes ∙ c.frame_row.ensures.row in
+    let row = c.frame_row.ensures.row in
     let all = PutsUpTo-stops (frame_row sent) (flat_map frame_row (drop (c.loop-sent.sent-index + 1) c.args.frames.now)) c.loop-sent.invariant.put
     (frame_rows-at c.args.frames.now c.loop-sent.sent-index sent sent c.loop-sent-test.true (sym c.sent-item.is))
     (subst (PutsPrefix (g.O.Sink.told_bytes c.loop-sent.out) (g.O.Sink.told_bytes c.write_all.new.sink)) row c.in_err-write_all.ensures.prefix) in
@@ -18,7 +18,7 @@ returns-in_err-write_all-clause-prefix g c =
 pub loop-sent-preserved : goal.loop-sent-preserved
 loop-sent-preserved g c =
     let sent = c.sent-item.result in
-    let row = c.as_slice.ensures.bytes ∙ c.frame_row.ensures.row in
+    let row = c.frame_row.ensures.row in
     record {
       put = PutsUpTo-next (frame_row sent) _ c.loop-sent.invariant.put
           (frame_rows-at c.args.frames.now c.loop-sent.sent-index sent sent c.loop-sent-test.true (sym c.sent-item.is))

@@ -1,4 +1,4 @@
-use Rattle.std.proofs.Common.{◌+◌, sym, ◌∙◌, subst, arith, rules, drop}
+use Rattle.std.proofs.Common.{◌+◌, sym, subst, arith, rules, drop}
 use Rattle.ftt_io.specs.Puts.{Puts, PutsPrefix}
 use Rattle.ftt_io.proofs.Shared.{PutsUpTo-next, PutsUpTo-stops}
 use Rattle.bus_trace.specs.Log.{plan_row, plan_rows}
@@ -10,7 +10,7 @@ pub returns-in_err-write_all-clause-prefix : goal.returns-in_err-write_all-claus
 returns-in_err-write_all-clause-prefix g c =
     let i = c.loop-number.number in
     let mask = c.index-masks-number.result in
-    let row = c.as_slice.ensures.bytes ∙ c.plan_row.ensures.row in
+    let row = c.plan_row.ensures.row in
     let all = PutsUpTo-stops (plan_row (c.args.from + i) mask) (plan_rows (c.args.from + (i + 1)) (drop (i + 1) c.args.masks.now)) c.loop-number.invariant.put
     (plan_rows-at c.args.from c.args.masks.now i mask mask c.loop-number-test.true (sym c.index-masks-number.is))
     (subst (PutsPrefix (g.O.Sink.told_bytes c.loop-number.out) (g.O.Sink.told_bytes c.write_all.new.sink)) row c.in_err-write_all.ensures.prefix) in
@@ -20,7 +20,7 @@ pub loop-number-preserved : goal.loop-number-preserved
 loop-number-preserved g c =
     let i = c.loop-number.number in
     let mask = c.index-masks-number.result in
-    let row = c.as_slice.ensures.bytes ∙ c.plan_row.ensures.row in
+    let row = c.plan_row.ensures.row in
     record {
       put = PutsUpTo-next (plan_row (c.args.from + i) mask) _ c.loop-number.invariant.put
           (plan_rows-at c.args.from c.args.masks.now i mask mask c.loop-number-test.true (sym c.index-masks-number.is))

@@ -1,6 +1,6 @@
 use Rattle.std.proofs.Common.{◌≤◌, length}
 use Rattle.ftt_io.proofs.Shared.{PutsUpTo}
-use Rattle.ftt_io.proofs.put.write_all.Given as goal
+use Rattle.ftt_io.proofs.put.write_rest.Given as goal
 
 abbrev pub invariant-loop-rest : goal.invariant-loop-rest
 invariant-loop-rest g l =
