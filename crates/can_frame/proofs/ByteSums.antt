@@ -1,5 +1,5 @@
 -- The CRC sequence as a sum over bytes: each entry of the table, and what a sum of entries leaves.
-use Rattle.std.proofs.Common.{◌≡◌, ℕ, zero, suc, ◌+◌, ◌-◌, ◌*◌, ◌/◌, ◌%◌, ◌^◌, ◌<◌, ◌≤◌, Bool, true, cond, ltb, List, [], ◌∷◌, ◌++◌, length, take, get_or, bit_xor, append_assoc, refl, sym, ap, ◌∙◌, arith}
+use Rattle.std.proofs.Common.{◌≡◌, ℕ, zero, suc, ◌+◌, ◌-◌, ◌*◌, ◌/◌, ◌%◌, ◌^◌, ◌<◌, ◌≤◌, Bool, true, cond, ltb, List, [], ◌∷◌, ◌++◌, length, take, get_or, bit_xor, append_assoc, refl, sym, ap, subst, ◌∙◌, arith}
 use Rattle.std.specs.List.{flat_map}
 use Rattle.std.proofs.Math.Nat.{mul_comm, mul_assoc, pow-suc, mul-lt-mul_of_pos_right}
 use Rattle.std.proofs.lemmas.List.{append-nil, take_more, take_all}
@@ -99,20 +99,19 @@ so_far-more id n byte bytes small =
     ∙ number-behind (header id n ++ flat_map (bits 8) bytes) byte small
 
 -- one data byte more
-pub next-share : (id n : ℕ) (bytes : List ℕ) (place len byte behind sum share : ℕ) → place < length bytes → byte ≡ get_or bytes place 0 → byte < 256 → len ≡ length bytes → behind ≡ len - 1 - place
-    → IsRemainder (so_far id n (take place bytes) * 2 ^ (15 + 8 * (len - place))) sum → IsRemainder (byte * 2 ^ (15 + 8 * behind)) share
-    → IsRemainder (so_far id n (take (place + 1) bytes) * 2 ^ (15 + 8 * (len - (place + 1)))) (bit_xor sum share)
-next-share id n bytes place len byte behind sum share inside byte_is small all behind_is h k =
-    let before : len - place ≡ behind + 1 = omega arith in
-    let after : len - (place + 1) ≡ behind = omega arith in
+pub next-share : (id n : ℕ) (bytes : List ℕ) (place byte behind sum share : ℕ) → place < length bytes → byte ≡ get_or bytes place 0 → byte < 256 → 0 < behind
+    → IsRemainder (so_far id n (take place bytes) * 2 ^ (15 + 8 * behind)) sum → IsRemainder (byte * 2 ^ (15 + 8 * (behind - 1))) share
+    → IsRemainder (so_far id n (take (place + 1) bytes) * 2 ^ (15 + 8 * (behind - 1))) (bit_xor sum share)
+next-share id n bytes place byte behind sum share inside byte_is small some h k =
+    let before : behind ≡ behind - 1 + 1 = omega arith in
     let grown : take (place + 1) bytes ≡ take place bytes ++ byte ∷ [] = take_more bytes place 0 inside ∙ ap (λ next. take place bytes ++ next ∷ []) (sym byte_is) in
     let more : so_far id n (take (place + 1) bytes) ≡ 0x100 * so_far id n (take place bytes) + byte = ap (so_far id n) grown ∙ so_far-more id n byte (take place bytes) small in
-    rw (after, more) (more-share (so_far id n (take place bytes)) byte behind sum share small (rw before at h) k)
+    let h' : IsRemainder (so_far id n (take place bytes) * 2 ^ (15 + 8 * (behind - 1 + 1))) sum = subst (λ left. IsRemainder (so_far id n (take place bytes) * 2 ^ (15 + 8 * left)) sum) before h in
+    rw more (more-share (so_far id n (take place bytes)) byte (behind - 1) sum share small h' k)
 
 -- and all of them
-pub whole-sum : (id n : ℕ) (bytes : List ℕ) (place len sum : ℕ) → len ≤ place → length bytes ≡ len → IsRemainder (so_far id n (take place bytes) * 2 ^ (15 + 8 * (len - place))) sum
+pub whole-sum : (id n : ℕ) (bytes : List ℕ) (place behind sum : ℕ) → length bytes ≤ place → behind ≡ 0 → IsRemainder (so_far id n (take place bytes) * 2 ^ (15 + 8 * behind)) sum
     → IsSequence (header id n ++ flat_map (bits 8) bytes) sum
-whole-sum id n bytes place len sum end all h =
-    let none : 15 + 8 * (len - place) ≡ 15 = omega arith in
-    let taken : take place bytes ≡ bytes = take_all place bytes (omega arith) in
+whole-sum id n bytes place behind sum end none h =
+    let taken : take place bytes ≡ bytes = take_all place bytes end in
     rw none at (rw taken at h)

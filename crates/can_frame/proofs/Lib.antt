@@ -5,6 +5,6 @@ mod Fields
 mod Finish
 mod OneAnswer
 mod Plain
-mod PlainBytes
+mod PlainFields
 mod Remainder
 mod Steps

@@ -101,6 +101,14 @@ impl Frame {
         self.len
     }
 
+    /// The data bytes, in the order of sending.
+    pub fn bytes(&self) -> &[u8]
+        ensures value { result.now ≡ self.now.bytes }
+        ensures range { length result.now ≤ 8 }
+    {
+        &self.bytes[..self.len as usize]
+    }
+
     /// The data byte at a place, counted from 0 in the order of sending.
     pub fn byte(&self, place: u8) -> u8
         requires within { place < length self.now.bytes }

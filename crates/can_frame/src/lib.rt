@@ -5,8 +5,8 @@
 mod bit_list;
 mod data_frame;
 pub mod laws;
-mod packing;
 mod reader;
+mod sending;
 mod sequence;
 mod shares;
 #[cfg(test)]

@@ -43,10 +43,11 @@ pub fn crc(frame: &Frame) -> u16
     ensures remainder { IsSequence (covered frame.now) result }
     ensures range { result < 2 ^ 15 }
 {
-    let len = usize::from(frame.dlc());
-    let mut sum = header_share(header_number(frame), len);
-    for place in 0..frame.dlc() {
-        sum ^= share(len - 1 - usize::from(place), frame.byte(place));
+    let mut behind = usize::from(frame.dlc());
+    let mut sum = header_share(header_number(frame), behind);
+    for byte in frame.bytes() {
+        behind -= 1;
+        sum ^= share(behind, *byte);
     }
     sum
 }

@@ -156,6 +156,7 @@ fn frames_of_the_tables(rt: HostRuntime) -> Result<(), Fail> {
         let all = data.to_be_bytes();
         assert!(rt; count <= all.len());
         let frame = Frame::new(id, &all[all.len() - count..])?;
+        assert_eq!(rt; frame.bytes(), &all[all.len() - count..]);
         assert_eq!(rt; wire_len(&frame), length, "wire length of {id:#x}");
         assert_eq!(rt; crc(&frame), sequence, "CRC sequence of {id:#x}");
         let bits = wire(rt.alloc(), &frame)?;

@@ -6,10 +6,10 @@ ghost use Rattle.can_frame.specs.Wire.{covered, plain, wire_of, wire_length};
 
 use crate::bit_list::BitList;
 use crate::data_frame::Frame;
-use crate::packing::plain_bytes;
+use crate::sending::after_plain;
 use crate::sequence::crc;
 use std::alloc::{AllocError, Global};
-use stuff_bound::{stuff, stuffed_len_bytes};
+use stuff_bound::stuff;
 
 /// A dominant bit, which is 0: it overrides a recessive one.
 const DOMINANT: bool = false;
@@ -58,7 +58,7 @@ pub fn wire_len(frame: &Frame) -> u32
     ensures at_most { result ≤ worst (length frame.now.bytes) }
 {
     let plain = 34 + 8 * u32::from(frame.dlc());
-    stuffed_len_bytes(&plain_bytes(frame), plain) + TRAILER.len() as u32
+    plain + after_plain(frame).stuff_bits() + TRAILER.len() as u32
 }
 
 /// The bits of a frame on the wire, in the order of sending, its three bits of intermission included.

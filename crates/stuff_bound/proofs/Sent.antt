@@ -9,7 +9,7 @@ use Rattle.std.proofs.lemmas.List.{reverse-append, length-reverse}
 use Rattle.stuff_bound.specs.Stuffing.{run, last_bit, with_stuff, stuffed}
 use Rattle.stuff_bound.specs.Fields.{bits}
 use Rattle.stuff_bound.specs.Sending.{sender_state, HasSent, behind_run, bit_step, one_more, steps, step_at}
-use Rattle.stuff_bound.proofs.Stuffs.{run-not, with_opposite-below, with_opposite-full, run-with_stuff-below, length-with_stuff-most}
+use Rattle.stuff_bound.proofs.Stuffs.{run-not, with_opposite-below, with_opposite-full, run-with_stuff-below, length-with_stuff-most, length-stuffed-most}
 
 -- what stands behind one more bit: its state, and a stuff bit where it is the fifth equal one
 behind-below : (count : ℕ) (bit : Bool) → count < 5 → behind_run count bit ≡ count + cond bit 5 0
@@ -123,13 +123,46 @@ steps-sent (suc room) (suc width) value state stuff_bits plain few small h =
     rw (steps-next room (2 ^ suc width + value) state (omega arith), half, odd, bits-newest width value plain) more
 
 -- what the entry of the table says happens
-pub entry-sent : (width value marked state stuff_bits step : ℕ) (plain : List Bool) → width ≤ 8 → value < 2 ^ width → state < 10 → marked ≡ 2 ^ width + value → step ≡ step_at (10 * marked + state)
+pub entry-sent : (width value marked state stuff_bits step : ℕ) (plain : List Bool) → width ≤ 8 → value < 2 ^ width → state < 10 → marked ≡ 2 ^ width + value → step ≡ step_at (16 * marked + state)
     → HasSent plain state stuff_bits → HasSent (reverse (bits width value) ++ plain) (step % 16) (stuff_bits + step / 16)
 unfolding step_at
 entry-sent width value marked state stuff_bits step plain few small in_range marked_is step_is h =
-    let row : (10 * marked + state) / 10 ≡ 2 ^ width + value = omega arith in
-    let column : (10 * marked + state) % 10 ≡ state = omega arith in
+    let row : (16 * marked + state) / 16 ≡ 2 ^ width + value = omega arith in
+    let column : (16 * marked + state) % 16 ≡ state = omega arith in
     rw (step_is, row, column) (steps-sent 8 width value state stuff_bits plain few small h)
+
+-- ---- each step leads to a state
+
+behind_run-small : (count : ℕ) (bit : Bool) → behind_run count bit % 16 < 10
+behind_run-small count true = elim (cases_lt count 5) [
+  | inl below ↦ rw (behind-below count true below) (omega arith)
+  | inr full ↦ rw (behind-full count true full) (omega arith)
+]
+behind_run-small count false = elim (cases_lt count 5) [
+  | inl below ↦ rw (behind-below count false below) (omega arith)
+  | inr full ↦ rw (behind-full count false full) (omega arith)
+]
+
+low-small : (higher next : ℕ) → next % 16 < 10 → (higher * 16 + next) % 16 < 10
+low-small higher next small = omega arith
+
+one_more-small : (step : ℕ) (bit : Bool) → one_more step bit % 16 < 10
+unfolding one_more bit_step
+one_more-small step bit = low-small (step / 16) _ (behind_run-small _ bit)
+
+steps-small : (width marked state : ℕ) → state < 10 → steps width marked state % 16 < 10
+unfolding steps
+steps-small zero marked state small = omega arith
+steps-small (suc width) marked state small = elim (cases_lt marked 2) [
+  | inl last ↦ rw (steps-last width marked state last) (omega arith)
+  | inr more ↦ rw (steps-next width marked state more) (one_more-small (steps width (marked / 2) state) (marked % 2 == 1))
+]
+
+pub step_at-small : (marked state : ℕ) → state < 10 → step_at (16 * marked + state) % 16 < 10
+unfolding step_at
+step_at-small marked state small =
+    let column : (16 * marked + state) % 16 ≡ state = omega arith in
+    rw column (steps-small 8 ((16 * marked + state) / 16) state small)
 
 -- a sender is in one of ten states
 pub HasSent-small : (plain : List Bool) (state stuff_bits : ℕ) → HasSent plain state stuff_bits → state < 10
@@ -148,3 +181,8 @@ pub HasSent-length : (plain : List Bool) (state stuff_bits : ℕ) → HasSent (r
 HasSent-length plain state stuff_bits h =
     let longer = h.longer in
     omega (arith, length-reverse plain, length-reverse (with_stuff (reverse plain)))
+
+-- so its stuff bits are fewer than a quarter of that
+pub HasSent-fewer : (plain : List Bool) (state stuff_bits : ℕ) → HasSent (reverse plain) state stuff_bits → 0 < length plain → 4 * stuff_bits + 1 ≤ length plain
+HasSent-fewer plain state stuff_bits h some =
+    omega (arith, HasSent-length plain state stuff_bits h, length-stuffed-most plain some)

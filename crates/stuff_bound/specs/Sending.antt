@@ -1,5 +1,5 @@
 -- Words for the contracts of a sender that is given many plain bits at once.
-use Rattle.std.specs.Prelude.{◌≡◌, ℕ, zero, suc, ◌+◌, ◌*◌, ◌/◌, ◌%◌, ◌==◌, nat_lt, nat_le, Bool, if◌then◌else◌, List, length}
+use Rattle.std.specs.Prelude.{◌≡◌, ℕ, zero, suc, ◌+◌, ◌*◌, ◌/◌, ◌%◌, ◌==◌, nat_lt, nat_le, Bool, if◌then◌else◌, List, length, reverse}
 use Rattle.std.specs.Bool.{beq}
 use Rattle.stuff_bound.specs.Stuffing.{last_bit, run, with_stuff}
 
@@ -7,10 +7,19 @@ use Rattle.stuff_bound.specs.Stuffing.{last_bit, run, with_stuff}
 abbrev pub sender_state : List Bool → ℕ
 sender_state sent = run sent + (if last_bit sent then 5 else 0)
 
+-- what a sender keeps: its state, and how many stuff bits it has sent
+pub record Counted : Type 0 where
+  pub state : ℕ
+  pub stuff_bits : ℕ
+
 -- a sender that was given these plain bits, newest first, is in this state and has sent so many stuff bits
 pub record HasSent (plain : List Bool) (state stuff_bits : ℕ) : Type 0 where
   pub at : state ≡ sender_state (with_stuff plain)
   pub longer : length (with_stuff plain) ≡ length plain + stuff_bits
+
+-- a sender that keeps this was given these plain bits, in the order of sending
+abbrev pub WasGiven : Counted → List Bool → Type 0
+WasGiven kept plain = HasSent (reverse plain) kept.state kept.stuff_bits
 
 -- ---- what one entry of the table of steps says: the next state, and 16 for each stuff bit that was sent on the way
 
@@ -35,4 +44,4 @@ steps (suc width) marked state =
 
 -- the entry at a place of the table
 unfoldable pub step_at : ℕ → ℕ
-step_at place = steps 8 (place / 10) (place % 10)
+step_at place = steps 8 (place / 16) (place % 16)

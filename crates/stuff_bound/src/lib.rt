@@ -12,6 +12,7 @@ mod steps;
 mod stuffing;
 
 pub use run::Run;
+pub use sender::Sender;
 pub use stuffing::{StuffFault, bound, stuff, stuffed_len, stuffed_len_bytes, unstuff};
 
 #[cfg(test)]

@@ -130,7 +130,7 @@ pub fn stuffed_len_bytes(bytes: &[u8], bits: u32) -> u32
     ensures at_least { bits ≤ result }
     ensures at_most { 0 < bits → 4 * result + 1 ≤ 5 * bits }
 {
-    bits + after_bits(bytes, bits).stuff_bits
+    bits + after_bits(bytes, bits).stuff_bits()
 }
 
 /// The worst length of a data frame with `dlc` data bytes, 0 to 8, in bit times: no frame of that many

@@ -88,3 +88,13 @@ fn lengths_by_bytes(rt: HostRuntime) {
         assert_eq!(rt; stuffed_len_bytes(bytes, bits), length, "{bits} bits");
     }
 }
+
+#[test]
+fn stuff_bits_of_a_sender(rt: HostRuntime) {
+    let sender = Sender::new().then(3, 0).then(6, 0x0F);
+    assert_eq!(rt; sender.stuff_bits(), 2);
+    assert_eq!(rt;
+        Sender::new().then_bytes(&[0x1F, 0xF0, 0x7C]).stuff_bits(),
+        3
+    );
+}
