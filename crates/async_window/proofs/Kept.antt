@@ -1,8 +1,8 @@
 -- What holds of kept mailboxes: when they are made, and when a request is taken away.
-use Rattle.std.proofs.Common.{◌≡◌, ◌≢◌, ℕ, suc, ◌+◌, ◌-◌, ◌/◌, ◌^◌, ◌<◌, ◌≤◌, cond, eqb, List, [], ◌∷◌, length, get_or, set, drop, map, All, AllPairs, Contains, IsPermutation, ◌⊎◌, ◌↔◌, Some, inl, inr, refl, sym, ap, ◌∙◌, subst, arith}
+use Rattle.std.proofs.Common.{◌≡◌, ◌≢◌, ℕ, suc, ◌+◌, ◌-◌, ◌/◌, ◌^◌, ◌<◌, ◌≤◌, Bool, true, false, cond, eqb, List, [], ◌∷◌, length, get_or, set, drop, map, All, AllPairs, Contains, IsPermutation, ◌⊎◌, ◌↔◌, Some, inl, inr, refl, sym, ap, ◌∙◌, subst, arith}
 use Rattle.std.specs.List.{slice_get}
-use Rattle.std.specs.Option.{IsSome}
-use Rattle.std.proofs.lemmas.Bool.{cases_lt, false≢true}
+use Rattle.std.specs.Option.{IsSome, is_some}
+use Rattle.std.proofs.lemmas.Bool.{cases_Bool, cases_lt, false≢true}
 use Rattle.std.proofs.lemmas.Bool.Decides.{eqb_tells}
 use Rattle.std.proofs.lemmas.List.{take_all}
 use Rattle.std.proofs.lemmas.List.Elements.{All-map, All-filter, All-drop, Contains-get_or}
@@ -15,7 +15,7 @@ use Rattle.async_window.specs.Sorted.{AreKept, AreShort, IsPlaceOf, mail_of, now
 use Rattle.async_window.proofs.Unsent.{AllPairs-map, Contains-later, IsMail-after, IsMail-without, taken_from-identifier, taken_from-keeps, unsent_of-among, unsent_of-elsewhere, unsent_of-without, without_first-identifiers, without_head}
 use Rattle.async_window.proofs.Order.{distinct-permutation}
 use Rattle.async_window.proofs.Table.{few-rising, no_place, place-identifier, unsent_of-at, unsent_of-nowhere}
-use Rattle.async_window.proofs.Steps.{HasPut, IsMail-put, IsPlaceTable-put, left-without, rising-put, set-without_first}
+use Rattle.async_window.proofs.Steps.{HasPut, IsMail-put, IsPlaceTable-put, left-without, rising-put, set-without_first, without_first-nothing}
 use Rattle.async_window.proofs.Trees.{IsTournamentBut-leaf}
 
 contains_or : (ids : List ℕ) (id : ℕ) → Contains ids id ⊎ (Contains ids id → ⊥)
@@ -126,6 +126,10 @@ mail_of-without id boxes (first ∷ ids) =
     ] in
     ap (λ x. x ∷ mail_of ids (without_first id boxes)) head ∙ ap (λ later. taken_from id box ∷ later) (mail_of-without id boxes ids)
 
+no-first : (unsent : List Request) → is_some (slice_get unsent 0) ≡ false → unsent ≡ []
+no-first [] none = refl
+no-first (request ∷ later) none = absurd (false≢true (sym none))
+
 module _ (ids : List ℕ) (boxes : List Mail) (table : List ℕ) (levels : ℕ) (nodes : List (List ℕ)) (remaining : ℕ)
     (kept : AreKept ids boxes table levels nodes remaining) where
   pub few-boxes : length boxes ≤ 2048
@@ -141,6 +145,38 @@ module _ (ids : List ℕ) (boxes : List Mail) (table : List ℕ) (levels : ℕ) 
   pub unsent-nowhere : (id place : ℕ) → IsPlaceOf table id place → length boxes ≤ place → unsent_of (mail_of ids boxes) id ≡ []
   unsent-nowhere id place is past =
       kept.same id ∙ unsent_of-nowhere boxes id (no_place boxes table id place few-boxes kept.places is kept.known.greatest past)
+
+  -- whether an identifier has an unsent request, by the mailbox at its place
+  request-placed : (id place : ℕ) (found : Bool) → IsPlaceOf table id place → (found ≡ true → place < length boxes)
+      → ((d : Mail) → place < length boxes → found ≡ is_some (slice_get (get_or boxes place d).unsent 0))
+      → found ≡ is_some (slice_get (unsent_of (mail_of ids boxes) id) 0)
+  request-placed id place found is within some =
+      elim (cases_lt place (length boxes)) [
+        | inl inside ↦
+            let d : Mail = record { identifier = 0; unsent = [] } in
+            some d inside ∙ ap (λ xs. is_some (slice_get xs 0)) (sym (unsent-placed id place d is inside))
+        | inr past ↦
+            let nothing : false ≡ is_some (slice_get (unsent_of (mail_of ids boxes) id) 0)
+            = ap (λ xs. is_some (slice_get xs 0)) (sym (unsent-nowhere id place is past)) in
+            elim (cases_Bool found) [
+              | inl passed ↦ absurd (let inside : place < length boxes = within passed in omega arith)
+              | inr failed ↦ failed ∙ nothing
+            ]
+      ]
+
+  pub some-request : (id place : ℕ) (found : Bool) (slice : List Mail) → IsPlaceOf table id place → slice ≡ boxes
+      → (found ≡ true → place < length slice)
+      → ((d : Mail) → place < length slice → found ≡ is_some (slice_get (get_or slice place d).unsent 0))
+      → found ≡ is_some (slice_get (unsent_of (mail_of ids boxes) id) 0)
+  some-request id place found slice is same within some =
+      request-placed id place found is (subst (λ (mail : List Mail). found ≡ true → place < length mail) same within)
+      (subst (λ (mail : List Mail). (d : Mail) → place < length mail → found ≡ is_some (slice_get (get_or mail place d).unsent 0)) same some)
+
+  -- where it has none, taking one away changes nothing
+  pub nothing-taken : (id : ℕ) → false ≡ is_some (slice_get (unsent_of (mail_of ids boxes) id) 0)
+      → mail_of ids boxes ≡ without_first id (mail_of ids boxes)
+  nothing-taken id none =
+      sym (without_first-nothing id (mail_of ids boxes) kept.mail (no-first (unsent_of (mail_of ids boxes) id) (sym none)))
 
   pub place-within : (id place : ℕ) → IsPlaceOf table id place → IsSome (slice_get (unsent_of (mail_of ids boxes) id) 0) → place < length boxes
   place-within id place is some =

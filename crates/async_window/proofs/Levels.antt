@@ -50,16 +50,19 @@ IsAbove-right levels rest node above =
     let from : 2 ^ levels ≤ node * (2 ^ rest * 2) = subst (λ n. 2 ^ levels ≤ node * n) twice above.starts in
     record { one = omega arith; starts = omega arith; ends = omega arith }
 
--- on the way from the top to the first leaf with at most a value, so many levels above the leaves
-pub record IsOnTheWay (value : ℕ → ℕ) (levels at rest node : ℕ) : Type 0 where
+-- on the way from the top to the first leaf with at most a value, so many levels above the leaves; no leaf on the left
+-- has less than `sooner`
+pub record IsOnTheWay (value : ℕ → ℕ) (levels at rest node sooner : ℕ) : Type 0 where
   pub above : IsAbove levels rest node
   pub here : value node ≤ at
-  pub before : (leaf : ℕ) → 2 ^ levels ≤ leaf → leaf < node * 2 ^ rest → at < value leaf
+  pub later : at < sooner
+  pub before : (leaf : ℕ) → 2 ^ levels ≤ leaf → leaf < node * 2 ^ rest → sooner ≤ value leaf
 
-pub IsOnTheWay-top : (value : ℕ → ℕ) (levels at : ℕ) → value 1 ≤ at → IsOnTheWay value levels at levels 1
-IsOnTheWay-top value levels at here = record {
+pub IsOnTheWay-top : (value : ℕ → ℕ) (levels at sooner : ℕ) → value 1 ≤ at → at < sooner → IsOnTheWay value levels at levels 1 sooner
+IsOnTheWay-top value levels at sooner here later = record {
   above = IsAbove-top levels;
   here = here;
+  later = later;
   before = λ leaf from to. absurd (omega arith);
 }
 
@@ -107,18 +110,20 @@ module _ (value : ℕ → ℕ) (levels : ℕ) (lesser : IsLesser value levels) w
   pub least-top_some : (at : ℕ) → value 1 ≤ at → (leaf : ℕ) × (2 ^ levels ≤ leaf) × (leaf < 2 * 2 ^ levels) × (value leaf ≤ at)
   least-top_some at here = least-some levels 1 at (IsAbove-top levels) here
 
-  pub IsOnTheWay-below : (at rest node next : ℕ) → IsOnTheWay value levels at (suc rest) node → (value (2 * node) ≤ at → next ≡ 2 * node)
-      → (at < value (2 * node) → next ≡ 2 * node + 1) → IsOnTheWay value levels at rest next
-  IsOnTheWay-below at rest node next way left right =
+  pub IsOnTheWay-below : (at rest node sooner next least : ℕ) → IsOnTheWay value levels at (suc rest) node sooner
+      → (value (2 * node) ≤ at → (next ≡ 2 * node) × (least ≡ sooner))
+      → (at < value (2 * node) → (next ≡ 2 * node + 1) × (least ≡ min sooner (value (2 * node)))) → IsOnTheWay value levels at rest next least
+  IsOnTheWay-below at rest node sooner next least way left right =
       let twice : 2 ^ suc rest ≡ 2 ^ rest * 2 = pow-suc 2 rest in
       let lesser_here : value node ≡ min (value (2 * node)) (value (2 * node + 1)) = lesser node way.above.one (is_inner levels rest node way.above) in
       let here : value node ≤ at = way.here in
       elim (cases_lt at (value (2 * node))) [
-        | inl greater ↦ subst (λ n. IsOnTheWay value levels at rest n) (sym (right greater)) (record {
+        | inl greater ↦ subst (λ n. IsOnTheWay value levels at rest n least) (sym (right greater).0) (record {
           above = IsAbove-right levels rest node way.above;
           here = omega arith;
-          before = λ leaf from to. elim (cases_lt leaf (node * 2 ^ suc rest)) [
-            | inl old ↦ way.before leaf from old
+          later = let is = (right greater).1 in omega (arith, way.later);
+          before = λ leaf from to. let is = (right greater).1 in elim (cases_lt leaf (node * 2 ^ suc rest)) [
+            | inl old ↦ let high : sooner ≤ value leaf = way.before leaf from old in omega arith
             | inr new ↦
                 let after : node * (2 ^ rest * 2) ≤ leaf = subst (λ n. node * n ≤ leaf) twice new in
                 let below : value (2 * node) ≤ value leaf
@@ -126,11 +131,14 @@ module _ (value : ℕ → ℕ) (levels : ℕ) (lesser : IsLesser value levels) w
                 omega arith
           ];
         })
-        | inr passes ↦ subst (λ n. IsOnTheWay value levels at rest n) (sym (left passes)) (record {
+        | inr passes ↦ subst (λ n. IsOnTheWay value levels at rest n least) (sym (left passes).0) (record {
           above = IsAbove-left levels rest node way.above;
           here = passes;
+          later = let is = (left passes).1 in omega (arith, way.later);
           before = λ leaf from to.
               let same : 2 * node * 2 ^ rest ≡ node * (2 ^ rest * 2) = omega arith in
-              way.before leaf from (subst (λ n. leaf < node * n) (sym twice) (omega arith));
+              let is : least ≡ sooner = (left passes).1 in
+              let high : sooner ≤ value leaf = way.before leaf from (subst (λ n. leaf < node * n) (sym twice) (omega arith)) in
+              omega arith;
         })
       ]

@@ -1,16 +1,16 @@
 -- What mailboxes offer, by the arrivals of their first requests.
-use Rattle.std.proofs.Common.{◌≡◌, ℕ, ◌+◌, ◌*◌, ◌/◌, ◌^◌, ◌<◌, ◌≤◌, cond, leb, false, true, Option, Some, None, List, [], ◌∷◌, ◌++◌, length, get_or, inl, inr, refl, sym, ap, ◌∙◌, subst, arith}
+use Rattle.std.proofs.Common.{◌≡◌, ℕ, ◌+◌, ◌-◌, ◌*◌, ◌/◌, ◌^◌, ◌<◌, ◌≤◌, cond, leb, false, true, Option, Some, None, List, [], ◌∷◌, ◌++◌, length, get_or, min, inl, inr, refl, sym, ap, ◌∙◌, subst, arith}
 use Rattle.std.specs.List.{slice_get}
 use Rattle.std.specs.Option.{IsSome, option_to_list}
 use Rattle.std.proofs.Math.Nat.{div-eq_of_lt-le, div-mul-le_self}
 use Rattle.std.proofs.lemmas.Bool.{cases_Bool, cases_eq, cases_lt, le-leb, leb-true}
-use Rattle.std.proofs.lemmas.List.{get_or-map, length-map}
+use Rattle.std.proofs.lemmas.List.{get_or-map, get_or_default, length-map}
 use Rattle.std.proofs.lemmas.Option.{get_or_from_slice_get, slice_get_within}
 use Rattle.stuff_bound.specs.Stuffing.{worst}
 use Rattle.cycle_layout.specs.Layout.{CycleLayout, IsLayout, async_open, sync_start}
 use Rattle.async_window.specs.declared.request.Request.{Request}
-use Rattle.async_window.specs.Mailbox.{Mail, Offers, IsLeastWith, IsNextInCycle, least_of, mail_offer, unsent_of}
-use Rattle.async_window.specs.Tournament.{IsSoonest, never, arrival_within, node_value}
+use Rattle.async_window.specs.Mailbox.{Mail, Offers, IsLeastWith, IsNextInCycle, StaysUntil, least_of, mail_offer, unsent_of}
+use Rattle.async_window.specs.Tournament.{IsSoonest, never, arrival_within, first_bytes, node_value}
 use Rattle.async_window.specs.Sorted.{AreKept, AreShort, mail_of}
 use Rattle.async_window.proofs.Offered.{IsLeastWith-either, IsLeastWith-one, IsLeastWith-same, IsLeastWith-some, Offers-among, Offers-least}
 use Rattle.async_window.proofs.Table.{unsent_of-at}
@@ -33,6 +33,12 @@ arrival-from bytes at (r ∷ later) time low =
       | inl passed ↦ (r, refl, subst (λ n. n ≤ at) (ap (λ b. cond b r.at never) passed) low, leb-true (length r.frame.bytes) bytes passed)
       | inr failed ↦ let high : never ≤ at = subst (λ n. n ≤ at) (ap (λ b. cond b r.at never) failed) low in absurd (omega arith)
     ]
+
+-- the number of data bytes of a first request
+first_bytes-is : (unsent : List Request) (request : Request) → slice_get unsent 0 ≡ Some request
+    → first_bytes unsent ≡ length request.frame.bytes
+first_bytes-is [] request first = let none : ⊥ = cc (first) in absurd none
+first_bytes-is (r ∷ later) request first = let same : r ≡ request = cc (first) in ap (λ (x : Request). length x.frame.bytes) same
 
 module _ (layout : CycleLayout) (l : ℕ) (ids : List ℕ) (boxes : List Mail) (table : List ℕ) (levels : ℕ) (nodes : List (List ℕ))
     (remaining : ℕ) (kept : AreKept ids boxes table levels nodes remaining) where
@@ -109,14 +115,14 @@ module _ (layout : CycleLayout) (l : ℕ) (ids : List ℕ) (boxes : List Mail) (
       let high : at < arrival_within room (get_or boxes found.0 box).unsent = none found.0 box found.2.within in
       absurd (omega arith)
 
-  pub first-offers : (at room first : ℕ) (d : Mail) → at < never
+  first-offers : (at room short first : ℕ) (d : Mail) → at < never
       → ((bytes : ℕ) → bytes ≤ 8 → at + worst bytes ≤ sync_start layout (at / layout.cycle) l → bytes ≤ room)
-      → async_open layout (at / layout.cycle) ≤ at → at + worst room ≤ sync_start layout (at / layout.cycle) l → first < length boxes
-      → ((e : Mail) → arrival_within room (get_or boxes first e).unsent ≤ at)
+      → async_open layout (at / layout.cycle) ≤ at → at + worst short ≤ sync_start layout (at / layout.cycle) l → first < length boxes
+      → ((e : Mail) → arrival_within short (get_or boxes first e).unsent ≤ at)
       → ((place : ℕ) (e : Mail) → place < first → at < arrival_within room (get_or boxes place e).unsent)
       → IsLeastWith (Offers layout l (mail_of ids boxes) at) (Some (get_or boxes first d).identifier)
-  first-offers at room first d time fits opened whole within here before = (
-    offers-at at room first d time within (here d) opened whole,
+  first-offers at room short first d time fits opened whole within here before = (
+    offers-at at short first d time within (here d) opened whole,
     λ id may.
         let found = offered-by at id may in
         let low : arrival_within room (get_or boxes found.0 d).unsent ≤ at
@@ -138,11 +144,76 @@ module _ (layout : CycleLayout) (l : ℕ) (ids : List ℕ) (boxes : List Mail) (
         ],
   )
 
+  -- a first request has arrived, whatever stands for what is no mailbox
+  arrival-here : (bytes at place : ℕ) (d e : Mail) → place < length boxes → (request : Request)
+      → slice_get (get_or boxes place d).unsent 0 ≡ Some request → (request.at ≤ at) × (length request.frame.bytes ≤ bytes)
+      → arrival_within bytes (get_or boxes place e).unsent ≤ at
+  arrival-here bytes at place d e within request first known =
+      arrival-some bytes at (get_or boxes place e).unsent request
+      (ap (λ (box : Mail). slice_get box.unsent 0) (get_or_default boxes place e d within) ∙ first) known.0 known.1
+
   pub is-offer : (at : ℕ) (least : Option ℕ) → IsLeastWith (Offers layout l (mail_of ids boxes) at) least
       → least ≡ mail_offer layout l (mail_of ids boxes) at
   is-offer at least is =
       IsLeastWith-one (Offers layout l (mail_of ids boxes) at) least (mail_offer layout l (mail_of ids boxes) at) is
       (Offers-least layout l at (mail_of ids boxes) kept.mail)
+
+  -- what the window and the tournament say where an identifier is offered at a time: how many data bytes there is room
+  -- for, the place of its mailbox, and the soonest arrival in those before it
+  pub record IsFound (at room first sooner : ℕ) : Type 0 where
+    pub time : at < 2 ^ 60
+    pub known : IsLayout layout
+    pub fits : (bytes : ℕ) → bytes ≤ 8 → at + worst bytes ≤ sync_start layout (at / layout.cycle) l → bytes ≤ room
+    pub opened : async_open layout (at / layout.cycle) ≤ at
+    pub whole : at + worst room ≤ sync_start layout (at / layout.cycle) l
+    pub within : first < length boxes
+    pub here : (d : Mail) → arrival_within room (get_or boxes first d).unsent ≤ at
+    pub later : at < sooner
+    pub before : (place : ℕ) (d : Mail) → place < first → sooner ≤ arrival_within room (get_or boxes place d).unsent
+
+  pub found-offers : (at room first sooner : ℕ) (d : Mail) → IsFound at room first sooner
+      → IsLeastWith (Offers layout l (mail_of ids boxes) at) (Some (get_or boxes first d).identifier)
+  found-offers at room first sooner d found =
+      let time : at < 2 ^ 60 = found.time in
+      first-offers at room room first d (omega arith) found.fits found.opened found.whole found.within found.here
+      (λ place e before. let high = found.before place e before in omega (arith, found.later))
+
+  -- and it is offered until its frame ends too late, or a request arrives in one of the mailboxes before it
+  pub found-stays : (at room first sooner until : ℕ) (d : Mail) → IsFound at room first sooner
+      → until ≡ min (sooner - 1) (sync_start layout (at / layout.cycle) l - worst (first_bytes (get_or boxes first d).unsent))
+      → StaysUntil layout l (mail_of ids boxes) at (get_or boxes first d).identifier until
+  found-stays at room first sooner until d found is =
+      let time : at < 2 ^ 60 = found.time in
+      let closed : ℕ = sync_start layout (at / layout.cycle) l in
+      let request = arrival-from room at (get_or boxes first d).unsent (omega arith) (found.here d) in
+      let short : ℕ = length request.0.frame.bytes in
+      let bytes : first_bytes (get_or boxes first d).unsent ≡ short = first_bytes-is (get_or boxes first d).unsent request.0 request.1 in
+      let last : until ≡ min (sooner - 1) (closed - worst short) = is ∙ ap (λ n. min (sooner - 1) (closed - worst n)) bytes in
+      let fits : short ≤ room = request.3 in
+      let whole : at + worst room ≤ closed = found.whole in
+      let start : at / layout.cycle * layout.cycle ≤ at = div-mul-le_self at layout.cycle in
+      let cycle : layout.cycle ≤ 100000 = found.known.cycle_range.below in
+      let same : (later : ℕ) → at ≤ later → later ≤ until → later / layout.cycle ≡ at / layout.cycle =
+      λ later from to.
+      let end : later < (at / layout.cycle + 1) * layout.cycle = omega arith in
+      div-eq_of_lt-le layout.cycle (omega arith) end in
+      record {
+        from = omega (arith, found.later);
+        cycle = same;
+        offers = λ later from to.
+            let here = same later from to in
+            let end : later < (at / layout.cycle + 1) * layout.cycle = omega arith in
+            sym (is-offer later (Some (get_or boxes first d).identifier)
+            (first-offers later room short first d (omega arith)
+            (λ n few ends.
+            let ends_here : later + worst n ≤ closed = subst (λ c. later + worst n ≤ sync_start layout c l) here ends in
+            found.fits n few (omega arith))
+            (subst (λ c. async_open layout c ≤ later) (sym here) (omega (arith, found.opened)))
+            (subst (λ c. later + worst short ≤ sync_start layout c l) (sym here) (omega arith))
+            found.within
+            (λ e. arrival-here short later first d e found.within request.0 request.1 (omega (arith, request.2), omega arith))
+            (λ place e before. let high = found.before place e before in omega (arith, found.later))));
+      }
 
   -- where no first request has arrived, nothing is offered
   pub none-waits : (at : ℕ) → ((place : ℕ) (d : Mail) → place < length boxes → at < arrival_within 8 (get_or boxes place d).unsent)

@@ -197,13 +197,15 @@ module _ (bytes levels : ℕ) (nodes : List (List ℕ)) (mail : List Mail) (few 
       (place, within, λ d. subst (λ n. n ≤ at) (at_leaf place d within) low)
 
   -- where the way to the first leaf ends
-  pub record IsFirst (at first : ℕ) : Type 0 where
+  pub record IsFirst (at first sooner : ℕ) : Type 0 where
     pub within : first < length mail
     pub here : (d : Mail) → arrival_within bytes (get_or mail first d).unsent ≤ at
-    pub before : (place : ℕ) (d : Mail) → place < first → at < arrival_within bytes (get_or mail place d).unsent
+    pub later : at < sooner
+    pub before : (place : ℕ) (d : Mail) → place < first → sooner ≤ arrival_within bytes (get_or mail place d).unsent
 
-  pub first-found : (at node : ℕ) → at < never → IsOnTheWay (node_value bytes nodes mail) levels at 0 node → IsFirst at (node - 2 ^ levels)
-  first-found at node time way =
+  pub first-found : (at node sooner : ℕ) → at < never → IsOnTheWay (node_value bytes nodes mail) levels at 0 node sooner
+      → IsFirst at (node - 2 ^ levels) sooner
+  first-found at node sooner time way =
       let from : 2 ^ levels ≤ node * 2 ^ zero = way.above.starts in
       let first : ℕ = node - 2 ^ levels in
       let is : node ≡ 2 ^ levels + first = omega arith in
@@ -212,10 +214,11 @@ module _ (bytes levels : ℕ) (nodes : List (List ℕ)) (mail : List Mail) (few 
       record {
         within = within;
         here = λ d. subst (λ n. n ≤ at) (at_leaf first d within) low;
+        later = way.later;
         before = λ place d before.
-            let high : at < node_value bytes nodes mail (2 ^ levels + place)
+            let high : sooner ≤ node_value bytes nodes mail (2 ^ levels + place)
             = way.before (2 ^ levels + place) (omega arith) (omega arith) in
-            subst (λ n. at < n) (at_leaf place d (omega arith)) high;
+            subst (λ n. sooner ≤ n) (at_leaf place d (omega arith)) high;
       }
 
 -- on the way from a changed leaf to the top: what is left open is the node above this one

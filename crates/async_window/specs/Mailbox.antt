@@ -71,3 +71,9 @@ least_of (first ∷ later) = Some (fold min first later)
 abbrev pub mail_offer : CycleLayout → ℕ → List Mail → ℕ → Option ℕ
 mail_offer layout l mail at =
     least_of (map (λ box. box.identifier) (filter (λ box. may_start layout (at / layout.cycle) l at box.unsent) mail))
+
+-- `id` is offered at each time from `at` to `until`, all of which lie in one cycle
+pub record StaysUntil (layout : CycleLayout) (l : ℕ) (mail : List Mail) (at id until : ℕ) : Type 0 where
+  pub from : at ≤ until
+  pub cycle : (later : ℕ) → at ≤ later → later ≤ until → later / layout.cycle ≡ at / layout.cycle
+  pub offers : (later : ℕ) → at ≤ later → later ≤ until → mail_offer layout l mail later ≡ Some id

@@ -14,6 +14,11 @@ abbrev pub arrival_within : ℕ → List Request → ℕ
 arrival_within bytes [] = never
 arrival_within bytes (request ∷ later) = if nat_le (length request.frame.bytes) bytes then request.at else never
 
+-- the number of data bytes of the first of some requests; 0 where there is none
+abbrev pub first_bytes : List Request → ℕ
+first_bytes [] = 0
+first_bytes (request ∷ later) = length request.frame.bytes
+
 -- the nodes of the tree for first requests of at most so many bytes: the inner nodes, and behind them a leaf for each
 -- mailbox
 abbrev pub tree : ℕ → List (List ℕ) → List Mail → List ℕ

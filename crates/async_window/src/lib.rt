@@ -13,5 +13,5 @@ mod tests;
 mod tournament;
 mod window;
 
-pub use mailboxes::Mailboxes;
+pub use mailboxes::{Mailboxes, Offer};
 pub use request::{LEAST_ASYNCHRONOUS, Owner, Request};

@@ -1,7 +1,7 @@
 //! One mailbox: the requests of one identifier, first in, first out.
 
-ghost use Rattle.std.specs.Prelude.{◌≡◌, [], ◌∷◌, ◌++◌, IfOk, drop, option_map, slice_get};
-ghost use Rattle.async_window.specs.Tournament.{arrival_within};
+ghost use Rattle.std.specs.Prelude.{◌≡◌, ◌≤◌, [], ◌∷◌, ◌++◌, IfOk, drop, is_some, option_map, slice_get};
+ghost use Rattle.async_window.specs.Tournament.{arrival_within, first_bytes};
 
 use crate::request::Request;
 use can_frame::Frame;
@@ -70,6 +70,24 @@ impl Mailbox {
         ensures frame { result ≡ option_map (λ request. request.frame) (slice_get self.now.unsent 0) }
     {
         self.first().map(|request| request.frame)
+    }
+
+    /// Whether a request is not sent.
+    pub fn has_request(&self) -> bool
+        ensures some { result ≡ is_some (slice_get self.now.unsent 0) }
+    {
+        self.sent < self.requests.len()
+    }
+
+    /// The number of data bytes of the first request that is not sent; 0 where there is none.
+    pub fn bytes(&self) -> u8
+        ensures bytes { result ≡ first_bytes self.now.unsent }
+        ensures few { result ≤ 8 }
+    {
+        match self.first() {
+            Some(request) => request.frame.dlc(),
+            None => 0,
+        }
     }
 
     /// The arrival of the first request that is not sent, in bit times, where there is one and it has at most so many

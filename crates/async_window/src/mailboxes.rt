@@ -1,20 +1,31 @@
 //! Mailboxes: the requests of some identifiers, first in, first out for each identifier.
 
-ghost use Rattle.std.specs.Prelude.{◌≡◌, ◌≢◌, ◌↔◌, ℕ, ◌+◌, ◌/◌, ◌^◌, ◌<◌, ◌≤◌, ◌==◌, [], ◌++◌, All, AllPairs, IfOk, IsSome, MatchOption, Some, drop, if◌then◌else◌, length, map, min, option_map, slice_get, slice_index_or};
+ghost use Rattle.std.specs.Prelude.{◌≡◌, ◌≢◌, ◌↔◌, ℕ, ◌+◌, ◌-◌, ◌/◌, ◌^◌, ◌<◌, ◌≤◌, ◌==◌, [], ◌++◌, All, AllPairs, IfOk, IfSome, IsSome, MatchOption, Some, true, drop, is_some, if◌then◌else◌, length, map, min, option_map, slice_get, slice_index_or};
 ghost use Rattle.std.specs.Option.{option_map_or, option_to_list};
-ghost use Rattle.async_window.specs.Mailbox.{IsLeastWith, IsMail, IsNextInCycle, Mail, Offers, least_of, left, mail_after, mail_offer, unsent_of, without_first};
+ghost use Rattle.async_window.specs.Mailbox.{IsLeastWith, IsMail, IsNextInCycle, Mail, Offers, StaysUntil, least_of, left, mail_after, mail_offer, unsent_of, without_first};
 ghost use Rattle.async_window.specs.Adding.{with_request};
 ghost use Rattle.async_window.specs.Sorted.{IsPlaceTable};
+ghost use Rattle.async_window.specs.Tournament.{first_bytes};
+ghost use Rattle.stuff_bound.specs.Stuffing.{worst};
 
 use crate::mailbox::Mailbox;
 use crate::places::{IDENTIFIERS, in_order, place_of, places};
 use crate::request::Request;
 use crate::tournament::Tournament;
-use crate::window::window_in;
+use crate::window::{Window, window_in};
 use can_frame::Frame;
 use cycle_layout::Layout;
 use std::alloc::{AllocError, Global};
 use std::marker::Model;
+
+/// What mailboxes offer, and how long they do while nothing is taken away.
+#[derive(Clone, Copy, PartialEq, Eq, Debug)]
+pub struct Offer {
+    /// The identifier.
+    pub id: u16,
+    /// A time up to which it is offered, in bit times.
+    pub until: u64,
+}
 
 /// The unsent requests of some identifiers. Contracts see a list of identifiers, each with its unsent requests in their
 /// order.
@@ -96,13 +107,31 @@ impl Mailboxes {
         ensures value { result ≡ mail_offer layout.now l self.now at }
         ensures known { IsMail self.now }
     {
+        match self.offer_until(layout, cycle, at, l) {
+            Some(offer) => Some(offer.id),
+            None => None,
+        }
+    }
+
+    /// The same, together with how long it is offered: until its frame would end too late, or a mailbox of a lesser
+    /// identifier has a first request that may start.
+    pub fn offer_until(&self, layout: &Layout, cycle: u64, at: u64, l: u32) -> Option<Offer>
+        requires window { l ≤ layout.now.window }
+        requires time { at < 2 ^ 60 }
+        requires cycle { cycle ≡ at / layout.now.cycle }
+        ensures least { IsLeastWith (Offers layout.now l self.now at) (option_map (λ offer. offer.id) result) }
+        ensures value { option_map (λ offer. offer.id) result ≡ mail_offer layout.now l self.now at }
+        ensures stays { IfSome result (λ offer. StaysUntil layout.now l self.now at offer.id offer.until) }
+        ensures known { IsMail self.now }
+    {
         let boxes = self.boxes.as_slice();
         if !self.firsts.has_arrived(boxes, at) {
             return None;
         }
-        match window_in(layout, cycle, at, l).room(at) {
+        let window = window_in(layout, cycle, at, l);
+        match window.room(at) {
             Some(bytes) => match self.firsts.first(boxes, usize::from(bytes), at) {
-                Some(place) => Some(boxes[place].id()),
+                Some(first) => Some(offer_of(&boxes[first.place], &window, first.sooner)),
                 None => None,
             },
             None => None,
@@ -130,10 +159,24 @@ impl Mailboxes {
         ensures unsent { (other : ℕ) → unsent_of self.new other
             ≡ (if other == id then drop 1 (unsent_of self.old id) else unsent_of self.old other) }
     {
+        self.take(id);
+    }
+
+    /// Takes away the first unsent request of an identifier, where there is one, and answers whether there was.
+    pub fn take(&mut self, id: u16) -> bool
+        ensures taken { self.new ≡ without_first id self.old }
+        ensures unsent { (other : ℕ) → unsent_of self.new other
+            ≡ (if other == id then drop 1 (unsent_of self.old id) else unsent_of self.old other) }
+        ensures some { result ≡ is_some (slice_get (unsent_of self.old id) 0) }
+    {
         let place = place_of(self.places.as_slice(), id);
+        if !has_request(self.boxes.as_slice(), place) {
+            return false;
+        }
         self.boxes[place].take_first();
         self.firsts.mend(self.boxes.as_slice(), place);
         self.remaining -= 1;
+        true
     }
 
     /// The least time behind `at`, in the cycle of `at`, at which `offer` is something while nothing is taken away;
@@ -170,6 +213,29 @@ impl Mailboxes {
         ensures left { result ≡ left self.now }
     {
         self.remaining
+    }
+}
+
+/// The offer of a mailbox whose first request may start in the window, where a lesser identifier may come at `sooner`.
+fn offer_of(mailbox: &Mailbox, window: &Window, sooner: u64) -> Offer
+    requires some { 0 < sooner }
+    ensures id { result.id ≡ mailbox.now.identifier }
+    ensures until { result.until ≡ min (sooner - 1) (window.now.closed - worst (first_bytes mailbox.now.unsent)) }
+{
+    Offer {
+        id: mailbox.id(),
+        until: window.last(mailbox.bytes()).min(sooner - 1),
+    }
+}
+
+/// Whether a place has a mailbox, and in it a request that is not sent.
+fn has_request(boxes: &[Mailbox], place: usize) -> bool
+    ensures within { result ≡ true → place < length boxes.now }
+    ensures some { (d : Mail) → place < length boxes.now → result ≡ is_some (slice_get (slice_index_or boxes.now place d).unsent 0) }
+{
+    match boxes.get(place) {
+        Some(mailbox) => mailbox.has_request(),
+        None => false,
     }
 }
 

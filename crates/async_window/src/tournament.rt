@@ -24,6 +24,24 @@ pub struct Tournament {
     levels: u32,
 }
 
+/// A first request that has arrived, and what stands before it.
+#[derive(Clone, Copy)]
+pub struct First {
+    /// The place of its mailbox.
+    pub place: usize,
+    /// The least arrival, in bit times, of a first request in the mailboxes before it, none of which has arrived.
+    pub sooner: u64,
+}
+
+/// A step on the way from the top of the tree to a leaf.
+#[derive(Clone, Copy)]
+struct Step {
+    /// The node that is reached.
+    node: usize,
+    /// The least value of the nodes that were left aside before it.
+    sooner: u64,
+}
+
 impl Tournament {
     /// The tournament over some mailboxes, of which there are at most 2,048.
     pub fn new(alloc: Global, boxes: &[Mailbox]) -> Result<Tournament, AllocError>
@@ -111,25 +129,33 @@ impl Tournament {
         }
     }
 
-    /// The first mailbox whose first request has arrived at `at` and has at most so many data bytes.
-    pub fn first(&self, boxes: &[Mailbox], bytes: usize, at: u64) -> Option<usize>
+    /// The first mailbox whose first request has arrived at `at` and has at most so many data bytes. Of those before it
+    /// the soonest arrival is told.
+    pub fn first(&self, boxes: &[Mailbox], bytes: usize, at: u64) -> Option<First>
         requires bytes { bytes ≤ 8 }
         requires time { at < 2 ^ 60 }
         requires tournament { IsTournament self.now.levels self.now.nodes.items boxes.now }
         ensures first { MatchOption result
             ((place : ℕ) (d : Mail) → place < length boxes.now → at < arrival_within bytes (slice_index_or boxes.now place d).unsent)
-            (λ first. (first < length boxes.now)
-            × ((d : Mail) → arrival_within bytes (slice_index_or boxes.now first d).unsent ≤ at)
-            × ((place : ℕ) (d : Mail) → place < first → at < arrival_within bytes (slice_index_or boxes.now place d).unsent)) }
+            (λ first. (first.place < length boxes.now)
+            × ((d : Mail) → arrival_within bytes (slice_index_or boxes.now first.place d).unsent ≤ at) × (at < first.sooner)
+            × ((place : ℕ) (d : Mail) → place < first.place
+            → first.sooner ≤ arrival_within bytes (slice_index_or boxes.now place d).unsent)) }
     {
         if self.value(boxes, 1, bytes) > at {
             return None;
         }
-        let mut node = 1;
+        let mut step = Step {
+            node: 1,
+            sooner: NEVER,
+        };
         for _ in 0..self.levels {
-            node = self.below(boxes, node, bytes, at);
+            step = self.below(boxes, step, bytes, at);
         }
-        Some(node - self.nodes.len())
+        Some(First {
+            place: step.node - self.nodes.len(),
+            sooner: step.sooner,
+        })
     }
 
     /// The least time behind `at` at which a first request has arrived and may start in the window.
@@ -146,17 +172,26 @@ impl Tournament {
     }
 
     /// The first of the two nodes below one whose value is at most `at`, where one of them is.
-    fn below(&self, boxes: &[Mailbox], node: usize, bytes: usize, at: u64) -> usize
+    fn below(&self, boxes: &[Mailbox], step: Step, bytes: usize, at: u64) -> Step
         requires bytes { bytes ≤ 8 }
-        requires node { node < 2 ^ 12 }
-        ensures left { node_value bytes self.now.nodes.items boxes.now (2 * node) ≤ at → result ≡ 2 * node }
-        ensures right { at < node_value bytes self.now.nodes.items boxes.now (2 * node) → result ≡ 2 * node + 1 }
+        requires node { step.node < 2 ^ 12 }
+        ensures left { node_value bytes self.now.nodes.items boxes.now (2 * step.node) ≤ at
+            → (result.node ≡ 2 * step.node) × (result.sooner ≡ step.sooner) }
+        ensures right { at < node_value bytes self.now.nodes.items boxes.now (2 * step.node) → (result.node ≡ 2 * step.node + 1)
+            × (result.sooner ≡ min step.sooner (node_value bytes self.now.nodes.items boxes.now (2 * step.node))) }
     {
-        let left = 2 * node;
-        if self.value(boxes, left, bytes) <= at {
-            left
+        let left = 2 * step.node;
+        let value = self.value(boxes, left, bytes);
+        if value <= at {
+            Step {
+                node: left,
+                sooner: step.sooner,
+            }
         } else {
-            left + 1
+            Step {
+                node: left + 1,
+                sooner: step.sooner.min(value),
+            }
         }
     }
 }

@@ -1,6 +1,6 @@
 //! The asynchronous window of one cycle, and when a frame of some length may start in it. All times are bit times.
 
-ghost use Rattle.std.specs.Prelude.{◌≡◌, ℕ, ◌+◌, ◌/◌, ◌^◌, ◌<◌, ◌≤◌, ◌↔◌, IsTrue, MatchOption};
+ghost use Rattle.std.specs.Prelude.{◌≡◌, ℕ, ◌+◌, ◌-◌, ◌/◌, ◌^◌, ◌<◌, ◌≤◌, ◌↔◌, IsTrue, MatchOption};
 ghost use Rattle.stuff_bound.specs.Stuffing.{worst};
 ghost use Rattle.cycle_layout.specs.Layout.{IsLayout, async_open, sync_start};
 ghost use Rattle.async_window.specs.Mailbox.{IsLeastWith};
@@ -65,6 +65,14 @@ impl Window {
         self.closed <= at + u64::from(bound(0))
     }
 
+    /// The last time at which a frame of so many data bytes may start, where it ends before the synchronous window at all.
+    pub fn last(&self, bytes: u8) -> u64
+        requires bytes { bytes ≤ 8 }
+        ensures last { result ≡ self.now.closed - worst bytes }
+    {
+        self.closed.saturating_sub(u64::from(bound(bytes)))
+    }
+
     /// The least time behind `at` at which a frame of so many data bytes, which arrives at `arrival`, may start.
     pub fn earliest(&self, at: u64, arrival: u64, bytes: u8) -> Option<u64>
         requires time { at < 2 ^ 60 }
@@ -72,7 +80,7 @@ impl Window {
         ensures earliest { IsLeastWith (λ later. (at < later) × (arrival ≤ later) × (self.now.opened ≤ later)
             × (later + worst bytes ≤ self.now.closed)) result }
     {
-        let last = self.closed.saturating_sub(u64::from(bound(bytes)));
+        let last = self.last(bytes);
         let earliest = arrival.max(at + 1).max(self.opened);
         if earliest <= last {
             Some(earliest)

@@ -11,6 +11,7 @@ pub mod Shared
 mod Known
 mod Mail
 mod Offers
+mod LookAhead
 mod WindowSets
 mod HeardSlots
 mod DueRow

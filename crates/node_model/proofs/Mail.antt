@@ -72,7 +72,7 @@ frame-is frame id (Some request) is own =
     let same : frame ≡ request.frame = same_Some frame request.frame is in
     same ∙ ap (λ identifier. record { identifier = identifier; bytes = request.frame.bytes }) (own request refl)
 
--- where there is no first frame, there is no first request
-pub none-found : (found : Option Request) (head : Option DataFrame) → head ≡ option_map (λ request. request.frame) found → is_some head ≡ false → found ≡ None
-none-found None head is none = refl
-none-found (Some request) head is none = absurd (false≢true (sym none ∙ ap is_some is))
+-- there is no first request
+pub no-first : (found : Option Request) → is_some found ≡ false → found ≡ None
+no-first None none = refl
+no-first (Some request) none = absurd (false≢true (sym none))

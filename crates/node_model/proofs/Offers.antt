@@ -56,7 +56,7 @@ node_offer-early node at o is early =
     ∙ offer-early (nat_eq (at / node.layout.cycle) o.cycle) (nat_le (sync_start node.layout o.cycle o.width) at) _ _ (eq-eqb _ _ is.cycle) test
 
 -- a time in a cycle
-in_cycle-times : (length at c : ℕ) → 0 < length → at / length ≡ c → (c * length ≤ at) × (at < (c + 1) * length)
+pub in_cycle-times : (length at c : ℕ) → 0 < length → at / length ≡ c → (c * length ≤ at) × (at < (c + 1) * length)
 in_cycle-times length at c some is = (
   (le-div_iff_mul-le {k = length} {x = c} {y = at} some).0 (omega arith),
   (div-lt_iff_lt-mul {k = length} {x = at} {y = c + 1} some).0 (omega arith),

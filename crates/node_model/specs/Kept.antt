@@ -6,9 +6,10 @@ use Rattle.std.specs.List.{list_any}
 use Rattle.requirement_table.specs.declared.entries.Placed.{Placed}
 use Rattle.requirement_table.specs.Slots.{contains_slot, slots}
 use Rattle.requirement_table.specs.Table.{instance_in, IsWellPlaced}
-use Rattle.node_model.specs.Node.{IsNextOffer, IsNode, NodeState, Opened, is_due, node_offer}
+use Rattle.node_model.specs.Node.{IsNode, NodeState, Opened, is_due, node_offer}
 use Rattle.node_model.specs.declared.cycle.Open.{Open}
-use Rattle.node_model.specs.declared.quiet.Quiet.{Quiet}
+use Rattle.node_model.specs.declared.ahead.Ahead.{Ahead}
+use Rattle.node_model.specs.Ahead.{IsAhead}
 
 -- what contracts see of a cycle that is open
 abbrev pub opened_of : Open → Opened
@@ -33,13 +34,13 @@ abbrev pub HaveInstances : List Placed → ℕ → List Placed → Type 0
 HaveInstances entries from left = (slot c : ℕ) → from ≤ c → instance_in left slot c ≡ instance_in entries slot c
 
 -- what is true of the fields of every node: those that contracts see make a node, and the others follow from them
-pub record IsKept (state : NodeState) (own : ℕ) (left : List Placed) (current : Option Open) (quiet : Option Quiet) : Type 0 where
+pub record IsKept (state : NodeState) (own : ℕ) (left : List Placed) (current : Option Open) (look : Option Ahead) : Type 0 where
   pub node : IsNode state
   pub own_slots : AreSlotsOf state.entries own
   pub placed : IsWellPlaced left
   pub instances : HaveInstances state.entries (sends_from state.opened state.next) left
   pub due : IfSome current (KnowsDue state.entries)
-  pub ahead : IfSome quiet (λ look. IsNextOffer state look.since look.next)
+  pub ahead : IfSome look (IsAhead state)
 
 -- this cycle is open for the node, and the time lies in it
 pub record IsOpenAt (node : NodeState) (at : ℕ) (open_cycle : Open) : Type 0 where

@@ -4,4 +4,4 @@ pub mod Node
 pub mod Own
 pub mod Kept
 pub mod Window
-pub mod Quiet
+pub mod Ahead

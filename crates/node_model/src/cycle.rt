@@ -1,6 +1,6 @@
 //! A cycle that is open for a node, and which slot the node sends next in it.
 
-ghost use Rattle.std.specs.Prelude.{◌≡◌, ℕ, ◌+◌, ◌*◌, ◌/◌, ◌^◌, ◌<◌, ◌&&◌, not, nat_eq, nat_lt, max, if◌then◌else◌, is_some, false, true, List, Some, None, IfSome, MatchOption, option_map};
+ghost use Rattle.std.specs.Prelude.{◌≡◌, ℕ, ◌+◌, ◌-◌, ◌*◌, ◌/◌, ◌^◌, ◌<◌, ◌&&◌, not, nat_eq, nat_lt, max, if◌then◌else◌, is_some, false, true, List, Some, None, IfSome, MatchOption, option_map};
 ghost use Rattle.requirement_table.specs.declared.entries.Placed.{Placed};
 ghost use Rattle.requirement_table.specs.Slots.{contains_slot, slots};
 ghost use Rattle.requirement_table.specs.Table.{IsWellPlaced};
@@ -9,6 +9,7 @@ ghost use Rattle.node_model.specs.Node.{least_where, opened_by, with_heard};
 ghost use Rattle.node_model.specs.Kept.{KnowsDue, opened_of, sends_from};
 
 use crate::entries::sendable_slots;
+use async_window::Offer;
 use requirement_table::{Mask, Placed, SLOTS};
 use trigger_codec::Trigger;
 
@@ -105,6 +106,21 @@ pub fn least_due(open_cycle: &Open) -> Option<u16>
     ensures least { result ≡ option_map (λ slot. first_identifier + slot) (least_where slots (contains_slot open_cycle.now.due)) }
 {
     Some(FIRST_IDENTIFIER + u16::from(least_slot(open_cycle.due)?))
+}
+
+/// The same, together with how long it is offered: to the end of the cycle.
+pub fn offer_due(open_cycle: &Open, end: u64) -> Option<Offer>
+    ensures least { option_map (λ offer. offer.id) result
+        ≡ option_map (λ slot. first_identifier + slot) (least_where slots (contains_slot open_cycle.now.due)) }
+    ensures until { IfSome result (λ offer. offer.until ≡ end - 1) }
+{
+    match least_due(open_cycle) {
+        Some(id) => Some(Offer {
+            id,
+            until: end.saturating_sub(1),
+        }),
+        None => None,
+    }
 }
 
 /// The least time behind `at` in a cycle that ends at `end`, at which a slot of it can be sent in its synchronous

@@ -56,7 +56,7 @@ impl Node {
         ensures heard { self.new.state ≡ fold after_hearing self.old.state frames.now }
         ensures spare { self.new.spare ≡ self.old.spare }
     {
-        self.quiet = None;
+        self.ahead = None;
         self.frames = self.frames.saturating_add(frames.len() as u64);
         let own = common(self.own, sent);
         self.opened = after_slots(&self.opened, own);

@@ -3,12 +3,12 @@
 //! All times are bit times from 0, below 2^60. Cycles are elementary cycles from 0, below 2^42.
 #![tactic(auto)]
 
+mod ahead;
 mod cycle;
 mod due;
 mod entries;
 pub mod laws;
 mod node;
-mod quiet;
 
 pub use cycle::FIRST_IDENTIFIER;
 pub use node::Node;

@@ -1,6 +1,8 @@
 //! A node, which offers what follows from what it learnt and heard.
 
-ghost use Rattle.std.specs.Prelude.{◌≡◌, ◌≢◌, ℕ, ◌+◌, ◌*◌, ◌/◌, ◌^◌, ◌<◌, ◌≤◌, [], All, AllPairs, IfOk, IfSome, IsSome, MatchOption, OnErr, OnOk, Some, None, false, true, length, option_map};
+ghost use Rattle.std.specs.Prelude.{◌≡◌, ◌≢◌, ◌↔◌, ℕ, ◌+◌, ◌*◌, ◌/◌, ◌^◌, ◌<◌, ◌≤◌, [], All, AllPairs, IfOk, IfSome, IsSome, MatchOption, OnErr, OnOk, Some, None, false, true, length, option_map};
+ghost use Rattle.can_frame.specs.DataFrame.{DataFrame};
+ghost use Rattle.trigger_codec.specs.Bytes.{trigger_of};
 ghost use Rattle.requirement_table.specs.Slots.{slots};
 ghost use Rattle.requirement_table.specs.Instance.{bytes_of};
 ghost use Rattle.requirement_table.specs.Table.{IsWellPlaced, instance_in};
@@ -8,12 +10,13 @@ ghost use Rattle.async_window.specs.Mailbox.{IsNextInCycle, left};
 ghost use Rattle.async_window.specs.Owners.{AreOwners};
 ghost use Rattle.node_model.specs.Opening.{first_identifier};
 ghost use Rattle.node_model.specs.Node.{IsNextOffer, IsNode, after_hearing, after_opening, after_request, after_slot, counted, fresh_node, is_own_slot, learnt, next_trigger, node_frame, node_offer};
+ghost use Rattle.node_model.specs.Ahead.{IsAhead, Stays, next_time};
 ghost use Rattle.node_model.specs.Kept.{IsClosedAt, IsOpenAt, sends_from};
 
+use crate::ahead::{Ahead, Next};
 use crate::cycle::{self, FIRST_IDENTIFIER, Open};
 use crate::entries::{self, Remaining};
-use crate::quiet::Quiet;
-use async_window::{LEAST_ASYNCHRONOUS, Mailboxes, Owner, Request};
+use async_window::{LEAST_ASYNCHRONOUS, Mailboxes, Offer, Owner, Request};
 use can_frame::{Frame, TimedFrame};
 use cycle_layout::Layout;
 use requirement_table::{Mask, Payload, Placed};
@@ -27,21 +30,21 @@ const TIMES: u64 = 1 << 60;
 /// A node of the bus. Contracts see what it knows, and the greatest length of a list that it can learn without memory.
 #[derive(Drop)]
 pub struct Node {
-    number: u8,
+    pub(crate) frames: u64,
+    /// The slots in which the node has an entry.
+    pub(crate) own: Mask,
+    mailboxes: Mailboxes,
+    /// What the node found when it last looked ahead, where nothing has changed since.
+    pub(crate) ahead: Option<Ahead>,
+    pub(crate) opened: Option<Open>,
+    next: u64,
     layout: Layout,
+    number: u8,
     /// The node's entries, as it learnt them. This vector and that of the remaining ones have room for a list that can
     /// be learnt without memory.
     entries: Vec<Placed>,
     /// Those of them that are not over, from which the node sends.
     remaining: Remaining,
-    /// The slots in which the node has an entry.
-    pub(crate) own: Mask,
-    mailboxes: Mailboxes,
-    pub(crate) opened: Option<Open>,
-    next: u64,
-    pub(crate) frames: u64,
-    /// What the node found when it last looked ahead, where nothing has changed since.
-    pub(crate) quiet: Option<Quiet>,
 }
 
 impl Model for Node {
@@ -72,7 +75,7 @@ impl Model for Node {
       opened = option_map opened_of n.opened;
       next = n.next;
       frames = n.frames;
-    }) n.own n.remaining.entries.items n.opened n.quiet };
+    }) n.own n.remaining.entries.items n.opened n.ahead };
 }
 
 impl Node {
@@ -96,16 +99,16 @@ impl Node {
         let ids = entries::identifiers_of(alloc, number, owners)?;
         let mailboxes = Mailboxes::new(alloc, ids.as_slice(), requests)?;
         Ok(Node {
-            number,
-            layout,
-            entries: Vec::new(alloc),
-            remaining: Remaining::new(alloc),
+            frames: 0,
             own: Mask::empty(),
             mailboxes,
+            ahead: None,
             opened: None,
             next: 0,
-            frames: 0,
-            quiet: None,
+            layout,
+            number,
+            entries: Vec::new(alloc),
+            remaining: Remaining::new(alloc),
         })
     }
 
@@ -141,7 +144,7 @@ impl Node {
         ensures learnt { self.new.state ≡ learnt placed.now self.old.state }
         ensures spare { self.old.spare ≤ self.new.spare }
     {
-        self.quiet = None;
+        self.ahead = None;
         entries::keep_own(self.number, placed, &mut self.entries);
         self.own = entries::slots_of(self.entries.as_slice());
         let from = cycle::sends_from(&self.opened, self.next);
@@ -160,6 +163,19 @@ impl Node {
         }
     }
 
+    /// The same of a frame with identifier 0, whose reading as a trigger is handed over.
+    pub fn hear_trigger(&mut self, heard: &TimedFrame, trigger: &Option<Trigger>)
+        requires identifier { heard.now.frame.identifier ≡ 0 }
+        requires reading { trigger.now ≡ trigger_of heard.now.frame }
+        requires cycle { self.old.state.next < 2 ^ 42 }
+        ensures heard { self.new.state ≡ after_hearing self.old.state heard.now }
+        ensures spare { self.new.spare ≡ self.old.spare }
+    {
+        self.count();
+        self.open_next(trigger);
+        self.look_ahead(heard.start);
+    }
+
     /// The same without a look ahead. The answer is whether the frame is a trigger or one of the node's own; another
     /// one is only counted.
     fn hear_own(&mut self, heard: &TimedFrame) -> bool
@@ -170,7 +186,7 @@ impl Node {
         self.count();
         let id = heard.frame.id();
         if id == TRIGGER_IDENTIFIER {
-            self.open_next(&heard.frame);
+            self.open_next(&decode(&heard.frame).ok());
             true
         } else if let Some(slot) = self.own_slot(id) {
             self.mark(slot);
@@ -193,30 +209,68 @@ impl Node {
     fn look_ahead(&mut self, at: u64)
         ensures same { self.new ≡ self.old }
     {
-        if at < TIMES {
-            let next = self.next_offer(at);
-            self.quiet = Some(Quiet { since: at, next });
+        self.ahead = self.find_ahead(at);
+    }
+
+    /// What the node offers next behind a time. What is offered right behind it needs no search.
+    fn find_ahead(&self, at: u64) -> Option<Ahead>
+        ensures ahead { IfSome result (IsAhead self.now.state) }
+    {
+        if TIMES - 1 <= at {
+            return None;
+        }
+        if let Some(offer) = self.find_offer(at + 1) {
+            let from = at + 1;
+            return Some(Ahead {
+                since: at,
+                next: Some(Next { from, offer }),
+            });
+        }
+        match self.find_next_offer(at) {
+            Some(from) => self.ahead_to(at, from),
+            None => Some(Ahead {
+                since: at,
+                next: None,
+            }),
         }
     }
 
-    /// Opens the next cycle, by a frame with identifier 0.
-    fn open_next(&mut self, frame: &Frame)
+    /// The look ahead behind a time, where the time of the next offer is known.
+    fn ahead_to(&self, since: u64, from: u64) -> Option<Ahead>
+        requires next { IsNextOffer self.now.state since (Some from) }
+        ensures ahead { IfSome result (IsAhead self.now.state) }
+    {
+        if TIMES <= from {
+            return None;
+        }
+        match self.find_offer(from) {
+            Some(offer) => Some(Ahead {
+                since,
+                next: Some(Next { from, offer }),
+            }),
+            None => None,
+        }
+    }
+
+    /// Opens the next cycle, by a frame with identifier 0 whose reading as a trigger is this one.
+    fn open_next(&mut self, trigger: &Option<Trigger>)
         requires cycle { self.old.state.next < 2 ^ 42 }
-        ensures opened { self.new.state ≡ after_opening self.old.state frame.now }
+        ensures opened { (frame : DataFrame) → trigger.now ≡ trigger_of frame → self.new.state ≡ after_opening self.old.state frame }
         ensures spare { self.new.spare ≡ self.old.spare }
     {
-        self.quiet = None;
-        let trigger = self.next_trigger(frame);
+        self.ahead = None;
+        let trigger = self.next_trigger(trigger);
         self.remaining.pass(self.next);
         self.opened = Some(cycle::opened_by(self.next, trigger, self.remaining.entries.as_slice()));
         self.next += 1;
     }
 
-    /// The trigger that opens the next cycle, where the frame is one.
-    fn next_trigger(&self, frame: &Frame) -> Option<Trigger>
-        ensures trigger { result ≡ next_trigger self.now.state frame.now }
+    /// The trigger that opens the next cycle, where a frame with this reading is one.
+    fn next_trigger(&self, trigger: &Option<Trigger>) -> Option<Trigger>
+        ensures trigger { (frame : DataFrame) → trigger.now ≡ trigger_of frame → result ≡ next_trigger self.now.state frame }
+        ensures fits { IfSome result (λ trigger. trigger.l ≤ self.now.state.layout.window) }
     {
-        let trigger = decode(frame).ok()?;
+        let trigger = (*trigger)?;
         let fits = trigger.l <= self.layout.window() && u64::from(trigger.low) == self.next % 256;
         fits.then_some(trigger)
     }
@@ -235,7 +289,7 @@ impl Node {
         ensures marked { self.new.state ≡ after_slot self.old.state slot }
         ensures spare { self.new.spare ≡ self.old.spare }
     {
-        self.quiet = None;
+        self.ahead = None;
         self.opened = cycle::after_slot(&self.opened, slot);
     }
 
@@ -244,13 +298,11 @@ impl Node {
         ensures taken { self.new.state ≡ after_request self.old.state id }
         ensures spare { self.new.spare ≡ self.old.spare }
     {
-        if self.mailboxes.head(id).is_some() {
-            self.quiet = None;
-            self.mailboxes.sent(id);
-            true
-        } else {
-            false
+        if !self.mailboxes.take(id) {
+            return false;
         }
+        self.ahead = None;
+        true
     }
 
     /// The identifier that the node offers at a time.
@@ -259,38 +311,42 @@ impl Node {
         ensures offer { result ≡ node_offer self.now.state at }
         ensures known { IsNode self.now.state }
     {
-        match self.quiet_at(at) {
-            Some(_) => None,
-            None => self.find_offer(at),
+        match self.foreseen(at) {
+            Some(offered) => offered,
+            None => match self.find_offer(at) {
+                Some(offer) => Some(offer.id),
+                None => None,
+            },
         }
     }
 
-    /// What the node found when it looked ahead, where by that nothing is offered at a time. The next offer behind it
-    /// is then the same.
-    fn quiet_at(&self, at: u64) -> Option<Quiet>
-        ensures quiet { IfSome result (λ quiet. (node_offer self.now.state at ≡ None) × IsNextOffer self.now.state at quiet.next) }
+    /// What the node offers at a time, where it found that when it looked ahead.
+    fn foreseen(&self, at: u64) -> Option<Option<u16>>
+        ensures foreseen { IfSome result (λ offered. node_offer self.now.state at ≡ offered) }
         ensures known { IsNode self.now.state }
     {
-        match self.quiet {
-            Some(quiet) => { if quiet.holds(at) { Some(quiet) } else { None } }
+        match self.ahead {
+            Some(ahead) => ahead.offer_at(at),
             None => None,
         }
     }
 
-    /// The identifier that the node offers at a time, with no use of a look ahead.
-    fn find_offer(&self, at: u64) -> Option<u16>
+    /// What the node offers at a time, and how long, with no use of a look ahead.
+    fn find_offer(&self, at: u64) -> Option<Offer>
         requires time { at < 2 ^ 60 }
-        ensures offer { result ≡ node_offer self.now.state at }
+        ensures offer { option_map (λ offer. offer.id) result ≡ node_offer self.now.state at }
+        ensures stays { IfSome result (Stays self.now.state at) }
         ensures known { IsNode self.now.state }
     {
         let open_cycle = self.open_at(at)?;
         let window = self.layout.sync_start(open_cycle.cycle, open_cycle.width);
         if window <= at {
-            cycle::least_due(&open_cycle)
+            let end = self.layout.sync_start(open_cycle.cycle, 0);
+            cycle::offer_due(&open_cycle, end)
         } else {
             let layout = &self.layout;
             self.mailboxes
-                .offer_in(layout, open_cycle.cycle, at, open_cycle.width)
+                .offer_until(layout, open_cycle.cycle, at, open_cycle.width)
         }
     }
 
@@ -333,8 +389,25 @@ impl Node {
         ensures next { IsNextOffer self.now.state at result }
     {
         match self.quiet_at(at) {
-            Some(quiet) => quiet.next,
+            Some(ahead) => ahead.next_time(),
             None => self.find_next_offer(at),
+        }
+    }
+
+    /// What the node found when it looked ahead, where by that nothing is offered at a time. The next offer behind it
+    /// is then the same.
+    fn quiet_at(&self, at: u64) -> Option<Ahead>
+        ensures quiet { IfSome result (λ look. IsNextOffer self.now.state at (next_time look.next)) }
+    {
+        match self.ahead {
+            Some(ahead) => {
+                if ahead.is_quiet(at) {
+                    Some(ahead)
+                } else {
+                    None
+                }
+            }
+            None => None,
         }
     }
 
@@ -368,18 +441,22 @@ impl Node {
         ensures frame { MatchOption result (node_offer self.now.state at ≡ Some id → ⊥)
             (λ frame. (node_offer self.now.state at ≡ Some id) × (frame ≡ node_frame self.now.state at id) × (frame.identifier ≡ id)) }
     {
-        if !self.may_offer(id) {
-            return None;
+        if self.offers(at, id) {
+            Some(self.frame(at, id))
+        } else {
+            None
         }
-        match self.offer(at) {
-            Some(offered) => {
-                if offered == id {
-                    Some(self.frame(at, id))
-                } else {
-                    None
-                }
-            }
-            None => None,
+    }
+
+    /// Whether the node offers an identifier at a time.
+    fn offers(&self, at: u64, id: u16) -> bool
+        requires time { at < 2 ^ 60 }
+        ensures yes { result ≡ true → node_offer self.now.state at ≡ Some id }
+        ensures no { result ≡ false → node_offer self.now.state at ≡ Some id → ⊥ }
+    {
+        match self.foreseen(at) {
+            Some(offered) => offered == Some(id),
+            None => self.may_offer(id) && is_offer_of(&self.find_offer(at), id),
         }
     }
 
@@ -449,5 +526,15 @@ impl Node {
         ensures left { result ≡ left self.now.state.mail }
     {
         self.mailboxes.left()
+    }
+}
+
+/// Whether an offer is one of an identifier.
+fn is_offer_of(offer: &Option<Offer>, id: u16) -> bool
+    ensures test { result ≡ true ↔ option_map (λ found. found.id) offer.now ≡ Some id }
+{
+    match offer {
+        Some(found) => found.id == id,
+        None => false,
     }
 }

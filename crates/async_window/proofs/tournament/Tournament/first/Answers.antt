@@ -2,7 +2,7 @@ use Rattle.std.proofs.Common.{◌≡◌, ℕ, suc, ◌-◌, ◌^◌, ◌<◌, �
 use Rattle.async_window.specs.Mailbox.{Mail}
 use Rattle.async_window.specs.Tournament.{arrival_within, node_value}
 use Rattle.async_window.proofs.Levels.{IsAbove-low, IsOnTheWay-below}
-use Rattle.async_window.proofs.Trees.{IsFirst, first-found, top-all, tree-lesser}
+use Rattle.async_window.proofs.Trees.{first-found, top-all, tree-lesser}
 use Rattle.async_window.proofs.tournament.Tournament.first.Goals as goal
 
 pub returns-then-value-at : goal.returns-then-value-at
@@ -13,40 +13,38 @@ returns-then-value-at c = record {
       omega (arith, c.if-value-at.true, c.value.ensures.value);
 }
 
-pub below-node-requires-clause-node : goal.below-node-requires-clause-node
-below-node-requires-clause-node c =
+pub below-step-requires-clause-node : goal.below-step-requires-clause-node
+below-step-requires-clause-node c =
     let rest : ℕ = c.args.self.now.levels - c.loop.counter in
     let way = c.loop.invariant rest (omega (arith, c.loop-test.true)) in
-    IsAbove-low c.args.self.now.levels rest c.loop.node way.above c.requires.tournament.low
+    IsAbove-low c.args.self.now.levels rest c.loop.step.node way.above c.requires.tournament.low
 
 pub loop-preserved : goal.loop-preserved
 loop-preserved c rest is =
     IsOnTheWay-below (node_value c.args.bytes c.args.self.now.nodes.items c.args.boxes.now) c.args.self.now.levels
     (tree-lesser c.args.bytes c.args.self.now.levels c.args.self.now.nodes.items c.args.boxes.now c.requires.bytes c.requires.tournament)
-    c.args.at rest c.loop.node c.below-node.result (c.loop.invariant (suc rest) (omega (arith, is)))
-    c.below-node.ensures.left c.below-node.ensures.right
-
-found : (c : goal.After-len) → IsFirst c.args.bytes c.args.self.now.levels c.args.self.now.nodes.items c.args.boxes.now c.requires.bytes
-    c.requires.tournament c.args.at (c.loop.node - 2 ^ c.args.self.now.levels)
-found c =
-    first-found c.args.bytes c.args.self.now.levels c.args.self.now.nodes.items c.args.boxes.now c.requires.bytes c.requires.tournament
-    c.args.at c.loop.node (omega (arith, c.requires.time)) (c.loop.invariant 0 (omega (arith, c.loop-test.false, c.loop.auto)))
-
-leaves : (c : goal.After-len) → c.len.result ≡ 2 ^ c.args.self.now.levels
-leaves c =
-    let long : c.len.result ≡ length c.args.self.now.nodes.items = search rules in
-    long ∙ c.requires.tournament.size
+    c.args.at rest c.loop.step.node c.loop.step.sooner c.below-step.result.node c.below-step.result.sooner
+    (c.loop.invariant (suc rest) (omega (arith, is))) c.below-step.ensures.left c.below-step.ensures.right
 
 pub overflow_sub-result : goal.overflow_sub-result
 overflow_sub-result c =
+    let long : c.len.result ≡ length c.args.self.now.nodes.items = search rules in
     let way = c.loop.invariant 0 (omega (arith, c.loop-test.false, c.loop.auto)) in
-    omega (arith, way.above.starts, leaves c)
+    omega (arith, way.above.starts, long, c.requires.tournament.size)
 
 pub returns : goal.returns
-returns c = record {
-  first =
-      subst (λ n. (c.loop.node - n < length c.args.boxes.now)
-      × ((d : Mail) → arrival_within c.args.bytes (get_or c.args.boxes.now (c.loop.node - n) d).unsent ≤ c.args.at)
-      × ((place : ℕ) (d : Mail) → place < c.loop.node - n → c.args.at < arrival_within c.args.bytes (get_or c.args.boxes.now place d).unsent))
-      (sym (leaves c)) ((found c).within, (found c).here, (found c).before);
-}
+returns c =
+    let long : c.len.result ≡ length c.args.self.now.nodes.items = search rules in
+    let leaves : c.len.result ≡ 2 ^ c.args.self.now.levels = long ∙ c.requires.tournament.size in
+    let node : ℕ = c.loop.step.node in
+    let sooner : ℕ = c.loop.step.sooner in
+    let found = first-found c.args.bytes c.args.self.now.levels c.args.self.now.nodes.items c.args.boxes.now c.requires.bytes c.requires.tournament
+    c.args.at node sooner (omega (arith, c.requires.time)) (c.loop.invariant 0 (omega (arith, c.loop-test.false, c.loop.auto))) in
+    record {
+      first =
+          subst (λ n. (node - n < length c.args.boxes.now)
+          × ((d : Mail) → arrival_within c.args.bytes (get_or c.args.boxes.now (node - n) d).unsent ≤ c.args.at)
+          × (c.args.at < sooner)
+          × ((place : ℕ) (d : Mail) → place < node - n → sooner ≤ arrival_within c.args.bytes (get_or c.args.boxes.now place d).unsent))
+          (sym leaves) (found.within, found.here, found.later, found.before);
+    }

@@ -1,16 +1,16 @@
-use Rattle.std.proofs.Common.{refl, sym, ◌∙◌}
+use Rattle.std.proofs.Common.{◌≡◌, refl, sym, ◌∙◌}
 use Rattle.async_window.proofs.Shared.{IsMail-without}
-use Rattle.node_model.proofs.Mail.{without_first-none, none-found}
+use Rattle.node_model.proofs.Mail.{no-first, without_first-none}
 use Rattle.node_model.proofs.node.Node.take_request.Goals as goal
 
-pub invariant_of-self : goal.invariant_of-self
-invariant_of-self c =
+pub invariant_of-self-2 : goal.invariant_of-self-2
+invariant_of-self-2 c =
     let old = c.self.invariant in
     record {
       node = record {
         layout = old.node.layout;
         entries = old.node.entries;
-        mail = rw c.sent.ensures.taken (IsMail-without c.args.id c.self.inside.mailboxes old.node.mail);
+        mail = rw c.take.ensures.taken (IsMail-without c.args.id c.self.inside.mailboxes old.node.mail);
         opened = old.node.opened;
         next = old.node.next;
         frames = old.node.frames;
@@ -22,8 +22,14 @@ invariant_of-self c =
       ahead = tt;
     }
 
-pub returns-else-is_some-clause-taken : goal.returns-else-is_some-clause-taken
-returns-else-is_some-clause-taken c =
-    let none = none-found _ c.head.result c.head.ensures.head (sym c.is_some.ensures ∙ c.if-is_some.false) in
-    let kept = without_first-none c.args.id c.self.inside.mailboxes c.self.invariant.node.mail none in
-    rw (← c.self.view_is, kept) refl
+same-mail : (c : goal.Then-not-take) → c.take.new.self ≡ c.self.inside.mailboxes
+same-mail c =
+    c.take.ensures.taken
+    ∙ without_first-none c.args.id c.self.inside.mailboxes c.self.invariant.node.mail
+    (no-first _ (sym c.take.ensures.some ∙ c.if-not-take.true))
+
+pub invariant_of-self : goal.invariant_of-self
+invariant_of-self c = rw (same-mail c) c.self.invariant
+
+pub returns-then-not-take-clause-taken : goal.returns-then-not-take-clause-taken
+returns-then-not-take-clause-taken c = rw (← c.self.view_is, c.take.ensures.taken) refl

@@ -1,0 +1,70 @@
+//! A look ahead to a node's next offer.
+
+ghost use Rattle.std.specs.Prelude.{◌≡◌, ◌<◌, true, IfSome};
+ghost use Rattle.node_model.specs.Ahead.{IsQuietAt, IsTold, next_time};
+
+use async_window::Offer;
+
+/// What a node offers next.
+#[derive(Clone, Copy)]
+pub struct Next {
+    /// The first time at which it offers something, in bit times.
+    pub from: u64,
+    /// What it offers from then on, and up to when it is the same.
+    pub offer: Offer,
+}
+
+/// A look ahead: what the node offers next behind the time `since`, in bit times, where it ever does.
+#[derive(Clone, Copy)]
+pub struct Ahead {
+    pub since: u64,
+    pub next: Option<Next>,
+}
+
+impl Ahead {
+    /// The first time behind the look at which something is offered, in bit times.
+    pub fn next_time(&self) -> Option<u64>
+        ensures next { result ≡ next_time self.now.next }
+    {
+        match self.next {
+            Some(next) => Some(next.from),
+            None => None,
+        }
+    }
+
+    /// Whether the time lies behind the look and before what it found.
+    pub fn is_quiet(&self, at: u64) -> bool
+        ensures quiet { result ≡ true → IsQuietAt self.now at }
+    {
+        self.since < at && is_before(at, &self.next)
+    }
+
+    /// What is offered at a time, where the look ahead tells it.
+    pub fn offer_at(&self, at: u64) -> Option<Option<u16>>
+        ensures told { IfSome result (IsTold self.now at) }
+    {
+        if self.is_quiet(at) {
+            return Some(None);
+        }
+        match self.next {
+            Some(next) => {
+                if next.from <= at && at <= next.offer.until {
+                    Some(Some(next.offer.id))
+                } else {
+                    None
+                }
+            }
+            None => None,
+        }
+    }
+}
+
+/// Whether a time lies before the next offer, which may never come.
+fn is_before(at: u64, next: &Option<Next>) -> bool
+    ensures before { result ≡ true → IfSome next.now (λ found. at < found.from) }
+{
+    match next {
+        Some(next) => at < next.from,
+        None => true,
+    }
+}
