@@ -1,6 +1,6 @@
 //! The plan of one cycle.
 
-ghost use Rattle.std.specs.Prelude.{◌≡◌, ℕ, ◌+◌, ◌^◌, ◌<◌, ◌≤◌, ◌↔◌, nat_eq, sum_by, take, All, IsTrue, IfOk, IfErr};
+ghost use Rattle.std.specs.Prelude.{◌≡◌, ℕ, ◌+◌, ◌^◌, ◌<◌, ◌≤◌, ◌↔◌, nat_eq, [], sum_by, take, All, IsTrue, IfOk, IfErr};
 ghost use Rattle.std.specs.List.{list_any};
 ghost use Rattle.requirement_table.specs.Slots.{contains_slot, set_of, slots};
 ghost use Rattle.requirement_table.specs.Table.{IsInRange, IsWellPlaced, width_in};
@@ -106,6 +106,16 @@ pub fn plan_with_width(ranked: &Ranked, w: u32, state: &PlanState) -> Result<Pla
         IfErr result (λ miss. IsMissIn plan state.now.cycle (contains_slot state.now.pending) miss.slot miss.release) }
     ensures missed_cycle { IfErr result (λ miss. miss.cycle ≡ state.now.cycle) }
 {
+    if is_idle(ranked, w, state) {
+        return Ok(Planned {
+            mask: Mask::empty(),
+            width: 0,
+            next: PlanState {
+                cycle: state.cycle + 1,
+                pending: Mask::empty(),
+            },
+        });
+    }
     let line = line_of(ranked, w, state);
     let front = front_of(line.as_slice(), w);
     let (_, left) = line.as_slice().split_at(front.count);
@@ -134,6 +144,23 @@ pub fn cycle_mask(ranked: &Ranked, w: u32, state: &PlanState) -> Mask
 {
     let line = line_of(ranked, w, state);
     front_of(line.as_slice(), w).mask
+}
+
+/// Whether no instance is pending in the cycle of the state, so that no line has to be made.
+fn is_idle(ranked: &Ranked, w: u32, state: &PlanState) -> bool
+    requires cycle { state.now.cycle < 2 ^ 42 }
+    requires valid { IsValid ranked.now.placed state.now.cycle state.now.pending }
+    ensures idle { IsTrue result → IsWholeLine (planning_of ranked.now w state.now.cycle state.now.pending) state.now.cycle
+        (contains_slot state.now.pending) [] }
+    ensures well_placed { IsWellPlaced ranked.now.placed }
+{
+    let rows = ranked.rows();
+    for row in rows {
+        if due_of(ranked.policy(), row, state).is_some() {
+            return false;
+        }
+    }
+    true
 }
 
 /// The instances that are pending in the cycle of the state, in key order.

@@ -1,11 +1,51 @@
-use Rattle.std.proofs.Common.{◌≡◌, List, ◌∙◌, ap, sym, take, drop, nat_eq, Some, None}
+use Rattle.std.proofs.Common.{◌≡◌, ◌≢◌, ℕ, List, [], ◌∙◌, ap, sym, take, drop, nat_eq, Some, None, arith}
 use Rattle.std.specs.List.{list_any, sum_by}
+use Rattle.std.proofs.lemmas.List.Elements.{All-nil}
 use Rattle.requirement_table.specs.Slots.{contains_slot}
 use Rattle.planner_policies.specs.Due.{IsLongestFit, IsLeastMissed}
 use Rattle.planner_policies.specs.declared.due.Due.{Due}
 use Rattle.planner_policies.specs.Plan.{planning_of}
 use Rattle.planner_policies.proofs.Cycles.{left-set, miss-is, next-valid, none-missed, planned-set, planned-width}
 use Rattle.planner_policies.proofs.planning.plan_with_width.Goals as goal
+
+-- the line of nothing, of which the first none fit
+abbrev IsNone : ℕ → Type 0
+IsNone w = IsLongestFit w [] 0
+
+none-fits : (w : ℕ) → IsNone w
+none-fits w = record { within = omega arith; fits = omega arith; next = λ more. absurd (omega arith) }
+
+none-left : (c : ℕ) → IsLeastMissed c [] None
+none-left c = All-nil (λ due. due.last ≢ c)
+
+pub returns-then-is_idle-clause-planned : goal.returns-then-is_idle-clause-planned
+returns-then-is_idle-clause-planned c =
+    let plan = planning_of c.args.ranked.now c.args.w c.args.state.now.cycle c.args.state.now.pending in
+    planned-set plan c.args.state.now.cycle (contains_slot c.args.state.now.pending) [] 0 c.empty.result (c.is_idle.ensures.idle c.if-is_idle.true)
+    (none-fits c.args.w) (omega (arith, c.empty.ensures.number)) c.empty.ensures.slots
+
+pub returns-then-is_idle-clause-width : goal.returns-then-is_idle-clause-width
+returns-then-is_idle-clause-width c =
+    let plan = planning_of c.args.ranked.now c.args.w c.args.state.now.cycle c.args.state.now.pending in
+    sym (planned-width plan c.args.state.now.cycle (contains_slot c.args.state.now.pending) [] 0 (c.is_idle.ensures.idle c.if-is_idle.true) (none-fits c.args.w))
+
+pub returns-then-is_idle-clause-left : goal.returns-then-is_idle-clause-left
+returns-then-is_idle-clause-left c =
+    let plan = planning_of c.args.ranked.now c.args.w c.args.state.now.cycle c.args.state.now.pending in
+    left-set plan c.args.state.now.cycle (contains_slot c.args.state.now.pending) [] 0 c.empty-then-is_idle.result (c.is_idle.ensures.idle c.if-is_idle.true)
+    (none-fits c.args.w) (omega (arith, c.empty-then-is_idle.ensures.number)) c.empty-then-is_idle.ensures.slots
+
+pub returns-then-is_idle-clause-next_valid : goal.returns-then-is_idle-clause-next_valid
+returns-then-is_idle-clause-next_valid c =
+    let plan = planning_of c.args.ranked.now c.args.w c.args.state.now.cycle c.args.state.now.pending in
+    next-valid plan c.args.state.now.cycle (contains_slot c.args.state.now.pending) [] 0 c.empty-then-is_idle.result c.is_idle.ensures.well_placed
+    (c.is_idle.ensures.idle c.if-is_idle.true) (none-left c.args.state.now.cycle) c.empty-then-is_idle.ensures.slots
+
+pub returns-then-is_idle-clause-none_missed : goal.returns-then-is_idle-clause-none_missed
+returns-then-is_idle-clause-none_missed c =
+    let plan = planning_of c.args.ranked.now c.args.w c.args.state.now.cycle c.args.state.now.pending in
+    none-missed plan c.args.state.now.cycle (contains_slot c.args.state.now.pending) [] 0 (c.is_idle.ensures.idle c.if-is_idle.true) (none-fits c.args.w)
+    (none-left c.args.state.now.cycle)
 
 pub returns-in-Some-clause-missed : goal.returns-in-Some-clause-missed
 returns-in-Some-clause-missed c =
