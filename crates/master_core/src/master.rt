@@ -13,14 +13,14 @@ ghost use Rattle.master_core.specs.Orders.{IsOrder};
 
 use crate::event::Event;
 use crate::opened::opened_masks;
-use crate::planning::{Planned, plan_next};
+use crate::planning::plan_next;
 use crate::room::{make_room, put};
 use crate::table::{Table, copy_of, list_of};
 use admission::{CertifyFault, Decision, Rules, Verdict, certify, decide};
 use change_protocol::Change;
 use plan_check::Certificate;
 use planner_policies::laws::loops;
-use planner_policies::{PlanState, cycle_mask};
+use planner_policies::{PlanState, Planned, cycle_mask};
 use requirement_table::{Mask, Order, Placed, PlacedList};
 use std::alloc::{AllocError, Global};
 use std::marker::Model;

@@ -5,19 +5,7 @@ ghost use Rattle.requirement_table.specs.Slots.{contains_slot, set_of, slots};
 ghost use Rattle.requirement_table.specs.Table.{width_in};
 ghost use Rattle.planner_policies.specs.Plan.{HasNoMissIn, IsValid, left_after, planned_in, planning_of};
 
-use planner_policies::{PlanState, Ranked, cycle_width, plan_cycle};
-use requirement_table::Mask;
-
-/// What is planned in a cycle.
-#[derive(Drop)]
-pub struct Planned {
-    /// The slots.
-    pub mask: Mask,
-    /// The length of their window, in bit times.
-    pub width: u32,
-    /// The state at the next cycle.
-    pub next: PlanState,
-}
+use planner_policies::{PlanState, Planned, Ranked, plan_with_width};
 
 /// Plans the cycle of the state, in which no deadline is missed, within a window of `window` bit times.
 pub fn plan_next(ranked: &Ranked, window: u32, state: &PlanState) -> Planned
@@ -33,9 +21,8 @@ pub fn plan_next(ranked: &Ranked, window: u32, state: &PlanState) -> Planned
     ensures pending { let plan = planning_of ranked.now window state.now.cycle state.now.pending in
         result.next.pending ≡ set_of slots (left_after plan state.now.cycle (contains_slot state.now.pending)) }
 {
-    let width = cycle_width(ranked, window, state);
-    match plan_cycle(ranked, window, state) {
-        Ok((mask, next)) => Planned { mask, width, next },
+    match plan_with_width(ranked, window, state) {
+        Ok(planned) => planned,
         Err(_) => unreachable!(),
     }
 }

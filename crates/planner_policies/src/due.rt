@@ -8,7 +8,7 @@ ghost use Rattle.planner_policies.specs.Plan.{by_number};
 
 use crate::Policy;
 use crate::state::PlanState;
-use requirement_table::{Placed, cost, current, due};
+use requirement_table::{Placed, cost, current_instance};
 
 /// What is kept of an instance that is pending in a cycle.
 #[derive(Clone, Copy, Debug)]
@@ -60,19 +60,20 @@ pub fn due_of(policy: Policy, placed: &Placed, state: &PlanState) -> Option<Due>
     requires cycle { state.now.cycle < 2 ^ 42 }
     ensures pending { IsDueOf policy (contains_slot state.now.pending) state.now.cycle placed.now result }
 {
-    let number = current(placed, state.cycle)?;
-    let (release, last) = due(placed, number);
+    let instance = current_instance(placed, state.cycle)?;
+    let release = instance.release;
     let entry = &placed.entry;
     if release < state.cycle && !state.pending.has(entry.slot) {
         return None;
     }
+    let deadline = release + u64::from(entry.deadline);
     Some(Due {
-        key: key(policy, placed, last + 1),
+        key: key(policy, placed, deadline),
         priority: entry.priority,
         slot: entry.slot,
         cost: cost(entry.length),
         release,
-        last,
+        last: deadline - 1,
     })
 }
 

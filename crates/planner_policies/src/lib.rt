@@ -12,7 +12,7 @@ mod planning;
 mod ranking;
 mod state;
 
-pub use planning::{cycle_mask, cycle_width, plan_cycle, valid};
+pub use planning::{Planned, cycle_mask, plan_cycle, plan_with_width, valid};
 pub use ranking::{Ranked, rank};
 pub use state::{Miss, PlanState};
 

@@ -1,6 +1,6 @@
 //! The plan of one cycle.
 
-ghost use Rattle.std.specs.Prelude.{◌≡◌, ℕ, ◌+◌, ◌^◌, ◌<◌, ◌≤◌, ◌↔◌, nat_eq, sum_by, All, IsTrue, IfOk, IfErr};
+ghost use Rattle.std.specs.Prelude.{◌≡◌, ℕ, ◌+◌, ◌^◌, ◌<◌, ◌≤◌, ◌↔◌, nat_eq, [], sum_by, take, All, IsTrue, IfOk, IfErr};
 ghost use Rattle.std.specs.List.{list_any};
 ghost use Rattle.requirement_table.specs.Slots.{contains_slot, set_of, slots};
 ghost use Rattle.requirement_table.specs.Table.{IsInRange, IsWellPlaced, width_in};
@@ -11,7 +11,7 @@ use crate::due::{Due, due_of};
 use crate::line::Line;
 use crate::ranking::Ranked;
 use crate::state::{Miss, PlanState};
-use requirement_table::{Mask, Placed, current, due};
+use requirement_table::{Mask, Placed, current_instance};
 
 /// Whether a state can be planned from: each pending slot has an instance that was released before the cycle and whose
 /// last cycle is not below it.
@@ -36,8 +36,8 @@ fn is_held(placed: &Placed, cycle: u64) -> bool
     requires cycle { cycle < 2 ^ 42 }
     ensures held { result ≡ is_held_in cycle placed.now }
 {
-    match current(placed, cycle) {
-        Some(number) => due(placed, number).0 < cycle,
+    match current_instance(placed, cycle) {
+        Some(instance) => instance.release < cycle,
         None => false,
     }
 }
@@ -65,17 +65,70 @@ pub fn plan_cycle(ranked: &Ranked, w: u32, state: &PlanState) -> Result<(Mask, P
         IfErr result (λ miss. IsMissIn plan state.now.cycle (contains_slot state.now.pending) miss.slot miss.release) }
     ensures missed_cycle { IfErr result (λ miss. miss.cycle ≡ state.now.cycle) }
 {
+    let planned = plan_with_width(ranked, w, state)?;
+    Ok((planned.mask, planned.next))
+}
+
+/// What is planned in a cycle.
+#[derive(Clone, Copy, PartialEq, Eq, Debug)]
+pub struct Planned {
+    /// The slots that are planned.
+    pub mask: Mask,
+    /// What they cost together, in bit times: the length of the synchronous window.
+    pub width: u32,
+    /// The state at the next cycle.
+    pub next: PlanState,
+}
+
+/// Plans the cycle of the state as `plan_cycle` does, and tells the length of its synchronous window too: at most `w`
+/// bit times.
+///
+/// The state is valid.
+///
+/// # Errors
+///
+/// Those of `plan_cycle`.
+pub fn plan_with_width(ranked: &Ranked, w: u32, state: &PlanState) -> Result<Planned, Miss>
+    requires cycle { state.now.cycle < 2 ^ 42 }
+    requires valid { IsValid ranked.now.placed state.now.cycle state.now.pending }
+    ensures planned { let plan = planning_of ranked.now w state.now.cycle state.now.pending in
+        IfOk result (λ r. r.mask ≡ set_of slots (planned_in plan state.now.cycle (contains_slot state.now.pending))) }
+    ensures width { let plan = planning_of ranked.now w state.now.cycle state.now.pending in
+        IfOk result (λ r. r.width ≡ width_in plan.placed state.now.cycle (planned_in plan state.now.cycle (contains_slot state.now.pending))) }
+    ensures fits { IfOk result (λ r. r.width ≤ w) }
+    ensures next_cycle { IfOk result (λ r. r.next.cycle ≡ state.now.cycle + 1) }
+    ensures left { let plan = planning_of ranked.now w state.now.cycle state.now.pending in
+        IfOk result (λ r. r.next.pending ≡ set_of slots (left_after plan state.now.cycle (contains_slot state.now.pending))) }
+    ensures next_valid { IfOk result (λ r. IsValid ranked.now.placed r.next.cycle r.next.pending) }
+    ensures none_missed { let plan = planning_of ranked.now w state.now.cycle state.now.pending in
+        IfOk result (λ _. HasNoMissIn plan state.now.cycle (contains_slot state.now.pending)) }
+    ensures missed { let plan = planning_of ranked.now w state.now.cycle state.now.pending in
+        IfErr result (λ miss. IsMissIn plan state.now.cycle (contains_slot state.now.pending) miss.slot miss.release) }
+    ensures missed_cycle { IfErr result (λ miss. miss.cycle ≡ state.now.cycle) }
+{
+    if is_idle(ranked, w, state) {
+        return Ok(Planned {
+            mask: Mask::empty(),
+            width: 0,
+            next: PlanState {
+                cycle: state.cycle + 1,
+                pending: Mask::empty(),
+            },
+        });
+    }
     let line = line_of(ranked, w, state);
-    let (taken, left) = line.as_slice().split_at(fitting(line.as_slice(), w));
+    let front = front_of(line.as_slice(), w);
+    let (_, left) = line.as_slice().split_at(front.count);
     match missed(left, state.cycle) {
         Some(miss) => Err(miss),
-        None => Ok((
-            slots_of(taken),
-            PlanState {
+        None => Ok(Planned {
+            mask: front.mask,
+            width: front.width,
+            next: PlanState {
                 cycle: state.cycle + 1,
                 pending: slots_of(left),
             },
-        )),
+        }),
     }
 }
 
@@ -90,24 +143,24 @@ pub fn cycle_mask(ranked: &Ranked, w: u32, state: &PlanState) -> Mask
         result ≡ set_of slots (planned_in plan state.now.cycle (contains_slot state.now.pending)) }
 {
     let line = line_of(ranked, w, state);
-    let (taken, _) = line.as_slice().split_at(fitting(line.as_slice(), w));
-    slots_of(taken)
+    front_of(line.as_slice(), w).mask
 }
 
-/// What the slots that are planned in the cycle of the state cost together, in bit times: the length of its synchronous
-/// window, at most `w`.
-///
-/// The state is valid.
-pub fn cycle_width(ranked: &Ranked, w: u32, state: &PlanState) -> u32
+/// Whether no instance is pending in the cycle of the state, so that no line has to be made.
+fn is_idle(ranked: &Ranked, w: u32, state: &PlanState) -> bool
     requires cycle { state.now.cycle < 2 ^ 42 }
     requires valid { IsValid ranked.now.placed state.now.cycle state.now.pending }
-    ensures width { let plan = planning_of ranked.now w state.now.cycle state.now.pending in
-        result ≡ width_in plan.placed state.now.cycle (planned_in plan state.now.cycle (contains_slot state.now.pending)) }
-    ensures fits { result ≤ w }
+    ensures idle { IsTrue result → IsWholeLine (planning_of ranked.now w state.now.cycle state.now.pending) state.now.cycle
+        (contains_slot state.now.pending) [] }
+    ensures well_placed { IsWellPlaced ranked.now.placed }
 {
-    let line = line_of(ranked, w, state);
-    let (taken, _) = line.as_slice().split_at(fitting(line.as_slice(), w));
-    cost_of(taken)
+    let rows = ranked.rows();
+    for row in rows {
+        if due_of(ranked.policy(), row, state).is_some() {
+            return false;
+        }
+    }
+    true
 }
 
 /// The instances that are pending in the cycle of the state, in key order.
@@ -128,26 +181,45 @@ fn line_of(ranked: &Ranked, w: u32, state: &PlanState) -> Line
     line
 }
 
-/// How many of the first ones fit a window of `w` bit times together.
-fn fitting(line: &[Due], w: u32) -> usize
-    ensures longest { IsLongestFit w line.now result }
-{
-    let mut room = w;
-    for (place, due) in line.iter().enumerate() {
-        if due.cost > room {
-            return place;
-        }
-        room -= due.cost;
-    }
-    line.len()
+/// The first instances of a line, as many as fit a window together.
+#[derive(Drop)]
+struct Front {
+    /// How many there are.
+    count: usize,
+    /// What they cost together, in bit times.
+    width: u32,
+    /// Their slots.
+    mask: Mask,
 }
 
-/// What the frames of instances cost together, in bit times.
-fn cost_of(line: &[Due]) -> u32
-    requires few { sum_by (λ due. due.cost) line.now < 2 ^ 32 }
-    ensures cost { result ≡ sum_by (λ due. due.cost) line.now }
+/// The first instances of a line, as many as fit a window of `w` bit times together.
+fn front_of(line: &[Due], w: u32) -> Front
+    requires known { All (λ due. due.slot < slots) line.now }
+    ensures longest { IsLongestFit w line.now result.count }
+    ensures width { result.width ≡ sum_by (λ due. due.cost) (take result.count line.now) }
+    ensures slots { (slot : ℕ) → contains_slot result.mask slot ≡ list_any (λ due. nat_eq due.slot slot) (take result.count line.now) }
+    ensures below { result.mask < 2 ^ slots }
 {
-    line.iter().map(|due| due.cost).sum()
+    let mut width = 0;
+    let mut mask = Mask::empty();
+    for (place, due) in line.iter().enumerate() {
+        if due.cost > w - width {
+            mask.known();
+            return Front {
+                count: place,
+                width,
+                mask,
+            };
+        }
+        width += due.cost;
+        mask = mask.with(due.slot);
+    }
+    mask.known();
+    Front {
+        count: line.len(),
+        width,
+        mask,
+    }
 }
 
 /// The slots of instances.

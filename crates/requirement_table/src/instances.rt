@@ -1,6 +1,6 @@
 //! The instances that a placed entry releases, by arithmetic, and the bytes that they carry.
 
-ghost use Rattle.std.specs.Prelude.{◌≡◌, ℕ, ◌+◌, ◌*◌, ◌^◌, ◌<◌, ◌≤◌, Some, IfSome, MatchOption, length};
+ghost use Rattle.std.specs.Prelude.{◌≡◌, ℕ, ◌+◌, ◌*◌, ◌^◌, ◌<◌, ◌≤◌, Some, IfSome, MatchOption, option_map, length};
 ghost use Rattle.requirement_table.specs.Instance.{worst, release_of, exists, payload, IsLastCycle, IsReleasedIn, MaySend, released_by, instance_of};
 
 use crate::entries::Placed;
@@ -59,6 +59,34 @@ pub fn due(placed: &Placed, k: u64) -> (u64, u64)
     (release, release + u64::from(deadline) - 1)
 }
 
+/// An instance that may be sent in a cycle.
+#[derive(Clone, Copy, PartialEq, Eq, Debug)]
+pub struct Sendable {
+    /// Its number, counted from 0.
+    pub number: u64,
+    /// The cycle of its release.
+    pub release: u64,
+}
+
+/// The instance that may be sent in `cycle`, where there is one.
+pub fn current_instance(placed: &Placed, cycle: u64) -> Option<Sendable>
+    requires deadline { 1 ≤ placed.now.entry.deadline }
+    requires period { placed.now.entry.deadline ≤ placed.now.entry.period }
+    ensures sendable { IfSome result (λ i. MaySend placed.now i.number cycle) }
+    ensures release { IfSome result (λ i. i.release ≡ release_of placed.now i.number) }
+    ensures each { (k : ℕ) → MaySend placed.now k cycle
+        → result ≡ Some (record { number = k; release = release_of placed.now k }) }
+    ensures number { option_map (λ i. i.number) result ≡ instance_of placed.now cycle }
+{
+    let since = since_first_release(placed, cycle)?;
+    let period = u64::from(placed.entry.period);
+    let number = since / period;
+    let age = since % period;
+    let release = cycle - age;
+    let in_time = age < u64::from(placed.entry.deadline);
+    (in_time && exists(placed, release)).then_some(Sendable { number, release })
+}
+
 /// The number of the instance that may be sent in `cycle`, where there is one.
 pub fn current(placed: &Placed, cycle: u64) -> Option<u64>
     requires deadline { 1 ≤ placed.now.entry.deadline }
@@ -67,11 +95,7 @@ pub fn current(placed: &Placed, cycle: u64) -> Option<u64>
     ensures each { (k : ℕ) → MaySend placed.now k cycle → result ≡ Some k }
     ensures number { result ≡ instance_of placed.now cycle }
 {
-    let since = since_first_release(placed, cycle)?;
-    let period = u64::from(placed.entry.period);
-    let age = since % period;
-    let in_time = age < u64::from(placed.entry.deadline);
-    (in_time && exists(placed, cycle - age)).then_some(since / period)
+    current_instance(placed, cycle).map(|instance| instance.number)
 }
 
 /// The data bytes of an instance's frame: the low bytes of its number, most significant first.

@@ -11,7 +11,7 @@ pub const SLOTS: u8 = 40;
 /// A set of slots, as the number whose bit s is slot s. It is one word, and contracts see the number.
 #[derive(Clone, Copy, PartialEq, Eq, Debug)]
 pub struct Mask {
-    bits: u128,
+    bits: u64,
 }
 
 impl Model for Mask {
@@ -41,7 +41,7 @@ impl Mask {
         requires { bits < 2 ^ slots }
         ensures number { result ≡ bits }
     {
-        Mask { bits }
+        Mask { bits: bits as u64 }
     }
 
     /// The number of the set: bit s is slot s.
@@ -49,7 +49,7 @@ impl Mask {
         ensures number { result ≡ self }
         ensures below { result < 2 ^ slots }
     {
-        self.bits
+        u128::from(self.bits)
     }
 
     /// Whether the slot stands in the set.

@@ -3,8 +3,9 @@
 ghost use Rattle.std.specs.Prelude.{◌≡◌, ◌+◌};
 
 use crate::{
-    Entry, Mask, Order, Payload, Placed, PlacedList, SLOTS, cost, current, drop_over, due,
-    first_over, is_over, not_over, released_in, releases, well_placed,
+    Entry, Mask, Order, Payload, Placed, PlacedList, SLOTS, Sendable, cost, current,
+    current_instance, drop_over, due, first_over, is_over, not_over, released_in, releases,
+    well_placed,
 };
 use std::test::Fail;
 
@@ -57,6 +58,12 @@ fn instances_at_their_edges(rt: HostRuntime) {
         assert_eq!(rt; releases(&placed, cycle), released, "release in {cycle}");
         assert_eq!(rt; current(&placed, cycle), sendable, "to send in {cycle}");
     }
+    let fourth = Sendable {
+        number: 3,
+        release: 27,
+    };
+    assert_eq!(rt; current_instance(&placed(7, None), 29), Some(fourth));
+    assert_eq!(rt; current_instance(&placed(7, None), 30), None);
     assert_eq!(rt; due(&placed(7, None), 0), (12, 14));
     assert_eq!(rt; due(&placed(7, None), 3), (27, 29));
     assert_eq!(rt; Payload::of(2, 0x01_0203).as_slice(), [2, 3].as_slice());

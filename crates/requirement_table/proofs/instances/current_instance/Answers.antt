@@ -2,7 +2,7 @@ use Rattle.std.proofs.Common.{◌+◌, ◌-◌, arith}
 use Rattle.std.proofs.lemmas.Grind.{common_steps}
 use Rattle.requirement_table.specs.Instance.{release_of}
 use Rattle.requirement_table.proofs.Latest.{div-since, period-parts, exists-true}
-use Rattle.requirement_table.proofs.instances.current.Goals as goal
+use Rattle.requirement_table.proofs.instances.current_instance.Goals as goal
 
 pub returns-clause-each : goal.returns-clause-each
 returns-clause-each c = λ k sends.
