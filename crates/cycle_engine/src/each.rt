@@ -1,15 +1,15 @@
 //! What is done with each node of a bus.
 
-ghost use Rattle.std.specs.Prelude.{◌≡◌, ℕ, ◌+◌, ◌^◌, ◌<◌, ◌≤◌, ◌++◌, None, All, Contains, OnOk, length, map, slice_index_or};
+ghost use Rattle.std.specs.Prelude.{◌≡◌, ℕ, ◌+◌, ◌^◌, ◌<◌, ◌≤◌, ◌++◌, Some, All, Contains, IsSome, OnOk, is_some, length, map};
 ghost use Rattle.arbitration.specs.Arbitration.{AreDistinct};
-ghost use Rattle.requirement_table.specs.Slots.{slots};
+ghost use Rattle.requirement_table.specs.Slots.{contains_slot, slots};
 ghost use Rattle.requirement_table.specs.Table.{IsWellPlaced};
 ghost use Rattle.bus_line.specs.Stations.{IsWake, sooner};
 ghost use Rattle.node_model.specs.Node.{learnt};
 ghost use Rattle.node_model.specs.Window.{AreOfSlots};
 ghost use Rattle.cycle_engine.specs.Nodes.{heard_by, left_in, states_of};
 ghost use Rattle.cycle_engine.specs.Stations.{all_hear, frame_by_nodes, offered_by_nodes};
-ghost use Rattle.cycle_engine.specs.SyncWindow.{IsRowOf};
+ghost use Rattle.cycle_engine.specs.SyncWindow.{due_by};
 
 use arbitration::Contenders;
 use bus_line::laws::sooner_wake;
@@ -50,15 +50,29 @@ pub fn hear(nodes: &mut [Node], sent: &TimedFrame)
     }
 }
 
-/// Puts the frame of each slot that a node is to send in its open cycle at the slot's place in an empty row.
-pub fn put_due(nodes: &[Node], row: &mut [Option<Frame>])
-    requires places { length row.old ≡ slots }
-    requires empty { (slot : ℕ) → slot < slots → slice_index_or row.old slot None ≡ None }
-    ensures row { IsRowOf (states_of nodes.now) row.new }
+/// The slots that nodes are to send in their open cycle.
+pub fn due_slots(nodes: &[Node]) -> Mask
+    ensures slots { (slot : ℕ) → slot < slots → contains_slot result slot ≡ is_some (due_by (states_of nodes.now) slot) }
+{
+    let mut due = Mask::empty();
+    for node in nodes {
+        due = node.with_due_slots(due);
+    }
+    due
+}
+
+/// The frame of a slot that a node is to send in its open cycle.
+pub fn due_frame(nodes: &[Node], slot: u8) -> Frame
+    requires slot { slot < slots }
+    requires due { IsSome (due_by (states_of nodes.now) slot) }
+    ensures frame { due_by (states_of nodes.now) slot ≡ Some result }
 {
     for node in nodes {
-        node.put_due(row);
+        if let Some(frame) = node.frame_due(slot) {
+            return frame;
+        }
     }
+    unreachable!()
 }
 
 /// Tells each node of frames of slots, in their order. These are their slots.
@@ -66,6 +80,9 @@ pub fn hear_slots(nodes: &mut [Node], sent: Mask, frames: &[TimedFrame])
     requires slots { AreOfSlots sent frames.now }
     ensures heard { states_of nodes.new ≡ heard_by frames.now (states_of nodes.old) }
 {
+    if frames.is_empty() {
+        return;
+    }
     for node in nodes {
         node.hear_slots(sent, frames);
     }

@@ -16,3 +16,4 @@ mod HeardSlots
 mod DueRow
 mod InWindow
 mod InCycle
+mod DueSlots
