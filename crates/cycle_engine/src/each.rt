@@ -1,11 +1,11 @@
 //! What is done with each node of a bus.
 
-ghost use Rattle.std.specs.Prelude.{◌≡◌, ℕ, ◌+◌, ◌^◌, ◌<◌, ◌≤◌, ◌++◌, Some, All, Contains, IsSome, OnOk, is_some, length, map};
+ghost use Rattle.std.specs.Prelude.{◌≡◌, ℕ, ◌+◌, ◌^◌, ◌<◌, ◌≤◌, ◌++◌, Some, All, AllPairs, Contains, IfSome, IsSome, OnOk, is_some, length, map};
 ghost use Rattle.arbitration.specs.Arbitration.{AreDistinct};
 ghost use Rattle.requirement_table.specs.Slots.{contains_slot, slots};
 ghost use Rattle.requirement_table.specs.Table.{IsWellPlaced};
 ghost use Rattle.bus_line.specs.Stations.{IsWake, sooner};
-ghost use Rattle.node_model.specs.Node.{learnt};
+ghost use Rattle.node_model.specs.Node.{learnt, node_offer};
 ghost use Rattle.node_model.specs.Window.{AreOfSlots};
 ghost use Rattle.cycle_engine.specs.Nodes.{heard_by, left_in, states_of};
 ghost use Rattle.cycle_engine.specs.Stations.{all_hear, frame_by_nodes, offered_by_nodes};
@@ -127,8 +127,37 @@ pub fn sooner(one: Option<u64>, other: Option<u64>) -> Option<u64>
     }
 }
 
+/// The frame of the node that offers an identifier at a time, of which there is only one. The node at the place `first`
+/// is asked first, and the others where that one does not offer it.
+pub fn frame(nodes: &[Node], first: usize, at: u64, id: u16) -> Frame
+    requires time { at < 2 ^ 60 }
+    requires offered { Contains (offered_by_nodes (states_of nodes.now) at) id }
+    requires only { AllPairs (λ one other. node_offer one at ≡ Some id → node_offer other at ≡ Some id → ⊥) (states_of nodes.now) }
+    ensures frame { result ≡ frame_by_nodes (states_of nodes.now) at id }
+    ensures identifier { result.identifier ≡ id }
+{
+    match frame_at(nodes, first, at, id) {
+        Some(frame) => frame,
+        None => first_frame(nodes, at, id),
+    }
+}
+
+/// The frame of the node at a place, where there is one and it offers an identifier at a time.
+fn frame_at(nodes: &[Node], place: usize, at: u64, id: u16) -> Option<Frame>
+    requires time { at < 2 ^ 60 }
+    requires only { AllPairs (λ one other. node_offer one at ≡ Some id → node_offer other at ≡ Some id → ⊥) (states_of nodes.now) }
+    ensures frame { IfSome result (λ frame. frame ≡ frame_by_nodes (states_of nodes.now) at id) }
+    ensures identifier { IfSome result (λ frame. frame.identifier ≡ id) }
+{
+    if place < nodes.len() {
+        nodes[place].offered_frame(at, id)
+    } else {
+        None
+    }
+}
+
 /// The frame of the first node that offers an identifier at a time.
-pub fn frame(nodes: &[Node], at: u64, id: u16) -> Frame
+fn first_frame(nodes: &[Node], at: u64, id: u16) -> Frame
     requires time { at < 2 ^ 60 }
     requires offered { Contains (offered_by_nodes (states_of nodes.now) at) id }
     ensures frame { result ≡ frame_by_nodes (states_of nodes.now) at id }
