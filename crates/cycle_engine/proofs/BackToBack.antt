@@ -1,8 +1,8 @@
 -- In a synchronous window the frames that the nodes are to send, in the order of their slots, are those that
 -- arbitration decides.
-use Rattle.std.proofs.Common.{◌≡◌, ◌≢◌, ℕ, zero, suc, ◌+◌, ◌-◌, ◌*◌, ◌<◌, ◌≤◌, ◌&&◌, Bool, true, false, not, cond, eqb, List, [], ◌∷◌, ◌++◌, All, Contains, map, length, length-append, take, drop, replicate, get_or, Option, None, Some, inl, inr, refl, sym, ap, ◌∙◌, subst, arith}
+use Rattle.std.proofs.Common.{◌≡◌, ◌≢◌, ℕ, zero, suc, ◌+◌, ◌-◌, ◌*◌, ◌<◌, ◌≤◌, ◌&&◌, Bool, true, false, not, cond, eqb, List, [], ◌∷◌, ◌++◌, All, Contains, map, length, length-append, take, drop, get_or, Option, None, Some, inl, inr, refl, sym, ap, ◌∙◌, subst, arith}
 use Rattle.std.specs.Prelude.{◌==◌, MatchOption, nat_lt, find}
-use Rattle.std.specs.List.{cons_option, filter_map}
+use Rattle.std.specs.List.{cons_option, filter_map, range_with_len}
 use Rattle.std.specs.Option.{option_map_or}
 use Rattle.std.proofs.lemmas.Bool.{cases_Bool, cases_eq, cases_lt, cases_order, eq-eqb, ne_eqb, lt-ltb, le-ltb, cond-true, cond-false, false≢true}
 use Rattle.std.proofs.lemmas.Option.{none-some, same_Some}
@@ -20,7 +20,7 @@ use Rattle.node_model.specs.Opening.{first_identifier}
 use Rattle.node_model.specs.Node.{IsNode, NodeState, after_hearing, node_frame, node_offer}
 use Rattle.node_model.specs.Window.{IsInWindow, due_frame, is_due_slot}
 use Rattle.cycle_engine.specs.Stations.{Stationed, all_hear, cycle_line, frame_by_nodes, offered_by_nodes, offers_this}
-use Rattle.cycle_engine.specs.SyncWindow.{IsRowOf, back_to_back, due_by, frames_of, nodes_alone, sent_at}
+use Rattle.cycle_engine.specs.SyncWindow.{back_to_back, by_slots, due_by, due_frames, nodes_alone, sent_at}
 use Rattle.cycle_engine.proofs.Lists.{Contains-filter_map, Contains-from_filter_map, Contains-here, Contains-later, filter_map-none}
 
 -- the laws of nodes in their windows, and of wires, on which this stands
@@ -198,8 +198,7 @@ module _ (laws : WindowLaws) (from until : ℕ) where
 
 -- the frames that nodes are to send of `n` slots from slot `k` on
 abbrev pub due_from : List NodeState → ℕ → ℕ → List DataFrame
-due_from nodes k zero = []
-due_from nodes k (suc n) = cons_option (due_by nodes k) (due_from nodes (k + 1) n)
+due_from nodes k n = filter_map (due_by nodes) (range_with_len k n)
 
 due_from-same : (nodes others : List NodeState) (n k : ℕ) → ((slot : ℕ) → k ≤ slot → slot < k + n → due_by nodes slot ≡ due_by others slot)
     → due_from nodes k n ≡ due_from others k n
@@ -207,19 +206,6 @@ due_from-same nodes others zero k same = refl
 due_from-same nodes others (suc n) k same =
     ap (λ o. cons_option o (due_from nodes (k + 1) n)) (same k (omega arith) (omega arith))
     ∙ ap (cons_option (due_by others k)) (due_from-same nodes others n (k + 1) (λ slot low high. same slot (omega arith) (omega arith)))
-
-row-from : (nodes : List NodeState) (row : List (Option DataFrame)) (n k : ℕ) → length row ≡ n
-    → ((i slot : ℕ) → slot ≡ k + i → i < n → get_or row i None ≡ due_by nodes slot) → frames_of row ≡ due_from nodes k n
-row-from nodes [] zero k long each = refl
-row-from nodes [] (suc n) k long each = absurd (omega arith)
-row-from nodes (x ∷ xs) zero k long each = absurd (omega arith)
-row-from nodes (x ∷ xs) (suc n) k long each =
-    ap (λ o. cons_option o (frames_of xs)) (each 0 k (omega arith) (omega arith))
-    ∙ ap (cons_option (due_by nodes k)) (row-from nodes xs n (k + 1) (omega arith) (λ i slot is within. each (suc i) slot (omega arith) (omega arith)))
-
-pub frames_of-row : (nodes : List NodeState) (row : List (Option DataFrame)) → IsRowOf nodes row → frames_of row ≡ due_from nodes 0 slots
-frames_of-row nodes row is =
-    row-from nodes row slots 0 is.places (λ i slot same within. is.each i within ∙ ap (due_by nodes) (let here : i ≡ slot = omega arith in here))
 
 module _ (laws : WindowLaws) (layout : CycleLayout) (from until : ℕ) (before : Stationed) where
   abbrev Decided : List TimedFrame → ℕ → List TimedFrame → Type 0
@@ -298,14 +284,14 @@ module _ (laws : WindowLaws) (layout : CycleLayout) (from until : ℕ) (before :
   goes-on (suc n) k sum nodes sofar at now all begun =
       one-slot n k (omega (arith, sum)) (goes-on n (k + 1) (omega (arith, sum))) nodes sofar at now all begun (due_by nodes k) refl
 
--- the frames of a row, one behind the other, are those that arbitration decides
-pub Follows-row : (laws : WindowLaws) (layout : CycleLayout) (from until : ℕ) (nodes : List NodeState) (row : List (Option DataFrame))
-    → All IsNode nodes → All (IsInWindow from until) nodes → IsRowOf nodes row
-    → Follows (offers_of cycle_line (nodes_alone layout nodes)) [] from until (back_to_back (frames_of row) from until)
-Follows-row laws layout from until nodes row are in_window is =
-    subst (λ fs. Follows (offers_of cycle_line (nodes_alone layout nodes)) [] from until (back_to_back fs from until)) (sym (frames_of-row nodes row is))
-    (goes-on laws layout from until (nodes_alone layout nodes) slots 0 refl nodes [] from refl
-    (λ j d within. record { known = are j d within; in_window = in_window j d within; later = λ slot below. absurd (omega arith) }) (omega arith))
+-- the frames that nodes are to send, one behind the other, are those that arbitration decides
+pub Follows-due : (laws : WindowLaws) (layout : CycleLayout) (from until : ℕ) (nodes : List NodeState)
+    → All IsNode nodes → All (IsInWindow from until) nodes
+    → Follows (offers_of cycle_line (nodes_alone layout nodes)) [] from until (back_to_back (due_frames nodes) from until)
+unfolding by_slots
+Follows-due laws layout from until nodes are in_window =
+    goes-on laws layout from until (nodes_alone layout nodes) slots 0 refl nodes [] from refl
+    (λ j d within. record { known = are j d within; in_window = in_window j d within; later = λ slot below. absurd (omega arith) }) (omega arith)
 
 -- the identifiers of these frames are those of slots
 abbrev IsSlotId : ℕ → Type 0
@@ -340,10 +326,10 @@ sent-ids (frame ∷ later) at until all = if-sent (nat_lt at until)
         All-cons (λ sent. IsSlotId sent.frame.identifier) (sent_at at frame) _ (All-head (λ f. IsSlotId f.identifier) frame later all) rest
     if-sent false rest = λ j d within. absurd (omega arith)
 
-pub row-ids : (nodes : List NodeState) (row : List (Option DataFrame)) (from until : ℕ) → IsRowOf nodes row
-    → All (λ sent. (first_identifier ≤ sent.frame.identifier) × (sent.frame.identifier < first_identifier + slots)) (back_to_back (frames_of row) from until)
-row-ids nodes row from until is =
-    sent-ids (frames_of row) from until (subst (All (λ f. IsSlotId f.identifier)) (sym (frames_of-row nodes row is)) (due_from-ids nodes slots 0 (omega arith)))
+pub due-ids : (nodes : List NodeState) (from until : ℕ)
+    → All (λ sent. (first_identifier ≤ sent.frame.identifier) × (sent.frame.identifier < first_identifier + slots)) (back_to_back (due_frames nodes) from until)
+unfolding by_slots
+due-ids nodes from until = sent-ids (due_frames nodes) from until (due_from-ids nodes slots 0 (omega arith))
 
 -- what stands behind a front, as a slice of the whole
 pub behind-front : {X : Type 0} (front back all : List X) (n : ℕ) → all ≡ front ++ back → n ≡ length front → take (length all - n) (drop n all) ≡ back
@@ -356,8 +342,3 @@ behind-front {X = X} front back all n is long =
     drop-front : (xs : List X) → drop (length xs) (xs ++ back) ≡ back
     drop-front [] = refl
     drop-front (x ∷ xs) = drop-front xs
-
-pub nones : (n k : ℕ) → get_or {A = Option DataFrame} (replicate n None) k None ≡ None
-nones zero k = refl
-nones (suc n) zero = refl
-nones (suc n) (suc k) = nones n k

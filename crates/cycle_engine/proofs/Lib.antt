@@ -16,4 +16,5 @@ mod SlotSums
 mod Waking
 mod Window
 mod BackToBack
+mod BySlots
 mod TwoParts

@@ -1,11 +1,13 @@
 -- A change of each node of a list, one after the other.
-use Rattle.std.proofs.Common.{◌≡◌, ℕ, suc, ◌+◌, ◌<◌, ◌≤◌, List, [], ◌∷◌, ◌++◌, length, map, get_or, All, inl, inr, refl, sym, ap, ◌∙◌, subst, arith}
+use Rattle.std.proofs.Common.{◌≡◌, ℕ, suc, ◌+◌, ◌<◌, ◌≤◌, List, [], ◌∷◌, ◌++◌, true, length, map, get_or, All, inl, inr, refl, sym, ap, ◌∙◌, subst, arith}
 use Rattle.std.specs.List.{slice_set}
-use Rattle.std.proofs.lemmas.Bool.{cases_lt, cases_eq}
+use Rattle.std.specs.Prelude.{◌==◌}
+use Rattle.std.proofs.lemmas.Bool.{cases_lt, cases_eq, ne_eqb, false≢true}
 use Rattle.std.proofs.Math.Seq.{get_or-append_seam}
 use Rattle.std.proofs.lemmas.List.{get_or_append_left, get_or_default, get_or-set_same, get_or-set_other}
 use Rattle.node_model.specs.Node.{NodeState, NodeView}
-use Rattle.cycle_engine.specs.Nodes.{states_of}
+use Rattle.can_frame.specs.declared.data_frame.TimedFrame.{TimedFrame}
+use Rattle.cycle_engine.specs.Nodes.{heard_by, states_of}
 use Rattle.cycle_engine.proofs.Lists.{All-from_map}
 
 module _ (f : NodeState → NodeState) where
@@ -81,3 +83,8 @@ each_more P xs n x long holds before k d within = elim (cases_eq k n) [
   | inl here ↦ subst (λ y. P k y) (sym (ap (λ j. get_or (xs ++ x ∷ []) j d) (here ∙ sym long) ∙ get_or-append_seam xs x [] d)) (subst (λ j. P j x) (sym here) holds)
   | inr other ↦ subst (λ y. P k y) (sym (get_or_append_left xs (x ∷ []) d k (omega (arith, within, other, long)))) (before k d (omega (arith, within, other)))
 ]
+
+-- nodes that hear no frames
+pub heard-nothing : (nodes : List NodeState) (frames : List TimedFrame) → (length frames == 0) ≡ true → nodes ≡ heard_by frames nodes
+heard-nothing nodes [] none = sym (map-same nodes)
+heard-nothing nodes (sent ∷ later) none = absurd (false≢true (sym (ne_eqb (length (sent ∷ later)) 0 (λ same. omega (arith, same))) ∙ none))

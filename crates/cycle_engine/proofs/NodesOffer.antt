@@ -1,14 +1,16 @@
 -- Loops over the nodes of a bus, which put together what they offer, and find a frame.
-use Rattle.std.proofs.Common.{◌≡◌, ℕ, ◌+◌, ◌<◌, ◌≤◌, true, false, cond, List, [], ◌∷◌, ◌++◌, length, drop, get_or, Contains, Option, None, Some, refl, sym, ap, ◌∙◌, subst, arith, append_assoc, append-nil, length-append}
+use Rattle.std.proofs.Common.{◌≡◌, ℕ, zero, suc, ◌+◌, ◌<◌, ◌≤◌, true, false, cond, List, [], ◌∷◌, ◌++◌, length, drop, get_or, AllPairs, Contains, Option, None, Some, refl, sym, ap, ◌∙◌, subst, arith, append_assoc, append-nil, length-append}
 use Rattle.std.specs.Prelude.{filter_map, find}
 use Rattle.std.specs.List.{cons_option}
+use Rattle.std.specs.Option.{option_map_or}
 use Rattle.std.proofs.Math.Seq.{get_or-append_seam}
 use Rattle.std.proofs.lemmas.Bool.{eq-eqb, ne_eqb}
-use Rattle.std.proofs.lemmas.List.{at_drop_more, at_drop_all, get_or_append_left}
+use Rattle.std.proofs.lemmas.List.{at_drop_more, at_drop_all, get_or-map, get_or_append_left, length-map}
 use Rattle.arbitration.specs.Arbitration.{AreDistinct}
-use Rattle.node_model.specs.Node.{NodeState, NodeView}
+use Rattle.node_model.specs.Node.{NodeState, NodeView, node_frame, node_offer}
 use Rattle.cycle_engine.specs.Nodes.{states_of}
-use Rattle.cycle_engine.specs.Stations.{offers_this}
+use Rattle.cycle_engine.specs.Stations.{frame_by_nodes, offers_this}
+use Rattle.cycle_engine.proofs.Lists.{AllPairs-tail}
 
 -- in a list of distinct numbers, none stands before its place
 distinct_before : (front : List ℕ) (x : ℕ) (back : List ℕ) → AreDistinct (front ++ x ∷ back) → Contains front x → ⊥
@@ -99,3 +101,27 @@ module _ (offer : NodeState → Option ℕ) (nodes : List NodeView) (id : ℕ) w
 
   pub first_from-none : (place : ℕ) → length nodes ≤ place → first_from place ≡ None
   first_from-none place behind = at_drop_all (λ xs. find (λ n. offers_this id (offer n)) (states_of xs)) nodes place behind
+
+-- where no two nodes offer one identifier, the node that offers it is the first that does
+pub only-offer : (offer : NodeState → Option ℕ) (nodes : List NodeState) (id k : ℕ) (d : NodeState) → k < length nodes
+    → AllPairs (λ one other. offer one ≡ Some id → offer other ≡ Some id → ⊥) nodes → offer (get_or nodes k d) ≡ Some id
+    → find (λ node. offers_this id (offer node)) nodes ≡ Some (get_or nodes k d)
+only-offer offer [] id k d within only offers = absurd (omega arith)
+only-offer offer (x ∷ xs) id zero d within only offers =
+    ap (λ b. cond b (Some x) (find (λ node. offers_this id (offer node)) xs)) (offers_this-is (offer x) id offers)
+only-offer offer (x ∷ xs) id (suc k) d within only offers =
+    ap (λ b. cond b (Some x) (find (λ node. offers_this id (offer node)) xs))
+    (offers_this-not (offer x) id (λ also. only 0 (suc k) d (omega arith) within also offers))
+    ∙ only-offer offer xs id k d (omega arith)
+    (AllPairs-tail (λ one other. offer one ≡ Some id → offer other ≡ Some id → ⊥) x xs only) offers
+
+-- the frame of the node at a place that offers the identifier
+pub frame-only : (nodes : List NodeView) (node : NodeView) (place at id : ℕ) → place < length nodes → node ≡ get_or nodes place node
+    → AllPairs (λ one other. node_offer one at ≡ Some id → node_offer other at ≡ Some id → ⊥) (states_of nodes)
+    → node_offer node.state at ≡ Some id → node_frame node.state at id ≡ frame_by_nodes (states_of nodes) at id
+frame-only nodes node place at id within is only offers =
+    let state : get_or (states_of nodes) place node.state ≡ node.state =
+    get_or-map (λ x. x.state) nodes place node node.state within ∙ ap (λ x. x.state) (sym is) in
+    let found = only-offer (λ x. node_offer x at) (states_of nodes) id place node.state (omega (arith, within, length-map nodes (λ x. x.state))) only
+    (ap (λ x. node_offer x at) state ∙ offers) in
+    sym (ap (λ o. option_map_or (λ x. node_frame x at id) o (record { identifier = id; bytes = [] })) (found ∙ ap (λ x. Some x) state))

@@ -1,11 +1,12 @@
 -- A synchronous window: the nodes are asked once for the frames that they are to send in it, and these leave in the
 -- order of their slots.
-use Rattle.std.specs.Prelude.{◌≡◌, ◌≢◌, ℕ, ◌+◌, ◌*◌, ◌<◌, ◌≤◌, nat_lt, if◌then◌else◌, List, [], ◌∷◌, ◌++◌, All, filter_map, length, Option, None, Some, slice_index_or}
+use Rattle.std.specs.Prelude.{◌≡◌, ◌≢◌, ℕ, ◌+◌, ◌*◌, ◌≤◌, nat_lt, if◌then◌else◌, List, [], ◌∷◌, ◌++◌, All, filter_map, length, Option, None, Some}
+use Rattle.std.specs.List.{range_with_len}
 use Rattle.can_frame.specs.DataFrame.{DataFrame}
 use Rattle.can_frame.specs.Wire.{wire_length}
 use Rattle.can_frame.specs.declared.data_frame.TimedFrame.{TimedFrame}
 use Rattle.cycle_layout.specs.Layout.{CycleLayout}
-use Rattle.requirement_table.specs.Slots.{slots}
+use Rattle.requirement_table.specs.Slots.{contains_slot, slots}
 use Rattle.trigger_codec.specs.Bytes.{trigger_frame}
 use Rattle.bus_line.specs.Trace.{Follows}
 use Rattle.bus_line.specs.Stations.{offers_of}
@@ -20,14 +21,17 @@ abbrev pub due_by : List NodeState → ℕ → Option DataFrame
 due_by [] slot = None
 due_by (node ∷ later) slot = if is_due_slot node slot then Some (due_frame node slot) else due_by later slot
 
--- a row has a place for each slot, and there the frame that the nodes are to send
-pub record IsRowOf (nodes : List NodeState) (row : List (Option DataFrame)) : Type 0 where
-  pub places : length row ≡ slots
-  pub each : (slot : ℕ) → slot < slots → slice_index_or row slot None ≡ due_by nodes slot
+-- what a function gives of the slots, in their order
+unfoldable pub by_slots : (ℕ → Option DataFrame) → List DataFrame
+by_slots given = filter_map given (range_with_len 0 slots)
 
--- the frames that stand in a row, in their order
-abbrev pub frames_of : List (Option DataFrame) → List DataFrame
-frames_of row = filter_map (λ place. place) row
+-- the frames that nodes are to send, in the order of their slots
+abbrev pub due_frames : List NodeState → List DataFrame
+due_frames nodes = by_slots (due_by nodes)
+
+-- the same of the slots of a set alone
+abbrev pub due_among : List NodeState → ℕ → ℕ → Option DataFrame
+due_among nodes set slot = if contains_slot set slot then due_by nodes slot else None
 
 -- a frame that is sent whole from a time on
 abbrev pub sent_at : ℕ → DataFrame → TimedFrame

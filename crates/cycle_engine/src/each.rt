@@ -1,15 +1,15 @@
 //! What is done with each node of a bus.
 
-ghost use Rattle.std.specs.Prelude.{◌≡◌, ℕ, ◌+◌, ◌^◌, ◌<◌, ◌≤◌, ◌++◌, None, All, Contains, OnOk, length, map, slice_index_or};
+ghost use Rattle.std.specs.Prelude.{◌≡◌, ℕ, ◌+◌, ◌^◌, ◌<◌, ◌≤◌, ◌++◌, Some, All, AllPairs, Contains, IfSome, IsSome, OnOk, is_some, length, map};
 ghost use Rattle.arbitration.specs.Arbitration.{AreDistinct};
-ghost use Rattle.requirement_table.specs.Slots.{slots};
+ghost use Rattle.requirement_table.specs.Slots.{contains_slot, slots};
 ghost use Rattle.requirement_table.specs.Table.{IsWellPlaced};
 ghost use Rattle.bus_line.specs.Stations.{IsWake, sooner};
-ghost use Rattle.node_model.specs.Node.{learnt};
+ghost use Rattle.node_model.specs.Node.{learnt, node_offer};
 ghost use Rattle.node_model.specs.Window.{AreOfSlots};
 ghost use Rattle.cycle_engine.specs.Nodes.{heard_by, left_in, states_of};
 ghost use Rattle.cycle_engine.specs.Stations.{all_hear, frame_by_nodes, offered_by_nodes};
-ghost use Rattle.cycle_engine.specs.SyncWindow.{IsRowOf};
+ghost use Rattle.cycle_engine.specs.SyncWindow.{due_by};
 
 use arbitration::Contenders;
 use bus_line::laws::sooner_wake;
@@ -50,15 +50,29 @@ pub fn hear(nodes: &mut [Node], sent: &TimedFrame)
     }
 }
 
-/// Puts the frame of each slot that a node is to send in its open cycle at the slot's place in an empty row.
-pub fn put_due(nodes: &[Node], row: &mut [Option<Frame>])
-    requires places { length row.old ≡ slots }
-    requires empty { (slot : ℕ) → slot < slots → slice_index_or row.old slot None ≡ None }
-    ensures row { IsRowOf (states_of nodes.now) row.new }
+/// The slots that nodes are to send in their open cycle.
+pub fn due_slots(nodes: &[Node]) -> Mask
+    ensures slots { (slot : ℕ) → slot < slots → contains_slot result slot ≡ is_some (due_by (states_of nodes.now) slot) }
+{
+    let mut due = Mask::empty();
+    for node in nodes {
+        due = node.with_due_slots(due);
+    }
+    due
+}
+
+/// The frame of a slot that a node is to send in its open cycle.
+pub fn due_frame(nodes: &[Node], slot: u8) -> Frame
+    requires slot { slot < slots }
+    requires due { IsSome (due_by (states_of nodes.now) slot) }
+    ensures frame { due_by (states_of nodes.now) slot ≡ Some result }
 {
     for node in nodes {
-        node.put_due(row);
+        if let Some(frame) = node.frame_due(slot) {
+            return frame;
+        }
     }
+    unreachable!()
 }
 
 /// Tells each node of frames of slots, in their order. These are their slots.
@@ -66,6 +80,9 @@ pub fn hear_slots(nodes: &mut [Node], sent: Mask, frames: &[TimedFrame])
     requires slots { AreOfSlots sent frames.now }
     ensures heard { states_of nodes.new ≡ heard_by frames.now (states_of nodes.old) }
 {
+    if frames.is_empty() {
+        return;
+    }
     for node in nodes {
         node.hear_slots(sent, frames);
     }
@@ -110,8 +127,37 @@ pub fn sooner(one: Option<u64>, other: Option<u64>) -> Option<u64>
     }
 }
 
+/// The frame of the node that offers an identifier at a time, of which there is only one. The node at the place `first`
+/// is asked first, and the others where that one does not offer it.
+pub fn frame(nodes: &[Node], first: usize, at: u64, id: u16) -> Frame
+    requires time { at < 2 ^ 60 }
+    requires offered { Contains (offered_by_nodes (states_of nodes.now) at) id }
+    requires only { AllPairs (λ one other. node_offer one at ≡ Some id → node_offer other at ≡ Some id → ⊥) (states_of nodes.now) }
+    ensures frame { result ≡ frame_by_nodes (states_of nodes.now) at id }
+    ensures identifier { result.identifier ≡ id }
+{
+    match frame_at(nodes, first, at, id) {
+        Some(frame) => frame,
+        None => first_frame(nodes, at, id),
+    }
+}
+
+/// The frame of the node at a place, where there is one and it offers an identifier at a time.
+fn frame_at(nodes: &[Node], place: usize, at: u64, id: u16) -> Option<Frame>
+    requires time { at < 2 ^ 60 }
+    requires only { AllPairs (λ one other. node_offer one at ≡ Some id → node_offer other at ≡ Some id → ⊥) (states_of nodes.now) }
+    ensures frame { IfSome result (λ frame. frame ≡ frame_by_nodes (states_of nodes.now) at id) }
+    ensures identifier { IfSome result (λ frame. frame.identifier ≡ id) }
+{
+    if place < nodes.len() {
+        nodes[place].offered_frame(at, id)
+    } else {
+        None
+    }
+}
+
 /// The frame of the first node that offers an identifier at a time.
-pub fn frame(nodes: &[Node], at: u64, id: u16) -> Frame
+fn first_frame(nodes: &[Node], at: u64, id: u16) -> Frame
     requires time { at < 2 ^ 60 }
     requires offered { Contains (offered_by_nodes (states_of nodes.now) at) id }
     ensures frame { result ≡ frame_by_nodes (states_of nodes.now) at id }

@@ -74,7 +74,7 @@ impl Nodes {
         fit_into_memory(requests);
         let made = fresh_nodes(alloc, layout, nodes, owners, requests)?;
         Ok(Nodes {
-            stations: NodeStations::new(layout, made),
+            stations: NodeStations::new(layout, made, owners),
         })
     }
 

@@ -1,17 +1,19 @@
 //! The nodes of a bus as stations on it, and with them the master, which offers a trigger.
 
-ghost use Rattle.std.specs.Prelude.{◌≡◌, ◌+◌, ◌-◌, ◌/◌, ◌^◌, ◌<◌, ◌≤◌, [], None, Some, All, OnOk, length, map, vec_capacity};
+ghost use Rattle.std.specs.Prelude.{◌≡◌, ◌+◌, ◌-◌, ◌/◌, ◌^◌, ◌<◌, ◌≤◌, [], None, Some, All, Contains, OnOk, length, map, vec_capacity};
 ghost use Rattle.cycle_layout.specs.Layout.{IsLayout};
 ghost use Rattle.requirement_table.specs.Table.{IsWellPlaced};
 ghost use Rattle.node_model.specs.Node.{learnt};
 ghost use Rattle.node_model.specs.Window.{IsInWindow};
 ghost use Rattle.cycle_engine.specs.Nodes.{left_in, states_of};
 ghost use Rattle.bus_line.specs.Stations.{IsWake};
-ghost use Rattle.cycle_engine.specs.Stations.{AreNodes, offered_trigger};
+ghost use Rattle.async_window.specs.Owners.{AreOwners};
+ghost use Rattle.cycle_engine.specs.Stations.{AreNodes, frame_by_nodes, offered_by_nodes, offered_trigger};
 ghost use Rattle.cycle_engine.specs.SyncWindow.{IsSentBy};
 
 use crate::{each, sync_window};
 use arbitration::Contenders;
+use async_window::Owner;
 use bus_line::Stations;
 use bus_line::laws::sooner_wake;
 use can_frame::{Frame, TimedFrame};
@@ -31,12 +33,18 @@ pub struct DueTrigger {
     pub frame: Frame,
 }
 
+/// The number of identifiers of 11 bits.
+const IDENTIFIERS: usize = 2_048;
+
 /// The nodes of a bus, and the trigger that is offered next, where there is one.
 #[derive(Drop)]
 pub struct NodeStations {
     layout: Layout,
     nodes: Vec<Node>,
     trigger: Option<DueTrigger>,
+    /// For each identifier the place of the node that is asked first for its frame. All others are asked where that one
+    /// does not offer it.
+    asked_first: [u8; IDENTIFIERS],
 }
 
 impl Model for NodeStations {
@@ -51,15 +59,17 @@ impl Model for NodeStations {
 }
 
 impl NodeStations {
-    /// The stations without a trigger.
-    pub fn new(layout: Layout, nodes: Vec<Node>) -> NodeStations
+    /// The stations without a trigger. These are the owners of asynchronous identifiers.
+    pub fn new(layout: Layout, nodes: Vec<Node>, owners: &[Owner]) -> NodeStations
         requires nodes { AreNodes layout (states_of nodes.items) }
+        requires owners { AreOwners owners.now }
         ensures stations { result ≡ record { layout = layout; trigger = None; nodes = nodes.items } }
     {
         NodeStations {
             layout,
             nodes,
             trigger: None,
+            asked_first: nodes_of_owners(owners),
         }
     }
 
@@ -110,6 +120,18 @@ impl NodeStations {
         self.trigger = Some(DueTrigger { at, frame });
     }
 
+    /// The frame of the node that offers an identifier at a time.
+    fn frame_of_node(&self, at: u64, id: u16) -> Frame
+        requires time { at < 2 ^ 60 }
+        requires offered { Contains (offered_by_nodes (states_of self.now.nodes) at) id }
+        ensures frame { result ≡ frame_by_nodes (states_of self.now.nodes) at id }
+        ensures identifier { result.identifier ≡ id }
+    {
+        nodes_are_apart();
+        let first = self.asked_first[usize::from(id) % IDENTIFIERS];
+        each::frame(self.nodes.as_slice(), usize::from(first), at, id)
+    }
+
     /// Runs the bus over the nodes in their synchronous window from `from` on, and puts the frames that start before
     /// `until` behind `out`, which has room for them. The trigger was sent.
     pub fn run_window(&mut self, from: u64, until: u64, out: &mut Vec<TimedFrame>)
@@ -155,10 +177,10 @@ impl Stations for NodeStations {
                 if trigger.frame.id() == id {
                     trigger.frame
                 } else {
-                    each::frame(self.nodes.as_slice(), at, id)
+                    self.frame_of_node(at, id)
                 }
             }
-            None => each::frame(self.nodes.as_slice(), at, id),
+            None => self.frame_of_node(at, id),
         }
     }
 
@@ -169,6 +191,17 @@ impl Stations for NodeStations {
         each::hear(self.nodes.as_mut_slice(), sent);
         self.trigger = None;
     }
+}
+
+/// For each identifier the number of its owner, where it has one.
+fn nodes_of_owners(owners: &[Owner]) -> [u8; IDENTIFIERS]
+    requires owners { AreOwners owners.now }
+{
+    let mut nodes = [0; IDENTIFIERS];
+    for owner in owners {
+        nodes[usize::from(owner.id)] = owner.node;
+    }
+    nodes
 }
 
 /// Adds the identifier of the trigger to no contenders, where it is offered at this time.

@@ -1,23 +1,20 @@
 //! The synchronous window of a cycle. In it nothing is newly offered, and a frame that is sent goes away: the nodes are
 //! asked once, and their frames leave in the order of their slots.
 
-ghost use Rattle.std.specs.Prelude.{◌≡◌, ℕ, ◌+◌, ◌-◌, ◌*◌, ◌/◌, ◌^◌, ◌<◌, ◌≤◌, ◌++◌, [], None, All, length, slice_index_or, vec_len, vec_capacity};
-ghost use Rattle.requirement_table.specs.Slots.{slots};
+ghost use Rattle.std.specs.Prelude.{◌≡◌, ℕ, ◌+◌, ◌-◌, ◌/◌, ◌^◌, ◌<◌, ◌≤◌, ◌++◌, All, IsSome, length, true, vec_len, vec_capacity};
+ghost use Rattle.requirement_table.specs.Slots.{contains_slot, slots};
 ghost use Rattle.node_model.specs.Opening.{first_identifier};
 ghost use Rattle.node_model.specs.Node.{IsNode};
 ghost use Rattle.node_model.specs.Window.{AreOfSlots, IsInWindow};
 ghost use Rattle.cycle_engine.specs.Nodes.{states_of};
-ghost use Rattle.cycle_engine.specs.SyncWindow.{IsSentBy, back_to_back, frames_of};
+ghost use Rattle.cycle_engine.specs.SyncWindow.{IsSentBy, back_to_back, by_slots, due_among, due_by};
 
 use crate::each;
 use can_frame::laws::wire_lengths;
-use can_frame::{Frame, TimedFrame, wire_len};
+use can_frame::{TimedFrame, wire_len};
 use node_model::laws::{sends_its_slots, stays_a_node};
-use node_model::{FIRST_IDENTIFIER, Node};
-use requirement_table::{Mask, SLOTS};
-
-/// The number of places of a row: one for each slot.
-const PLACES: usize = SLOTS as usize;
+use node_model::{FIRST_IDENTIFIER, Node, least_slot};
+use requirement_table::Mask;
 
 /// Runs the bus over nodes in their synchronous window from `from` on, and puts the frames that start before `until`
 /// behind `out`, which has spare room for one frame more than `(until - from) / 47`. Times are below 2^60.
@@ -32,42 +29,37 @@ pub fn run_window(nodes: &mut [Node], from: u64, until: u64, out: &mut Vec<Timed
     sends_its_slots();
     stays_a_node();
     let before = out.as_slice().len();
-    let mut row = empty_row();
-    each::put_due(nodes, &mut row);
-    send_row(&row, from, until, out);
+    send_slots(nodes, each::due_slots(nodes), from, until, out);
     let frames = &out.as_slice()[before..];
     each::hear_slots(nodes, slots_of(frames), frames);
 }
 
-/// A row in which no frame stands.
-fn empty_row() -> [Option<Frame>; PLACES]
-    ensures places { length result ≡ slots }
-    ensures empty { (slot : ℕ) → slot < slots → slice_index_or result slot None ≡ None }
-{
-    [None; PLACES]
-}
-
-/// Puts the frames of a row behind `out`, one right behind the other from `from` on, as many as start before `until`.
-fn send_row(row: &[Option<Frame>], from: u64, until: u64, out: &mut Vec<TimedFrame>)
+/// Puts the frames of a set of slots that nodes are to send behind `out`, in the order of the slots, one right behind
+/// the other from `from` on, as many as start before `until`.
+fn send_slots(nodes: &[Node], set: Mask, from: u64, until: u64, out: &mut Vec<TimedFrame>)
     requires time { until < 2 ^ 60 }
+    requires due { (slot : ℕ) → slot < slots → contains_slot set slot ≡ true → IsSome (due_by (states_of nodes.now) slot) }
     requires room { from < until → vec_len out.old + ((until - from) / 47 + 1) ≤ vec_capacity out.old }
-    ensures sent { out.new.items ≡ out.old.items ++ back_to_back (frames_of row.now) from until }
+    ensures sent { out.new.items ≡ out.old.items ++ back_to_back (by_slots (due_among (states_of nodes.now) set)) from until }
 {
+    let mut left = set;
     let mut at = from;
-    for place in row {
-        if let Some(frame) = place {
-            if at >= until {
-                return;
-            }
-            let len = wire_len(frame);
-            out.push(TimedFrame {
-                start: at,
-                len,
-                frame: *frame,
-            })
-            .unwrap();
-            at += u64::from(len);
+    while let Some(slot) = least_slot(left) {
+        if at >= until {
+            return;
         }
+        let frame = each::due_frame(nodes, slot);
+        let len = wire_len(&frame);
+        out.push(TimedFrame {
+            start: at,
+            len,
+            frame,
+        })
+        .unwrap();
+        at += u64::from(len);
+        left.known();
+        left = left.without(slot);
+        left.known();
     }
 }
 

@@ -17,3 +17,4 @@ mod HeardSlots
 mod DueRow
 mod InWindow
 mod InCycle
+mod DueSlots

@@ -34,7 +34,7 @@ impl Node {
     }
 
     /// The frame of a slot that the node is to send in the open cycle.
-    fn due_frame(&self, open_cycle: &Open, slot: u8) -> Frame
+    pub(crate) fn due_frame(&self, open_cycle: &Open, slot: u8) -> Frame
         requires slot { slot < slots }
         requires open_cycle { self.now.state.opened ≡ Some (opened_of open_cycle.now) }
         requires due { is_due_slot self.now.state slot ≡ true }
@@ -97,7 +97,7 @@ fn common(one: Mask, other: Mask) -> Mask
 }
 
 /// The slots of two sets together.
-fn both(one: Mask, other: Mask) -> Mask
+pub(crate) fn both(one: Mask, other: Mask) -> Mask
     ensures slots { result ≡ set_of slots (λ slot. contains_slot one slot || contains_slot other slot) }
 {
     Mask::from_bits(one.bits() | other.bits())

@@ -9,8 +9,9 @@ mod due;
 mod entries;
 pub mod laws;
 mod node;
+mod slots_due;
 
-pub use cycle::FIRST_IDENTIFIER;
+pub use cycle::{FIRST_IDENTIFIER, least_slot};
 pub use node::Node;
 
 #[cfg(test)]

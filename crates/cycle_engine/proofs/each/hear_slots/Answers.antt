@@ -1,7 +1,8 @@
-use Rattle.std.proofs.Common.{arith}
+use Rattle.std.proofs.Common.{arith, sym, ◌∙◌}
 use Rattle.std.specs.Prelude.{fold}
 use Rattle.node_model.specs.Node.{after_hearing}
-use Rattle.cycle_engine.proofs.NodeByNode.{DoneBefore-none, DoneBefore-more, DoneBefore-all}
+use Rattle.cycle_engine.specs.Nodes.{states_of}
+use Rattle.cycle_engine.proofs.NodeByNode.{DoneBefore-none, DoneBefore-more, DoneBefore-all, heard-nothing}
 use Rattle.cycle_engine.proofs.each.hear_slots.Goals as goal
 
 pub loop-node-init : goal.loop-node-init
@@ -16,3 +17,6 @@ pub returns : goal.returns
 returns c = record {
   heard = DoneBefore-all (λ node. fold after_hearing node c.args.frames.now) c.loop-node.node-index c.args.nodes.now c.loop-node.node-items c.loop-node.auto.node-items (omega (arith, c.loop-node-test.false)) c.loop-node.invariant;
 }
+
+pub returns-then-is_empty : goal.returns-then-is_empty
+returns-then-is_empty c = record { heard = heard-nothing (states_of c.args.nodes.now) c.args.frames.now (sym c.is_empty.ensures ∙ c.if-is_empty.true) }

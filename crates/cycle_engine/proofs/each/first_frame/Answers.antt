@@ -5,7 +5,7 @@ use Rattle.node_model.specs.Node.{node_frame, node_offer}
 use Rattle.cycle_engine.specs.Nodes.{states_of}
 use Rattle.cycle_engine.proofs.Lists.{find-offered}
 use Rattle.cycle_engine.proofs.NodesOffer.{first_from-offers, first_from-never, first_from-none}
-use Rattle.cycle_engine.proofs.each.frame.Goals as goal
+use Rattle.cycle_engine.proofs.each.first_frame.Goals as goal
 
 pub loop-node-init : goal.loop-node-init
 loop-node-init c = refl

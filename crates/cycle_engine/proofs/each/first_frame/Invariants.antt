@@ -1,7 +1,7 @@
 use Rattle.std.proofs.Common.{◌≡◌}
 use Rattle.node_model.specs.Node.{node_offer}
 use Rattle.cycle_engine.proofs.NodesOffer.{first_from}
-use Rattle.cycle_engine.proofs.each.frame.Given as goal
+use Rattle.cycle_engine.proofs.each.first_frame.Given as goal
 
 -- no node before this one offers the identifier
 abbrev pub invariant-loop-node : goal.invariant-loop-node
