@@ -1,5 +1,6 @@
 -- What the placed entries make of each slot.
-use Rattle.std.specs.Prelude.{◌≡◌, ℕ, ◌<◌, max, if◌then◌else◌, Option, Some, None, is_none, List, length, slice_index_or}
+use Rattle.std.specs.Prelude.{◌≡◌, ℕ, ◌<◌}
+use Rattle.std.specs.Prelude.{max, if◌then◌else◌, Option, Some, None, is_none, List, length, slice_index_or}
 use Rattle.std.specs.Option.{option_map_or, option_or}
 use Rattle.requirement_table.specs.declared.entries.Placed.{Placed}
 use Rattle.requirement_table.specs.Table.{free_from}

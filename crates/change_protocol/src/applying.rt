@@ -1,6 +1,7 @@
 //! The application of a change.
 
-ghost use Rattle.std.specs.Prelude.{◌≡◌, ◌<◌, ◌^◌, ◌++◌, ◌&&◌, ◌||◌, ℕ, [], Some, None, All, IfErr, IfOk, OnOk, is_none, if◌then◌else◌, map};
+ghost use Rattle.std.specs.Prelude.{◌≡◌, ◌<◌, ◌^◌, ◌++◌, ◌&&◌, ◌||◌, ℕ, []};
+ghost use Rattle.std.specs.Prelude.{Some, None, All, IfErr, IfOk, OnOk, is_none, if◌then◌else◌, map};
 ghost use Rattle.std.specs.List.{cons_option, filter_map, list_any};
 ghost use Rattle.requirement_table.specs.Slots.{contains_slot};
 ghost use Rattle.requirement_table.specs.Table.{IsWellPlaced};
@@ -43,7 +44,8 @@ fn with_ended(slots: Mask, op: &Op) -> Mask
 // A placed entry after operations at `start` that end the live entries of these slots.
 fn after(p: &Placed, ended: Mask, start: u64) -> Placed
     requires { p.now.entry.slot < 40 }
-    ensures { result ≡ (if is_none p.now.end && contains_slot ended p.now.entry.slot then record p.now { end = Some start } else p.now) }
+    ensures { result ≡ (if is_none p.now.end && contains_slot ended p.now.entry.slot
+        then record p.now { end = Some start } else p.now) }
 {
     if p.end.is_none() && ended.has(p.entry.slot) {
         Placed {

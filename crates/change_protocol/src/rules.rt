@@ -3,7 +3,10 @@
 ghost use Rattle.std.specs.Prelude.{◌≡◌, ◌<◌, ◌++◌, List, [], IfErr, OnOk, map, length, nat_eq};
 ghost use Rattle.std.specs.List.{list_any};
 ghost use Rattle.change_protocol.specs.Operations.{slot_of};
-ghost use Rattle.change_protocol.specs.Malformed.{add_busy, broken, change_faults, deadline_range, end_busy, length_range, no_ops, node_unknown, op_faults, period_zero, slot_busy, slot_empty, slot_range, slot_twice, start_range, too_many_ops, where_holds, whys};
+ghost use Rattle.change_protocol.specs.Malformed.{add_busy, broken, change_faults, deadline_range, end_busy};
+ghost use Rattle.change_protocol.specs.Malformed.{length_range, no_ops, node_unknown, op_faults};
+ghost use Rattle.change_protocol.specs.Malformed.{period_zero, slot_busy, slot_empty, slot_range};
+ghost use Rattle.change_protocol.specs.Malformed.{slot_twice, start_range, too_many_ops, where_holds, whys};
 ghost use Rattle.change_protocol.specs.First.{IsFirst, NamesFirst};
 ghost use Rattle.change_protocol.specs.declared.malformed.Why.{Why};
 
