@@ -1,5 +1,6 @@
 -- The generator: a stream of draws that one number sets off, and the input that they make, each list of it whole.
-use Rattle.std.specs.Prelude.{ℕ, zero, suc, ◌+◌, ◌*◌, ◌/◌, ◌%◌, ◌^◌, ◌==◌, if◌then◌else◌, List, [], ◌∷◌, ◌++◌, map, get_or, sum_by}
+use Rattle.std.specs.Prelude.{ℕ, zero, suc, ◌+◌, ◌*◌, ◌/◌, ◌%◌, ◌^◌, ◌==◌}
+use Rattle.std.specs.Prelude.{if◌then◌else◌, List, [], ◌∷◌, ◌++◌, map, get_or, sum_by}
 use Rattle.std.specs.List.{range_with_len}
 use Rattle.requirement_table.specs.declared.entries.Entry.{Entry}
 use Rattle.change_protocol.specs.declared.operations.Op.TheVariants.{Add}
@@ -97,12 +98,16 @@ draws_before number (suc place) = draws_before number place + 3 + size_made numb
 
 -- the arrival of the request of this place: the sum of the gaps up to it, its own included
 unfoldable pub arrival_made : ℕ → ℕ → ℕ
-arrival_made number place = sum_by (λ gap. gap) (each_below (place + 1) (λ earlier. gap_made number (draws_before number earlier)))
+arrival_made number place =
+    sum_by (λ gap. gap) (each_below (place + 1) (λ earlier. gap_made number (draws_before number earlier)))
 
 unfoldable pub request_made : ℕ → ℕ → Request
 request_made number place = record {
   at = arrival_made number place;
-  frame = record { identifier = identifier_made number (draws_before number place); bytes = bytes_made number (draws_before number place) };
+  frame = record {
+    identifier = identifier_made number (draws_before number place);
+    bytes = bytes_made number (draws_before number place);
+  };
 }
 
 unfoldable pub requests_made : ℕ → List Request

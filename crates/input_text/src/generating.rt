@@ -5,7 +5,9 @@
 
 ghost use Rattle.std.specs.Prelude.{◌≡◌, ◌+◌, ◌*◌, ◌/◌, ◌^◌, ◌%◌, ◌<◌, ◌≤◌, ℕ, [], ◌∷◌, IfOk, OnOk};
 ghost use Rattle.change_protocol.specs.declared.operations.Op.TheVariants.{Add};
-ghost use Rattle.input_text.specs.Generator.{bytes_made, draw, each_below, entry_made, gap_made, generated, identifier_made, owner_made, policy_made, requests_made, size_made, state_after, steps_made, system_made};
+ghost use Rattle.input_text.specs.Generator.{bytes_made, draw, each_below, entry_made, gap_made};
+ghost use Rattle.input_text.specs.Generator.{generated, identifier_made, owner_made, policy_made};
+ghost use Rattle.input_text.specs.Generator.{requests_made, size_made, state_after, steps_made, system_made};
 ghost use Rattle.input_text.specs.RequestsFile.{AreLegal};
 ghost use Rattle.input_text.specs.StepsFile.{AreLegalSteps};
 ghost use Rattle.input_text.specs.StepsReading.{asking};
@@ -129,7 +131,10 @@ impl Draws {
     // A frame of this identifier, of a draw for the number of its bytes and one for each of them.
     fn frame(&mut self, id: u16) -> Frame
         requires identifier { id ≤ 0x7EF }
-        ensures value { result ≡ record { identifier = id; bytes = each_below (draw self.old.state 1 % 9) (λ place. draw self.old.state (2 + place) % 256) } }
+        ensures value { result ≡ record {
+          identifier = id;
+          bytes = each_below (draw self.old.state 1 % 9) (λ place. draw self.old.state (2 + place) % 256);
+        } }
         ensures state { self.new.state ≡ state_after self.old.state (1 + draw self.old.state 1 % 9) }
     {
         let count = self.below(9) as usize;
@@ -242,7 +247,8 @@ fn steps(alloc: Global, draws: &mut Draws) -> Result<StepList, AllocError>
 
 // The requests, where the draws of the steps were taken.
 fn requests(alloc: Global, mut draws: Draws) -> Result<RequestList, AllocError>
-    ensures value { (number : ℕ) → draws.state ≡ state_after number (6 * 40) → IfOk result (λ requests. requests ≡ requests_made number) }
+    ensures value { (number : ℕ) → draws.state ≡ state_after number (6 * 40)
+        → IfOk result (λ requests. requests ≡ requests_made number) }
 {
     let mut requests = Vec::new(alloc);
     let mut last = 0;

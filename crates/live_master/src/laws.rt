@@ -21,7 +21,8 @@ pub fn events_of_passes()
 /// caller `k`.
 pub fn events_in_histories()
     ensures openings { (history : List Event) → own number_of 0 history ≡ filter is_open history }
-    ensures calls { (k : ℕ) (history : List Event) → 1 ≤ k → k ≤ 8 → own number_of k history ≡ filter (is_called_by k) history }
+    ensures calls { (k : ℕ) (history : List Event) → 1 ≤ k → k ≤ 8
+        → own number_of k history ≡ filter (is_called_by k) history }
 {}
 
 /// The dispatcher made all openings that it has seen, and it made nothing else.
