@@ -1,7 +1,7 @@
 -- What the checker keeps of the table in one cycle: words for contracts inside the crate.
 use Rattle.std.specs.Prelude.{◌≡◌, ℕ, ◌+◌, ◌<◌, ◌≤◌, Bool, true, false, not, ◌&&◌, ◌||◌}
-use Rattle.std.specs.Prelude.{nat_eq, nat_le, List, length, Option, Some, None, option_map, slice_get, slice_index_or}
-use Rattle.std.specs.Option.{option_map_or, option_and_then}
+use Rattle.std.specs.Prelude.{nat_eq, List, length, Option, Some, None, option_map, slice_get, slice_index_or}
+use Rattle.std.specs.Option.{option_map_or}
 use Rattle.requirement_table.specs.declared.entries.Placed.{Placed}
 use Rattle.requirement_table.specs.Instance.{Instance, deadline_of, instance_of, release_of, worst}
 use Rattle.requirement_table.specs.Slots.{contains_slot, slots, sum_where}
