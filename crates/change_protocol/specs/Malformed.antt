@@ -6,6 +6,7 @@ use Rattle.std.specs.List.{list_any}
 use Rattle.std.specs.Option.{option_map_or}
 use Rattle.requirement_table.specs.declared.entries.Entry.{Entry}
 use Rattle.requirement_table.specs.declared.entries.Placed.{Placed}
+use Rattle.requirement_table.specs.Slots.{slots}
 use Rattle.change_protocol.specs.declared.operations.Op.{Op}
 use Rattle.change_protocol.specs.declared.operations.Op.TheVariants.{Add, Remove, Change}
 use Rattle.change_protocol.specs.declared.operations.Change.{Change as TableChange}
@@ -40,7 +41,7 @@ start_range start = where_holds (nat_le (2 ^ 40) start) StartRange
 -- the rules of an operation; `earlier` are the operations of the change before it
 
 abbrev pub slot_range : Op → List Why
-slot_range op = where_holds (nat_lt 39 (slot_of op)) SlotRange
+slot_range op = where_holds (nat_le slots (slot_of op)) SlotRange
 
 abbrev pub slot_twice : List Op → Op → List Why
 slot_twice earlier op = where_holds (list_any (λ other. nat_eq (slot_of other) (slot_of op)) earlier) SlotTwice

@@ -35,7 +35,7 @@ abbrev pub policy_made : ℕ → Policy
 policy_made number = if number % 3 == 0 then Rm else if number % 3 == 1 then Dm else Edf
 
 abbrev pub owner_made : ℕ → Owner
-owner_made place = record { id = 512 + place; node = place % 8 }
+owner_made place = record { id = 0x200 + place; node = place % 8 }
 
 -- a cycle of 2,000 bit times, a turnaround of 10, a window of 810, eight nodes, and 32 owned identifiers
 unfoldable pub system_made : ℕ → System
@@ -78,7 +78,7 @@ abbrev pub gap_made : ℕ → ℕ → ℕ
 gap_made number before = draw number (before + 1) % 1000
 
 abbrev pub identifier_made : ℕ → ℕ → ℕ
-identifier_made number before = 512 + draw number (before + 2) % 32
+identifier_made number before = 0x200 + draw number (before + 2) % 32
 
 -- how many bytes it has
 abbrev pub size_made : ℕ → ℕ → ℕ

@@ -80,7 +80,7 @@ async_row = record { key = codes "async"; kind = series; default = Some (array n
 
 -- identifiers are those of asynchronous frames, 0x200 to 0x7EF
 abbrev pub id_row : Row
-id_row = record { key = codes "id"; kind = whole 512 2031; default = None }
+id_row = record { key = codes "id"; kind = whole 0x200 0x7EF; default = None }
 
 abbrev pub node_row : ℕ → Row
 node_row nodes = record { key = codes "node"; kind = whole 0 (nodes - 1); default = None }

@@ -18,7 +18,7 @@ use crate::owners::OwnerList;
 use crate::steps::Step;
 use crate::system::System;
 use admission_rules::Rules;
-use async_window::{Owner, Request};
+use async_window::{LEAST_ASYNCHRONOUS, Owner, Request};
 use can_frame::{Frame, MAX_BYTES};
 use change_protocol::{Act, Change, Op, Ops};
 use cycle_layout::Layout;
@@ -52,9 +52,7 @@ const NODES: u8 = 8;
 // The largest synchronous window, in bit times.
 const WINDOW: u32 = 810;
 
-// The asynchronous identifiers: the first, and how many.
-const FIRST_ID: u16 = 512;
-
+// How many asynchronous identifiers, from the least one on.
 const IDS: u8 = 32;
 
 // The slots that are asked for.
@@ -158,7 +156,7 @@ impl Draws {
         ensures state { self.new.state ≡ state_after self.old.state (3 + size_made self.old.state 0) }
     {
         let at = last + self.below(1_000);
-        let id = FIRST_ID + self.below(u64::from(IDS)) as u16;
+        let id = LEAST_ASYNCHRONOUS + self.below(u64::from(IDS)) as u16;
         let frame = self.frame(id);
         Request { at, frame }
     }
@@ -181,7 +179,7 @@ fn owners(alloc: Global) -> Result<OwnerList, AllocError>
 {
     let mut owners = Vec::new(alloc);
     for place in 0..IDS {
-        let id = FIRST_ID + u16::from(place);
+        let id = LEAST_ASYNCHRONOUS + u16::from(place);
         let node = place % NODES;
         owners.push(Owner { id, node })?;
     }

@@ -21,8 +21,8 @@ ghost use Rattle.input_text.specs.RequestsFile.{AreRequests, Faults, AreLegal, r
 
 use super::csv_rows::{field_of, number, read_number};
 use super::request_fault::{RequestFault, RequestWhy};
-use async_window::{Owner, Request};
-use can_frame::{Frame, MAX_BYTES};
+use async_window::{LEAST_ASYNCHRONOUS, Owner, Request};
+use can_frame::{Frame, MAX_BYTES, MAX_IDENTIFIER};
 use csv::{ByteRecord, ReaderBuilder};
 use std::alloc::{AllocError, Global};
 use std::str;
@@ -165,7 +165,7 @@ fn is_owned(owned: &[bool], id: u16) -> bool
     ensures value { (owners : List Owner) → IsOwnedTable owners owned.now → result ≡ is_owned owners id }
     ensures legal { result ≡ true → id ≤ 0x7EF }
 {
-    0x200 <= id && id <= 0x7EF && owned[usize::from(id)]
+    LEAST_ASYNCHRONOUS <= id && id <= MAX_IDENTIFIER && owned[usize::from(id)]
 }
 
 // The arrival in the last row, and 0 where there is none.

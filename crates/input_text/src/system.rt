@@ -22,7 +22,8 @@ use crate::owners::OwnerList;
 use crate::system_fault::{PathText, SystemFault};
 use crate::system_sections::{Kind, Place, Section};
 use admission_rules::Rules;
-use async_window::Owner;
+use async_window::{LEAST_ASYNCHRONOUS, Owner};
+use can_frame::MAX_IDENTIFIER;
 use cycle_layout::{Layout, LayoutFault};
 use planner_policies::Policy;
 use std::alloc::Global;
@@ -360,7 +361,8 @@ fn read_owner(
         (IsFirst (ranges_in_element nodes (map id_of_owner earlier.now) index (view element.now))) }
 {
     let section = element_of(index, element);
-    let id = section.number(alloc, "id", 512..=2_031)? as u16;
+    let ids = u32::from(LEAST_ASYNCHRONOUS)..=u32::from(MAX_IDENTIFIER);
+    let id = section.number(alloc, "id", ids)? as u16;
     check_new(alloc, section, id, earlier)?;
     let node = section.number(alloc, "node", 0..=u32::from(nodes - 1))? as u8;
     Ok(Owner { id, node })
