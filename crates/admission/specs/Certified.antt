@@ -19,11 +19,14 @@ end_of certificate = certificate.first + length_of certificate
 -- the certificate begins at cycle 0 with nothing pending. It lists the masks of the cycles that were opened before the
 -- state, and behind them the plan that goes on from the state. The part that is repeated is the recurrence of that
 -- plan, which is found within the horizon
-pub record IsCertificateOf (rules : Rules) (placed : List Placed) (opened : List ℕ) (state : PlanState) (certificate : CertificateView) : Type 0 where
+pub record IsCertificateOf (rules : Rules) (placed : List Placed) (opened : List ℕ)
+    (state : PlanState) (certificate : CertificateView) : Type 0 where
   pub start : certificate.from ≡ 0
   pub nothing_pending : certificate.pending ≡ 0
-  pub listed : certificate.masks ≡ opened ++ masks_of (plan_from rules placed state.cycle state.pending) (end_of certificate - state.cycle)
-  pub repeats : IsVerdictOnPlan rules.horizon (plan_from rules placed state.cycle state.pending) (Accepted certificate.first (length_of certificate))
+  pub listed : certificate.masks
+      ≡ opened ++ masks_of (plan_from rules placed state.cycle state.pending) (end_of certificate - state.cycle)
+  pub repeats : IsVerdictOnPlan rules.horizon (plan_from rules placed state.cycle state.pending)
+      (Accepted certificate.first (length_of certificate))
 
 -- there is no certificate exactly where the plan that goes on has a first miss within the horizon, or else no
 -- recurrence within it; want of memory says nothing

@@ -1,5 +1,6 @@
 -- The states of a planning, one after the other, and which of them are the same.
-use Rattle.std.specs.Prelude.{◌≡◌, ℕ, ◌+◌, ◌-◌, ◌%◌, ◌≤◌, Bool, false, nat_eq, nat_le, nat_lt, if◌then◌else◌, List, Option, Some, None}
+use Rattle.std.specs.Prelude.{◌≡◌, ℕ, ◌+◌, ◌-◌, ◌%◌, ◌≤◌}
+use Rattle.std.specs.Prelude.{Bool, false, nat_eq, nat_le, nat_lt, if◌then◌else◌, List, Option, Some, None}
 use Rattle.std.specs.Option.{option_map_or}
 use Rattle.requirement_table.specs.declared.entries.Placed.{Placed}
 use Rattle.requirement_table.specs.Instance.{release_of}
@@ -12,16 +13,19 @@ use Rattle.recurrence_check.specs.Course.{Course}
 -- the slots with an instance that is missed in the cycle of a state, and those that are pending behind it
 unfoldable pub missed_from : Ranking → ℕ → PlanState → ℕ
 missed_from ranking window state =
-    set_of slots (is_missed_in (planning_of ranking window state.cycle state.pending) state.cycle (contains_slot state.pending))
+    set_of slots
+    (is_missed_in (planning_of ranking window state.cycle state.pending) state.cycle (contains_slot state.pending))
 
 unfoldable pub left_from : Ranking → ℕ → PlanState → ℕ
 left_from ranking window state =
-    set_of slots (left_after (planning_of ranking window state.cycle state.pending) state.cycle (contains_slot state.pending))
+    set_of slots
+    (left_after (planning_of ranking window state.cycle state.pending) state.cycle (contains_slot state.pending))
 
 -- the state behind a state; there is none where an instance is missed
 abbrev pub state_behind : Ranking → ℕ → PlanState → Option PlanState
 state_behind ranking window state =
-    if nat_eq (missed_from ranking window state) 0 then Some (record { cycle = state.cycle + 1; pending = left_from ranking window state })
+    if nat_eq (missed_from ranking window state) 0
+    then Some (record { cycle = state.cycle + 1; pending = left_from ranking window state })
     else None
 
 -- two states are the same: all entries have settled by both, which is so from `bound` on, they have one place in the
@@ -45,7 +49,8 @@ course_of ranking window first bound period =
 -- the key of a state: the slots that are pending, and how many cycles of the period are behind its place
 abbrev pub key_in_period : ℕ → Option ℕ → PlanState → Option (ℕ × ℕ)
 key_in_period bound None state = None
-key_in_period bound (Some period) state = if nat_le bound state.cycle then Some (state.pending, (period - 1) - state.cycle % period) else None
+key_in_period bound (Some period) state =
+    if nat_le bound state.cycle then Some (state.pending, (period - 1) - state.cycle % period) else None
 
 -- the state of a planning before its n-th cycle
 abbrev pub state_at : Planning → ℕ → PlanState
@@ -58,4 +63,5 @@ pub record IsGoodState (ranking : Ranking) (from : ℕ) (state : PlanState) : Ty
 
 -- whether the slot's instance that may be sent in the cycle was released before it
 abbrev pub is_held_from : List Placed → ℕ → ℕ → Bool
-is_held_from placed c slot = option_map_or (λ i. nat_lt (release_of i.placed i.number) c) (instance_in placed slot c) false
+is_held_from placed c slot =
+    option_map_or (λ i. nat_lt (release_of i.placed i.number) c) (instance_in placed slot c) false

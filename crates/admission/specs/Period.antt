@@ -13,7 +13,8 @@ pub record IsMultipleOfBoth (one other multiple : ℕ) : Type 0 where
 abbrev pub IsLeastMultiple : ℕ → ℕ → ℕ → Option ℕ → Type 0
 IsLeastMultiple one other limit None = (multiple : ℕ) → IsMultipleOfBoth one other multiple → limit < multiple
 IsLeastMultiple one other limit (Some least) =
-    IsMultipleOfBoth one other least × (least ≤ limit) × ((multiple : ℕ) → IsMultipleOfBoth one other multiple → least ≤ multiple)
+    IsMultipleOfBoth one other least × (least ≤ limit)
+    × ((multiple : ℕ) → IsMultipleOfBoth one other multiple → least ≤ multiple)
 
 -- a number above 0 that `common` divides, and the period of the entry, where it is live
 pub record IsMultipleWith (common : ℕ) (p : Placed) (multiple : ℕ) : Type 0 where
@@ -25,7 +26,8 @@ pub record IsMultipleWith (common : ℕ) (p : Placed) (multiple : ℕ) : Type 0 
 abbrev pub IsLeastWith : ℕ → Placed → ℕ → Option ℕ → Type 0
 IsLeastWith common p limit None = (multiple : ℕ) → IsMultipleWith common p multiple → limit < multiple
 IsLeastWith common p limit (Some least) =
-    IsMultipleWith common p least × (least ≤ limit) × ((multiple : ℕ) → IsMultipleWith common p multiple → least ≤ multiple)
+    IsMultipleWith common p least × (least ≤ limit)
+    × ((multiple : ℕ) → IsMultipleWith common p multiple → least ≤ multiple)
 
 -- the least common period, where it is at most the limit
 abbrev pub IsPeriodUpTo : ℕ → List Placed → Option ℕ → Type 0

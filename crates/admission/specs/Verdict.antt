@@ -1,5 +1,6 @@
 -- *Verdict*: what is to be answered to a change.
-use Rattle.std.specs.Prelude.{◌≡◌, ℕ, zero, suc, ◌+◌, ◌-◌, ◌<◌, ◌≤◌, Bool, true, false, List, [], ◌∷◌, ◌++◌, Option, Some, None}
+use Rattle.std.specs.Prelude.{◌≡◌, ℕ, zero, suc, ◌+◌, ◌-◌, ◌<◌, ◌≤◌}
+use Rattle.std.specs.Prelude.{Bool, true, false, List, [], ◌∷◌, ◌++◌, Option, Some, None}
 use Rattle.requirement_table.specs.declared.entries.Placed.{Placed}
 use Rattle.requirement_table.specs.Table.{IsWellPlaced}
 use Rattle.change_protocol.specs.declared.operations.Change.{Change}
@@ -48,7 +49,8 @@ pub record IsInTime (rules : Rules) (placed : List Placed) (next : ℕ) (change 
 abbrev pub IsVerdictOnPlan : ℕ → Planning → Verdict → Type 0
 IsVerdictOnPlan horizon plan (Malformed op why) = ⊥
 IsVerdictOnPlan horizon plan (Passed start next) = ⊥
-IsVerdictOnPlan horizon plan (Miss slot release cycle) = IsFirstMiss plan slot release cycle × (cycle < plan.from + horizon)
+IsVerdictOnPlan horizon plan (Miss slot release cycle) =
+    IsFirstMiss plan slot release cycle × (cycle < plan.from + horizon)
 IsVerdictOnPlan horizon plan (Horizon from walked) =
     HasNoMiss plan horizon × HasNoRecurrence plan horizon × (from ≡ plan.from) × (walked ≡ horizon)
 IsVerdictOnPlan horizon plan (Accepted first length) =
@@ -57,7 +59,8 @@ IsVerdictOnPlan horizon plan (Accepted first length) =
 -- *Verdict*: on a change of this list, planned from the cycle `from`, before which these slots are pending, when `next`
 -- is the next cycle to be opened
 abbrev pub IsVerdict : Rules → List Placed → ℕ → ℕ → ℕ → Change → Verdict → Type 0
-IsVerdict rules placed pending from next change (Malformed op why) = first_fault placed rules.nodes change ≡ Some (broken op why)
+IsVerdict rules placed pending from next change (Malformed op why) =
+    first_fault placed rules.nodes change ≡ Some (broken op why)
 IsVerdict rules placed pending from next change (Passed start opened) =
     IsWellFormed placed rules.nodes change × (change.start < next) × (start ≡ change.start) × (opened ≡ next)
 IsVerdict rules placed pending from next change (Miss slot release cycle) =
@@ -93,7 +96,8 @@ placed_with placed (Horizon from walked) = None
 placed_with placed (Accepted first length) = Some placed
 
 -- what is decided of a change of this list, planned from the cycle `from`, which is the next one to be opened
-pub record IsDecision (rules : Rules) (placed : List Placed) (pending from : ℕ) (change : Change) (decision : Decision) : Type 0 where
+pub record IsDecision (rules : Rules) (placed : List Placed) (pending from : ℕ) (change : Change) (decision : Decision)
+    : Type 0 where
   pub answer : IsVerdict rules placed pending from from change decision.verdict
   pub list : decision.placed ≡ placed_with (applied placed change) decision.verdict
   pub plan : decision.trail ≡ trail_of (plan_from rules (applied placed change) from pending) decision.verdict
@@ -106,7 +110,8 @@ pub record IsDecisionOnPlan (horizon : ℕ) (planning : Planning) (decision : De
 
 -- what is decided of a change that is not applied for this reason
 abbrev pub IsMalformed : ApplyFault → Decision → Type 0
-IsMalformed (Unapplied op why) decision = (decision.verdict ≡ Malformed op why) × (decision.placed ≡ None) × (decision.trail ≡ [])
+IsMalformed (Unapplied op why) decision =
+    (decision.verdict ≡ Malformed op why) × (decision.placed ≡ None) × (decision.trail ≡ [])
 IsMalformed Memory decision = ⊥
 
 -- the first n cycles of a planning were planned: the state behind them, and the slots that are planned in them
@@ -134,5 +139,6 @@ pub record IsSafe (rules : Rules) (placed : List Placed) (from pending : ℕ) : 
 -- miss, is accepted wherever there is a cycle by which all entries have settled, in which each live entry releases an
 -- instance, and which lies a whole common period within the horizon
 abbrev pub IsTakenWhereDue : Rules → Planning → Verdict → Type 0
-IsTakenWhereDue rules plan verdict = NeverMisses plan → (c period : ℕ) → bound_of plan.from plan.placed ≤ c → AllRelease plan.placed c
+IsTakenWhereDue rules plan verdict =
+    NeverMisses plan → (c period : ℕ) → bound_of plan.from plan.placed ≤ c → AllRelease plan.placed c
     → IsLeastCommonPeriod plan.placed period → c + period ≤ plan.from + rules.horizon → is_accepted verdict ≡ true

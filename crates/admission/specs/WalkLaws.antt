@@ -1,5 +1,6 @@
 -- What a walk over the states of a planning owes of them.
-use Rattle.std.specs.Prelude.{◌≡◌, ℕ, ◌+◌, ◌-◌, ◌%◌, ◌<◌, ◌↔◌, Bool, true, false, nat_eq, nat_le, if◌then◌else◌, Option, Some, None}
+use Rattle.std.specs.Prelude.{◌≡◌, ℕ, ◌+◌, ◌-◌, ◌%◌, ◌<◌, ◌↔◌}
+use Rattle.std.specs.Prelude.{Bool, true, false, nat_eq, nat_le, if◌then◌else◌, Option, Some, None}
 use Rattle.std.proofs.Common.{ap, arith, refl, sym, ◌∙◌, subst}
 use Rattle.std.proofs.Math.Nat.{le-add_right, le_trans, mod-add-mod}
 use Rattle.std.proofs.lemmas.Bool.{cond-true, le-leb, leb-true}
@@ -10,7 +11,8 @@ use Rattle.planner_policies.specs.Plan.{Ranking}
 use Rattle.recurrence_check.specs.Course.{GoOnAlike}
 use Rattle.admission.specs.Course.{IsSame, key_in_period, left_from, missed_from, state_behind}
 
-pub same-symmetric : (bound : ℕ) (period : Option ℕ) (one other : PlanState) → IsSame bound period one other → IsSame bound period other one
+pub same-symmetric : (bound : ℕ) (period : Option ℕ) (one other : PlanState)
+    → IsSame bound period one other → IsSame bound period other one
 same-symmetric bound None one other same = absurd same
 same-symmetric bound (Some length) one other same = record {
   one_settled = same.other_settled;
@@ -19,8 +21,8 @@ same-symmetric bound (Some length) one other same = record {
   pending = sym same.pending;
 }
 
-pub same-transitive : (bound : ℕ) (period : Option ℕ) (one other third : PlanState) → IsSame bound period one other → IsSame bound period other third
-    → IsSame bound period one third
+pub same-transitive : (bound : ℕ) (period : Option ℕ) (one other third : PlanState)
+    → IsSame bound period one other → IsSame bound period other third → IsSame bound period one third
 same-transitive bound None one other third first second = absurd first
 same-transitive bound (Some length) one other third first second = record {
   one_settled = first.one_settled;
@@ -32,15 +34,19 @@ same-transitive bound (Some length) one other third first second = record {
 -- the slots that are missed and those that are left are the same after states that are the same
 abbrev pub GoesOn : Ranking → ℕ → ℕ → Option ℕ → Type 0
 GoesOn ranking window bound period = (one other : PlanState) → IsSame bound period one other
-    → (missed_from ranking window one ≡ missed_from ranking window other) × (left_from ranking window one ≡ left_from ranking window other)
+    → (missed_from ranking window one ≡ missed_from ranking window other)
+    × (left_from ranking window one ≡ left_from ranking window other)
 
-same-behind : (bound : ℕ) (period : Option ℕ) (one other : PlanState) (left remains : ℕ) → IsSame bound period one other → left ≡ remains
-    → IsSame bound period (record { cycle = one.cycle + 1; pending = left }) (record { cycle = other.cycle + 1; pending = remains })
+same-behind : (bound : ℕ) (period : Option ℕ) (one other : PlanState) (left remains : ℕ)
+    → IsSame bound period one other → left ≡ remains
+    → IsSame bound period (record { cycle = one.cycle + 1; pending = left })
+    (record { cycle = other.cycle + 1; pending = remains })
 same-behind bound None one other left remains same both = absurd same
 same-behind bound (Some length) one other left remains same both = record {
   one_settled = le_trans same.one_settled (le-add_right one.cycle 1);
   other_settled = le_trans same.other_settled (le-add_right other.cycle 1);
-  place = sym (mod-add-mod one.cycle length 1) ∙ ap (λ n. (n + 1) % length) same.place ∙ mod-add-mod other.cycle length 1;
+  place = sym (mod-add-mod one.cycle length 1)
+      ∙ ap (λ n. (n + 1) % length) same.place ∙ mod-add-mod other.cycle length 1;
   pending = both;
 }
 
@@ -49,7 +55,8 @@ go-on : (bound : ℕ) (period : Option ℕ) (test : Bool) (one other : PlanState
 go-on bound period true one other same = same
 go-on bound period false one other same = tt
 
-pub kept : (ranking : Ranking) (window bound : ℕ) (period : Option ℕ) → GoesOn ranking window bound period → (one other : PlanState)
+pub kept : (ranking : Ranking) (window bound : ℕ) (period : Option ℕ)
+    → GoesOn ranking window bound period → (one other : PlanState)
     → IsSame bound period one other
     → GoOnAlike (IsSame bound period) (state_behind ranking window one) (state_behind ranking window other)
 kept ranking window bound period goes_on one other same =
@@ -57,7 +64,8 @@ kept ranking window bound period goes_on one other same =
     let here : PlanState = record { cycle = one.cycle + 1; pending = left_from ranking window one } in
     let there : PlanState = record { cycle = other.cycle + 1; pending = left_from ranking window other } in
     subst
-    (λ (missed : ℕ). GoOnAlike (IsSame bound period) (state_behind ranking window one) (if nat_eq missed 0 then Some there else None))
+    (λ (missed : ℕ). GoOnAlike (IsSame bound period)
+    (state_behind ranking window one) (if nat_eq missed 0 then Some there else None))
     on.0
     (go-on bound period (nat_eq (missed_from ranking window one) 0) here there
     (same-behind bound period one other (left_from ranking window one) (left_from ranking window other) same on.1))
@@ -69,11 +77,14 @@ pair-same a b c d first second =
     ap left first ∙ ap right second
 
 -- two places in a period that have as many cycles behind them are the same
-same-place : (place other length : ℕ) → place < length → other < length → (length - 1) - place ≡ (length - 1) - other → place ≡ other
+same-place : (place other length : ℕ) → place < length → other < length
+    → (length - 1) - place ≡ (length - 1) - other → place ≡ other
 same-place place other length within also same = omega arith
 
-pub keyed : (bound : ℕ) (period : Option ℕ) → ((length : ℕ) → period ≡ Some length → 0 < length) → (one other : PlanState)
-    → IsSame bound period one other ↔ ((key : ℕ × ℕ) × (key_in_period bound period one ≡ Some key) × (key_in_period bound period other ≡ Some key))
+pub keyed : (bound : ℕ) (period : Option ℕ)
+    → ((length : ℕ) → period ≡ Some length → 0 < length) → (one other : PlanState)
+    → IsSame bound period one other
+    ↔ ((key : ℕ × ℕ) × (key_in_period bound period one ≡ Some key) × (key_in_period bound period other ≡ Some key))
 keyed bound None positive one other = (λ same. absurd same, λ keys. none-some keys.0 keys.1)
 keyed bound (Some length) positive one other = (
   λ same.
@@ -91,13 +102,16 @@ keyed bound (Some length) positive one other = (
       ),
   λ keys.
       let first = cond_some (nat_le bound one.cycle) (one.pending, (length - 1) - one.cycle % length) keys.0 keys.1 in
-      let second = cond_some (nat_le bound other.cycle) (other.pending, (length - 1) - other.cycle % length) keys.0 keys.2 in
-      let equal : ◌≡◌ {A = ℕ × ℕ} (one.pending, (length - 1) - one.cycle % length) (other.pending, (length - 1) - other.cycle % length) =
+      let second =
+      cond_some (nat_le bound other.cycle) (other.pending, (length - 1) - other.cycle % length) keys.0 keys.2 in
+      let equal : ◌≡◌ {A = ℕ × ℕ} (one.pending, (length - 1) - one.cycle % length)
+      (other.pending, (length - 1) - other.cycle % length) =
       first.1 ∙ sym second.1 in
       record {
         one_settled = leb-true bound one.cycle first.0;
         other_settled = leb-true bound other.cycle second.0;
-        place = same-place (one.cycle % length) (other.cycle % length) length (mod_below one.cycle length (positive length refl))
+        place = same-place (one.cycle % length) (other.cycle % length) length
+            (mod_below one.cycle length (positive length refl))
             (mod_below other.cycle length (positive length refl)) (ap (λ (key : ℕ × ℕ). key.1) equal);
         pending = ap (λ (key : ℕ × ℕ). key.0) equal;
       },

@@ -11,7 +11,8 @@ use Rattle.admission.specs.Recurrence.{bound_of}
 
 -- what is walked: a list without the entries that are over, by these rules and from this cycle on, with the bound and
 -- the period of the whole list
-pub record IsWalked (rules : Rules) (list : List Placed) (from pending : ℕ) (walked : Ranking) (window : ℕ) (first : PlanState) (bound : ℕ) (period : Option ℕ) : Type 0 where
+pub record IsWalked (rules : Rules) (list : List Placed) (from pending : ℕ) (walked : Ranking)
+    (window : ℕ) (first : PlanState) (bound : ℕ) (period : Option ℕ) : Type 0 where
   pub well : IsWellPlaced list
   pub valid : IsValid list from pending
   pub known : pending < 2 ^ slots

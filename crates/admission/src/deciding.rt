@@ -6,7 +6,8 @@ ghost use Rattle.requirement_table.specs.Table.{IsWellPlaced};
 ghost use Rattle.change_protocol.specs.Applied.{applied};
 ghost use Rattle.change_protocol.specs.Malformed.{IsFaultOf};
 ghost use Rattle.planner_policies.specs.Plan.{HasNoMiss, HasNoMissIn, IsMissIn, IsValid, NeverMisses, planning_of};
-ghost use Rattle.admission.specs.Verdict.{IsDecision, IsDecisionOnPlan, IsInTime, IsMalformed, IsMissDecision, IsPlannedUpTo, IsRules, IsSafe, IsTakenWhereDue, plan_from};
+ghost use Rattle.admission.specs.Verdict.{IsDecision, IsDecisionOnPlan, IsInTime, IsMalformed, IsMissDecision};
+ghost use Rattle.admission.specs.Verdict.{IsPlannedUpTo, IsRules, IsSafe, IsTakenWhereDue, plan_from};
 ghost use Rattle.admission.specs.Walked.{IsWalked};
 
 use crate::decision::{Decision, Trail};
@@ -43,7 +44,8 @@ pub fn decide(
     requires valid { IsValid placed.now state.now.cycle state.now.pending }
     requires next { state.now.cycle ≤ 2 ^ 41 }
     ensures decision { IfOk result (IsDecision rules.now placed.now state.now.pending state.now.cycle change.now) }
-    ensures complete { let plan = plan_from rules.now (applied placed.now change.now) state.now.cycle state.now.pending in
+    ensures complete { let plan = plan_from rules.now (applied placed.now change.now)
+        state.now.cycle state.now.pending in
         IfOk result (λ decision. IsInTime rules.now placed.now state.now.cycle change.now
         → IsTakenWhereDue rules.now plan decision.verdict) }
     ensures safe { IfOk result (λ decision. IfSome decision.placed
@@ -188,7 +190,8 @@ pub fn plan_cycles(
     requires none_missed { let first = walk.now.first in
         HasNoMiss (planning_of walk.now.ranked walk.now.window first.cycle first.pending) cycles }
     ensures planned { let first = walk.now.first in
-        IfOk result (λ r. IsPlannedUpTo (planning_of walk.now.ranked walk.now.window first.cycle first.pending) cycles r.0.items r.1) }
+        IfOk result (λ r. IsPlannedUpTo (planning_of walk.now.ranked walk.now.window first.cycle first.pending)
+        cycles r.0.items r.1) }
 {
     let mut masks = Vec::new(alloc);
     let mut state = walk.first;

@@ -17,8 +17,10 @@ use planner_policies::laws::{loops, valid_states};
 /// There is one verdict on a change of a list, planned from a cycle on before which the same slots are pending, when
 /// the same cycle is the next one to be opened.
 pub fn one_verdict()
-    ensures same { (rules : Rules) (placed : List Placed) (pending from next : ℕ) (change : Change) (one other : Verdict)
-        → IsVerdict rules placed pending from next change one → IsVerdict rules placed pending from next change other → one ≡ other }
+    ensures same { (rules : Rules) (placed : List Placed) (pending from next : ℕ)
+        (change : Change) (one other : Verdict)
+        → IsVerdict rules placed pending from next change one
+        → IsVerdict rules placed pending from next change other → one ≡ other }
 {}
 
 /// A planning that repeats, and in which no instance is missed up to the end of the repeat, misses none at any later
@@ -34,19 +36,22 @@ pub fn repeats_for_ever()
 /// same slots are planned. So a planning of the changed list that begins at an earlier cycle has the masks of all
 /// cycles that are opened until then.
 pub fn not_felt_before_its_start()
-    ensures pending { (rules : Rules) (placed : List Placed) (change : Change) (from pending n : ℕ) → IsWellPlaced placed
-        → from + n ≤ change.start
-        → pending_at (plan_from rules (applied placed change) from pending) n ≡ pending_at (plan_from rules placed from pending) n }
-    ensures planned { (rules : Rules) (placed : List Placed) (change : Change) (from pending n : ℕ) → IsWellPlaced placed
-        → from + n < change.start
-        → mask_at (plan_from rules (applied placed change) from pending) n ≡ mask_at (plan_from rules placed from pending) n }
+    ensures pending { (rules : Rules) (placed : List Placed) (change : Change) (from pending n : ℕ)
+        → IsWellPlaced placed → from + n ≤ change.start
+        → pending_at (plan_from rules (applied placed change) from pending) n
+        ≡ pending_at (plan_from rules placed from pending) n }
+    ensures planned { (rules : Rules) (placed : List Placed) (change : Change) (from pending n : ℕ)
+        → IsWellPlaced placed → from + n < change.start
+        → mask_at (plan_from rules (applied placed change) from pending) n
+        ≡ mask_at (plan_from rules placed from pending) n }
 {}
 
 /// A change that is in time, and whose planning from a cycle on never misses a deadline, is accepted wherever there is
 /// a cycle by which all entries have settled, in which each live entry releases an instance, and which lies a whole
 /// common period within the horizon.
 pub fn taken_where_due()
-    ensures taken { (rules : Rules) (placed : List Placed) (pending from next : ℕ) (change : Change) (verdict : Verdict) → IsWellPlaced placed
+    ensures taken { (rules : Rules) (placed : List Placed) (pending from next : ℕ)
+        (change : Change) (verdict : Verdict) → IsWellPlaced placed
         → All HasTypes change.ops → IsValid placed from pending → from ≤ next → IsInTime rules placed next change
         → IsVerdict rules placed pending from next change verdict
         → IsTakenWhereDue rules (plan_from rules (applied placed change) from pending) verdict }

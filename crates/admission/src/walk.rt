@@ -22,7 +22,8 @@ pub struct PlanWalk {
     /// The least common multiple of the periods of the live entries, where it is at most the horizon.
     pub period: Option<u64>,
     ghost near: { first.cycle ≤ 2 ^ 41 },
-    ghost held: { (slot : ℕ) → contains_slot first.pending slot ≡ true → is_held_from ranked.placed first.cycle slot ≡ true },
+    ghost held: { (slot : ℕ) → contains_slot first.pending slot ≡ true
+        → is_held_from ranked.placed first.cycle slot ≡ true },
     ghost positive: { (length : ℕ) → period ≡ Some length → 0 < length },
     ghost goes_on: { GoesOn ranked window bound period },
 }

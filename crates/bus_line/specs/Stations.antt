@@ -45,7 +45,8 @@ pub record IsSending {State : Type 0} (line : Line State) (state : State) (sent 
 
 -- a run of the bus over stations, from `from` to below `until`: the frames that arbitration decides were put behind
 -- `old`, the stations were told of these and of nothing else, and `free` is the first free time behind them
-pub record Ran {State : Type 0} (line : Line State) (before after : State) (from until : ℕ) (old new : List TimedFrame) (free : ℕ) : Type 0 where
+pub record Ran {State : Type 0} (line : Line State) (before after : State)
+    (from until : ℕ) (old new : List TimedFrame) (free : ℕ) : Type 0 where
   pub frames : List TimedFrame
   pub appended : new ≡ old ++ frames
   pub follows : Follows (offers_of line before) [] from until frames

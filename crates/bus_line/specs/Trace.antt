@@ -64,12 +64,14 @@ Follows offers past free until (sent ∷ later) =
 
 -- frames that are offered at one time, with one identifier, after the same frames, are the same
 abbrev pub IsDetermined : Offers → Type 0
-IsDetermined offers = (past : List TimedFrame) (at : ℕ) (one other : DataFrame) → offers past at one → offers past at other
+IsDetermined offers = (past : List TimedFrame) (at : ℕ) (one other : DataFrame)
+    → offers past at one → offers past at other
     → one.identifier ≡ other.identifier → one ≡ other
 
 -- two kinds of offers agree along some frames, behind other pasts: behind each front of the frames, they offer the same
 -- from the first free time on
 abbrev pub AgreeAlong : Offers → Offers → List TimedFrame → List TimedFrame → ℕ → ℕ → List TimedFrame → Type 0
 AgreeAlong offers others past other_past free until frames =
-    (front back : List TimedFrame) (at : ℕ) (frame : DataFrame) → frames ≡ front ++ back → free_after free front ≤ at → at < until
+    (front back : List TimedFrame) (at : ℕ) (frame : DataFrame)
+    → frames ≡ front ++ back → free_after free front ≤ at → at < until
     → (offers (past ++ front) at frame) ↔ (others (other_past ++ front) at frame)

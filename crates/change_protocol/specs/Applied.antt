@@ -1,5 +1,6 @@
 -- The placed entries after a change. Cycles are elementary cycles, counted from 0.
-use Rattle.std.specs.Prelude.{◌≡◌, ℕ, ◌+◌, ◌-◌, ◌≤◌, ◌⊎◌, Bool, ◌&&◌, nat_eq, max, if◌then◌else◌, Option, Some, None, is_none, List, [], ◌∷◌, ◌++◌, All, map}
+use Rattle.std.specs.Prelude.{◌≡◌, ℕ, ◌+◌, ◌-◌, ◌≤◌, ◌⊎◌, Bool, ◌&&◌}
+use Rattle.std.specs.Prelude.{nat_eq, max, if◌then◌else◌, Option, Some, None, is_none, List, [], ◌∷◌, ◌++◌, All, map}
 use Rattle.std.specs.List.{filter_map, find, list_any}
 use Rattle.std.specs.Option.{option_map_or}
 use Rattle.requirement_table.specs.declared.entries.Entry.{Entry}
@@ -42,12 +43,14 @@ origin_behind placed start slot = option_map_or (λ live. start + live.entry.dea
 abbrev pub placed_by : List Placed → ℕ → Op → Option Placed
 placed_by placed start (Add entry) = Some (record { entry = entry; origin = start; end = None })
 placed_by placed start (Remove slot) = None
-placed_by placed start (Change entry) = Some (record { entry = entry; origin = origin_behind placed start entry.slot; end = None })
+placed_by placed start (Change entry) =
+    Some (record { entry = entry; origin = origin_behind placed start entry.slot; end = None })
 
 -- the placed entries after a change: the ends are set in place, and the new entries stand behind, in the order of the
 -- operations
 abbrev pub applied : List Placed → TableChange → List Placed
-applied placed change = map (ended change.start change.ops) placed ++ filter_map (placed_by placed change.start) change.ops
+applied placed change =
+    map (ended change.start change.ops) placed ++ filter_map (placed_by placed change.start) change.ops
 
 -- the placed entry `p` stands as `q` after a change: unchanged, or it was live and ends at the start of the change
 abbrev pub IsKept : ℕ → Placed → Placed → Type 0

@@ -1,7 +1,9 @@
 -- The numbers of the rules that a malformed change breaks.
 use Rattle.std.specs.Prelude.{ℕ}
 use Rattle.change_protocol.specs.declared.malformed.Why.{Why}
-use Rattle.change_protocol.specs.declared.malformed.Why.TheVariants.{NoOps, TooManyOps, StartRange, SlotRange, SlotTwice, NodeUnknown, LengthRange, PeriodZero, DeadlineRange, SlotBusy, SlotEmpty}
+use Rattle.change_protocol.specs.declared.malformed.Why.TheVariants.{NoOps, TooManyOps, StartRange, SlotRange}
+use Rattle.change_protocol.specs.declared.malformed.Why.TheVariants.{SlotTwice, NodeUnknown, LengthRange}
+use Rattle.change_protocol.specs.declared.malformed.Why.TheVariants.{PeriodZero, DeadlineRange, SlotBusy, SlotEmpty}
 
 -- the number of a rule, in the order in which the rules are tested
 abbrev pub code_of : Why → ℕ

@@ -1,15 +1,19 @@
 -- When a change is malformed. `faults` lists every rule that it breaks, in the order in which they are tested: the
 -- rules of the whole change, and then those of each operation in its order. The first of these is the answer.
-use Rattle.std.specs.Prelude.{◌≡◌, ℕ, ◌^◌, ◌||◌, Bool, false, nat_eq, nat_lt, nat_le, if◌then◌else◌, Option, Some, None, is_none, List, [], ◌∷◌, ◌++◌, length, map, slice_get}
+use Rattle.std.specs.Prelude.{◌≡◌, ℕ, ◌^◌, ◌||◌, Bool, false, nat_eq, nat_lt, nat_le, if◌then◌else◌}
+use Rattle.std.specs.Prelude.{Option, Some, None, is_none, List, [], ◌∷◌, ◌++◌, length, map, slice_get}
 use Rattle.std.specs.List.{list_any}
 use Rattle.std.specs.Option.{option_map_or}
 use Rattle.requirement_table.specs.declared.entries.Entry.{Entry}
 use Rattle.requirement_table.specs.declared.entries.Placed.{Placed}
+use Rattle.requirement_table.specs.Slots.{slots}
 use Rattle.change_protocol.specs.declared.operations.Op.{Op}
 use Rattle.change_protocol.specs.declared.operations.Op.TheVariants.{Add, Remove, Change}
 use Rattle.change_protocol.specs.declared.operations.Change.{Change as TableChange}
 use Rattle.change_protocol.specs.declared.malformed.Why.{Why}
-use Rattle.change_protocol.specs.declared.malformed.Why.TheVariants.{NoOps, TooManyOps, StartRange, SlotRange, SlotTwice, NodeUnknown, LengthRange, PeriodZero, DeadlineRange, SlotBusy, SlotEmpty}
+use Rattle.change_protocol.specs.declared.malformed.Why.TheVariants.{NoOps, TooManyOps, StartRange, SlotRange}
+use Rattle.change_protocol.specs.declared.malformed.Why.TheVariants.{SlotTwice, NodeUnknown, LengthRange}
+use Rattle.change_protocol.specs.declared.malformed.Why.TheVariants.{PeriodZero, DeadlineRange, SlotBusy, SlotEmpty}
 use Rattle.change_protocol.specs.declared.malformed.ApplyFault.{ApplyFault}
 use Rattle.change_protocol.specs.declared.malformed.ApplyFault.TheVariants.{Malformed, Memory}
 use Rattle.change_protocol.specs.Operations.{entry_of, slot_of}
@@ -37,7 +41,7 @@ start_range start = where_holds (nat_le (2 ^ 40) start) StartRange
 -- the rules of an operation; `earlier` are the operations of the change before it
 
 abbrev pub slot_range : Op → List Why
-slot_range op = where_holds (nat_lt 39 (slot_of op)) SlotRange
+slot_range op = where_holds (nat_le slots (slot_of op)) SlotRange
 
 abbrev pub slot_twice : List Op → Op → List Why
 slot_twice earlier op = where_holds (list_any (λ other. nat_eq (slot_of other) (slot_of op)) earlier) SlotTwice

@@ -3,6 +3,7 @@
 use Rattle.std.specs.Prelude.{◌≡◌, ◌≢◌, ℕ, ◌^◌, ◌<◌, ◌≤◌, None, IfSome, List, All, AllPairs, Any, length}
 use Rattle.requirement_table.specs.declared.entries.Entry.{Entry}
 use Rattle.requirement_table.specs.declared.entries.Placed.{Placed}
+use Rattle.requirement_table.specs.Slots.{slots}
 use Rattle.requirement_table.specs.Table.{IsFreeAt}
 use Rattle.change_protocol.specs.declared.operations.Op.{Op}
 use Rattle.change_protocol.specs.declared.operations.Op.TheVariants.{Add, Remove, Change}
@@ -32,7 +33,7 @@ FindsSlot placed start (Change entry) = HasLive placed entry.slot start
 
 -- the operation breaks no rule by itself
 pub record KeepsRules (placed : List Placed) (nodes start : ℕ) (op : Op) : Type 0 where
-  pub slot : slot_of op < 40
+  pub slot : slot_of op < slots
   pub entry : IfSome (entry_of op) (CanBePlaced nodes)
   pub finds : FindsSlot placed start op
 

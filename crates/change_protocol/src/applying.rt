@@ -1,8 +1,9 @@
 //! The application of a change.
 
-ghost use Rattle.std.specs.Prelude.{◌≡◌, ◌<◌, ◌^◌, ◌++◌, ◌&&◌, ◌||◌, ℕ, [], Some, None, All, IfErr, IfOk, OnOk, is_none, if◌then◌else◌, map};
+ghost use Rattle.std.specs.Prelude.{◌≡◌, ◌<◌, ◌^◌, ◌++◌, ◌&&◌, ◌||◌, ℕ, []};
+ghost use Rattle.std.specs.Prelude.{Some, None, All, IfErr, IfOk, OnOk, is_none, if◌then◌else◌, map};
 ghost use Rattle.std.specs.List.{cons_option, filter_map, list_any};
-ghost use Rattle.requirement_table.specs.Slots.{contains_slot};
+ghost use Rattle.requirement_table.specs.Slots.{contains_slot, slots};
 ghost use Rattle.requirement_table.specs.Table.{IsWellPlaced};
 ghost use Rattle.change_protocol.specs.Applied.{IsChangedAt, applied, ended, origin_behind, placed_by};
 ghost use Rattle.change_protocol.specs.Malformed.{IsFaultOf, IsWellFormed};
@@ -18,32 +19,33 @@ use std::alloc::Global;
 
 // The slots whose live entries the operations end.
 fn ended_slots(ops: &[Op]) -> Mask
-    requires { All (λ op. slot_of op < 40) ops.now }
+    requires { All (λ op. slot_of op < slots) ops.now }
     ensures { (slot : ℕ) → contains_slot result slot ≡ list_any (ends slot) ops.now }
 {
-    let mut slots = Mask::empty();
+    let mut ended = Mask::empty();
     for op in ops {
-        slots = with_ended(slots, op);
+        ended = with_ended(ended, op);
     }
-    slots
+    ended
 }
 
 // The set with the slot in it whose live entry the operation ends.
-fn with_ended(slots: Mask, op: &Op) -> Mask
-    requires { slot_of op.now < 40 }
-    ensures { (slot : ℕ) → contains_slot result slot ≡ (ends slot op.now || contains_slot slots slot) }
+fn with_ended(ended: Mask, op: &Op) -> Mask
+    requires { slot_of op.now < slots }
+    ensures { (slot : ℕ) → contains_slot result slot ≡ (ends slot op.now || contains_slot ended slot) }
 {
     match op {
-        Op::Add { .. } => slots,
-        Op::Remove { slot } => slots.with(*slot),
-        Op::Change { entry } => slots.with(entry.slot),
+        Op::Add { .. } => ended,
+        Op::Remove { slot } => ended.with(*slot),
+        Op::Change { entry } => ended.with(entry.slot),
     }
 }
 
 // A placed entry after operations at `start` that end the live entries of these slots.
 fn after(p: &Placed, ended: Mask, start: u64) -> Placed
-    requires { p.now.entry.slot < 40 }
-    ensures { result ≡ (if is_none p.now.end && contains_slot ended p.now.entry.slot then record p.now { end = Some start } else p.now) }
+    requires { p.now.entry.slot < slots }
+    ensures { result ≡ (if is_none p.now.end && contains_slot ended p.now.entry.slot
+        then record p.now { end = Some start } else p.now) }
 {
     if p.end.is_none() && ended.has(p.entry.slot) {
         Placed {
@@ -62,8 +64,8 @@ fn with_ends(
     start: u64,
     ops: &[Op],
 ) -> Result<Vec<Placed>, ApplyFault>
-    requires placed { All (λ p. p.entry.slot < 40) placed.now }
-    requires ops { All (λ op. slot_of op < 40) ops.now }
+    requires placed { All (λ p. p.entry.slot < slots) placed.now }
+    requires ops { All (λ op. slot_of op < slots) ops.now }
     ensures list { IfOk result (λ list. list.items ≡ map (ended start ops.now) placed.now) }
     ensures fault { IfErr result (λ fault. fault ≡ Memory) }
 {
@@ -89,7 +91,7 @@ fn live(entry: Entry, origin: u64) -> Placed
 
 // The origin of the entry that follows the live entry of the slot, which ends at `start`.
 fn origin_behind(table: &Table, start: u64, slot: u8) -> u64
-    requires slot { slot < 40 }
+    requires slot { slot < slots }
     requires start { start < 2 ^ 40 }
     ensures origin { result ≡ origin_behind table.now.placed.now start slot }
 {
@@ -104,7 +106,7 @@ fn origin_behind(table: &Table, start: u64, slot: u8) -> u64
 
 // The entry that an operation places.
 fn placed_by(table: &Table, start: u64, op: &Op) -> Option<Placed>
-    requires slot { slot_of op.now < 40 }
+    requires slot { slot_of op.now < slots }
     requires start { start < 2 ^ 40 }
     ensures placed { result ≡ placed_by table.now.placed.now start op.now }
     ensures types { HasTypes op.now }
@@ -129,7 +131,7 @@ fn put(list: &mut Vec<Placed>, p: Option<Placed>) -> Result<(), ApplyFault>
 
 // Puts the entries behind the list that the operations place.
 fn place(list: &mut Vec<Placed>, table: &Table, start: u64, ops: &[Op]) -> Result<(), ApplyFault>
-    requires slots { All (λ op. slot_of op < 40) ops.now }
+    requires slots { All (λ op. slot_of op < slots) ops.now }
     requires start { start < 2 ^ 40 }
     ensures list { OnOk result
         (list.new.items ≡ list.old.items ++ filter_map (placed_by table.now.placed.now start) ops.now) }

@@ -4,7 +4,8 @@ ghost use Rattle.std.specs.Prelude.{◌≡◌, ℕ, ◌<◌, ◌≤◌, ◌↔�
 ghost use Rattle.std.specs.Option.{option_map};
 ghost use Rattle.requirement_table.specs.declared.entries.Placed.{Placed};
 ghost use Rattle.requirement_table.specs.Instance.{Instance, release_of};
-ghost use Rattle.requirement_table.specs.Table.{IsWellPlaced, instance_in, is_last_in, released_in, releases_in, worst_in};
+ghost use Rattle.requirement_table.specs.Table.{IsWellPlaced, instance_in, is_last_in};
+ghost use Rattle.requirement_table.specs.Table.{released_in, releases_in, worst_in};
 ghost use Rattle.change_protocol.specs.declared.operations.Change.{Change};
 ghost use Rattle.change_protocol.specs.Applied.{IsChangedAt, IsKept, IsNewFrom, applied, without_end};
 ghost use Rattle.change_protocol.specs.Malformed.{IsWellFormed};

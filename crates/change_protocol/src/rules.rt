@@ -2,8 +2,12 @@
 
 ghost use Rattle.std.specs.Prelude.{◌≡◌, ◌<◌, ◌++◌, List, [], IfErr, OnOk, map, length, nat_eq};
 ghost use Rattle.std.specs.List.{list_any};
+ghost use Rattle.requirement_table.specs.Slots.{slots};
 ghost use Rattle.change_protocol.specs.Operations.{slot_of};
-ghost use Rattle.change_protocol.specs.Malformed.{add_busy, broken, change_faults, deadline_range, end_busy, length_range, no_ops, node_unknown, op_faults, period_zero, slot_busy, slot_empty, slot_range, slot_twice, start_range, too_many_ops, where_holds, whys};
+ghost use Rattle.change_protocol.specs.Malformed.{add_busy, broken, change_faults, deadline_range, end_busy};
+ghost use Rattle.change_protocol.specs.Malformed.{length_range, no_ops, node_unknown, op_faults};
+ghost use Rattle.change_protocol.specs.Malformed.{period_zero, slot_busy, slot_empty, slot_range};
+ghost use Rattle.change_protocol.specs.Malformed.{slot_twice, start_range, too_many_ops, where_holds, whys};
 ghost use Rattle.change_protocol.specs.First.{IsFirst, NamesFirst};
 ghost use Rattle.change_protocol.specs.declared.malformed.Why.{Why};
 
@@ -148,7 +152,7 @@ fn deadline_range(op: &Op) -> Result<(), Why>
 
 // For an added entry: no entry of the slot is live, and all are free at the start.
 fn add_busy(table: &Table, start: u64, slot: u8) -> Result<(), Why>
-    requires { slot < 40 }
+    requires { slot < slots }
     ensures ok { OnOk result (add_busy table.now.placed.now start slot ≡ []) }
     ensures fault { IfErr result (IsFirst (add_busy table.now.placed.now start slot)) }
 {
@@ -166,7 +170,7 @@ fn add_busy(table: &Table, start: u64, slot: u8) -> Result<(), Why>
 
 // For a removal or a change: the slot's live entry begins at or before the start, where there is one.
 fn end_busy(table: &Table, start: u64, slot: u8) -> Result<(), Why>
-    requires { slot < 40 }
+    requires { slot < slots }
     ensures ok { OnOk result (end_busy table.now.placed.now start slot ≡ []) }
     ensures fault { IfErr result (IsFirst (end_busy table.now.placed.now start slot)) }
 {
@@ -183,7 +187,7 @@ fn end_busy(table: &Table, start: u64, slot: u8) -> Result<(), Why>
 
 // The slot is not in use at the start.
 fn slot_busy(table: &Table, start: u64, op: &Op) -> Result<(), Why>
-    requires { slot_of op.now < 40 }
+    requires { slot_of op.now < slots }
     ensures ok { OnOk result (slot_busy table.now.placed.now start op.now ≡ []) }
     ensures fault { IfErr result (IsFirst (slot_busy table.now.placed.now start op.now)) }
 {
@@ -196,7 +200,7 @@ fn slot_busy(table: &Table, start: u64, op: &Op) -> Result<(), Why>
 
 // The slot has a live entry that can be ended.
 fn slot_empty(table: &Table, op: &Op) -> Result<(), Why>
-    requires { slot_of op.now < 40 }
+    requires { slot_of op.now < slots }
     ensures ok { OnOk result (slot_empty table.now.placed.now op.now ≡ []) }
     ensures fault { IfErr result (IsFirst (slot_empty table.now.placed.now op.now)) }
 {

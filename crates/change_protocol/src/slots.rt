@@ -2,6 +2,7 @@
 
 ghost use Rattle.std.specs.Prelude.{◌≡◌, ◌<◌, IfSome};
 ghost use Rattle.std.proofs.Props.{props};
+ghost use Rattle.requirement_table.specs.Slots.{slots};
 ghost use Rattle.requirement_table.specs.Table.{IsInRange, IsWellPlaced};
 ghost use Rattle.change_protocol.specs.Slots.{AreUses, use_after, use_of};
 
@@ -65,7 +66,7 @@ impl<'a> Table<'a> {
 
     // What the placed entries make of this slot.
     pub fn slot(&self, slot: u8) -> SlotUse
-        requires { slot < 40 }
+        requires { slot < slots }
         ensures held { result ≡ use_of self.now.placed.now slot }
         ensures live { IfSome result.live IsInRange }
     {

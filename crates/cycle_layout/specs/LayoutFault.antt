@@ -11,4 +11,5 @@ Refuses cycle turnaround window TurnRange = IsCycleLength cycle × (IsTurnaround
 Refuses cycle turnaround window WindowRange =
     IsCycleLength cycle × IsTurnaround turnaround × (IsWindow window → ⊥)
 Refuses cycle turnaround window (TooNarrow need have) =
-    IsCycleLength cycle × IsTurnaround turnaround × IsWindow window × (need ≡ needed turnaround window) × (have ≡ cycle) × (have < need)
+    IsCycleLength cycle × IsTurnaround turnaround × IsWindow window
+    × (need ≡ needed turnaround window) × (have ≡ cycle) × (have < need)

@@ -1,5 +1,6 @@
 //! A shelf in memory, for tests.
-ghost use Rattle.std.specs.Prelude.{◌≡◌, ℕ, ◌<◌, ◌≤◌, ◌⊎◌, List, Some, None, length, if◌then◌else◌, string_bytes, IfSome, IfNone, IfOk, IsErrOf, IsTrue};
+ghost use Rattle.std.specs.Prelude.{◌≡◌, ℕ, ◌<◌, ◌≤◌, ◌⊎◌, List, Some, None, length, if◌then◌else◌};
+ghost use Rattle.std.specs.Prelude.{string_bytes, IfSome, IfNone, IfOk, IsErrOf, IsTrue};
 ghost use Rattle.std.specs.List.{find};
 ghost use Rattle.std.specs.Option.{option_copied};
 ghost use Rattle.std.specs.Str.{bytes_eq};

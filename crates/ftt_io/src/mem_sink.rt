@@ -1,5 +1,6 @@
 //! A sink in memory, for tests.
-ghost use Rattle.std.specs.Prelude.{◌≡◌, ◌-◌, ◌<◌, ◌≤◌, ◌↔◌, [], ◌++◌, length, take, min, if◌then◌else◌, IfOk, OnErr, IsErr, IsTrue};
+ghost use Rattle.std.specs.Prelude.{◌≡◌, ◌-◌, ◌<◌, ◌≤◌, ◌↔◌, [], ◌++◌};
+ghost use Rattle.std.specs.Prelude.{length, take, min, if◌then◌else◌, IfOk, OnErr, IsErr, IsTrue};
 ghost use Rattle.ftt_io.specs.Counts.{next_count};
 ghost use Rattle.ftt_io.specs.MemSink.{fails_next};
 

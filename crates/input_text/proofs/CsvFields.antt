@@ -1,15 +1,14 @@
 -- The fields of a row and the numbers that they write.
-use Rattle.std.proofs.Common.{◌≡◌, ℕ, ◌-◌, ◌^◌, ◌<◌, true, false, ◌==◌, List, [], ◌∷◌, length, map, option_map, option_and_then, Result, Ok, Err, nat_le, zero, suc, refl, arith, lit<, OkIff}
-use Rattle.std.proofs.lemmas.Bool.{and_parts}
+use Rattle.std.proofs.Common.{◌≡◌, ℕ, ◌-◌, ◌^◌, ◌<◌, true, false, ◌==◌, List, [], ◌∷◌, length, map, option_map, option_and_then, Result, Ok, Err, nat_le, zero, suc, refl, arith, OkIff}
 use Rattle.std.proofs.lemmas.Bool.Decides.{nat_tests}
-use Rattle.std.proofs.lemmas.Str.{IsUtf8-from_ascii}
 use Rattle.std.specs.Char.{digit_value, is_ascii_digit}
 use Rattle.std.specs.List.{list_all}
 use Rattle.std.specs.Result.{result_ok}
-use Rattle.std.specs.Str.{IsAscii, IsUtf8}
-use Rattle.std.specs.Str.Parse.{AllDigits, IsNumeral, ParsesUnsigned, digits_value, without_leading_plus}
+use Rattle.std.specs.Str.{IsUtf8}
+use Rattle.std.specs.Str.Parse.{IsNumeral, ParsesUnsigned, digits_value}
 use Rattle.csv.specs.Records.{field_at}
 use Rattle.input_text.specs.CsvRows.{number_of, within}
+use Rattle.input_text.proofs.Digits.{digits_are, digits_no_plus, digits_utf8}
 
 -- the field at a place, when each field is changed alike
 pub field_at-map : (change : List ℕ → List ℕ) (row : List (List ℕ)) (place : ℕ) → field_at (map change row) place ≡ option_map change (field_at row place)
@@ -27,24 +26,9 @@ digit_ascii byte h = grind (arith, nat_tests)
 digit_no_plus : (byte : ℕ) → is_ascii_digit byte ≡ true → (byte == 43) ≡ false
 digit_no_plus byte h = grind (arith, nat_tests)
 
-digits_are : (field : List ℕ) → list_all is_ascii_digit field ≡ true → AllDigits 10 field
-digits_are [] h = tt
-digits_are (byte ∷ rest) h =
-    let (here, more) = and_parts (is_ascii_digit byte) (list_all is_ascii_digit rest) h in
-    (digit_small byte here, digits_are rest more)
-
-digits_ascii : (field : List ℕ) → list_all is_ascii_digit field ≡ true → IsAscii field
-digits_ascii [] h i = lit< tt
-digits_ascii (byte ∷ rest) h zero = digit_ascii byte (and_parts (is_ascii_digit byte) (list_all is_ascii_digit rest) h).0
-digits_ascii (byte ∷ rest) h (suc i) = digits_ascii rest (and_parts (is_ascii_digit byte) (list_all is_ascii_digit rest) h).1 i
-
 -- a field of digits is text
-pub digits_utf8 : (field : List ℕ) → list_all is_ascii_digit field ≡ true → IsUtf8 field
-digits_utf8 field h = IsUtf8-from_ascii field (digits_ascii field h)
-
-digits_no_plus : (field : List ℕ) → list_all is_ascii_digit field ≡ true → without_leading_plus field ≡ field
-digits_no_plus [] h = refl
-digits_no_plus (byte ∷ rest) h = rw (digit_no_plus byte (and_parts (is_ascii_digit byte) (list_all is_ascii_digit rest) h).0)
+pub decimal_utf8 : (field : List ℕ) → list_all is_ascii_digit field ≡ true → IsUtf8 field
+decimal_utf8 field h = digits_utf8 is_ascii_digit digit_ascii field h
 
 parsed_as : {E : Type 0} (value : ℕ) (r : Result ℕ E) → OkIff r (value < 2 ^ 64) value → result_ok r ≡ within 0 (2 ^ 64 - 1) value
 parsed_as value (Ok number) h =
@@ -65,6 +49,6 @@ pub parsed : {E : Type 0} (field : List ℕ) (r : Result ℕ E) → (length fiel
     → result_ok r ≡ option_and_then (within 0 (2 ^ 64 - 1)) (number_of field)
 parsed field r some digits p =
     let longer : 0 < length field = grind (arith, nat_tests) in
-    let numeral : IsNumeral 10 field = (longer, digits_are field digits) in
-    let plain = rw (digits_no_plus field digits) at p in
+    let numeral : IsNumeral 10 field = (longer, digits_are is_ascii_digit 10 digit_small field digits) in
+    let plain = rw (digits_no_plus is_ascii_digit digit_no_plus field digits) at p in
     rw (some, digits) (parsed_as (digits_value 10 field) r (without_premise _ _ _ r plain numeral))

@@ -34,7 +34,7 @@ are_owners : AreOwners (each_below 32 owner_made)
 are_owners =
     record {
       distinct = pairs_made (λ one other. one.id ≡ other.id → ⊥) 32 owner_made (λ one other before inside same. omega (arith, before, same));
-      least = all_made (λ owner. 512 ≤ owner.id) 32 owner_made (λ place inside. omega arith);
+      least = all_made (λ owner. 0x200 ≤ owner.id) 32 owner_made (λ place inside. omega arith);
       greatest = all_made (λ owner. owner.id ≤ 2031) 32 owner_made (λ place inside. omega (arith, inside));
     }
 
@@ -123,7 +123,7 @@ is_owned_identifier : (number before : ℕ) → list_any (λ owner. nat_eq owner
 is_owned_identifier number before =
     let place : ℕ = draw number (before + 2) % 32 in
     let inside : place < 32 = mod_below (draw number (before + 2)) 32 (lit≤ tt) in
-    list_any_at (λ owner. nat_eq owner.id (512 + place)) (each_below 32 owner_made) place (owner_made place) (omega (arith, inside, length-each_below 32 owner_made))
+    list_any_at (λ owner. nat_eq owner.id (0x200 + place)) (each_below 32 owner_made) place (owner_made place) (omega (arith, inside, length-each_below 32 owner_made))
     (rw (get_or-each_below 32 owner_made place (owner_made place) inside) (search rules))
 
 frame_is : (number before : ℕ) → IsFrame (record { identifier = identifier_made number before; bytes = bytes_made number before })

@@ -1,14 +1,13 @@
 -- The numbers that hexadecimal digits write.
-use Rattle.std.proofs.Common.{◌≡◌, ℕ, ◌^◌, ◌<◌, ◌≤◌, true, false, ◌==◌, List, [], ◌∷◌, length, Some, Result, Ok, Err, nat_le, zero, suc, refl, arith, lit<, OkIff}
-use Rattle.std.proofs.lemmas.Bool.{and_parts}
+use Rattle.std.proofs.Common.{◌≡◌, ℕ, ◌^◌, ◌<◌, ◌≤◌, true, false, ◌==◌, List, [], ◌∷◌, length, Some, Result, Ok, Err, nat_le, arith, lit<, OkIff}
 use Rattle.std.proofs.lemmas.Bool.Decides.{nat_tests}
-use Rattle.std.proofs.lemmas.Str.{IsUtf8-from_ascii}
 use Rattle.std.specs.Char.{digit_value, is_ascii_hexdigit}
 use Rattle.std.specs.List.{list_all}
 use Rattle.std.specs.Result.{result_ok}
-use Rattle.std.specs.Str.{IsAscii, IsUtf8}
-use Rattle.std.specs.Str.Parse.{AllDigits, ParsesUnsigned, digits_value, without_leading_plus}
+use Rattle.std.specs.Str.{IsUtf8}
+use Rattle.std.specs.Str.Parse.{AllDigits, ParsesUnsigned, digits_value}
 use Rattle.input_text.specs.RequestRow.{hexadecimal_of}
+use Rattle.input_text.proofs.Digits.{digits_are, digits_no_plus, digits_utf8}
 
 digit_small : (byte : ℕ) → is_ascii_hexdigit byte ≡ true → digit_value byte < 16
 digit_small byte h = grind (arith, nat_tests)
@@ -19,24 +18,9 @@ digit_ascii byte h = grind (arith, nat_tests)
 digit_no_plus : (byte : ℕ) → is_ascii_hexdigit byte ≡ true → (byte == 43) ≡ false
 digit_no_plus byte h = grind (arith, nat_tests)
 
-digits_are : (field : List ℕ) → list_all is_ascii_hexdigit field ≡ true → AllDigits 16 field
-digits_are [] h = tt
-digits_are (byte ∷ rest) h =
-    let (here, more) = and_parts (is_ascii_hexdigit byte) (list_all is_ascii_hexdigit rest) h in
-    (digit_small byte here, digits_are rest more)
-
-digits_ascii : (field : List ℕ) → list_all is_ascii_hexdigit field ≡ true → IsAscii field
-digits_ascii [] h i = lit< tt
-digits_ascii (byte ∷ rest) h zero = digit_ascii byte (and_parts (is_ascii_hexdigit byte) (list_all is_ascii_hexdigit rest) h).0
-digits_ascii (byte ∷ rest) h (suc i) = digits_ascii rest (and_parts (is_ascii_hexdigit byte) (list_all is_ascii_hexdigit rest) h).1 i
-
 -- a field of hexadecimal digits is text
 pub hexadecimal_utf8 : (field : List ℕ) → list_all is_ascii_hexdigit field ≡ true → IsUtf8 field
-hexadecimal_utf8 field h = IsUtf8-from_ascii field (digits_ascii field h)
-
-digits_no_plus : (field : List ℕ) → list_all is_ascii_hexdigit field ≡ true → without_leading_plus field ≡ field
-digits_no_plus [] h = refl
-digits_no_plus (byte ∷ rest) h = rw (digit_no_plus byte (and_parts (is_ascii_hexdigit byte) (list_all is_ascii_hexdigit rest) h).0)
+hexadecimal_utf8 field h = digits_utf8 is_ascii_hexdigit digit_ascii field h
 
 -- one to three digits write a number of 16 bits
 small_value : (field : List ℕ) → length field ≤ 3 → AllDigits 16 field → digits_value 16 field < 2 ^ 16
@@ -57,6 +41,6 @@ parsed field r some few digits p =
     let longer : 0 < length field = grind (arith, nat_tests) in
     let one : nat_le 1 (length field) ≡ true = grind (arith, nat_tests) in
     let three : nat_le (length field) 3 ≡ true = grind (arith, nat_tests) in
-    let are = digits_are field digits in
-    let plain = rw (digits_no_plus field digits) at p in
+    let are = digits_are is_ascii_hexdigit 16 digit_small field digits in
+    let plain = rw (digits_no_plus is_ascii_hexdigit digit_no_plus field digits) at p in
     rw (one, three, digits) (ok_of _ (digits_value 16 field) r plain ((longer, are), small_value field few are))

@@ -1,5 +1,6 @@
 mod CsvFields
 mod CsvReading
+mod Digits
 mod RowByRow
 mod ListParts
 mod StepLines

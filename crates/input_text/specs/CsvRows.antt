@@ -1,5 +1,6 @@
 -- The rows of a text of comma-separated fields, and the numbers that fields write.
-use Rattle.std.specs.Prelude.{ℕ, ◌==◌, ◌&&◌, not, if◌then◌else◌, nat_le, List, [], ◌∷◌, length, map, reverse, Option, Some, None, option_and_then}
+use Rattle.std.specs.Prelude.{ℕ, ◌==◌, ◌&&◌, not, if◌then◌else◌, nat_le, List, [], ◌∷◌}
+use Rattle.std.specs.Prelude.{length, map, reverse, Option, Some, None, option_and_then}
 use Rattle.std.specs.Char.{is_ascii_digit}
 use Rattle.std.specs.List.{list_all}
 use Rattle.std.specs.Str.Parse.{digits_value}
@@ -22,7 +23,8 @@ rows_of bytes = map (map trimmed) (records default_config (strip_bom bytes))
 
 -- the number that a field writes: one ASCII digit or more, and nothing else
 abbrev pub number_of : List ℕ → Option ℕ
-number_of field = if not (length field == 0) && list_all is_ascii_digit field then Some (digits_value 10 field) else None
+number_of field =
+    if not (length field == 0) && list_all is_ascii_digit field then Some (digits_value 10 field) else None
 
 -- a number, where it is from low to high
 abbrev pub within : ℕ → ℕ → ℕ → Option ℕ

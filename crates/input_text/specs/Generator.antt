@@ -1,5 +1,6 @@
 -- The generator: a stream of draws that one number sets off, and the input that they make, each list of it whole.
-use Rattle.std.specs.Prelude.{ℕ, zero, suc, ◌+◌, ◌*◌, ◌/◌, ◌%◌, ◌^◌, ◌==◌, if◌then◌else◌, List, [], ◌∷◌, ◌++◌, map, get_or, sum_by}
+use Rattle.std.specs.Prelude.{ℕ, zero, suc, ◌+◌, ◌*◌, ◌/◌, ◌%◌, ◌^◌, ◌==◌}
+use Rattle.std.specs.Prelude.{if◌then◌else◌, List, [], ◌∷◌, ◌++◌, map, get_or, sum_by}
 use Rattle.std.specs.List.{range_with_len}
 use Rattle.requirement_table.specs.declared.entries.Entry.{Entry}
 use Rattle.change_protocol.specs.declared.operations.Op.TheVariants.{Add}
@@ -34,7 +35,7 @@ abbrev pub policy_made : ℕ → Policy
 policy_made number = if number % 3 == 0 then Rm else if number % 3 == 1 then Dm else Edf
 
 abbrev pub owner_made : ℕ → Owner
-owner_made place = record { id = 512 + place; node = place % 8 }
+owner_made place = record { id = 0x200 + place; node = place % 8 }
 
 -- a cycle of 2,000 bit times, a turnaround of 10, a window of 810, eight nodes, and 32 owned identifiers
 unfoldable pub system_made : ℕ → System
@@ -77,7 +78,7 @@ abbrev pub gap_made : ℕ → ℕ → ℕ
 gap_made number before = draw number (before + 1) % 1000
 
 abbrev pub identifier_made : ℕ → ℕ → ℕ
-identifier_made number before = 512 + draw number (before + 2) % 32
+identifier_made number before = 0x200 + draw number (before + 2) % 32
 
 -- how many bytes it has
 abbrev pub size_made : ℕ → ℕ → ℕ
@@ -97,12 +98,16 @@ draws_before number (suc place) = draws_before number place + 3 + size_made numb
 
 -- the arrival of the request of this place: the sum of the gaps up to it, its own included
 unfoldable pub arrival_made : ℕ → ℕ → ℕ
-arrival_made number place = sum_by (λ gap. gap) (each_below (place + 1) (λ earlier. gap_made number (draws_before number earlier)))
+arrival_made number place =
+    sum_by (λ gap. gap) (each_below (place + 1) (λ earlier. gap_made number (draws_before number earlier)))
 
 unfoldable pub request_made : ℕ → ℕ → Request
 request_made number place = record {
   at = arrival_made number place;
-  frame = record { identifier = identifier_made number (draws_before number place); bytes = bytes_made number (draws_before number place) };
+  frame = record {
+    identifier = identifier_made number (draws_before number place);
+    bytes = bytes_made number (draws_before number place);
+  };
 }
 
 unfoldable pub requests_made : ℕ → List Request

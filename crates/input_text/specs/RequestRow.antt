@@ -1,5 +1,7 @@
 -- What one row `AT,ID,DATA` of a requests file means, below the requests of the rows above it.
-use Rattle.std.specs.Prelude.{◌≡◌, ℕ, ◌+◌, ◌*◌, ◌-◌, ◌^◌, ◌%◌, ◌<◌, ◌≤◌, ◌==◌, ◌&&◌, Bool, true, if◌then◌else◌, nat_eq, nat_lt, nat_le, List, [], ◌∷◌, length, take, drop, codes, Option, Some, None, option_map, option_and_then, ok_or, unwrap_or, Result}
+use Rattle.std.specs.Prelude.{◌≡◌, ℕ, ◌+◌, ◌*◌, ◌-◌, ◌^◌, ◌%◌, ◌<◌, ◌≤◌, ◌==◌, ◌&&◌, Bool, true}
+use Rattle.std.specs.Prelude.{if◌then◌else◌, nat_eq, nat_lt, nat_le, List, [], ◌∷◌, length, take, drop}
+use Rattle.std.specs.Prelude.{codes, Option, Some, None, option_map, option_and_then, ok_or, unwrap_or, Result}
 use Rattle.std.specs.Char.{digit_value, is_ascii_hexdigit}
 use Rattle.std.specs.List.{list_all, list_any, slice_get}
 use Rattle.std.specs.Str.{bytes_eq}
@@ -11,17 +13,20 @@ use Rattle.async_window.specs.declared.request.Owner.{Owner}
 use Rattle.input_text.specs.CsvRows.{number_of, number_at, within}
 use Rattle.input_text.specs.Whys.{◌>>=◌, where_holds}
 use Rattle.input_text.specs.declared.request_fault.RequestWhy.{RequestWhy}
-use Rattle.input_text.specs.declared.request_fault.RequestWhy.TheVariants.{Fields, Number, Identifier, Data, Order, Many}
+use Rattle.input_text.specs.declared.request_fault.RequestWhy.TheVariants.{Fields, Number, Identifier}
+use Rattle.input_text.specs.declared.request_fault.RequestWhy.TheVariants.{Data, Order, Many}
 
 -- the number that one to three hexadecimal digits of either case write, and nothing else
 abbrev pub hexadecimal_of : List ℕ → Option ℕ
 hexadecimal_of digits =
-    if nat_le 1 (length digits) && nat_le (length digits) 3 && list_all is_ascii_hexdigit digits then Some (digits_value 16 digits) else None
+    if nat_le 1 (length digits) && nat_le (length digits) 3 && list_all is_ascii_hexdigit digits
+    then Some (digits_value 16 digits) else None
 
 -- the identifier that a field writes: `0x` and hexadecimal digits, or a number of 0 to 65,535
 abbrev pub identifier_of : List ℕ → Option ℕ
 identifier_of field =
-    if bytes_eq (take 2 field) (codes "0x") then hexadecimal_of (drop 2 field) else option_and_then (within 0 65535) (number_of field)
+    if bytes_eq (take 2 field) (codes "0x") then hexadecimal_of (drop 2 field)
+    else option_and_then (within 0 65535) (number_of field)
 
 -- the bytes that two hexadecimal digits each write
 abbrev pub bytes_written : List ℕ → List ℕ
@@ -32,7 +37,8 @@ bytes_written (high ∷ low ∷ rest) = (16 * digit_value high + digit_value low
 -- the bytes that a field writes: an even number of 0 to 16 hexadecimal digits of either case, and nothing else
 abbrev pub bytes_of : List ℕ → Option (List ℕ)
 bytes_of field =
-    if nat_le (length field) 16 && (length field % 2 == 0) && list_all is_ascii_hexdigit field then Some (bytes_written field) else None
+    if nat_le (length field) 16 && (length field % 2 == 0) && list_all is_ascii_hexdigit field
+    then Some (bytes_written field) else None
 
 -- AT: a number below 2 ^ 40
 abbrev pub arrival_in : List (List ℕ) → Option ℕ
@@ -48,7 +54,8 @@ bytes_in row = option_and_then bytes_of (field_at row 2)
 
 -- whether the number is an asynchronous identifier, 0x200 to 0x7EF, that one of these owners has
 abbrev pub is_owned : List Owner → ℕ → Bool
-is_owned owners identifier = nat_le 0x200 identifier && nat_le identifier 0x7EF && list_any (λ owner. nat_eq owner.id identifier) owners
+is_owned owners identifier =
+    nat_le 0x200 identifier && nat_le identifier 0x7EF && list_any (λ owner. nat_eq owner.id identifier) owners
 
 -- AT of the row above, and 0 where there is none
 abbrev pub arrival_above : List Request → ℕ

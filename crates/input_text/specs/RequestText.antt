@@ -2,7 +2,8 @@
 use Rattle.std.specs.Prelude.{ℕ, List, ◌++◌, codes}
 use Rattle.std.specs.Fmt.{decimal}
 use Rattle.input_text.specs.declared.request_fault.RequestWhy.{RequestWhy}
-use Rattle.input_text.specs.declared.request_fault.RequestWhy.TheVariants.{Fields, Number, Identifier, Data, Order, Many}
+use Rattle.input_text.specs.declared.request_fault.RequestWhy.TheVariants.{Fields, Number, Identifier}
+use Rattle.input_text.specs.declared.request_fault.RequestWhy.TheVariants.{Data, Order, Many}
 use Rattle.input_text.specs.declared.request_fault.RequestFault.{RequestFault}
 use Rattle.input_text.specs.declared.request_fault.RequestFault.TheVariants.{Row, Memory}
 

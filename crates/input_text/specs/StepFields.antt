@@ -26,7 +26,15 @@ entry_at row place = do
   period ← number_at row (place + 4) 0 65535
   deadline ← number_at row (place + 5) 0 65535
   priority ← number_at row (place + 6) 0 255
-  Some (record { slot = slot; node = node; length = len; phase = phase; period = period; deadline = deadline; priority = priority })
+  Some (record {
+    slot = slot;
+    node = node;
+    length = len;
+    phase = phase;
+    period = period;
+    deadline = deadline;
+    priority = priority;
+  })
 
 -- the operation that the fields from this place on describe
 abbrev pub operation_at : Verb → List (List ℕ) → ℕ → Option Op

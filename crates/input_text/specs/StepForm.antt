@@ -1,5 +1,6 @@
 -- The forms of the rows of a steps file: what the words at the start of a row say, and how many fields it then has.
-use Rattle.std.specs.Prelude.{ℕ, ◌+◌, ◌==◌, Bool, false, if◌then◌else◌, List, Option, Some, None, option_map, option_and_then, codes}
+use Rattle.std.specs.Prelude.{ℕ, ◌+◌, ◌==◌}
+use Rattle.std.specs.Prelude.{Bool, false, if◌then◌else◌, List, Option, Some, None, option_map, option_and_then, codes}
 use Rattle.std.specs.Str.{bytes_eq}
 use Rattle.csv.specs.Records.{field_at}
 use Rattle.input_text.specs.declared.step_rows.Verb.{Verb}

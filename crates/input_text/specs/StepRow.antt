@@ -1,5 +1,6 @@
 -- What one row of a steps file says, below the rows above it.
-use Rattle.std.specs.Prelude.{ℕ, ◌+◌, ◌-◌, ◌&&◌, Bool, true, false, nat_lt, nat_le, List, length, count_by, sum_by, option_map, ok_or, unwrap_or, Result}
+use Rattle.std.specs.Prelude.{ℕ, ◌+◌, ◌-◌, ◌&&◌, Bool, true, false, nat_lt, nat_le, List}
+use Rattle.std.specs.Prelude.{length, count_by, sum_by, option_map, ok_or, unwrap_or, Result}
 use Rattle.std.specs.List.{slice_get}
 use Rattle.input_text.specs.Whys.{◌>>=◌, where_holds}
 use Rattle.input_text.specs.StepForm.{form_of, has_fields}
@@ -7,7 +8,8 @@ use Rattle.input_text.specs.StepFields.{said_as}
 use Rattle.input_text.specs.declared.step_rows.Line.{Line}
 use Rattle.input_text.specs.declared.step_rows.Line.TheVariants as line
 use Rattle.input_text.specs.declared.step_fault.StepWhy.{StepWhy}
-use Rattle.input_text.specs.declared.step_fault.StepWhy.TheVariants.{Word, Fields, Number, Operator, Loose, Changes, Looks, Cycles}
+use Rattle.input_text.specs.declared.step_fault.StepWhy.TheVariants.{Word, Fields, Number, Operator}
+use Rattle.input_text.specs.declared.step_fault.StepWhy.TheVariants.{Loose, Changes, Looks, Cycles}
 
 -- whether the number is that of an operator
 abbrev pub is_operator : ℕ → Bool
@@ -72,7 +74,8 @@ ends_in_change above = unwrap_or (option_map is_of_change (slice_get above (leng
 abbrev pub below : List Line → Line → Result Line StepWhy
 below above (line.Cycle count) = where_holds (nat_le (sum_by count_in above + count) 20000) (line.Cycle count) Cycles
 below above (line.Look caller) = where_holds (nat_lt (count_by looks above) 1000) (line.Look caller) Looks
-below above (line.Begins caller start op) = where_holds (nat_lt (count_by begins above) 1000) (line.Begins caller start op) Changes
+below above (line.Begins caller start op) =
+    where_holds (nat_lt (count_by begins above) 1000) (line.Begins caller start op) Changes
 below above (line.Joins op) = where_holds (ends_in_change above) (line.Joins op) Loose
 
 -- what a row says below the lines of the rows above it, or the first why for which it may not stand there

@@ -2,7 +2,8 @@
 use Rattle.std.specs.Prelude.{ℕ, List, ◌++◌, codes}
 use Rattle.std.specs.Fmt.{decimal}
 use Rattle.input_text.specs.declared.step_fault.StepWhy.{StepWhy}
-use Rattle.input_text.specs.declared.step_fault.StepWhy.TheVariants.{Word, Fields, Number, Operator, Loose, Changes, Looks, Cycles}
+use Rattle.input_text.specs.declared.step_fault.StepWhy.TheVariants.{Word, Fields, Number, Operator}
+use Rattle.input_text.specs.declared.step_fault.StepWhy.TheVariants.{Loose, Changes, Looks, Cycles}
 use Rattle.input_text.specs.declared.step_fault.StepFault.{StepFault}
 use Rattle.input_text.specs.declared.step_fault.StepFault.TheVariants.{Row, Memory}
 

@@ -1,5 +1,6 @@
 -- What a steps file means: the steps that the lines of its rows say, or its first row that is none.
-use Rattle.std.specs.Prelude.{◌≡◌, ℕ, ◌^◌, ◌<◌, ◌≤◌, Bool, true, false, List, [], ◌∷◌, length, map, count_by, sum_by, Result, Ok, Err, All, ⊤}
+use Rattle.std.specs.Prelude.{◌≡◌, ℕ, ◌^◌, ◌<◌, ◌≤◌, Bool, true, false, List, [], ◌∷◌}
+use Rattle.std.specs.Prelude.{length, map, count_by, sum_by, Result, Ok, Err, All, ⊤}
 use Rattle.std.specs.List.{flat_map}
 use Rattle.requirement_table.specs.declared.entries.Entry.{Entry}
 use Rattle.change_protocol.specs.declared.operations.Op.{Op}
@@ -63,7 +64,8 @@ abbrev pub steps_said : List Line → List Step
 steps_said [] = []
 steps_said (line.Cycle count ∷ lines) = step.Cycle count ∷ steps_said lines
 steps_said (line.Look caller ∷ lines) = step.Act caller act.Look ∷ steps_said lines
-steps_said (line.Begins caller start op ∷ lines) = step.Act caller (act.Ask (record { start = start; ops = op ∷ joined lines })) ∷ steps_said lines
+steps_said (line.Begins caller start op ∷ lines) =
+    step.Act caller (act.Ask (record { start = start; ops = op ∷ joined lines })) ∷ steps_said lines
 steps_said (line.Joins op ∷ lines) = steps_said lines
 
 -- the steps of lines, or the fault of a row

@@ -1,14 +1,17 @@
 -- What a system file means. It is a TOML document; the rows below are the table of its paths, in its order. A file is
 -- taken where nothing is wrong with it: `faults_of` lists all that is wrong, in the order in which it is looked for,
 -- and the first of these is the answer.
-use Rattle.std.specs.Prelude.{◌≡◌, ℕ, ◌+◌, ◌-◌, ◌<◌, ◌≤◌, ◌&&◌, not, pos, Bool, false, if◌then◌else◌, nat_eq, nat_le, List, [], ◌∷◌, ◌++◌, map, take, All, Option, Some, None, is_some, is_none, Result, Ok, Err, codes}
+use Rattle.std.specs.Prelude.{◌≡◌, ℕ, ◌+◌, ◌-◌, ◌<◌, ◌≤◌, ◌&&◌, not, pos, Bool, false}
+use Rattle.std.specs.Prelude.{if◌then◌else◌, nat_eq, nat_le, List, [], ◌∷◌, ◌++◌, map, take, All}
+use Rattle.std.specs.Prelude.{Option, Some, None, is_some, is_none, Result, Ok, Err, codes}
 use Rattle.std.specs.Cmp.Lexicographic.{slice_cmp}
 use Rattle.std.specs.Fmt.{decimal}
 use Rattle.std.specs.List.{filter, flat_map, list_any}
 use Rattle.std.specs.Option.{option_or}
 use Rattle.std.specs.Ordering.{is_lt, nat_cmp}
 use Rattle.std.specs.Str.{bytes_eq, is_utf8}
-use Rattle.toml.specs.Data.{Data, string, integer, array, table, Items, no_items, item, Members, no_members, member, as_array, as_integer, as_str, as_table, get_member}
+use Rattle.toml.specs.Data.{Data, string, integer, array, table, Items, no_items, item, Members}
+use Rattle.toml.specs.Data.{no_members, member, as_array, as_integer, as_str, as_table, get_member}
 use Rattle.toml.specs.Parse.{parse_document}
 use Rattle.cycle_layout.specs.Layout.{IsLayout, needed}
 use Rattle.planner_policies.specs.declared.Policy.{Policy}
@@ -60,7 +63,11 @@ abbrev pub plan_row : Row
 plan_row = record { key = codes "plan"; kind = section; default = Some (table no_members) }
 
 abbrev pub policy_row : Row
-policy_row = record { key = codes "policy"; kind = word (codes "rm" ∷ codes "dm" ∷ codes "edf" ∷ []); default = Some (string (codes "rm")) }
+policy_row = record {
+  key = codes "policy";
+  kind = word (codes "rm" ∷ codes "dm" ∷ codes "edf" ∷ []);
+  default = Some (string (codes "rm"));
+}
 
 abbrev pub horizon_row : Row
 horizon_row = record { key = codes "horizon"; kind = whole 1 100000; default = Some (integer (pos 10000)) }
@@ -73,7 +80,7 @@ async_row = record { key = codes "async"; kind = series; default = Some (array n
 
 -- identifiers are those of asynchronous frames, 0x200 to 0x7EF
 abbrev pub id_row : Row
-id_row = record { key = codes "id"; kind = whole 512 2031; default = None }
+id_row = record { key = codes "id"; kind = whole 0x200 0x7EF; default = None }
 
 abbrev pub node_row : ℕ → Row
 node_row nodes = record { key = codes "node"; kind = whole 0 (nodes - 1); default = None }
@@ -146,7 +153,8 @@ keys_of (member key value rest) = key ∷ keys_of rest
 -- keys in byte order
 abbrev pub insert_key : List ℕ → List (List ℕ) → List (List ℕ)
 insert_key key [] = key ∷ []
-insert_key key (other ∷ rest) = if is_lt (slice_cmp nat_cmp key other) then key ∷ other ∷ rest else other ∷ insert_key key rest
+insert_key key (other ∷ rest) =
+    if is_lt (slice_cmp nat_cmp key other) then key ∷ other ∷ rest else other ∷ insert_key key rest
 
 abbrev pub in_byte_order : List (List ℕ) → List (List ℕ)
 in_byte_order [] = []
@@ -187,7 +195,8 @@ kind_fault path is_kind is_needed (Some value) = if is_kind value then [] else K
 
 -- a key that is needed and missing, or at which another kind stands
 abbrev pub kind_at : List ℕ → Members → Row → List SystemFault
-kind_at before members row = kind_fault (before ++ row.key) (is_of row.kind) (is_none row.default) (get_member row.key members)
+kind_at before members row =
+    kind_fault (before ++ row.key) (is_of row.kind) (is_none row.default) (get_member row.key members)
 
 abbrev pub is_whole_from : ℕ → ℕ → Data → Bool
 is_whole_from low high (integer (pos number)) = nat_le low number && nat_le number high
@@ -284,7 +293,8 @@ narrow_at need have = if nat_le need have then [] else Narrow need have ∷ []
 
 abbrev pub narrow_faults : Members → List SystemFault
 narrow_faults document =
-    narrow_at (needed (number_of turnaround_row (bus_of document)) (number_of window_row (bus_of document))) (number_of cycle_row (bus_of document))
+    narrow_at (needed (number_of turnaround_row (bus_of document)) (number_of window_row (bus_of document)))
+    (number_of cycle_row (bus_of document))
 
 -- all that is wrong, in the order in which it is looked for
 abbrev pub faults_of : Members → List SystemFault

@@ -1,5 +1,6 @@
 -- Words of the reader of system files, for its parts: the places of its keys, and when a fault is the first of some.
-use Rattle.std.specs.Prelude.{◌≡◌, ◌≢◌, ℕ, ◌<◌, ◌≤◌, ◌&&◌, nat_le, pos, if◌then◌else◌, Bool, List, [], ◌∷◌, Option, Some, None, codes}
+use Rattle.std.specs.Prelude.{◌≡◌, ◌≢◌, ℕ, ◌<◌, ◌≤◌, ◌&&◌}
+use Rattle.std.specs.Prelude.{nat_le, pos, if◌then◌else◌, Bool, List, [], ◌∷◌, Option, Some, None, codes}
 use Rattle.std.specs.Borrow.{Bor}
 use Rattle.std.specs.BTreeMap.{BTreeMap}
 use Rattle.std.specs.Prelude.{String}
@@ -14,7 +15,9 @@ use Rattle.planner_policies.specs.declared.Policy.TheVariants.{Rm, Dm, Edf}
 use Rattle.cycle_layout.specs.Layout.{IsCycleLength, IsTurnaround, IsWindow}
 use Rattle.input_text.specs.declared.system.Bus.{Bus}
 use Rattle.input_text.specs.declared.system.Plan.{Plan}
-use Rattle.input_text.specs.SystemFile.{cycle_row, turnaround_row, window_row, nodes_row, policy_row, horizon_row, number_of, policy_of, text_in, value_of, in_element, is_integer, is_text, is_table, is_array}
+use Rattle.input_text.specs.SystemFile.{cycle_row, turnaround_row, window_row, nodes_row, policy_row}
+use Rattle.input_text.specs.SystemFile.{horizon_row, number_of, policy_of, text_in, value_of}
+use Rattle.input_text.specs.SystemFile.{in_element, is_integer, is_text, is_table, is_array}
 use Rattle.input_text.specs.declared.system_fault.SystemFault.{SystemFault}
 use Rattle.input_text.specs.declared.system_fault.SystemFault.TheVariants as wrong
 use Rattle.input_text.specs.declared.system_sections.Kind.{Kind}

@@ -3,7 +3,8 @@
 //! Spaces at both ends of a field are dropped, also inside quotes. A number is one ASCII digit or
 //! more, and leading zeros are allowed.
 
-ghost use Rattle.std.specs.Prelude.{◌≡◌, ◌^◌, ◌-◌, ◌≤◌, map, IfSome, option_and_then, option_map, reverse, length, true};
+ghost use Rattle.std.specs.Prelude.{◌≡◌, ◌^◌, ◌-◌, ◌≤◌};
+ghost use Rattle.std.specs.Prelude.{map, IfSome, option_and_then, option_map, reverse, length, true};
 ghost use Rattle.std.specs.Char.{is_ascii_digit};
 ghost use Rattle.std.specs.List.{list_all};
 ghost use Rattle.std.specs.Range.{range_inclusive_start, range_inclusive_end};
@@ -71,8 +72,10 @@ pub fn field_of(row: &ByteRecord, place: usize) -> Option<&[u8]>
 
 /// The number in the field at this place of a row, where it is in the range.
 pub fn number(row: &ByteRecord, place: usize, range: RangeInclusive<u64>) -> Option<u64>
-    ensures value { result ≡ number_at (map trimmed (fields_of row.now)) place (range_inclusive_start range) (range_inclusive_end range) }
-    ensures within { IfSome result (λ number. (range_inclusive_start range ≤ number) × (number ≤ range_inclusive_end range)) }
+    ensures value { result
+        ≡ number_at (map trimmed (fields_of row.now)) place (range_inclusive_start range) (range_inclusive_end range) }
+    ensures within { IfSome result
+        (λ number. (range_inclusive_start range ≤ number) × (number ≤ range_inclusive_end range)) }
 {
     let field = field_of(row, place)?;
     let number = read_number(field)?;

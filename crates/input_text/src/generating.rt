@@ -5,7 +5,9 @@
 
 ghost use Rattle.std.specs.Prelude.{◌≡◌, ◌+◌, ◌*◌, ◌/◌, ◌^◌, ◌%◌, ◌<◌, ◌≤◌, ℕ, [], ◌∷◌, IfOk, OnOk};
 ghost use Rattle.change_protocol.specs.declared.operations.Op.TheVariants.{Add};
-ghost use Rattle.input_text.specs.Generator.{bytes_made, draw, each_below, entry_made, gap_made, generated, identifier_made, owner_made, policy_made, requests_made, size_made, state_after, steps_made, system_made};
+ghost use Rattle.input_text.specs.Generator.{bytes_made, draw, each_below, entry_made, gap_made};
+ghost use Rattle.input_text.specs.Generator.{generated, identifier_made, owner_made, policy_made};
+ghost use Rattle.input_text.specs.Generator.{requests_made, size_made, state_after, steps_made, system_made};
 ghost use Rattle.input_text.specs.RequestsFile.{AreLegal};
 ghost use Rattle.input_text.specs.StepsFile.{AreLegalSteps};
 ghost use Rattle.input_text.specs.StepsReading.{asking};
@@ -16,7 +18,7 @@ use crate::owners::OwnerList;
 use crate::steps::Step;
 use crate::system::System;
 use admission_rules::Rules;
-use async_window::{Owner, Request};
+use async_window::{LEAST_ASYNCHRONOUS, Owner, Request};
 use can_frame::{Frame, MAX_BYTES};
 use change_protocol::{Act, Change, Op, Ops};
 use cycle_layout::Layout;
@@ -50,9 +52,7 @@ const NODES: u8 = 8;
 // The largest synchronous window, in bit times.
 const WINDOW: u32 = 810;
 
-// The asynchronous identifiers: the first, and how many.
-const FIRST_ID: u16 = 512;
-
+// How many asynchronous identifiers, from the least one on.
 const IDS: u8 = 32;
 
 // The slots that are asked for.
@@ -129,7 +129,10 @@ impl Draws {
     // A frame of this identifier, of a draw for the number of its bytes and one for each of them.
     fn frame(&mut self, id: u16) -> Frame
         requires identifier { id ≤ 0x7EF }
-        ensures value { result ≡ record { identifier = id; bytes = each_below (draw self.old.state 1 % 9) (λ place. draw self.old.state (2 + place) % 256) } }
+        ensures value { result ≡ record {
+          identifier = id;
+          bytes = each_below (draw self.old.state 1 % 9) (λ place. draw self.old.state (2 + place) % 256);
+        } }
         ensures state { self.new.state ≡ state_after self.old.state (1 + draw self.old.state 1 % 9) }
     {
         let count = self.below(9) as usize;
@@ -153,7 +156,7 @@ impl Draws {
         ensures state { self.new.state ≡ state_after self.old.state (3 + size_made self.old.state 0) }
     {
         let at = last + self.below(1_000);
-        let id = FIRST_ID + self.below(u64::from(IDS)) as u16;
+        let id = LEAST_ASYNCHRONOUS + self.below(u64::from(IDS)) as u16;
         let frame = self.frame(id);
         Request { at, frame }
     }
@@ -176,7 +179,7 @@ fn owners(alloc: Global) -> Result<OwnerList, AllocError>
 {
     let mut owners = Vec::new(alloc);
     for place in 0..IDS {
-        let id = FIRST_ID + u16::from(place);
+        let id = LEAST_ASYNCHRONOUS + u16::from(place);
         let node = place % NODES;
         owners.push(Owner { id, node })?;
     }
@@ -242,7 +245,8 @@ fn steps(alloc: Global, draws: &mut Draws) -> Result<StepList, AllocError>
 
 // The requests, where the draws of the steps were taken.
 fn requests(alloc: Global, mut draws: Draws) -> Result<RequestList, AllocError>
-    ensures value { (number : ℕ) → draws.state ≡ state_after number (6 * 40) → IfOk result (λ requests. requests ≡ requests_made number) }
+    ensures value { (number : ℕ) → draws.state ≡ state_after number (6 * 40)
+        → IfOk result (λ requests. requests ≡ requests_made number) }
 {
     let mut requests = Vec::new(alloc);
     let mut last = 0;

@@ -12,7 +12,9 @@ ghost use Rattle.input_text.specs.declared.request_fault.RequestWhy.{RequestWhy}
 /// Law: what is computed of the rows of a requests file is the requests of all rows, each below
 /// those above it, or the first row that is none; and it is one of the two.
 pub fn requests_mean()
-    ensures ok { (owners : List Owner) (rows : List (List (List ℕ))) (requests : List Request) → (requests_of_rows owners rows ≡ Ok requests) ↔ AreRequests owners rows requests }
-    ensures fault { (owners : List Owner) (rows : List (List (List ℕ))) (number : ℕ) (why : RequestWhy) → (requests_of_rows owners rows ≡ Err (Row number why)) ↔ IsFirstFault (meaning owners) rows number why }
+    ensures ok { (owners : List Owner) (rows : List (List (List ℕ))) (requests : List Request)
+        → (requests_of_rows owners rows ≡ Ok requests) ↔ AreRequests owners rows requests }
+    ensures fault { (owners : List Owner) (rows : List (List (List ℕ))) (number : ℕ) (why : RequestWhy)
+        → (requests_of_rows owners rows ≡ Err (Row number why)) ↔ IsFirstFault (meaning owners) rows number why }
     ensures no_more { (owners : List Owner) (rows : List (List (List ℕ))) → requests_of_rows owners rows ≢ Err Memory }
 {}

@@ -4,13 +4,16 @@
 //! identifier, as a decimal number or as `0x` and one to three hexadecimal digits. DATA is two
 //! hexadecimal digits for each of 0 to 8 bytes. There are at most 50,000 rows.
 
-ghost use Rattle.std.specs.Prelude.{◌≡◌, ◌≢◌, ◌⊎◌, ◌%◌, ℕ, ◌<◌, ◌≤◌, ◌&&◌, IfOk, IfErr, IfSome, Err, Ok, map, nat_eq, nat_le, length, get_or, false, true, List, option_and_then, option_map, MatchResult};
+ghost use Rattle.std.specs.Prelude.{◌≡◌, ◌≢◌, ◌⊎◌, ◌%◌, ℕ, ◌<◌, ◌≤◌, ◌&&◌, IfOk, IfErr, IfSome};
+ghost use Rattle.std.specs.Prelude.{Err, Ok, map, nat_eq, nat_le, length, get_or, false, true};
+ghost use Rattle.std.specs.Prelude.{List, option_and_then, option_map, MatchResult};
 ghost use Rattle.std.specs.Char.{digit_value, is_ascii_hexdigit};
 ghost use Rattle.std.specs.List.{list_all, list_any};
 ghost use Rattle.csv.specs.Records.{fields_of};
 ghost use Rattle.can_frame.specs.DataFrame.{IsFrame};
 ghost use Rattle.input_text.specs.CsvRows.{trimmed, number_of, within, rows_of};
-ghost use Rattle.input_text.specs.RequestRow.{hexadecimal_of, identifier_of, bytes_written, bytes_of, identifier_in, bytes_in, is_owned, arrival_above, meaning, IsRequest, frame_with};
+ghost use Rattle.input_text.specs.RequestRow.{hexadecimal_of, identifier_of, bytes_written, bytes_of, identifier_in};
+ghost use Rattle.input_text.specs.RequestRow.{bytes_in, is_owned, arrival_above, meaning, IsRequest, frame_with};
 ghost use Rattle.input_text.specs.RequestOwners.{IsOwnedTable};
 ghost use Rattle.async_window.specs.declared.request.Owner.{Owner};
 ghost use Rattle.input_text.specs.declared.request_fault.RequestFault.TheVariants.{Memory};
@@ -18,8 +21,8 @@ ghost use Rattle.input_text.specs.RequestsFile.{AreRequests, Faults, AreLegal, r
 
 use super::csv_rows::{field_of, number, read_number};
 use super::request_fault::{RequestFault, RequestWhy};
-use async_window::{Owner, Request};
-use can_frame::{Frame, MAX_BYTES};
+use async_window::{LEAST_ASYNCHRONOUS, Owner, Request};
+use can_frame::{Frame, MAX_BYTES, MAX_IDENTIFIER};
 use csv::{ByteRecord, ReaderBuilder};
 use std::alloc::{AllocError, Global};
 use std::str;
@@ -162,7 +165,7 @@ fn is_owned(owned: &[bool], id: u16) -> bool
     ensures value { (owners : List Owner) → IsOwnedTable owners owned.now → result ≡ is_owned owners id }
     ensures legal { result ≡ true → id ≤ 0x7EF }
 {
-    0x200 <= id && id <= 0x7EF && owned[usize::from(id)]
+    LEAST_ASYNCHRONOUS <= id && id <= MAX_IDENTIFIER && owned[usize::from(id)]
 }
 
 // The arrival in the last row, and 0 where there is none.
@@ -178,7 +181,8 @@ fn last_arrival(above: &[Request]) -> u64
 // The request of a row below these requests.
 fn read_row(row: &ByteRecord, owned: &[bool], above: &[Request]) -> Result<Request, RequestWhy>
     requires whole { length owned.now ≡ 65536 }
-    ensures value { (owners : List Owner) → IsOwnedTable owners owned.now → result ≡ meaning owners above.now (map trimmed (fields_of row.now)) }
+    ensures value { (owners : List Owner) → IsOwnedTable owners owned.now
+        → result ≡ meaning owners above.now (map trimmed (fields_of row.now)) }
     ensures legal { (owners : List Owner) → IsOwnedTable owners owned.now → IfOk result (IsRequest owners) }
     ensures in_order { IfOk result (λ request. arrival_above above.now ≤ request.at) }
     ensures few { IfOk result (λ request. length above.now < 50000) }
@@ -220,7 +224,8 @@ pub fn read_requests(
     ensures ok { IfOk result (λ requests. AreRequests owners.now (rows_of bytes.now) requests.items) }
     ensures fault { IfErr result (Faults owners.now (rows_of bytes.now)) }
     ensures legal { IfOk result (λ requests. AreLegal owners.now requests.items) }
-    ensures value { MatchResult result (λ requests. requests_of owners.now bytes.now ≡ Ok requests.items) (λ fault. (fault ≡ Memory) ⊎ (requests_of owners.now bytes.now ≡ Err fault)) }
+    ensures value { MatchResult result (λ requests. requests_of owners.now bytes.now ≡ Ok requests.items)
+        (λ fault. (fault ≡ Memory) ⊎ (requests_of owners.now bytes.now ≡ Err fault)) }
 {
     let owned = owned_numbers(alloc, owners)?;
     let reader = ReaderBuilder::new()

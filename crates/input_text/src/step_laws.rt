@@ -11,8 +11,10 @@ ghost use Rattle.input_text.specs.declared.steps.Step.{Step};
 /// Law: what is computed of the rows of a steps file is the steps that the lines of all rows say,
 /// or the first row that is none; and it is one of the two.
 pub fn steps_mean()
-    ensures ok { (rows : List (List (List ℕ))) (steps : List Step) → (steps_of_rows rows ≡ Ok steps) ↔ AreSteps rows steps }
-    ensures fault { (rows : List (List (List ℕ))) (number : ℕ) (why : StepWhy) → (steps_of_rows rows ≡ Err (Row number why)) ↔ IsFirstFault meaning rows number why }
+    ensures ok { (rows : List (List (List ℕ))) (steps : List Step)
+        → (steps_of_rows rows ≡ Ok steps) ↔ AreSteps rows steps }
+    ensures fault { (rows : List (List (List ℕ))) (number : ℕ) (why : StepWhy)
+        → (steps_of_rows rows ≡ Err (Row number why)) ↔ IsFirstFault meaning rows number why }
     ensures no_more { (rows : List (List (List ℕ))) → steps_of_rows rows ≢ Err Memory }
 {}
 

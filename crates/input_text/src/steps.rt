@@ -5,7 +5,8 @@
 //! change gives it one operation more. There are at most 1,000 changes and 1,000 looks, and the
 //! counts of the `cycle` rows sum to at most 20,000.
 
-ghost use Rattle.std.specs.Prelude.{◌≡◌, ◌⊎◌, ℕ, ◌+◌, List, [], ◌∷◌, ◌++◌, map, Option, is_some, is_ok, true, false, nat_lt, nat_le, IfOk, IfErr, Err, Ok, Some, None, MatchResult};
+ghost use Rattle.std.specs.Prelude.{◌≡◌, ◌⊎◌, ℕ, ◌+◌, List, [], ◌∷◌, ◌++◌, map, Option, is_some, is_ok, true};
+ghost use Rattle.std.specs.Prelude.{false, nat_lt, nat_le, IfOk, IfErr, Err, Ok, Some, None, MatchResult};
 ghost use Rattle.csv.specs.Records.{fields_of};
 ghost use Rattle.input_text.specs.CsvRows.{trimmed, rows_of};
 ghost use Rattle.input_text.specs.StepRow.{below, meaning, joins};
@@ -76,7 +77,8 @@ impl Tally {
     // That of the rows and one more, which says this line.
     fn with(self, line: Line) -> Result<Tally, StepWhy>
         ensures counts { (lines : List Line) → Counts lines self → IfOk result (Counts (lines ++ line ∷ [])) }
-        ensures value { (lines : List Line) → Counts lines self → MatchResult result (λ tally. below lines line ≡ Ok line) (λ why. below lines line ≡ Err why) }
+        ensures value { (lines : List Line) → Counts lines self
+            → MatchResult result (λ tally. below lines line ≡ Ok line) (λ why. below lines line ≡ Err why) }
         ensures in_change { IfOk result (λ tally. joins line ≡ true → self.in_change ≡ true) }
     {
         match line {
@@ -89,7 +91,8 @@ impl Tally {
 
     // That of one more row, of so many cycles.
     fn with_cycles(self, count: u64) -> Result<Tally, StepWhy>
-        ensures ok { IfOk result (λ tally. tally ≡ record { in_change = false; changes = self.changes; looks = self.looks; cycles = self.cycles + count }) }
+        ensures ok { IfOk result (λ tally. tally
+            ≡ record { in_change = false; changes = self.changes; looks = self.looks; cycles = self.cycles + count }) }
         ensures room { is_ok result ≡ nat_le (self.cycles + count) 20000 }
         ensures why { IfErr result (λ why. why ≡ Cycles) }
     {
@@ -106,7 +109,8 @@ impl Tally {
 
     // That of one more row, of a look.
     fn with_look(self) -> Result<Tally, StepWhy>
-        ensures ok { IfOk result (λ tally. tally ≡ record { in_change = false; changes = self.changes; looks = self.looks + 1; cycles = self.cycles }) }
+        ensures ok { IfOk result (λ tally. tally
+            ≡ record { in_change = false; changes = self.changes; looks = self.looks + 1; cycles = self.cycles }) }
         ensures room { is_ok result ≡ nat_lt self.looks 1000 }
         ensures why { IfErr result (λ why. why ≡ Looks) }
     {
@@ -122,7 +126,8 @@ impl Tally {
 
     // That of one more row, which begins a change.
     fn with_change(self) -> Result<Tally, StepWhy>
-        ensures ok { IfOk result (λ tally. tally ≡ record { in_change = true; changes = self.changes + 1; looks = self.looks; cycles = self.cycles }) }
+        ensures ok { IfOk result (λ tally. tally
+            ≡ record { in_change = true; changes = self.changes + 1; looks = self.looks; cycles = self.cycles }) }
         ensures room { is_ok result ≡ nat_lt self.changes 1000 }
         ensures why { IfErr result (λ why. why ≡ Changes) }
     {
@@ -138,7 +143,8 @@ impl Tally {
 
     // That of one more row, which joins an operation to a change.
     fn with_operation(self) -> Result<Tally, StepWhy>
-        ensures ok { IfOk result (λ tally. tally ≡ record { in_change = true; changes = self.changes; looks = self.looks; cycles = self.cycles }) }
+        ensures ok { IfOk result (λ tally. tally
+            ≡ record { in_change = true; changes = self.changes; looks = self.looks; cycles = self.cycles }) }
         ensures room { is_ok result ≡ self.in_change }
         ensures why { IfErr result (λ why. why ≡ Loose) }
     {
@@ -152,8 +158,11 @@ impl Tally {
 // What a row says below these rows, and the tally with it.
 #[tactic(auto, unfolding(crate::specs::StepRow::meaning))]
 fn read_row(row: &ByteRecord, above: Tally) -> Result<(Line, Tally), StepWhy>
-    ensures counts { (lines : List Line) → Counts lines above → IfOk result (λ read. Counts (lines ++ read.0 ∷ []) read.1) }
-    ensures value { (lines : List Line) → Counts lines above → MatchResult result (λ read. meaning lines (map trimmed (fields_of row.now)) ≡ Ok read.0) (λ why. meaning lines (map trimmed (fields_of row.now)) ≡ Err why) }
+    ensures counts { (lines : List Line) → Counts lines above
+        → IfOk result (λ read. Counts (lines ++ read.0 ∷ []) read.1) }
+    ensures value { (lines : List Line) → Counts lines above
+        → MatchResult result (λ read. meaning lines (map trimmed (fields_of row.now)) ≡ Ok read.0)
+        (λ why. meaning lines (map trimmed (fields_of row.now)) ≡ Err why) }
     ensures in_change { IfOk result (λ read. joins read.0 ≡ true → above.in_change ≡ true) }
 {
     let line = read_line(row)?;
@@ -249,7 +258,8 @@ impl Draft {
 
     // With a step more, which stays as it is.
     fn with_step(self, step: Step) -> Result<Draft, StepFault>
-        ensures steps { IfOk result (λ draft. draft.steps.items ≡ (self.steps.items ++ last_steps self.asked) ++ step ∷ []) }
+        ensures steps { IfOk result
+            (λ draft. draft.steps.items ≡ (self.steps.items ++ last_steps self.asked) ++ step ∷ []) }
         ensures asked { IfOk result (λ draft. draft.asked ≡ None) }
         ensures fault { IfErr result (λ fault. fault ≡ Memory) }
     {
@@ -321,7 +331,8 @@ pub fn read_steps(alloc: Global, bytes: &[u8]) -> Result<Vec<Step>, StepFault>
     ensures ok { IfOk result (λ steps. AreSteps (rows_of bytes.now) steps.items) }
     ensures fault { IfErr result (Faults (rows_of bytes.now)) }
     ensures legal { IfOk result (λ steps. AreLegalSteps steps.items) }
-    ensures value { MatchResult result (λ steps. steps_of bytes.now ≡ Ok steps.items) (λ fault. (fault ≡ Memory) ⊎ (steps_of bytes.now ≡ Err fault)) }
+    ensures value { MatchResult result (λ steps. steps_of bytes.now ≡ Ok steps.items)
+        (λ fault. (fault ≡ Memory) ⊎ (steps_of bytes.now ≡ Err fault)) }
 {
     let reader = ReaderBuilder::new()
         .has_headers(false)

@@ -1,13 +1,20 @@
 //! The system file: a TOML document with the table `bus`, perhaps the table `plan`, and perhaps the
 //! array of tables `async`.
 
-ghost use Rattle.std.specs.Prelude.{◌≡◌, ◌≢◌, ◌≤◌, ◌++◌, [], ◌∷◌, IfErr, IfOk, OnOk, All, AllPairs, Some, None, Ok, Err, map, nat_eq, codes};
+ghost use Rattle.std.specs.Prelude.{◌≡◌, ◌≢◌, ◌≤◌, ◌++◌, [], ◌∷◌};
+ghost use Rattle.std.specs.Prelude.{IfErr, IfOk, OnOk, All, AllPairs, Some, None, Ok, Err, map, nat_eq, codes};
 ghost use Rattle.std.specs.List.{flat_map, list_any};
 ghost use Rattle.toml.specs.Data.{get_member};
 ghost use Rattle.toml.specs.View.{table_view, view};
 ghost use Rattle.cycle_layout.specs.Layout.{IsLayout, needed};
-ghost use Rattle.input_text.specs.SystemFile.{IsSystem, bus_of, bus_rows, described_by, document_of, element_of, elements_of, elements_in, faults_of, from_place, id_of, kind_at, kind_faults, kinds_in_element, members_in, narrow_at, owner_of, plan_of, plan_rows, policy_of, policy_row, range_at, range_faults, ranges_among, ranges_in_element, repeated_fault, narrow_faults, system_of, table_fault, text_in, unknown_faults, unknown_in_element, value_of};
-ghost use Rattle.input_text.specs.SystemParts.{IsBus, HaveOtherIds, IsBusOf, IsFirst, IsOwner, IsPlanOf, id_of_owner, members_at, policy_named, prefix_of};
+ghost use Rattle.input_text.specs.SystemFile.{IsSystem, bus_of, bus_rows, described_by, document_of, element_of};
+ghost use Rattle.input_text.specs.SystemFile.{elements_of, elements_in, faults_of, from_place, id_of, kind_at};
+ghost use Rattle.input_text.specs.SystemFile.{kind_faults, kinds_in_element, members_in, narrow_at, owner_of, plan_of};
+ghost use Rattle.input_text.specs.SystemFile.{plan_rows, policy_of, policy_row, range_at, range_faults, ranges_among};
+ghost use Rattle.input_text.specs.SystemFile.{ranges_in_element, repeated_fault, narrow_faults, system_of};
+ghost use Rattle.input_text.specs.SystemFile.{table_fault, text_in, unknown_faults, unknown_in_element, value_of};
+ghost use Rattle.input_text.specs.SystemParts.{IsBus, HaveOtherIds, IsBusOf, IsFirst, IsOwner, IsPlanOf};
+ghost use Rattle.input_text.specs.SystemParts.{id_of_owner, members_at, policy_named, prefix_of};
 ghost use Rattle.input_text.specs.declared.system_fault.SystemFault.TheVariants.{Toml, Memory};
 ghost use Rattle.input_text.specs.declared.system_sections.Place.TheVariants as place;
 
@@ -15,7 +22,8 @@ use crate::owners::OwnerList;
 use crate::system_fault::{PathText, SystemFault};
 use crate::system_sections::{Kind, Place, Section};
 use admission_rules::Rules;
-use async_window::Owner;
+use async_window::{LEAST_ASYNCHRONOUS, Owner};
+use can_frame::MAX_IDENTIFIER;
 use cycle_layout::{Layout, LayoutFault};
 use planner_policies::Policy;
 use std::alloc::Global;
@@ -155,7 +163,8 @@ fn check_keys(alloc: Global, document: &Table) -> Result<(), SystemFault>
 // Tests that the keys of `bus` are there and hold integers.
 fn check_bus(alloc: Global, document: &Table) -> Result<(), SystemFault>
     ensures ok { OnOk result (flat_map (kind_at (codes "bus.") (bus_of (table_view document.now))) bus_rows ≡ []) }
-    ensures fault { IfErr result (IsFirst (flat_map (kind_at (codes "bus.") (bus_of (table_view document.now))) bus_rows)) }
+    ensures fault { IfErr result
+        (IsFirst (flat_map (kind_at (codes "bus.") (bus_of (table_view document.now))) bus_rows)) }
 {
     let bus = bus_of(document);
     bus.check_kind(alloc, "cycle", Kind::Integer, true)?;
@@ -167,7 +176,8 @@ fn check_bus(alloc: Global, document: &Table) -> Result<(), SystemFault>
 // Tests that the keys of `plan` hold what they should, where they are there.
 fn check_plan(alloc: Global, document: &Table) -> Result<(), SystemFault>
     ensures ok { OnOk result (flat_map (kind_at (codes "plan.") (plan_of (table_view document.now))) plan_rows ≡ []) }
-    ensures fault { IfErr result (IsFirst (flat_map (kind_at (codes "plan.") (plan_of (table_view document.now))) plan_rows)) }
+    ensures fault { IfErr result
+        (IsFirst (flat_map (kind_at (codes "plan.") (plan_of (table_view document.now))) plan_rows)) }
 {
     let plan = plan_of(document);
     plan.check_kind(alloc, "policy", Kind::Text, false)?;
@@ -239,7 +249,8 @@ fn read_bus(alloc: Global, document: &Table) -> Result<Bus, SystemFault>
     ensures numbers { IfOk result (IsBusOf (bus_of (table_view document.now))) }
     ensures ranges { IfOk result IsBus }
     ensures ok { OnOk result (flat_map (range_at (codes "bus.") (bus_of (table_view document.now))) bus_rows ≡ []) }
-    ensures fault { IfErr result (IsFirst (flat_map (range_at (codes "bus.") (bus_of (table_view document.now))) bus_rows)) }
+    ensures fault { IfErr result
+        (IsFirst (flat_map (range_at (codes "bus.") (bus_of (table_view document.now))) bus_rows)) }
 {
     let bus = bus_of(document);
     let cycle = bus.number(alloc, "cycle", 400..=100_000)?;
@@ -271,9 +282,11 @@ fn policy_named(name: &str) -> Option<Policy>
 
 // The policy of `plan`, where it is one.
 fn read_policy(alloc: Global, plan: Section) -> Result<Policy, SystemFault>
-    ensures policy { IfOk result (λ policy. policy ≡ policy_of (text_in (value_of policy_row (members_at plan.entry.table)))) }
+    ensures policy { IfOk result
+        (λ policy. policy ≡ policy_of (text_in (value_of policy_row (members_at plan.entry.table)))) }
     ensures ok { OnOk result (range_at (prefix_of plan.entry.place) (members_at plan.entry.table) policy_row ≡ []) }
-    ensures fault { IfErr result (IsFirst (range_at (prefix_of plan.entry.place) (members_at plan.entry.table) policy_row)) }
+    ensures fault { IfErr result
+        (IsFirst (range_at (prefix_of plan.entry.place) (members_at plan.entry.table) policy_row)) }
 {
     let Some(value) = plan.value("policy") else {
         return Ok(Policy::Rm);
@@ -300,7 +313,8 @@ fn read_plan(alloc: Global, document: &Table) -> Result<Plan, SystemFault>
     ensures values { IfOk result (IsPlanOf (plan_of (table_view document.now))) }
     ensures ranges { IfOk result (λ plan. (1 ≤ plan.horizon) × (plan.horizon ≤ 100000)) }
     ensures ok { OnOk result (flat_map (range_at (codes "plan.") (plan_of (table_view document.now))) plan_rows ≡ []) }
-    ensures fault { IfErr result (IsFirst (flat_map (range_at (codes "plan.") (plan_of (table_view document.now))) plan_rows)) }
+    ensures fault { IfErr result
+        (IsFirst (flat_map (range_at (codes "plan.") (plan_of (table_view document.now))) plan_rows)) }
 {
     let plan = plan_of(document);
     let policy = read_policy(alloc, plan)?;
@@ -319,7 +333,8 @@ fn has_owner(owners: &[Owner], id: u16) -> bool
 fn check_new(alloc: Global, section: Section, id: u16, earlier: &[Owner]) -> Result<(), SystemFault>
     ensures ok { OnOk result (repeated_fault (prefix_of section.entry.place) (map id_of_owner earlier.now) id ≡ []) }
     ensures new { OnOk result (All (λ other. other.id ≢ id) earlier.now) }
-    ensures fault { IfErr result (IsFirst (repeated_fault (prefix_of section.entry.place) (map id_of_owner earlier.now) id)) }
+    ensures fault { IfErr result
+        (IsFirst (repeated_fault (prefix_of section.entry.place) (map id_of_owner earlier.now) id)) }
 {
     if has_owner(earlier, id) {
         Err(section.range_fault(alloc, "id"))
@@ -346,7 +361,8 @@ fn read_owner(
         (IsFirst (ranges_in_element nodes (map id_of_owner earlier.now) index (view element.now))) }
 {
     let section = element_of(index, element);
-    let id = section.number(alloc, "id", 512..=2_031)? as u16;
+    let ids = u32::from(LEAST_ASYNCHRONOUS)..=u32::from(MAX_IDENTIFIER);
+    let id = section.number(alloc, "id", ids)? as u16;
     check_new(alloc, section, id, earlier)?;
     let node = section.number(alloc, "node", 0..=u32::from(nodes - 1))? as u8;
     Ok(Owner { id, node })

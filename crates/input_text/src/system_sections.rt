@@ -6,7 +6,8 @@ ghost use Rattle.std.specs.Range.{range_inclusive_start, range_inclusive_end};
 ghost use Rattle.std.specs.String.{string_bytes};
 ghost use Rattle.toml.specs.Data.{get_member, integer};
 ghost use Rattle.toml.specs.View.{table_view, view};
-ghost use Rattle.input_text.specs.SystemFile.{is_among, is_whole_from, kind_fault, number_in, range_fault, unknown_in, unknown_keys};
+ghost use Rattle.input_text.specs.SystemFile.{is_among, is_whole_from, kind_fault, number_in};
+ghost use Rattle.input_text.specs.SystemFile.{range_fault, unknown_in, unknown_keys};
 ghost use Rattle.input_text.specs.SystemParts.{IsFirst, first_key, is_kind, members_at, prefix_of, whole_in};
 ghost use Rattle.input_text.specs.declared.system_fault.SystemFault.{SystemFault};
 ghost use Rattle.input_text.specs.declared.system_fault.SystemFault.TheVariants.{Key, Range};
@@ -95,7 +96,8 @@ impl<'a> Section<'a> {
 
     // The fault that a key is unknown or missing, or that it holds another kind.
     fn key_fault(self, alloc: Global, key: &str) -> SystemFault
-        ensures first { (rest : List SystemFault) → IsFirst (Key (prefix_of self.entry.place ++ key.now) ∷ rest) result }
+        ensures first { (rest : List SystemFault)
+            → IsFirst (Key (prefix_of self.entry.place ++ key.now) ∷ rest) result }
     {
         match self.place.path(alloc, key) {
             Ok(path) => SystemFault::Key { path },
@@ -105,7 +107,8 @@ impl<'a> Section<'a> {
 
     // The fault that the value of a key is out of range.
     pub(crate) fn range_fault(self, alloc: Global, key: &str) -> SystemFault
-        ensures first { (rest : List SystemFault) → IsFirst (Range (prefix_of self.entry.place ++ key.now) ∷ rest) result }
+        ensures first { (rest : List SystemFault)
+            → IsFirst (Range (prefix_of self.entry.place ++ key.now) ∷ rest) result }
     {
         match self.place.path(alloc, key) {
             Ok(path) => SystemFault::Range { path },
@@ -127,9 +130,11 @@ impl<'a> Section<'a> {
     #[tactic(auto, using(crate::proofs::SystemFirst::none_unknown, crate::proofs::SystemFirst::first_unknown))]
     pub(crate) fn check_keys(self, alloc: Global, known: &[&str]) -> Result<(), SystemFault>
         ensures ok { OnOk result
-            (unknown_in (prefix_of self.entry.place) (map (λ known. known.now) known.now) (members_at self.entry.table) ≡ []) }
+            (unknown_in (prefix_of self.entry.place)
+            (map (λ known. known.now) known.now) (members_at self.entry.table) ≡ []) }
         ensures fault { IfErr result
-            (IsFirst (unknown_in (prefix_of self.entry.place) (map (λ known. known.now) known.now) (members_at self.entry.table))) }
+            (IsFirst (unknown_in (prefix_of self.entry.place)
+            (map (λ known. known.now) known.now) (members_at self.entry.table))) }
     {
         match self.unknown_key(known) {
             Some(key) => Err(self.key_fault(alloc, key)),
@@ -146,9 +151,11 @@ impl<'a> Section<'a> {
         needed: bool,
     ) -> Result<(), SystemFault>
         ensures ok { OnOk result
-            (kind_fault (prefix_of self.entry.place ++ key.now) (is_kind kind) needed (get_member key.now (members_at self.entry.table)) ≡ []) }
+            (kind_fault (prefix_of self.entry.place ++ key.now) (is_kind kind) needed
+            (get_member key.now (members_at self.entry.table)) ≡ []) }
         ensures fault { IfErr result
-            (IsFirst (kind_fault (prefix_of self.entry.place ++ key.now) (is_kind kind) needed (get_member key.now (members_at self.entry.table)))) }
+            (IsFirst (kind_fault (prefix_of self.entry.place ++ key.now) (is_kind kind) needed
+            (get_member key.now (members_at self.entry.table)))) }
     {
         match self.value(key) {
             Some(value) => {
@@ -175,13 +182,17 @@ impl<'a> Section<'a> {
         key: &str,
         range: RangeInclusive<u32>,
     ) -> Result<u32, SystemFault>
-        ensures value { IfOk result (λ number. number ≡ number_in (option_or (get_member key.now (members_at self.entry.table)) None)) }
-        ensures within { IfOk result (λ number. (range_inclusive_start range ≤ number) × (number ≤ range_inclusive_end range)) }
+        ensures value { IfOk result
+            (λ number. number ≡ number_in (option_or (get_member key.now (members_at self.entry.table)) None)) }
+        ensures within { IfOk result
+            (λ number. (range_inclusive_start range ≤ number) × (number ≤ range_inclusive_end range)) }
         ensures ok { OnOk result
-            (range_fault (prefix_of self.entry.place ++ key.now) (is_whole_from (range_inclusive_start range) (range_inclusive_end range))
+            (range_fault (prefix_of self.entry.place ++ key.now)
+            (is_whole_from (range_inclusive_start range) (range_inclusive_end range))
             (option_or (get_member key.now (members_at self.entry.table)) None) ≡ []) }
         ensures fault { IfErr result
-            (IsFirst (range_fault (prefix_of self.entry.place ++ key.now) (is_whole_from (range_inclusive_start range) (range_inclusive_end range))
+            (IsFirst (range_fault (prefix_of self.entry.place ++ key.now)
+            (is_whole_from (range_inclusive_start range) (range_inclusive_end range))
             (option_or (get_member key.now (members_at self.entry.table)) None))) }
     {
         match self.value(key) {
@@ -204,13 +215,17 @@ impl<'a> Section<'a> {
         requires above { range_inclusive_start range ≤ default }
         requires below { default ≤ range_inclusive_end range }
         ensures value { IfOk result
-            (λ number. number ≡ number_in (option_or (get_member key.now (members_at self.entry.table)) (Some (integer (pos default))))) }
-        ensures within { IfOk result (λ number. (range_inclusive_start range ≤ number) × (number ≤ range_inclusive_end range)) }
+            (λ number. number ≡ number_in
+            (option_or (get_member key.now (members_at self.entry.table)) (Some (integer (pos default))))) }
+        ensures within { IfOk result
+            (λ number. (range_inclusive_start range ≤ number) × (number ≤ range_inclusive_end range)) }
         ensures ok { OnOk result
-            (range_fault (prefix_of self.entry.place ++ key.now) (is_whole_from (range_inclusive_start range) (range_inclusive_end range))
+            (range_fault (prefix_of self.entry.place ++ key.now)
+            (is_whole_from (range_inclusive_start range) (range_inclusive_end range))
             (option_or (get_member key.now (members_at self.entry.table)) (Some (integer (pos default)))) ≡ []) }
         ensures fault { IfErr result
-            (IsFirst (range_fault (prefix_of self.entry.place ++ key.now) (is_whole_from (range_inclusive_start range) (range_inclusive_end range))
+            (IsFirst (range_fault (prefix_of self.entry.place ++ key.now)
+            (is_whole_from (range_inclusive_start range) (range_inclusive_end range))
             (option_or (get_member key.now (members_at self.entry.table)) (Some (integer (pos default)))))) }
     {
         match self.value(key) {

@@ -11,14 +11,16 @@ use Rattle.cycle_engine.specs.Offered.{IsCanTrace}
 use Rattle.kept_run.specs.Served.{AllGuarded, AllServed, NoStrangers}
 
 -- *Kept*
-pub record Kept (rules : Rules) (layout : CycleLayout) (requests : List Request) (history : List Event) (trace : List TimedFrame) : Type 0 where
+pub record Kept (rules : Rules) (layout : CycleLayout) (requests : List Request)
+    (history : List Event) (trace : List TimedFrame) : Type 0 where
   -- each change has its verdict by the rules, each look the next cycle, and each opening the slots of the plan
   pub legal : IsLegal rules history
   -- the trace is that which arbitration decides: ordered, within the opened cycles, each frame the least offered one,
   -- and the bus is never idle while something is offered
   pub can_trace : IsCanTrace layout requests (openings_of history) (next_of history) trace
   -- and there is no other such trace
-  pub only_trace : (other : List TimedFrame) → IsCanTrace layout requests (openings_of history) (next_of history) other → other ≡ trace
+  pub only_trace : (other : List TimedFrame)
+      → IsCanTrace layout requests (openings_of history) (next_of history) other → other ≡ trace
   -- each instance of an entry that an accepted change placed, whose last cycle was opened, was sent whole, exactly
   -- once, in its time; also where its entry got an end later
   pub served : AllServed layout (placed_of history) (openings_of history) (next_of history) trace

@@ -39,7 +39,8 @@ pub record IsUnderWay (setting : Setting) (history : List Event) (trace : List T
 
 -- the nodes of a run before its next cycle: there is one of each number, they heard the trace, and each knows its
 -- entries of a list, which is that of the placed entries where no change was accepted since the last opening
-pub record AreReady (setting : Setting) (history : List Event) (trace : List TimedFrame) (nodes : NodesView) : Type 0 where
+pub record AreReady (setting : Setting) (history : List Event) (trace : List TimedFrame) (nodes : NodesView)
+    : Type 0 where
   pub same_layout : nodes.layout ≡ setting.layout
   pub numbers : (number : ℕ) → number < setting.rules.nodes → IsNumber (states_of nodes.nodes) number
   pub known : List Placed
@@ -47,7 +48,8 @@ pub record AreReady (setting : Setting) (history : List Event) (trace : List Tim
   pub up_to_date : is_changed history ≡ false → known ≡ placed_of history
 
 -- both before the next cycle: in this setting history and trace are under way, and the nodes are ready
-pub record IsOnTheWay (setting : Setting) (history : List Event) (trace : List TimedFrame) (nodes : NodesView) : Type 0 where
+pub record IsOnTheWay (setting : Setting) (history : List Event) (trace : List TimedFrame) (nodes : NodesView)
+    : Type 0 where
   pub known : IsSetting setting
   pub under_way : IsUnderWay setting history trace
   pub ready : AreReady setting history trace nodes

@@ -15,7 +15,8 @@ use Rattle.cycle_engine.specs.Cycle.{cycle_of}
 -- the frames with this identifier that start in the cycles from `first` to `last`
 abbrev pub frames_of : CycleLayout → ℕ → ℕ → ℕ → List TimedFrame → List TimedFrame
 frames_of layout identifier first last trace =
-    filter (λ sent. (sent.frame.identifier == identifier) && (nat_le first (cycle_of layout sent) && nat_le (cycle_of layout sent) last)) trace
+    filter (λ sent. (sent.frame.identifier == identifier)
+    && (nat_le first (cycle_of layout sent) && nat_le (cycle_of layout sent) last)) trace
 
 -- the frame lies in the synchronous window of the cycle in which it starts: it starts at or after (c + 1)·E - l, and
 -- ends at or before (c + 1)·E, where the worst lengths of the cycle's flagged slots sum to l
@@ -29,7 +30,8 @@ pub record IsInWindow (layout : CycleLayout) (openings : List Opening) (sent : T
 -- *Served*: of the instance `k` of an entry, whose last cycle is `last`, exactly one frame of the slot starts in the
 -- cycles from the instance's release to its last one, within the synchronous window of its cycle, and it carries the
 -- instance's bytes
-pub record IsServed (layout : CycleLayout) (openings : List Opening) (trace : List TimedFrame) (placed : Placed) (k last : ℕ) : Type 0 where
+pub record IsServed (layout : CycleLayout) (openings : List Opening) (trace : List TimedFrame)
+    (placed : Placed) (k last : ℕ) : Type 0 where
   pub sent : TimedFrame
   pub once : frames_of layout (first_identifier + placed.entry.slot) (release_of placed k) last trace ≡ sent ∷ []
   pub in_window : IsInWindow layout openings sent

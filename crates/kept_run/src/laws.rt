@@ -17,7 +17,8 @@ ghost use Rattle.async_window.specs.declared.request.Request.{Request};
 ghost use Rattle.async_window.specs.Owners.{AreOwners};
 ghost use Rattle.bus_line.specs.Trace.{Follows};
 ghost use Rattle.cycle_engine.specs.Cycle.{FitsWindow};
-ghost use Rattle.cycle_engine.specs.Nodes.{IsBefore, IsBus, IsNumber, NodesView, heard_by, learnt_by, opening_of, states_of};
+ghost use Rattle.cycle_engine.specs.Nodes.{IsBefore, IsBus, IsNumber, NodesView};
+ghost use Rattle.cycle_engine.specs.Nodes.{heard_by, learnt_by, opening_of, states_of};
 ghost use Rattle.cycle_engine.specs.Offered.{AreAsynchronous, offered_in};
 ghost use Rattle.kept_run.specs.Kept.{Kept};
 ghost use Rattle.kept_run.specs.Progress.{AreReady, IsSetting, IsUnderWay, Setting};
@@ -29,7 +30,8 @@ use requirement_table::laws::flagged_once;
 
 /// A run that is under way keeps what is promised.
 pub fn promise()
-    ensures kept { (setting : Setting) (history : List Event) (trace : List TimedFrame) → IsSetting setting → IsUnderWay setting history trace
+    ensures kept { (setting : Setting) (history : List Event) (trace : List TimedFrame)
+        → IsSetting setting → IsUnderWay setting history trace
         → Kept setting.rules setting.layout setting.requests history trace }
 {
     legal_histories();
@@ -45,7 +47,8 @@ pub fn promise()
 /// Requests whose identifiers have owners are asynchronous, as a setting's are to be.
 pub fn requests_of_owners()
     ensures asynchronous { (owners : List Owner) (requests : List Request) → AreOwners owners
-        → All (λ request. Any (λ owner. owner.id ≡ request.frame.identifier) owners) requests → AreAsynchronous requests }
+        → All (λ request. Any (λ owner. owner.id ≡ request.frame.identifier) owners) requests
+        → AreAsynchronous requests }
 {}
 
 /// A run begins with no calls, no frames, and nodes that know no entries.
@@ -62,13 +65,16 @@ pub fn beginning()
 pub fn one_call_more()
     ensures legal { (rules : Rules) (history : List Event) (event : Event)
         → IsLegal rules (history ++ event ∷ []) ↔ (IsLegal rules history × IsRight rules history event) }
-    ensures front { (rules : Rules) (history later : List Event) → IsLegal rules (history ++ later) → IsLegal rules history }
+    ensures front { (rules : Rules) (history later : List Event)
+        → IsLegal rules (history ++ later) → IsLegal rules history }
 {}
 
 /// Calls that are right and open no cycle, changes and looks, keep a run under way and its nodes ready.
 pub fn calls_between()
-    ensures under_way { (setting : Setting) (history calls : List Event) (trace : List TimedFrame) → All (λ call. is_open call ≡ false) calls
-        → IsLegal setting.rules (history ++ calls) → IsUnderWay setting history trace → IsUnderWay setting (history ++ calls) trace }
+    ensures under_way { (setting : Setting) (history calls : List Event) (trace : List TimedFrame)
+        → All (λ call. is_open call ≡ false) calls
+        → IsLegal setting.rules (history ++ calls) → IsUnderWay setting history trace
+        → IsUnderWay setting (history ++ calls) trace }
     ensures ready { (setting : Setting) (history calls : List Event) (trace : List TimedFrame) (nodes : NodesView)
         → All (λ call. is_open call ≡ false) calls → IsLegal setting.rules (history ++ calls)
         → AreReady setting history trace nodes → AreReady setting (history ++ calls) trace nodes }
@@ -80,16 +86,22 @@ pub fn calls_between()
 pub fn orders()
     ensures right { (rules : Rules) (history : List Event) (order : Order) → IsOrder rules history order
         → IsRight rules history (Open order.cycle order.mask) }
-    ensures next { (setting : Setting) (history : List Event) (trace : List TimedFrame) (nodes : NodesView) (order : Order)
+    ensures next { (setting : Setting) (history : List Event) (trace : List TimedFrame)
+        (nodes : NodesView) (order : Order)
         → AreReady setting history trace nodes → IsOrder setting.rules history order
         → All (λ node. node.next ≡ order.cycle) (states_of nodes.nodes) }
-    ensures learned { (rules : Rules) (history : List Event) (order : Order) → IsLegal rules history → IsOrder rules history order
+    ensures learned { (rules : Rules) (history : List Event) (order : Order)
+        → IsLegal rules history → IsOrder rules history order
         → IfSome order.learned IsWellPlaced }
-    ensures window { (setting : Setting) (history : List Event) (trace : List TimedFrame) (nodes : NodesView) (order : Order)
-        → IsSetting setting → AreReady setting history trace nodes → IsOrder setting.rules history order → order.l ≤ nodes.layout.window }
-    ensures fits { (setting : Setting) (history : List Event) (order : Order) → IsSetting setting → IsOrder setting.rules history order
+    ensures window { (setting : Setting) (history : List Event) (trace : List TimedFrame)
+        (nodes : NodesView) (order : Order)
+        → IsSetting setting → AreReady setting history trace nodes
+        → IsOrder setting.rules history order → order.l ≤ nodes.layout.window }
+    ensures fits { (setting : Setting) (history : List Event) (order : Order)
+        → IsSetting setting → IsOrder setting.rules history order
         → FitsWindow setting.layout (opening_of order (placed_of history)) }
-    ensures before { (setting : Setting) (history : List Event) (trace : List TimedFrame) (nodes : NodesView) (order : Order)
+    ensures before { (setting : Setting) (history : List Event) (trace : List TimedFrame)
+        (nodes : NodesView) (order : Order)
         → IsUnderWay setting history trace → AreReady setting history trace nodes → IsOrder setting.rules history order
         → IsBefore nodes.layout setting.owners setting.requests (placed_of history) trace order
         (learnt_by order.learned (states_of nodes.nodes)) }
@@ -103,18 +115,24 @@ pub fn orders()
 pub fn cycles_run()
     ensures opened { (setting : Setting) (history : List Event) (cycle mask : ℕ) (trace frames : List TimedFrame)
         → IsSetting setting → IsUnderWay setting history trace → IsLegal setting.rules (history ++ Open cycle mask ∷ [])
-        → Follows (offered_in setting.layout setting.requests (record { cycle = cycle; mask = mask; placed = placed_of history }))
+        → Follows (offered_in setting.layout setting.requests
+        (record { cycle = cycle; mask = mask; placed = placed_of history }))
         trace (cycle * setting.layout.cycle) ((cycle + 1) * setting.layout.cycle) frames
         → IsUnderWay setting (history ++ Open cycle mask ∷ []) (trace ++ frames) }
-    ensures under_way { (setting : Setting) (history : List Event) (trace frames : List TimedFrame) (nodes : NodesView) (order : Order)
-        → IsSetting setting → IsUnderWay setting history trace → AreReady setting history trace nodes → IsOrder setting.rules history order
+    ensures under_way { (setting : Setting) (history : List Event) (trace frames : List TimedFrame)
+        (nodes : NodesView) (order : Order)
+        → IsSetting setting → IsUnderWay setting history trace
+        → AreReady setting history trace nodes → IsOrder setting.rules history order
         → Follows (offered_in nodes.layout setting.requests (opening_of order (placed_of history)))
         trace (order.cycle * nodes.layout.cycle) ((order.cycle + 1) * nodes.layout.cycle) frames
         → IsUnderWay setting (history ++ Open order.cycle order.mask ∷ []) (trace ++ frames) }
-    ensures ready { (setting : Setting) (history : List Event) (trace frames : List TimedFrame) (nodes new : NodesView) (order : Order)
+    ensures ready { (setting : Setting) (history : List Event) (trace frames : List TimedFrame)
+        (nodes new : NodesView) (order : Order)
         → IsUnderWay setting history trace → AreReady setting history trace nodes → IsOrder setting.rules history order
-        → new.layout ≡ nodes.layout → states_of new.nodes ≡ heard_by frames (learnt_by order.learned (states_of nodes.nodes))
-        → IsBus nodes.layout setting.owners setting.requests (placed_of history) (trace ++ frames) (order.cycle + 1) (states_of new.nodes)
+        → new.layout ≡ nodes.layout
+        → states_of new.nodes ≡ heard_by frames (learnt_by order.learned (states_of nodes.nodes))
+        → IsBus nodes.layout setting.owners setting.requests (placed_of history)
+        (trace ++ frames) (order.cycle + 1) (states_of new.nodes)
         → AreReady setting (history ++ Open order.cycle order.mask ∷ []) (trace ++ frames) new }
 {
     legal_histories();

@@ -71,7 +71,8 @@ pub record Waited (old new : Known Event Rules) : Type 0 where
   pub never : times ≡ 0 → last ≡ old.view.last
 
 -- the turn was refused so many times, and then the call was made in this way
-pub record AfterWaiting (call : Known Event Rules → Known Event Rules → Type 0) (old new : Known Event Rules) : Type 0 where
+pub record AfterWaiting (call : Known Event Rules → Known Event Rules → Type 0) (old new : Known Event Rules)
+    : Type 0 where
   pub till : Known Event Rules
   pub waited : Waited old till
   pub made : call till new

@@ -27,4 +27,5 @@ pub record IsPassOf (shared : Lock Rules) (pass : Known Event Rules) : Type 0 wh
 pub record HasAllCalls (history : List Event) (v : View Event Rules) : Type 0 where
   pub mine : own number_of v.number history ≡ v.mine
   pub ended : (n : ℕ) (calls : List Event) → Contains v.ended (n, calls) → own number_of n history ≡ calls
-  pub covered : (e : Event) → Contains history e → Contains v.mine e ⊎ ((n : ℕ) × (calls : List Event) × Contains v.ended (n, calls) × Contains calls e)
+  pub covered : (e : Event) → Contains history e
+      → Contains v.mine e ⊎ ((n : ℕ) × (calls : List Event) × Contains v.ended (n, calls) × Contains calls e)

@@ -59,7 +59,8 @@ impl Desk {
     pub fn look(&mut self, alloc: Global, caller: u8) -> Result<u64, AllocError>
         requires caller { (1 ≤ caller) × (caller ≤ 8) }
         ensures rules { self.new.master.rules ≡ self.old.master.rules }
-        ensures event { IfOk result (λ next. self.new.master.history ≡ self.old.master.history ++ Look caller next ∷ []) }
+        ensures event { IfOk result
+            (λ next. self.new.master.history ≡ self.old.master.history ++ Look caller next ∷ []) }
         ensures same { OnErr result (self.new.master.history ≡ self.old.master.history) }
         ensures legal { IsPlainlyLegal self.new.master.rules self.new.master.history }
     {
@@ -90,7 +91,8 @@ impl Desk {
         requires next { next_of self.old.master.history < 2 ^ 41 }
         ensures rules { self.new.master.rules ≡ self.old.master.rules }
         ensures order { IfOk result (λ order. IsOrder self.old.master.rules self.old.master.history order) }
-        ensures event { IfOk result (λ order. self.new.master.history ≡ self.old.master.history ++ Open order.cycle order.mask ∷ []) }
+        ensures event { IfOk result
+            (λ order. self.new.master.history ≡ self.old.master.history ++ Open order.cycle order.mask ∷ []) }
         ensures same { OnErr result (self.new.master.history ≡ self.old.master.history) }
         ensures legal { IsPlainlyLegal self.new.master.rules self.new.master.history }
     {

@@ -10,18 +10,19 @@ ghost use Rattle.master_core.specs.declared.event.Event.{Event};
 ghost use Rattle.master_core.specs.History.{is_open, next_of};
 ghost use Rattle.live_master.specs.Callers.{is_called_by, number_of};
 
-/// Each pass makes events of its own kind. The dispatcher's, of number 0, makes openings and nothing else, and an
-/// operator's makes the changes and looks of its caller number, 1 to 8, and nothing else.
+/// Each pass makes events of its own kind. The dispatcher's, of number 0, makes openings and nothing else, and that of
+/// operator `k`, 1 to 8, makes the changes and looks of this operator and nothing else.
 pub fn events_of_passes()
     ensures openings { (event : Event) → (number_of event ≡ 0) ↔ (is_open event ≡ true) }
     ensures calls { (k : ℕ) (event : Event) → 1 ≤ k → k ≤ 8 → (number_of event ≡ k) ↔ (is_called_by k event ≡ true) }
 {}
 
 /// So the events of the pass 0 in a history are its openings, and those of the pass `k` are the changes and looks of
-/// caller `k`.
+/// operator `k`.
 pub fn events_in_histories()
     ensures openings { (history : List Event) → own number_of 0 history ≡ filter is_open history }
-    ensures calls { (k : ℕ) (history : List Event) → 1 ≤ k → k ≤ 8 → own number_of k history ≡ filter (is_called_by k) history }
+    ensures calls { (k : ℕ) (history : List Event) → 1 ≤ k → k ≤ 8
+        → own number_of k history ≡ filter (is_called_by k) history }
 {}
 
 /// The dispatcher made all openings that it has seen, and it made nothing else.

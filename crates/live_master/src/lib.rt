@@ -1,5 +1,5 @@
 //! A master shared by threads. One dispatcher opens its cycles, and up to 8 operators ask for changes and look, each
-//! with a pass of its own, all behind one turn lock. So there is one history of all calls, and each caller's calls
+//! with a pass of its own, all behind one turn lock. So there is one history of all calls, and the calls of each pass
 //! stand in it in their order.
 //!
 //! Cycles are elementary cycles, counted from 0.

@@ -9,8 +9,8 @@ use crate::live::LiveMaster;
 use crate::passes::{DispatcherPass, OperatorPass};
 
 impl LiveMaster {
-    /// Makes an operator. Its caller number, 1 to 8, is one above those made before, and it has seen what the
-    /// dispatcher has. Fewer than 8 were made so far.
+    /// Makes an operator. Its number, 1 to 8, is one above those made before, and it has seen what the dispatcher has.
+    /// Fewer than 8 were made so far.
     pub fn operator(&self, pass: &mut DispatcherPass) -> OperatorPass
         requires of { IsOf self.now pass.old }
         requires few { pass.old.view.made < 8 }

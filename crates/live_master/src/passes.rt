@@ -64,8 +64,8 @@ impl DispatcherPass {
     }
 }
 
-/// The place of an operator at a shared master. Its number, 1 to 8, is its caller number. Contracts see it as a pass of
-/// the turn lock.
+/// The place of operator `caller`, 1 to 8, at a shared master. Contracts see it as a pass of the turn lock, of that
+/// number.
 ///
 /// Where it is dropped, it is never retired, and then the shared master cannot be closed.
 #[derive(Drop)]
@@ -89,7 +89,7 @@ impl Model for OperatorPass {
 }
 
 impl OperatorPass {
-    /// Its caller number, 1 to 8: 1 for the operator that was made first.
+    /// The number of its operator, 1 to 8: 1 for the one that was made first.
     pub fn caller(&self) -> u8
         ensures caller { result ≡ self.now.view.number }
         ensures some { 1 ≤ result }

@@ -17,7 +17,8 @@ pub record IsHired (shared : Lock Rules) (number : ℕ) (operator : Operator) : 
 
 -- the operators 1, 2 and so on, none of which made a call yet
 abbrev pub AreHired : Lock Rules → List Operator → Type 0
-AreHired shared operators = (k : ℕ) (d : Operator) → k < length operators → IsHired shared (k + 1) (slice_index_or operators k d)
+AreHired shared operators = (k : ℕ) (d : Operator) → k < length operators
+    → IsHired shared (k + 1) (slice_index_or operators k d)
 
 -- an operator of this number, whose calls are the acts of the script, in their order, where all of these were answered
 pub record IsDone (shared : Lock Rules) (number : ℕ) (script : Script) (operator : Operator) : Type 0 where

@@ -44,7 +44,8 @@ pub record IsLeft (setting : Setting) (history : List Event) (run : Run) : Type 
 -- *The run*: what the dispatcher's pass has seen is plainly legal, and with the trace it keeps what is promised; it
 -- opens so many cycles, and these openings are the pass's own calls; and it has the calls of each script, under the
 -- number of its operator, which is one above its place, and of no other operator
-pub record IsLiveRun (setting : Setting) (cycles : ℕ) (scripts : List Script) (v : View Event Rules) (run : Run) : Type 0 where
+pub record IsLiveRun (setting : Setting) (cycles : ℕ) (scripts : List Script) (v : View Event Rules) (run : Run)
+    : Type 0 where
   pub plain : IsPlainlyLegal setting.rules v.seen
   pub kept : Kept setting.rules setting.layout setting.requests v.seen run.trace
   pub opened : next_of v.seen ≡ cycles

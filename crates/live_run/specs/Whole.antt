@@ -16,7 +16,8 @@ use Rattle.live_run.specs.Live.{IsLeft}
 -- operators and openings stand is left open
 pub record AnswersScripts (cycles : ℕ) (scripts : List Script) (history : List Event) : Type 0 where
   pub opened : next_of history ≡ cycles
-  pub answered : (k : ℕ) (d : Script) → k < length scripts → AnswersActs (k + 1) (slice_index_or scripts k d).acts (own number_of (k + 1) history)
+  pub answered : (k : ℕ) (d : Script) → k < length scripts
+      → AnswersActs (k + 1) (slice_index_or scripts k d).acts (own number_of (k + 1) history)
   pub others : All (λ event. number_of event ≤ length scripts) history
 
 -- the master's history is plainly legal, answers the scripts, and with the trace keeps what is promised; and so many

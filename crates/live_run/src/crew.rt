@@ -84,9 +84,11 @@ pub fn retire_all(
     requires operators { All (λ operator. IsOf shared.now operator.pass) operators.items }
     requires out { pass.old.view.out ≡ vec_len operators }
     ensures answered { result ≡ true → All (λ operator. operator.answered ≡ true) operators.items }
-    ensures ended { All (λ operator. Contains pass.new.view.ended (operator.pass.view.number, operator.pass.view.mine)) operators.items }
+    ensures ended { All (λ operator. Contains pass.new.view.ended (operator.pass.view.number, operator.pass.view.mine))
+        operators.items }
     ensures few { (most : ℕ) → All (λ entry. entry.0 ≤ most) pass.old.view.ended
-        → All (λ operator. operator.pass.view.number ≤ most) operators.items → All (λ entry. entry.0 ≤ most) pass.new.view.ended }
+        → All (λ operator. operator.pass.view.number ≤ most) operators.items
+        → All (λ entry. entry.0 ≤ most) pass.new.view.ended }
     ensures begins { IsPrefix pass.old.view.seen pass.new.view.seen }
     ensures mine { pass.new.view.mine ≡ pass.old.view.mine }
     ensures number { pass.new.view.number ≡ pass.old.view.number }

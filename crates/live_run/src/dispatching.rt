@@ -54,7 +54,8 @@ fn open_next<R: Wait>(
 fn run_order(alloc: Global, order: &Order, bus: &mut Bus) -> Result<(), AllocError>
     requires early { order.now.cycle < 2 ^ 41 }
     requires before { (setting : Setting) × (history : List Event) × IsBeforeOrder setting history order.now bus.old }
-    ensures ran { OnOk result ((setting : Setting) (history : List Event) → IsBeforeOrder setting history order.now bus.old
+    ensures ran { OnOk result ((setting : Setting) (history : List Event)
+        → IsBeforeOrder setting history order.now bus.old
         → IsOnTheWay setting (history ++ Open order.now.cycle order.now.mask ∷ []) bus.new.trace.items bus.new.nodes) }
 {
     orders();

@@ -74,7 +74,8 @@ pub fn share<T: Threads + Wait + Sync, G: Gate>(
     let (ran, ()) = thread::join_mut(
         rt,
         &mut || -> Result<(), AllocError>
-            requires { IsPassOf shared.now pass.now × (pass.now.view.number ≡ 0) × (next_of pass.now.view.mine ≡ 0) × (cycles < 2 ^ 41)
+            requires { IsPassOf shared.now pass.now × (pass.now.view.number ≡ 0)
+                × (next_of pass.now.view.mine ≡ 0) × (cycles < 2 ^ 41)
                 × CanRun shared.now pass.now.view.seen bus.now }
         { dispatch(rt, alloc, shared, pass, bus, cycles, gate) },
         &mut || -> ()

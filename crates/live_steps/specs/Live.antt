@@ -1,5 +1,6 @@
 -- The steps of a file, answered by a dispatcher and operators that share a master.
-use Rattle.std.specs.Prelude.{◌≡◌, ℕ, ◌==◌, ◌≤◌, if◌then◌else◌, List, All, Option, Some, None, filter, filter_map, sum_by}
+use Rattle.std.specs.Prelude.{◌≡◌, ℕ, ◌==◌, ◌≤◌}
+use Rattle.std.specs.Prelude.{if◌then◌else◌, List, All, Option, Some, None, filter, filter_map, sum_by}
 use Rattle.can_frame.specs.declared.data_frame.TimedFrame.{TimedFrame}
 use Rattle.change_protocol.specs.declared.operations.Act.{Act}
 use Rattle.async_window.specs.declared.request.Request.{Request}
@@ -33,7 +34,8 @@ pub record AnswersOperators (history : List Event) (steps : List Step) : Type 0 
 
 -- *Live run*: the history answers the steps of each operator, each change planned when it is answered, and history and
 -- trace keep what is promised
-pub record IsLive (system : System) (steps : List Step) (requests : List Request) (history : List Event) (trace : List TimedFrame) : Type 0 where
+pub record IsLive (system : System) (steps : List Step) (requests : List Request)
+    (history : List Event) (trace : List TimedFrame) : Type 0 where
   pub answers : AnswersOperators history steps
   pub plain : IsPlainlyLegal system.rules history
   pub kept : Kept system.rules system.layout requests history trace

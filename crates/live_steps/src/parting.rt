@@ -1,6 +1,7 @@
 //! The steps of a file by who has them answered.
 
-ghost use Rattle.std.specs.Prelude.{◌≡◌, ℕ, ◌+◌, ◌<◌, ◌≤◌, ◌==◌, [], ◌∷◌, ◌++◌, if◌then◌else◌, All, length, slice_index_or, sum_by, IfOk, OnOk};
+ghost use Rattle.std.specs.Prelude.{◌≡◌, ℕ, ◌+◌, ◌<◌, ◌≤◌, ◌==◌, [], ◌∷◌, ◌++◌};
+ghost use Rattle.std.specs.Prelude.{if◌then◌else◌, All, length, slice_index_or, sum_by, IfOk, OnOk};
 ghost use Rattle.input_text.specs.StepsFile.{AreLegalSteps, IsStep, count_of};
 ghost use Rattle.live_run.specs.declared.script.Script.{Script};
 ghost use Rattle.live_steps.specs.Live.{act_of, acts_of};
@@ -41,7 +42,8 @@ fn add_act(scripts: &mut [Script], caller: u8, act: Act) -> Result<(), AllocErro
     requires few { caller ≤ 8 }
     ensures count { length scripts.new ≡ length scripts.old }
     ensures added { OnOk result ((k : ℕ) (d : Script) → k < 8 → (slice_index_or scripts.new k d).acts
-        ≡ (if caller == k + 1 then (slice_index_or scripts.old k d).acts ++ act ∷ [] else (slice_index_or scripts.old k d).acts)) }
+        ≡ (if caller == k + 1 then (slice_index_or scripts.old k d).acts ++ act ∷ []
+        else (slice_index_or scripts.old k d).acts)) }
 {
     let script = &mut scripts[usize::from(caller) - 1];
     script.acts.push(act)

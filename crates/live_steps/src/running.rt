@@ -32,7 +32,8 @@ pub fn live<T: Threads + Wait + Sync, G: Gate>(
     requires system { IsSystem system.now }
     requires steps { AreLegalSteps steps.items }
     requires requests { AreLegal system.now.owners requests.now }
-    ensures run { IfOk result (λ ended. IsLive system.now steps.items requests.now ended.master.history ended.run.trace) }
+    ensures run { IfOk result
+        (λ ended. IsLive system.now steps.items requests.now ended.master.history ended.run.trace) }
     ensures rules { IfOk result (λ ended. ended.master.rules ≡ system.now.rules) }
 {
     events_in_histories();

@@ -1,17 +1,15 @@
 -- The text of a plan behind its head: the first wrong line there, and that a text is of one certificate.
-use Rattle.std.proofs.Common.{◌≡◌, ◌≢◌, ℕ, zero, suc, ◌+◌, ◌-◌, ◌^◌, ◌<◌, ◌≤◌, true, List, [], ◌∷◌, ◌++◌, All, codes, get_or, length, map, replicate, take, refl, sym, ap, ◌∙◌, subst, ⊎_elim, arith, append_assoc}
-use Rattle.std.specs.Fmt.{decimal}
-use Rattle.std.proofs.lemmas.Bool.{cases_lt}
-use Rattle.std.proofs.lemmas.List.{append-nil, append_cancel_left, length-append, length-map, length-replicate, length-take-le, map-append, take_all, take_more}
+use Rattle.std.proofs.Common.{◌≡◌, ℕ, zero, suc, ◌+◌, ◌-◌, ◌^◌, ◌<◌, ◌≤◌, List, [], ◌∷◌, ◌++◌, All, codes, get_or, length, map, replicate, take, refl, sym, ap, ◌∙◌, subst, arith, append_assoc}
+use Rattle.std.proofs.lemmas.List.{append-nil, append_cancel_left, length-append, length-map, length-replicate, map-append, take_all}
 use Rattle.std.proofs.lemmas.List.Elements.{All-append, All-head, All-replicate, All-tail}
 use Rattle.std.proofs.Math.Seq.{take-append_seam}
 use Rattle.requirement_table.specs.Slots.{slots}
 use Rattle.plan_check.specs.declared.text_fault.PlanTextFault.{PlanTextFault}
 use Rattle.plan_check.specs.declared.text_fault.PlanTextFault.TheVariants.{Line, Memory}
 use Rattle.plan_check.specs.Certificate.{CertificateView, length_of}
-use Rattle.plan_check.specs.PlanText.{BeginsAsPlan, HasNoFeed, IsFirstWrongLine, IsMaskFault, IsReadable, IsReadableHead, IsTextFault, IsWrongMask, head_lines, lines_of_head, mask_digits, mask_lines, plan_lines, plan_text, text_of}
+use Rattle.plan_check.specs.PlanText.{BeginsAsPlan, IsFirstWrongLine, IsMaskFault, IsReadable, IsReadableHead, IsTextFault, IsWrongMask, head_lines, lines_of_head, mask_digits, mask_lines, plan_lines, plan_text, text_of}
 use Rattle.plan_check.proofs.HexText.{hex-injective}
-use Rattle.plan_check.proofs.PlanReads.{AllClean, begins-by, clean-append, clean-head, clean-masks, clean-plan, clean-take, count-lines, front-more, literal-clean, number-same, same_front, text-cons}
+use Rattle.plan_check.proofs.PlanReads.{AllClean, begins-by, clean-append, clean-head, clean-masks, count-lines, counted-length, counted-readable, front-more, literal-clean, next-line, number-same, same_front}
 use Rattle.plan_check.proofs.TextLines.{text_of-append}
 
 -- the head of a text is of one certificate
@@ -134,27 +132,13 @@ module _ (bytes : List ℕ) (from pending first size : ℕ) (rest : List ℕ) (h
       summed n a b c all zeros few = omega arith
 
   padded-length : length masks ≤ first - from + size → length_of padded ≡ size
-  padded-length few = ap (λ n. n - (first - from)) (padded-count few) ∙ sum-less (first - from) size
-    where
-      sum-less : (a b : ℕ) → a + b - a ≡ b
-      sum-less a b = omega arith
+  padded-length few = counted-length padded size (padded-count few)
 
   padded-readable : length masks ≤ first - from + size → IsReadable padded
   padded-readable few =
-      let whole = padded-length few in
-      let some = head.some in
-      let most = head.few in
-      record {
-        from = head.from_below;
-        pending = head.pending_below;
-        first = head.first_below;
-        after = head.after;
-        near = head.near;
-        some = omega arith;
-        few = omega arith;
-        masks = All-append (λ m. m < 2 ^ slots) masks (replicate (first - from + size - length masks) 0) small
-            (All-replicate (λ m. m < 2 ^ slots) (first - from + size - length masks) 0 (omega arith));
-      }
+      counted-readable padded size head (padded-count few)
+      (All-append (λ m. m < 2 ^ slots) masks (replicate (first - from + size - length masks) 0) small
+      (All-replicate (λ m. m < 2 ^ slots) (first - from + size - length masks) 0 (omega arith)))
 
   padded-begins : (k : ℕ) → k ≡ 5 + length masks → length masks ≤ first - from + size → BeginsAsPlan bytes k
   padded-begins k at few =
@@ -195,16 +179,8 @@ module _ (bytes : List ℕ) (from pending first size : ℕ) (rest : List ℕ) (h
         let count = count-of c begins.readable (text_of (take (j + 1) ml) ++ begins.rest) same in
         let lines = count-mask_lines c.masks in
         let inside : j < length ml = omega arith in
-        let more : take (j + 1) ml ≡ take j ml ++ get_or ml j [] ∷ [] = take_more ml j [] inside in
-        let two : text_of (map mask_digits masks) ++ after ≡ text_of (take j ml) ++ (get_or ml j [] ++ 10 ∷ begins.rest)
-        = sym read ∙ same.rest_is ∙ ap (λ l. text_of l ++ begins.rest) more
-        ∙ ap (λ t. t ++ begins.rest) (text_of-append (take j ml) (get_or ml j [] ∷ []))
-        ∙ append_assoc (text_of (take j ml)) (text_of (get_or ml j [] ∷ [])) begins.rest
-        ∙ ap (λ t. text_of (take j ml) ++ t) (text-cons (get_or ml j []) [] begins.rest) in
-        let taken : length (take j ml) ≡ j = length-take-le j ml (omega arith) in
-        let mine : length (map mask_digits masks) ≡ j = length-map masks mask_digits in
-        let parts = same_front (map mask_digits masks) (take j ml) after (get_or ml j [] ++ 10 ∷ begins.rest) (clean-masks masks)
-        (clean-take j ml (clean-mask_lines c.masks)) (mine ∙ sym taken) two in
+        let parts = next-line (map mask_digits masks) ml after begins.rest j (clean-masks masks) (clean-mask_lines c.masks)
+        (length-map masks mask_digits) inside (sym read ∙ same.rest_is) in
         none c begins.readable count begins.rest parts.1
 
     pub body-wrong : IsFirstWrongLine bytes number
@@ -244,26 +220,10 @@ module _ (bytes : List ℕ) (from pending first size : ℕ) (rest : List ℕ) (h
     made = record { from = from; pending = pending; first = first; masks = masks }
 
     made-length : length_of made ≡ size
-    made-length = ap (λ n. n - (first - from)) all ∙ sum-less (first - from) size
-      where
-        sum-less : (a b : ℕ) → a + b - a ≡ b
-        sum-less a b = omega arith
+    made-length = counted-length made size all
 
     made-readable : IsReadable made
-    made-readable =
-        let whole = made-length in
-        let some = head.some in
-        let most = head.few in
-        record {
-          from = head.from_below;
-          pending = head.pending_below;
-          first = head.first_below;
-          after = head.after;
-          near = head.near;
-          some = omega arith;
-          few = omega arith;
-          masks = small;
-        }
+    made-readable = counted-readable made size head all small
 
     body-is : rest ≡ text_of (mask_lines masks) ++ tail
     body-is = front-more rest (map mask_digits masks) after (codes "end") tail read ends

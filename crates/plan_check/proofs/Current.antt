@@ -1,5 +1,5 @@
 -- The current entries of slots: what they send is what their slots send.
-use Rattle.std.proofs.Common.{◌≡◌, ◌≢◌, ℕ, suc, ◌+◌, ◌-◌, ◌<◌, ◌≤◌, Bool, true, false, Option, Some, None, IfSome, IsSomeAnd, option_map, List, Contains, slice_get, length, get_or, set, refl, sym, ap, ◌∙◌, subst, ⊎_elim, nat_le, arith, get_or-set_other, get_or-set_same}
+use Rattle.std.proofs.Common.{◌≡◌, ◌≢◌, ℕ, ◌+◌, ◌-◌, ◌<◌, ◌≤◌, true, false, Option, Some, None, IfSome, IsSomeAnd, option_map, List, Contains, slice_get, length, get_or, set, refl, sym, ap, ◌∙◌, subst, ⊎_elim, nat_le, arith, get_or-set_other, get_or-set_same}
 use Rattle.std.specs.Option.{option_and_then, option_map_or}
 use Rattle.std.proofs.lemmas.Bool.{cases_eq, cases_lt, cases_order, le-leb, leb-true}
 use Rattle.std.proofs.lemmas.Option.{get_or_from_slice_get, none-some, same_Some, slice_get-get_or, slice_get_within}
@@ -7,10 +7,9 @@ use Rattle.requirement_table.specs.declared.entries.Placed.{Placed}
 use Rattle.requirement_table.specs.Instance.{Instance, MaySend, instance_of, release_of}
 use Rattle.requirement_table.specs.Slots.{slots}
 use Rattle.requirement_table.specs.Table.{GoesBefore, IsFreeAt, IsWellPlaced, free_from, instance_in, is_over}
-use Rattle.requirement_table.proofs.Shared.{MaySend-from_instance, instance_in-found}
+use Rattle.requirement_table.proofs.Shared.{IsFound, MaySend-from_instance, found-in, instance_in-found}
 use Rattle.plan_check.specs.declared.rows.Due.{Due}
-use Rattle.plan_check.specs.Rows.{AreCurrent, ArePassed, IsCurrent, IsPassed, due_by, due_of}
-use Rattle.plan_check.proofs.Rounds.{IsFound, found-in}
+use Rattle.plan_check.specs.Rows.{AreCurrent, ArePassed, IsCurrent, due_by, due_of}
 
 over-sends : (end : Option ℕ) (deadline release c : ℕ) → option_map_or (λ from. nat_le from c) (option_map (λ e. e + deadline - 1) end) false ≡ true
     → IfSome end (λ e. release < e) → release ≤ c → c < release + deadline → ⊥

@@ -1,15 +1,15 @@
 -- One listed cycle of a certificate: what the checker finds in the row of the cycle is what the certificate's words
 -- say.
-use Rattle.std.proofs.Common.{◌≡◌, ℕ, zero, suc, ◌+◌, ◌-◌, ◌<◌, ◌≤◌, nat_le, Bool, true, false, not, ◌&&◌, ◌||◌, nat_eq, Option, Some, None, IsSome, IfSome, option_map, List, [], ◌∷◌, length, get_or, if◌then◌else◌, refl, sym, ap, ◌∙◌, ⊎_elim, arith}
+use Rattle.std.proofs.Common.{◌≡◌, ℕ, zero, suc, ◌+◌, ◌-◌, ◌<◌, ◌≤◌, nat_le, Bool, true, false, not, ◌&&◌, ◌||◌, nat_eq, Option, Some, None, IfSome, option_map, List, [], ◌∷◌, length, get_or, if◌then◌else◌, refl, sym, ap, ◌∙◌, ⊎_elim, arith}
 use Rattle.std.specs.Option.{option_map_or}
-use Rattle.std.specs.List.{list_all, list_any}
+use Rattle.std.specs.List.{list_all}
 use Rattle.std.proofs.lemmas.Bool.{and_parts, cases_lt, cond-false, cond-true, eq-eqb, eqb-true, le-leb}
 use Rattle.std.proofs.lemmas.Bool.Decides.{nat_tests}
 use Rattle.requirement_table.specs.declared.entries.Placed.{Placed}
-use Rattle.requirement_table.specs.Instance.{Instance, Exists, deadline_of, release_of, worst_of}
-use Rattle.requirement_table.specs.Slots.{contains_slot, slots, sum_where}
+use Rattle.requirement_table.specs.Instance.{Instance, deadline_of, release_of, worst_of}
+use Rattle.requirement_table.specs.Slots.{contains_slot, slots}
 use Rattle.requirement_table.specs.Table.{IsWellPlaced, instance_in, is_last_in, releases_in, worst_in}
-use Rattle.requirement_table.proofs.Shared.{sum_where-same}
+use Rattle.requirement_table.proofs.Shared.{found-in, sum_where-same}
 use Rattle.plan_check.specs.declared.breach.Breach.{Breach}
 use Rattle.plan_check.specs.declared.breach.Breach.TheVariants.{BadLoop, NotReleased, TooWide, Missed, NotClosed}
 use Rattle.plan_check.specs.declared.rows.Due.{Due}
@@ -19,7 +19,6 @@ use Rattle.plan_check.specs.Breaches.{IsBreach, IsGoodAt, IsLeastSlot, is_flagge
 use Rattle.plan_check.specs.Rows.{ArePassed, IsGoodRow, IsRow, IsRowBreach, cost_of, due_of, is_last, is_released, missed_in, unreleased_in, waits_in, width_of_row}
 use Rattle.plan_check.proofs.Held.{before-suc, before-zero, releases-own, released-one}
 use Rattle.plan_check.proofs.Repeated.{flags-listed, sum_where-costs}
-use Rattle.plan_check.proofs.Rounds.{found-in}
 
 -- Tests that agree on the slots
 

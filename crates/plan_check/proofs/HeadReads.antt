@@ -1,12 +1,11 @@
 -- The first wrong line of a text, where it is one of the five lines before the masks.
-use Rattle.std.proofs.Common.{◌≡◌, ℕ, zero, suc, ◌+◌, ◌-◌, ◌^◌, ◌<◌, ◌≤◌, ◌&&◌, true, false, not, nat_eq, nat_le, List, [], ◌∷◌, ◌++◌, codes, get_or, length, take, refl, sym, ap, ◌∙◌, arith}
+use Rattle.std.proofs.Common.{◌≡◌, ℕ, ◌+◌, ◌^◌, ◌<◌, ◌&&◌, true, false, nat_le, List, [], ◌∷◌, ◌++◌, codes, get_or, refl, sym, ap, ◌∙◌, arith}
 use Rattle.std.specs.Fmt.{decimal}
-use Rattle.std.specs.List.{list_all}
 use Rattle.std.proofs.lemmas.Bool.{and_from, and_parts, le-leb, leb-true}
 use Rattle.requirement_table.specs.Slots.{slots}
 use Rattle.plan_check.specs.Certificate.{CertificateView, length_of}
-use Rattle.plan_check.specs.PlanText.{BeginsAsPlan, HasNoFeed, IsFirstWrongLine, IsReadable, IsReadableHead, lines_of_head, mask_digits, plan_lines, text_of}
-use Rattle.plan_check.proofs.PlanReads.{AllClean, begins-head, clean-take, clean-head, front-more, head-wrong, near-false, number-same, word-number}
+use Rattle.plan_check.specs.PlanText.{IsFirstWrongLine, IsReadable, IsReadableHead, lines_of_head, mask_digits, text_of}
+use Rattle.plan_check.proofs.PlanReads.{begins-head, clean-take, clean-head, front-more, head-wrong, near-false, number-same, word-number}
 use Rattle.plan_check.proofs.TextLines.{same_line}
 
 abbrev from_digits : ℕ → List ℕ

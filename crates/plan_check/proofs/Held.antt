@@ -1,10 +1,9 @@
 -- Which instances a slot holds in a cycle of a kept table, and that each of them is flagged once.
-use Rattle.std.proofs.Common.{◌≡◌, ℕ, zero, suc, ◌+◌, ◌-◌, ◌<◌, ◌≤◌, ◌⊎◌, max, Bool, true, false, not, ◌&&◌, ◌||◌, nat_eq, Option, Some, None, List, Contains, is_some, get_or, refl, sym, ap, ◌∙◌, ⊎_elim, inl, inr, arith}
+use Rattle.std.proofs.Common.{◌≡◌, ℕ, zero, suc, ◌+◌, ◌-◌, ◌<◌, ◌≤◌, ◌⊎◌, max, Bool, true, false, not, ◌&&◌, ◌||◌, nat_eq, Option, Some, None, List, Contains, is_some, refl, sym, ap, ◌∙◌, ⊎_elim, inl, inr, arith}
 use Rattle.std.specs.Option.{option_map_or}
-use Rattle.std.specs.List.{list_any}
 use Rattle.std.proofs.Math.Nat.{le-max_left, le-max_right, max-le}
 use Rattle.std.proofs.lemmas.Option.{same_Some}
-use Rattle.std.proofs.lemmas.Bool.{cases_lt, cases_order, cases_Bool, eq-eqb, eqb-true, and_parts, and_from, not-true, not_from_true, or_cases, or_left, or_right}
+use Rattle.std.proofs.lemmas.Bool.{cases_lt, cases_order, cases_Bool, eq-eqb, eqb-true, and_parts, and_from, not-true, or_cases, or_left, or_right}
 use Rattle.std.proofs.lemmas.List.Elements.{All-contains}
 use Rattle.std.proofs.lemmas.List.Folds.{Any-from_list_any, list_any-from_Any}
 use Rattle.requirement_table.specs.declared.entries.Placed.{Placed}
@@ -12,9 +11,8 @@ use Rattle.requirement_table.specs.Flags.{IsFlaggedOnce, IsGoodCycle, waits}
 use Rattle.requirement_table.specs.Instance.{Exists, Instance, IsLastCycle, IsReleasedIn, MaySend, deadline_of, release_of, released_by}
 use Rattle.requirement_table.specs.Slots.{slots}
 use Rattle.requirement_table.specs.Table.{IsInRange, IsWellPlaced, held_before, instance_in, is_last_in, releases_in}
-use Rattle.requirement_table.proofs.Shared.{IsReleasedIn-from_released_by, released_by-released}
-use Rattle.plan_check.specs.PlanKept.{HasPending, IsHeldFrom, IsOwed, IsOwedIn}
-use Rattle.plan_check.proofs.Rounds.{found-in, found-of}
+use Rattle.requirement_table.proofs.Shared.{IsReleasedIn-from_released_by, found-in, found-of, released_by-released}
+use Rattle.plan_check.specs.PlanKept.{HasPending, IsOwed, IsOwedIn}
 
 pub before-suc : (placed : List Placed) (flags : ℕ → ℕ → Bool) (from : ℕ) (held : ℕ → Bool) (n slot : ℕ)
     → held_before placed flags from held (suc n) slot

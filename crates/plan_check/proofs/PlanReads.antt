@@ -1,16 +1,16 @@
 -- Texts that begin as the text of a plan, and the first line that is wrong.
-use Rattle.std.proofs.Common.{◌≡◌, ◌≢◌, ℕ, zero, suc, ◌+◌, ◌-◌, ◌^◌, ◌<◌, ◌≤◌, ◌&&◌, Bool, true, false, not, nat_eq, nat_le, List, [], ◌∷◌, ◌++◌, All, codes, drop, get_or, length, map, replicate, take, refl, sym, ap, ◌∙◌, subst, ⊎_elim, arith, append_assoc}
+use Rattle.std.proofs.Common.{◌≡◌, ℕ, zero, suc, ◌+◌, ◌-◌, ◌^◌, ◌<◌, ◌≤◌, ◌&&◌, true, false, not, nat_eq, nat_le, List, [], ◌∷◌, ◌++◌, All, codes, drop, get_or, length, map, replicate, take, refl, sym, ap, ◌∙◌, arith, append_assoc}
 use Rattle.std.specs.Fmt.{decimal}
 use Rattle.std.specs.List.{list_all}
-use Rattle.std.proofs.lemmas.Bool.{and_from, and_parts, cases_lt, le-leb}
+use Rattle.std.proofs.lemmas.Bool.{and_from, and_parts, le-leb}
 use Rattle.std.proofs.lemmas.Fmt.{decimal_injective}
-use Rattle.std.proofs.lemmas.List.{append-nil, append_cancel_left, length-append, length-map, length-replicate, length-take-le, map-append, take-append-drop, take_more}
-use Rattle.std.proofs.lemmas.List.Elements.{All-append, All-head, All-cons, All-nil, All-replicate, All-tail}
+use Rattle.std.proofs.lemmas.List.{append_cancel_left, length-append, length-map, length-replicate, length-take-le, map-append, take-append-drop, take_more}
+use Rattle.std.proofs.lemmas.List.Elements.{All-append, All-cons, All-nil, All-replicate}
 use Rattle.requirement_table.specs.Slots.{slots}
 use Rattle.plan_check.specs.Certificate.{CertificateView, length_of}
 use Rattle.plan_check.specs.PlanText.{BeginsAsPlan, HasNoFeed, IsFirstWrongLine, IsReadable, IsReadableHead, head_lines, lines_of_head, mask_digits, mask_lines, plan_lines, plan_text, text_of}
 use Rattle.plan_check.proofs.Decimals.{decimal-digits}
-use Rattle.plan_check.proofs.HexText.{hex-injective, hex-no_feed}
+use Rattle.plan_check.proofs.HexText.{hex-no_feed}
 use Rattle.plan_check.proofs.TextLines.{no_feed-append, no_feed-digits, same_line, text_of-append}
 
 abbrev pub AllClean : List (List ℕ) → Type 0
@@ -104,6 +104,18 @@ begins-by bytes certificate k readable within is =
       split = is ∙ ap text_of (sym (take-append-drop k lines)) ∙ text_of-append (take k lines) (drop k lines);
     }
 
+-- a text that begins with these lines has in the next one what such a text of more lines has there
+pub next-line : (lines its : List (List ℕ)) (rest other : List ℕ) (k : ℕ) → AllClean lines → AllClean its → length lines ≡ k → k < length its
+    → text_of lines ++ rest ≡ text_of (take (k + 1) its) ++ other → (lines ≡ take k its) × (rest ≡ get_or its k [] ++ 10 ∷ other)
+next-line lines its rest other k clean its_clean size inside same =
+    let whole : text_of lines ++ rest ≡ text_of (take k its) ++ (get_or its k [] ++ 10 ∷ other)
+    = same ∙ ap (λ l. text_of l ++ other) (take_more its k [] inside)
+    ∙ ap (λ t. t ++ other) (text_of-append (take k its) (get_or its k [] ∷ []))
+    ∙ append_assoc (text_of (take k its)) (text_of (get_or its k [] ∷ [])) other
+    ∙ ap (λ t. text_of (take k its) ++ t) (text-cons (get_or its k []) [] other) in
+    let taken : length (take k its) ≡ k = length-take-le k its (omega arith) in
+    same_front lines (take k its) rest (get_or its k [] ++ 10 ∷ other) clean (clean-take k its its_clean) (omega arith) whole
+
 -- a line of the head that no plan has behind the lines before it
 pub head-wrong : (bytes : List ℕ) (lines : List (List ℕ)) (rest : List ℕ) (k number : ℕ) → bytes ≡ text_of lines ++ rest → AllClean lines → length lines ≡ k
     → k ≤ 4 → number ≡ k + 1 → BeginsAsPlan bytes k
@@ -126,31 +138,23 @@ head-wrong bytes lines rest k number is clean size early at before none =
         let within = begins.within in
         let inside : k < length plan = omega arith in
         let split : bytes ≡ text_of (take (k + 1) plan) ++ begins.rest = rw at at begins.split in
-        let more : take (k + 1) plan ≡ take k plan ++ get_or plan k [] ∷ [] = take_more plan k [] inside in
-        let whole : text_of lines ++ rest ≡ text_of (take k plan) ++ (get_or plan k [] ++ 10 ∷ begins.rest)
-        = sym is ∙ split ∙ ap (λ l. text_of l ++ begins.rest) more
-        ∙ ap (λ t. t ++ begins.rest) (text_of-append (take k plan) (get_or plan k [] ∷ []))
-        ∙ append_assoc (text_of (take k plan)) (text_of (get_or plan k [] ∷ [])) begins.rest
-        ∙ ap (λ t. text_of (take k plan) ++ t) (text-cons (get_or plan k []) [] begins.rest) in
-        let taken : length (take k plan) ≡ k = length-take-le k plan (omega arith) in
-        let parts = same_front lines (take k plan) rest (get_or plan k [] ++ 10 ∷ begins.rest) clean (clean-take k plan (clean-plan c begins.readable)) (omega arith) whole in
+        let parts = next-line lines plan rest begins.rest k clean (clean-plan c begins.readable) size inside (sym is ∙ split) in
         none c begins.readable (sym parts.0) begins.rest parts.1
 
--- a certificate with a given head
-abbrev pub filler : ℕ → ℕ → ℕ → ℕ → CertificateView
-filler from pending first length = record { from = from; pending = pending; first = first; masks = replicate (first - from + length) 0 }
+-- a certificate with as many masks as its head says
 
-sum-less : (a b : ℕ) → a + b - a ≡ b
-sum-less a b = omega arith
+pub counted-length : (certificate : CertificateView) (size : ℕ) → length certificate.masks ≡ certificate.first - certificate.from + size
+    → length_of certificate ≡ size
+counted-length certificate size count =
+    ap (λ n. n - (certificate.first - certificate.from)) count ∙ sum-less (certificate.first - certificate.from) size
+  where
+    sum-less : (a b : ℕ) → a + b - a ≡ b
+    sum-less a b = omega arith
 
-filler-length : (from pending first length : ℕ) → length_of (filler from pending first length) ≡ length
-filler-length from pending first size =
-    let count : length (replicate (first - from + size) 0) ≡ first - from + size = length-replicate (first - from + size) 0 in
-    ap (λ n. n - (first - from)) count ∙ sum-less (first - from) size
-
-filler-readable : (from pending first length : ℕ) → IsReadableHead from pending first length → IsReadable (filler from pending first length)
-filler-readable from pending first size head =
-    let whole = filler-length from pending first size in
+pub counted-readable : (certificate : CertificateView) (size : ℕ) → IsReadableHead certificate.from certificate.pending certificate.first size
+    → length certificate.masks ≡ certificate.first - certificate.from + size → All (λ m. m < 2 ^ slots) certificate.masks → IsReadable certificate
+counted-readable certificate size head count small =
+    let whole = counted-length certificate size count in
     let some = head.some in
     let few = head.few in
     record {
@@ -161,8 +165,20 @@ filler-readable from pending first size head =
       near = head.near;
       some = omega arith;
       few = omega arith;
-      masks = All-replicate (λ mask. mask < 2 ^ slots) (first - from + size) 0 (omega arith);
+      masks = small;
     }
+
+-- a certificate with a given head
+abbrev pub filler : ℕ → ℕ → ℕ → ℕ → CertificateView
+filler from pending first length = record { from = from; pending = pending; first = first; masks = replicate (first - from + length) 0 }
+
+filler-count : (from pending first size : ℕ) → length (filler from pending first size).masks ≡ first - from + size
+filler-count from pending first size = length-replicate (first - from + size) 0
+
+filler-readable : (from pending first length : ℕ) → IsReadableHead from pending first length → IsReadable (filler from pending first length)
+filler-readable from pending first size head =
+    counted-readable (filler from pending first size) size head (filler-count from pending first size)
+    (All-replicate (λ mask. mask < 2 ^ slots) (first - from + size) 0 (omega arith))
 
 -- lines of the head begin a plan
 pub begins-head : (bytes : List ℕ) (lines : List (List ℕ)) (rest : List ℕ) (from pending first length k : ℕ) → IsReadableHead from pending first length

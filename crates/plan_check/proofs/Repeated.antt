@@ -1,17 +1,17 @@
 -- A certificate whose loop is good goes on for ever as it does in its listed cycles.
-use Rattle.std.proofs.Common.{◌≡◌, ℕ, zero, suc, ◌+◌, ◌-◌, ◌*◌, ◌%◌, ◌<◌, ◌≤◌, Bool, true, false, not, ◌&&◌, ◌||◌, nat_lt, if◌then◌else◌, List, All, length, get_or, refl, sym, ap, ◌∙◌, ⊎_elim, arith}
+use Rattle.std.proofs.Common.{◌≡◌, ℕ, zero, suc, ◌+◌, ◌-◌, ◌*◌, ◌%◌, ◌<◌, ◌≤◌, Bool, true, false, not, ◌&&◌, ◌||◌, nat_lt, List, All, length, get_or, refl, sym, ap, ◌∙◌, ⊎_elim, arith}
 use Rattle.std.proofs.Math.Nat.{add-mul-mod_self_right, mod-eq_of_lt}
 use Rattle.std.proofs.lemmas.Bool.{cases_lt, cond-true, cond-false}
 use Rattle.std.proofs.lemmas.Bool.Decides.{nat_tests}
 use Rattle.requirement_table.specs.declared.entries.Placed.{Placed}
-use Rattle.requirement_table.specs.Flags.{IsGoodCycle, waits}
+use Rattle.requirement_table.specs.Flags.{IsGoodCycle}
 use Rattle.requirement_table.specs.Slots.{contains_slot, slots, sum_where}
-use Rattle.requirement_table.specs.Table.{IsWellPlaced, is_last_in, releases_in, width_in, worst_in}
-use Rattle.requirement_table.proofs.Shared.{sum_where-same}
-use Rattle.plan_check.specs.Certificate.{CertificateView, IsCertificate, flags_of, length_of, mask_in, place_of}
+use Rattle.requirement_table.specs.Table.{IsWellPlaced, is_last_in, releases_in, worst_in}
+use Rattle.requirement_table.proofs.Shared.{GoesRound, SameAgain, same-again, sum_where-same}
+use Rattle.plan_check.specs.Certificate.{CertificateView, IsCertificate, flags_of, length_of, place_of}
 use Rattle.plan_check.specs.PlanKept.{NoSlot, differ, is_bad, is_held, is_open}
-use Rattle.plan_check.specs.Breaches.{IsGoodAt, is_flagged, is_missed, is_unreleased, is_waiting, width_at}
-use Rattle.plan_check.proofs.Rounds.{GoesRound, SameAgain, rounds-of, same-again}
+use Rattle.plan_check.specs.Breaches.{IsGoodAt, is_flagged, is_waiting, width_at}
+use Rattle.plan_check.proofs.Rounds.{rounds-of}
 use Rattle.plan_check.proofs.Held.{before-suc}
 
 pub sum_where-costs : (n : ℕ) (p : ℕ → Bool) (f g : ℕ → ℕ) → ((s : ℕ) → s < n → f s ≡ g s) → sum_where n p f ≡ sum_where n p g

@@ -1,8 +1,7 @@
 -- Sets of slots as numbers: their difference, their symmetric difference, and their least slot.
-use Rattle.std.proofs.Common.{◌≡◌, ℕ, zero, suc, ◌+◌, ◌-◌, ◌%◌, ◌^◌, ◌<◌, ◌≤◌, min, Bool, true, false, not, ◌&&◌, ◌||◌, nat_eq, if◌then◌else◌, bit_and, bit_xor, refl, sym, ap, ◌∙◌, ⊎_elim, arith}
+use Rattle.std.proofs.Common.{◌≡◌, ℕ, zero, suc, ◌+◌, ◌-◌, ◌%◌, ◌^◌, ◌<◌, ◌≤◌, min, Bool, not, ◌&&◌, nat_eq, if◌then◌else◌, bit_and, bit_xor, refl, ap, ◌∙◌, ⊎_elim, arith}
 use Rattle.std.specs.Int.{bit_at, bit_not, trailing_zeros, w128}
 use Rattle.std.proofs.lemmas.Bool.{cases_lt, eq-eqb}
-use Rattle.std.proofs.lemmas.Bool.Decides.{nat_tests}
 use Rattle.std.proofs.lemmas.Nat.Bits.{bit_at-lt, bit_at-trailing_zeros, bit_at_above, bit_at_and, bit_at_not, bit_at_xor}
 use Rattle.requirement_table.specs.Slots.{contains_slot, slots, sum_where}
 use Rattle.plan_check.specs.PlanKept.{differ}

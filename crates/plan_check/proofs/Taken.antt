@@ -1,10 +1,9 @@
 -- A certificate is taken exactly where it has no breach.
-use Rattle.std.proofs.Common.{◌≡◌, ℕ, zero, suc, ◌+◌, ◌-◌, ◌<◌, ◌≤◌, max, Bool, true, false, not, ◌&&◌, nat_eq, Option, Some, List, Contains, length, refl, sym, ap, ◌∙◌, ⊎_elim, arith}
+use Rattle.std.proofs.Common.{◌≡◌, ℕ, zero, suc, ◌+◌, ◌-◌, ◌<◌, ◌≤◌, Bool, true, false, not, ◌&&◌, nat_eq, Some, List, length, sym, ap, ◌∙◌, ⊎_elim, arith}
 use Rattle.std.specs.Option.{option_map_or}
-use Rattle.std.proofs.Math.Nat.{le-max_left, le-max_right, max-le}
+use Rattle.std.proofs.Math.Nat.{le-max_left, le-max_right}
 use Rattle.std.proofs.lemmas.Bool.{cases_lt, eqb-true, and_parts, false_from_ne_true, not-true}
 use Rattle.requirement_table.specs.declared.entries.Placed.{Placed}
-use Rattle.requirement_table.specs.Flags.{IsFlaggedOnce, IsGoodCycle, waits}
 use Rattle.requirement_table.specs.Instance.{IsLastCycle, MaySend, deadline_of, release_of}
 use Rattle.requirement_table.specs.Slots.{contains_slot, slots}
 use Rattle.requirement_table.specs.Table.{IsWellPlaced, instance_in, is_last_in}
@@ -12,8 +11,8 @@ use Rattle.plan_check.specs.declared.breach.Breach.{Breach}
 use Rattle.plan_check.specs.declared.breach.Breach.TheVariants.{BadLoop, NotReleased, TooWide, Missed, NotClosed}
 use Rattle.plan_check.specs.Certificate.{CertificateView, IsCertificate, flags_of}
 use Rattle.plan_check.specs.PlanKept.{HasPending, IsOwed, IsOwedIn, IsTaken, NoSlot, is_bad, is_open}
-use Rattle.plan_check.specs.Breaches.{IsBreach, IsGoodAt, IsLeastSlot, is_flagged, is_missed, is_unreleased, is_waiting, width_at}
-use Rattle.plan_check.proofs.Rounds.{found-of}
+use Rattle.plan_check.specs.Breaches.{IsBreach, IsGoodAt, IsLeastSlot, is_flagged, is_missed, is_unreleased, is_waiting}
+use Rattle.requirement_table.proofs.Shared.{found-of}
 use Rattle.plan_check.proofs.Held.{flagged-once, holder-of, max-below, waits-of}
 use Rattle.plan_check.proofs.Repeated.{good_cycle-of, good-ever}
 

@@ -1,14 +1,12 @@
 -- The lines of a plan text.
-use Rattle.std.proofs.Common.{◌≡◌, ◌≢◌, ℕ, zero, suc, ◌+◌, ◌-◌, ◌^◌, ◌<◌, ◌≤◌, List, [], ◌∷◌, ◌++◌, All, Bool, true, false, codes, nat_eq, drop, get_or, length, map, take, refl, sym, ap, ◌∙◌, subst, ⊎_elim, arith, append_assoc}
-use Rattle.std.specs.Fmt.{decimal}
+use Rattle.std.proofs.Common.{◌≡◌, ◌≢◌, ℕ, zero, suc, List, [], ◌∷◌, ◌++◌, true, false, codes, nat_eq, drop, length, map, take, refl, sym, ap, ◌∙◌, arith, append_assoc}
 use Rattle.std.specs.Char.{is_ascii_digit}
 use Rattle.std.specs.Cmp.Lexicographic.{other_text, pointwise, same_text}
 use Rattle.std.specs.List.{list_all}
-use Rattle.std.proofs.lemmas.Bool.{and_parts, cases_lt}
-use Rattle.std.proofs.lemmas.Bool.Decides.{nat_tests}
-use Rattle.std.proofs.lemmas.List.{append-nil, append_cancel_left, take-append-drop}
-use Rattle.plan_check.specs.Certificate.{CertificateView, length_of}
-use Rattle.plan_check.specs.PlanText.{HasNoFeed, head_lines, mask_digits, mask_lines, plan_lines, plan_text, text_of}
+use Rattle.std.proofs.lemmas.Bool.{and_parts}
+use Rattle.std.proofs.lemmas.List.{take-append-drop}
+use Rattle.plan_check.specs.Certificate.{CertificateView}
+use Rattle.plan_check.specs.PlanText.{HasNoFeed, head_lines, mask_digits, mask_lines, plan_text, text_of}
 
 pub text_of-append : (xs ys : List (List ℕ)) → text_of (xs ++ ys) ≡ text_of xs ++ text_of ys
 text_of-append [] ys = refl

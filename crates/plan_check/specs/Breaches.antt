@@ -29,7 +29,8 @@ is_unreleased placed certificate n slot = is_flagged certificate n slot && not (
 -- whether the slot has such an instance, whose last cycle this is, and the cycle doesn't flag it
 abbrev pub is_missed : List Placed → CertificateView → ℕ → ℕ → Bool
 is_missed placed certificate n slot =
-    is_waiting placed certificate n slot && is_last_in placed (certificate.from + n) slot && not (is_flagged certificate n slot)
+    is_waiting placed certificate n slot && is_last_in placed (certificate.from + n) slot
+    && not (is_flagged certificate n slot)
 
 -- what the flagged slots cost together, in bit times
 abbrev pub width_at : List Placed → CertificateView → ℕ → ℕ
@@ -57,7 +58,8 @@ pub record IsReached (placed : List Placed) (window : ℕ) (certificate : Certif
   pub good : (m : ℕ) → m < n → IsGoodAt placed window certificate m
 
 -- the first breach is in a cycle: it flags a slot without an instance, the least such one is this
-pub record IsNotReleased (placed : List Placed) (window : ℕ) (certificate : CertificateView) (cycle slot : ℕ) : Type 0 where
+pub record IsNotReleased (placed : List Placed) (window : ℕ) (certificate : CertificateView) (cycle slot : ℕ)
+    : Type 0 where
   pub number : ℕ
   pub reached : IsReached placed window certificate number cycle
   pub slot_is : IsLeastSlot (is_unreleased placed certificate number) slot
@@ -71,7 +73,8 @@ pub record IsTooWide (placed : List Placed) (window : ℕ) (certificate : Certif
   pub wide : window < sum
 
 -- the first breach is in a cycle: an instance is missed in it, of the least such slot
-pub record IsMissed (placed : List Placed) (window : ℕ) (certificate : CertificateView) (slot release cycle : ℕ) : Type 0 where
+pub record IsMissed (placed : List Placed) (window : ℕ) (certificate : CertificateView) (slot release cycle : ℕ)
+    : Type 0 where
   pub number : ℕ
   pub reached : IsReached placed window certificate number cycle
   pub released : NoSlot (is_unreleased placed certificate number)

@@ -1,6 +1,7 @@
 -- *Plan kept*: what it means that flagged slots keep a table for ever, and when a certificate shows it. No policy, no
 -- order and no planner is named here. Cycles are elementary cycles, lengths are bit times.
-use Rattle.std.specs.Prelude.{◌≡◌, ℕ, ◌+◌, ◌-◌, ◌%◌, ◌<◌, ◌≤◌, max, Bool, true, false, not, ◌&&◌, ◌||◌, nat_eq, nat_le, List, Contains, Some}
+use Rattle.std.specs.Prelude.{◌≡◌, ℕ, ◌+◌, ◌-◌, ◌%◌, ◌<◌, ◌≤◌, max, Bool, true, false, not, ◌&&◌, ◌||◌}
+use Rattle.std.specs.Prelude.{nat_eq, nat_le, List, Contains, Some}
 use Rattle.std.specs.List.{list_any}
 use Rattle.std.specs.Option.{option_map_or}
 use Rattle.requirement_table.specs.declared.entries.Placed.{Placed}
@@ -39,7 +40,8 @@ pub record IsOwedIn (placed : List Placed) (from : ℕ) (pending : ℕ → Bool)
 -- *Plan kept*: where the slots of which `pending` holds are pending before the cycle `from`, and `flags c slot` says
 -- that the slot is sent in cycle `c`, each instance that is to be sent is sent once, from `from` or its release to its
 -- last cycle, nothing else is sent, and what is sent in a cycle fits the window
-pub record IsPlanKept (placed : List Placed) (window from : ℕ) (pending : ℕ → Bool) (flags : ℕ → ℕ → Bool) : Type 0 where
+pub record IsPlanKept (placed : List Placed) (window from : ℕ) (pending : ℕ → Bool) (flags : ℕ → ℕ → Bool)
+    : Type 0 where
   pub each : (p : Placed) (k last : ℕ) → IsOwed placed from pending p k → IsLastCycle p k last
       → IsFlaggedOnce flags p.entry.slot (max from (release_of p k)) last
   pub only : (c slot : ℕ) → from ≤ c → slot < slots → flags c slot ≡ true → IsOwedIn placed from pending c slot
@@ -53,7 +55,8 @@ NoSlot test = (slot : ℕ) → slot < slots → test slot ≡ false
 -- release by `first` and its period divides `length`; one with an end is over by `first`
 abbrev pub goes_round : ℕ → ℕ → Placed → Bool
 goes_round first length p =
-    option_map_or (λ free. nat_le free first) (free_from p) (nat_le (p.origin + p.entry.phase) first && nat_eq (length % p.entry.period) 0)
+    option_map_or (λ free. nat_le free first) (free_from p)
+    (nat_le (p.origin + p.entry.phase) first && nat_eq (length % p.entry.period) 0)
 
 -- whether the slot has an entry that doesn't go round with the repeated part of the certificate
 abbrev pub is_bad : List Placed → CertificateView → ℕ → Bool

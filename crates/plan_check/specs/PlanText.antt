@@ -1,6 +1,7 @@
 -- The text of a plan: its lines, which certificates have one that is read back, and the first line of a text that
 -- breaks the form.
-use Rattle.std.specs.Prelude.{◌≡◌, ◌≢◌, ℕ, zero, suc, ◌+◌, ◌-◌, ◌/◌, ◌%◌, ◌^◌, ◌<◌, ◌≤◌, List, [], ◌∷◌, ◌++◌, All, false, codes, get_or, length, map, take}
+use Rattle.std.specs.Prelude.{◌≡◌, ◌≢◌, ℕ, zero, suc, ◌+◌, ◌/◌, ◌%◌, ◌^◌, ◌<◌, ◌≤◌}
+use Rattle.std.specs.Prelude.{List, [], ◌∷◌, ◌++◌, All, false, codes, get_or, length, map, take}
 use Rattle.std.specs.Fmt.{decimal, digit_glyph}
 use Rattle.requirement_table.specs.Slots.{slots}
 use Rattle.plan_check.specs.declared.text_fault.PlanTextFault.{PlanTextFault}

@@ -1,6 +1,7 @@
 -- What the checker keeps of the table in one cycle: words for contracts inside the crate.
-use Rattle.std.specs.Prelude.{◌≡◌, ℕ, ◌+◌, ◌<◌, ◌≤◌, Bool, true, false, not, ◌&&◌, ◌||◌, nat_eq, nat_le, List, length, Option, Some, None, option_map, slice_get, slice_index_or}
-use Rattle.std.specs.Option.{option_map_or, option_and_then}
+use Rattle.std.specs.Prelude.{◌≡◌, ℕ, ◌+◌, ◌<◌, ◌≤◌, Bool, true, false, not, ◌&&◌, ◌||◌}
+use Rattle.std.specs.Prelude.{nat_eq, List, length, Option, Some, None, option_map, slice_get, slice_index_or}
+use Rattle.std.specs.Option.{option_map_or}
 use Rattle.requirement_table.specs.declared.entries.Placed.{Placed}
 use Rattle.requirement_table.specs.Instance.{Instance, deadline_of, instance_of, release_of, worst}
 use Rattle.requirement_table.specs.Slots.{contains_slot, slots, sum_where}
@@ -40,7 +41,11 @@ pub record AreCurrent (placed : List Placed) (c : ℕ) (places : List ℕ) : Typ
 
 -- what is kept of an instance
 abbrev pub due_of : Instance → Due
-due_of i = record { release = release_of i.placed i.number; deadline = deadline_of i.placed i.number; length = i.placed.entry.length }
+due_of i = record {
+  release = release_of i.placed i.number;
+  deadline = deadline_of i.placed i.number;
+  length = i.placed.entry.length;
+}
 
 -- what is kept of the instance of a placed entry, where there is one, that may be sent in a cycle
 abbrev pub due_by : ℕ → Placed → Option Due
@@ -69,7 +74,8 @@ abbrev pub unreleased_in : List (Option Due) → ℕ → ℕ → ℕ → ℕ →
 unreleased_in row c held mask slot = contains_slot mask slot && not (waits_in row c held slot)
 
 abbrev pub missed_in : List (Option Due) → ℕ → ℕ → ℕ → ℕ → Bool
-missed_in row c held mask slot = waits_in row c held slot && is_last c (slice_index_or row slot None) && not (contains_slot mask slot)
+missed_in row c held mask slot =
+    waits_in row c held slot && is_last c (slice_index_or row slot None) && not (contains_slot mask slot)
 
 -- what the slots of a set cost together, in bit times
 abbrev pub cost_of : Option Due → ℕ
@@ -102,7 +108,8 @@ pub record IsRowMissed (row : List (Option Due)) (window c held mask slot releas
 -- the breach is the first one of the cycle
 abbrev pub IsRowBreach : List (Option Due) → ℕ → ℕ → ℕ → ℕ → Breach → Type 0
 IsRowBreach row window c held mask (BadLoop slot) = ⊥
-IsRowBreach row window c held mask (NotReleased cycle slot) = (cycle ≡ c) × IsLeastSlot (unreleased_in row c held mask) slot
+IsRowBreach row window c held mask (NotReleased cycle slot) =
+    (cycle ≡ c) × IsLeastSlot (unreleased_in row c held mask) slot
 IsRowBreach row window c held mask (TooWide cycle sum) = IsRowWide row window c held mask cycle sum
 IsRowBreach row window c held mask (Missed slot release cycle) = IsRowMissed row window c held mask slot release cycle
 IsRowBreach row window c held mask (NotClosed slot) = ⊥

@@ -1,6 +1,7 @@
 //! The checker.
 
-ghost use Rattle.std.specs.Prelude.{◌≡◌, ℕ, ◌+◌, ◌-◌, ◌^◌, ◌<◌, ◌≤◌, ◌↔◌, ◌&&◌, not, if◌then◌else◌, nat_eq, None, IsOk, IfErr, IfOk, IsSome, IfSome, length, slice_index_or};
+ghost use Rattle.std.specs.Prelude.{◌≡◌, ℕ, ◌+◌, ◌-◌, ◌^◌, ◌<◌, ◌≤◌, ◌↔◌, ◌&&◌, not, if◌then◌else◌, nat_eq};
+ghost use Rattle.std.specs.Prelude.{None, IsOk, IfErr, IfOk, IsSome, IfSome, length, slice_index_or};
 ghost use Rattle.std.specs.List.{list_any};
 ghost use Rattle.requirement_table.specs.Slots.{contains_slot, slots};
 ghost use Rattle.requirement_table.specs.Table.{IsInRange, IsWellPlaced};
@@ -82,11 +83,14 @@ fn check_cycles(
     requires cycles { certificate.now.from + length certificate.now.masks ≤ 2 ^ 42 }
     requires rounds { NoSlot (is_bad placed.now certificate.now) }
     ensures before { IfOk result (λ r. (slot : ℕ) → slot < slots
-        → contains_slot r.0 slot ≡ is_held placed.now certificate.now (certificate.now.first - certificate.now.from) slot) }
+        → contains_slot r.0 slot
+        ≡ is_held placed.now certificate.now (certificate.now.first - certificate.now.from) slot) }
     ensures behind { IfOk result (λ r. (slot : ℕ) → slot < slots
         → contains_slot r.1 slot
-        ≡ is_held placed.now certificate.now (certificate.now.first - certificate.now.from + length_of certificate.now) slot) }
-    ensures good { IfOk result (λ _. (n : ℕ) → n < length certificate.now.masks → IsGoodAt placed.now w certificate.now n) }
+        ≡ is_held placed.now certificate.now
+        (certificate.now.first - certificate.now.from + length_of certificate.now) slot) }
+    ensures good { IfOk result (λ _. (n : ℕ) → n < length certificate.now.masks
+        → IsGoodAt placed.now w certificate.now n) }
     ensures breach { IfErr result (λ breach. IsBreach placed.now w certificate.now breach) }
 {
     let first = certificate.first();

@@ -1,6 +1,7 @@
 //! The lines of a plan text, read one by one.
 
-ghost use Rattle.std.specs.Prelude.{◌≡◌, ◌≢◌, ℕ, ◌+◌, ◌^◌, ◌<◌, ◌++◌, ◌∷◌, List, Some, IfSome, IfNone, ◌&&◌, false, length, nat_eq, nat_lt, slice_index};
+ghost use Rattle.std.specs.Prelude.{◌≡◌, ◌≢◌, ℕ, ◌+◌, ◌^◌, ◌<◌, ◌++◌, ◌∷◌, List, Some, IfSome, IfNone, ◌&&◌};
+ghost use Rattle.std.specs.Prelude.{false, length, nat_eq, nat_lt, slice_index};
 ghost use Rattle.std.specs.Fmt.{decimal, digit_glyph};
 ghost use Rattle.std.specs.Char.{is_ascii_digit};
 ghost use Rattle.std.specs.List.{list_all};
@@ -39,15 +40,30 @@ pub fn word_line<'a>(text: &'a [u8], word: &[u8]) -> Option<&'a [u8]>
     if line == word { Some(after) } else { None }
 }
 
+/// What the first line of a text says behind the word, and what follows the line.
+fn line_behind<'a>(text: &'a [u8], word: &[u8]) -> Option<(&'a [u8], &'a [u8])>
+    requires word { HasNoFeed word.now }
+    ensures found { IfSome result (λ r. text.now ≡ (word.now ++ r.0.now) ++ 10 ∷ r.1.now) }
+    ensures only { IfSome result (λ r. (said after : List ℕ) → HasNoFeed said
+        → text.now ≡ (word.now ++ said) ++ 10 ∷ after → r.0.now ≡ said) }
+    ensures none { IfNone result ((said after : List ℕ) → HasNoFeed said
+        → text.now ≡ (word.now ++ said) ++ 10 ∷ after → ⊥) }
+{
+    let (line, after) = split_line(text)?;
+    let said = line.strip_prefix(word)?;
+    Some((said, after))
+}
+
 /// The number in the first line of a text, behind the word, and what follows the line.
 pub fn number_line<'a>(text: &'a [u8], word: &[u8]) -> Option<(u64, &'a [u8])>
     requires word { HasNoFeed word.now }
     ensures found { IfSome result (λ r. text.now ≡ (word.now ++ decimal r.0) ++ 10 ∷ r.1.now) }
     ensures below { IfSome result (λ r. r.0 < 2 ^ 42) }
-    ensures none { IfNone result ((n : ℕ) (after : List ℕ) → n < 2 ^ 42 → text.now ≡ (word.now ++ decimal n) ++ 10 ∷ after → ⊥) }
+    ensures none { IfNone result ((n : ℕ) (after : List ℕ) → n < 2 ^ 42
+        → text.now ≡ (word.now ++ decimal n) ++ 10 ∷ after → ⊥) }
 {
-    let (line, after) = split_line(text)?;
-    let number = read_number(line.strip_prefix(word)?)?;
+    let (digits, after) = line_behind(text, word)?;
+    let number = read_number(digits)?;
     Some((number, after))
 }
 
@@ -56,10 +72,11 @@ pub fn mask_line<'a>(text: &'a [u8], word: &[u8]) -> Option<(Mask, &'a [u8])>
     requires word { HasNoFeed word.now }
     ensures found { IfSome result (λ r. text.now ≡ (word.now ++ mask_digits r.0) ++ 10 ∷ r.1.now) }
     ensures below { IfSome result (λ r. r.0 < 2 ^ slots) }
-    ensures none { IfNone result ((m : ℕ) (after : List ℕ) → m < 2 ^ slots → text.now ≡ (word.now ++ mask_digits m) ++ 10 ∷ after → ⊥) }
+    ensures none { IfNone result ((m : ℕ) (after : List ℕ) → m < 2 ^ slots
+        → text.now ≡ (word.now ++ mask_digits m) ++ 10 ∷ after → ⊥) }
 {
-    let (line, after) = split_line(text)?;
-    let mask = read_mask(line.strip_prefix(word)?)?;
+    let (digits, after) = line_behind(text, word)?;
+    let mask = read_mask(digits)?;
     Some((mask, after))
 }
 

@@ -15,12 +15,14 @@
 //! leading zeros and below 2^42. FIRST is FROM to FROM + 200,000, and LENGTH is 1 to 200,000. Nothing else stands in
 //! the text.
 
-ghost use Rattle.std.specs.Prelude.{◌≡◌, ℕ, ◌+◌, ◌-◌, ◌^◌, ◌<◌, ◌≤◌, ◌++◌, ◌∷◌, [], List, All, Some, IfSome, IfOk, IfErr, OnOk, ◌&&◌, codes, length, map, nat_le, MatchResult};
+ghost use Rattle.std.specs.Prelude.{◌≡◌, ℕ, ◌+◌, ◌-◌, ◌^◌, ◌<◌, ◌≤◌, ◌++◌, ◌∷◌, [], List, All, Some, IfSome};
+ghost use Rattle.std.specs.Prelude.{IfOk, IfErr, OnOk, ◌&&◌, codes, length, map, nat_le, MatchResult};
 ghost use Rattle.std.specs.Fmt.{decimal};
 ghost use Rattle.std.specs.String.{string_bytes};
 ghost use Rattle.requirement_table.specs.Slots.{slots};
 ghost use Rattle.plan_check.specs.Certificate.{CertificateView, length_of};
-ghost use Rattle.plan_check.specs.PlanText.{IsFirstWrongLine, IsMaskFault, IsReadable, IsReadableHead, IsTextFault, head_lines, lines_of_head, mask_digits, plan_text, text_of};
+ghost use Rattle.plan_check.specs.PlanText.{IsFirstWrongLine, IsMaskFault, IsReadable, IsReadableHead, IsTextFault};
+ghost use Rattle.plan_check.specs.PlanText.{head_lines, lines_of_head, mask_digits, plan_text, text_of};
 
 use crate::certificate::Certificate;
 use crate::plan_reading::{mask_line, number_line, word_line};
@@ -111,7 +113,8 @@ pub fn read_plan(alloc: Global, bytes: &[u8]) -> Result<Certificate, PlanTextFau
 
 /// The five lines before the masks, and what follows them, or the number of the first wrong line.
 fn read_head(bytes: &[u8]) -> Result<(Head, &[u8]), u64>
-    ensures found { IfOk result (λ r. bytes.now ≡ text_of (lines_of_head r.0.from r.0.pending r.0.first r.0.length) ++ r.1.now) }
+    ensures found { IfOk result
+        (λ r. bytes.now ≡ text_of (lines_of_head r.0.from r.0.pending r.0.first r.0.length) ++ r.1.now) }
     ensures ranges { IfOk result (λ r. IsReadableHead r.0.from r.0.pending r.0.first r.0.length) }
     ensures wrong { IfErr result (λ number. IsFirstWrongLine bytes.now number) }
 {

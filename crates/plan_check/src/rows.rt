@@ -1,10 +1,12 @@
 //! What each slot may send in one cycle.
 
-ghost use Rattle.std.specs.Prelude.{◌≡◌, ℕ, ◌+◌, ◌^◌, ◌<◌, ◌≤◌, ◌&&◌, if◌then◌else◌, Some, None, length, slice_get, slice_index_or};
+ghost use Rattle.std.specs.Prelude.{◌≡◌, ℕ, ◌+◌, ◌^◌, ◌<◌, ◌≤◌, ◌&&◌};
+ghost use Rattle.std.specs.Prelude.{if◌then◌else◌, Some, None, length, slice_get, slice_index_or};
 ghost use Rattle.std.specs.Option.{option_and_then};
 ghost use Rattle.requirement_table.specs.Slots.{contains_slot, slots};
 ghost use Rattle.requirement_table.specs.Table.{IsInRange, IsWellPlaced, is_over};
-ghost use Rattle.plan_check.specs.Rows.{AreCurrent, ArePassed, IsCurrent, IsPassed, IsRow, cost_of, due_by, is_last, is_released, waits_in, width_of_row};
+ghost use Rattle.plan_check.specs.Rows.{AreCurrent, ArePassed, IsCurrent, IsPassed, IsRow, cost_of};
+ghost use Rattle.plan_check.specs.Rows.{due_by, is_last, is_released, waits_in, width_of_row};
 
 use requirement_table::{Mask, Placed, SLOTS, cost, current, due};
 
@@ -111,7 +113,8 @@ pub fn waiting(row: &Row, cycle: u64, held: Mask) -> Mask
 /// The slots of a set whose instance has its last cycle in `cycle`.
 pub fn ending(row: &Row, cycle: u64, set: Mask) -> Mask
     requires cycle { cycle < 2 ^ 42 }
-    ensures slots { (slot : ℕ) → slot < slots → contains_slot result slot ≡ (contains_slot set slot && is_last cycle (slice_index_or row.now slot None)) }
+    ensures slots { (slot : ℕ) → slot < slots
+        → contains_slot result slot ≡ (contains_slot set slot && is_last cycle (slice_index_or row.now slot None)) }
 {
     let mut ending = set;
     for slot in 0..SLOTS {

@@ -9,14 +9,16 @@ use requirement_table::Mask;
 
 /// The slots of one set that don't stand in the other.
 pub fn difference(one: Mask, other: Mask) -> Mask
-    ensures slots { (slot : ℕ) → slot < slots → contains_slot result slot ≡ (contains_slot one slot && not (contains_slot other slot)) }
+    ensures slots { (slot : ℕ) → slot < slots
+        → contains_slot result slot ≡ (contains_slot one slot && not (contains_slot other slot)) }
 {
     Mask::from_bits(one.bits() & !other.bits())
 }
 
 /// The slots that stand in just one of two sets.
 pub fn symmetric_difference(one: Mask, other: Mask) -> Mask
-    ensures slots { (slot : ℕ) → slot < slots → contains_slot result slot ≡ differ (contains_slot one slot) (contains_slot other slot) }
+    ensures slots { (slot : ℕ) → slot < slots
+        → contains_slot result slot ≡ differ (contains_slot one slot) (contains_slot other slot) }
 {
     Mask::from_bits(one.bits() ^ other.bits())
 }

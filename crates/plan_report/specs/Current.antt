@@ -8,12 +8,14 @@ use Rattle.plan_report.specs.declared.current.Current.{Current}
 
 -- of each slot all entries before its place are over by the cycle
 abbrev pub ArePassed : List Placed → List ℕ → ℕ → Type 0
-ArePassed placed places cycle = (slot place : ℕ) (p : Placed) → slot < slots → place < slice_index places slot → slice_get placed place ≡ Some p
+ArePassed placed places cycle = (slot place : ℕ) (p : Placed) → slot < slots
+    → place < slice_index places slot → slice_get placed place ≡ Some p
     → p.entry.slot ≡ slot → is_over cycle p ≡ true
 
 -- no entry of the slot but that at the place has an instance that may be sent in the cycle
 abbrev pub NoOther : List Placed → ℕ → ℕ → ℕ → Type 0
-NoOther placed slot cycle place = (other : ℕ) (p : Placed) → slice_get placed other ≡ Some p → p.entry.slot ≡ slot → (other ≡ place → ⊥)
+NoOther placed slot cycle place = (other : ℕ) (p : Placed)
+    → slice_get placed other ≡ Some p → p.entry.slot ≡ slot → (other ≡ place → ⊥)
     → instance_of p cycle ≡ None
 
 -- this is the entry of the slot, by its place, and the number of its instance, that may be sent in the cycle; and no
@@ -26,5 +28,6 @@ pub record IsTheOne (placed : List Placed) (slot cycle : ℕ) (found : Current) 
   pub alone : NoOther placed slot cycle found.place
 
 abbrev pub IsCurrent : List Placed → ℕ → ℕ → Option Current → Type 0
-IsCurrent placed slot cycle None = (place : ℕ) (p : Placed) → slice_get placed place ≡ Some p → p.entry.slot ≡ slot → instance_of p cycle ≡ None
+IsCurrent placed slot cycle None = (place : ℕ) (p : Placed)
+    → slice_get placed place ≡ Some p → p.entry.slot ≡ slot → instance_of p cycle ≡ None
 IsCurrent placed slot cycle (Some found) = IsTheOne placed slot cycle found

@@ -1,7 +1,8 @@
 -- *Report*: what was sent of each entry and of each owner's requests, and how wide the synchronous windows were, as the
 -- text of a history and a trace. Each row ends with one line feed; numbers are decimal without leading zeros. Delays
 -- are elementary cycles, widths are bit times.
-use Rattle.std.specs.Prelude.{ℕ, zero, suc, ◌+◌, ◌-◌, ◌==◌, Bool, if◌then◌else◌, List, [], ◌∷◌, ◌++◌, length, map, min, max, Option, Some, None, codes}
+use Rattle.std.specs.Prelude.{ℕ, zero, suc, ◌+◌, ◌-◌, ◌==◌, Bool, if◌then◌else◌, List, [], ◌∷◌, ◌++◌}
+use Rattle.std.specs.Prelude.{length, map, min, max, Option, Some, None, codes}
 use Rattle.std.specs.List.{flat_map, list_any, reduce, sum}
 use Rattle.std.specs.Fmt.{decimal}
 use Rattle.can_frame.specs.declared.data_frame.TimedFrame.{TimedFrame}
@@ -77,7 +78,8 @@ field_of (Some number) = decimal number
 -- the row of an entry with the delays of its instances that were sent: `entry,SLOT,ORIGIN,INSTANCES,LEAST,GREATEST`
 abbrev pub delays_row : Placed → List ℕ → List ℕ
 delays_row p delays =
-    codes "entry," ++ decimal p.entry.slot ++ codes "," ++ decimal p.origin ++ codes "," ++ decimal (length delays) ++ codes ","
+    codes "entry," ++ decimal p.entry.slot ++ codes "," ++ decimal p.origin
+    ++ codes "," ++ decimal (length delays) ++ codes ","
     ++ field_of (least_of delays) ++ codes "," ++ field_of (greatest_of delays) ++ codes "\n"
 
 -- the row of an entry in a trace
@@ -110,11 +112,13 @@ async_row trace requests id = requests_row id (frames_with trace id) (length (un
 -- the row of the widths of synchronous windows: `load,LEAST,GREATEST,SUM`
 abbrev pub load_row : List ℕ → List ℕ
 load_row widths =
-    codes "load," ++ field_of (least_of widths) ++ codes "," ++ field_of (greatest_of widths) ++ codes "," ++ decimal (sum widths) ++ codes "\n"
+    codes "load," ++ field_of (least_of widths) ++ codes ","
+    ++ field_of (greatest_of widths) ++ codes "," ++ decimal (sum widths) ++ codes "\n"
 
 -- *Report*: a row of each placed entry, in the order of placing; a row of each owned identifier, the least one first;
 -- and the row of the widths of all opened cycles
 abbrev pub report_text : List Event → List TimedFrame → List Owner → List Request → List ℕ
 report_text history trace owners requests =
-    flat_map (entry_row trace) (placed_of history) ++ flat_map (async_row trace requests) (owned_below owners identifiers)
+    flat_map (entry_row trace) (placed_of history)
+    ++ flat_map (async_row trace requests) (owned_below owners identifiers)
     ++ load_row (map width_of (openings_of history))

@@ -1,5 +1,6 @@
 -- What is counted of the entries while the frames of a trace are walked: words for contracts inside the crate.
-use Rattle.std.specs.Prelude.{◌≡◌, ℕ, ◌+◌, ◌≤◌, ◌==◌, Bool, false, if◌then◌else◌, List, length, map, min, max, fold, Option, Some, None, slice_get}
+use Rattle.std.specs.Prelude.{◌≡◌, ℕ, ◌+◌, ◌≤◌, ◌==◌, Bool, false, if◌then◌else◌, List}
+use Rattle.std.specs.Prelude.{length, map, min, max, fold, Option, Some, None, slice_get}
 use Rattle.std.specs.Option.{option_map_or}
 use Rattle.can_frame.specs.declared.data_frame.TimedFrame.{TimedFrame}
 use Rattle.requirement_table.specs.declared.entries.Placed.{Placed}
@@ -32,7 +33,8 @@ tally_with tally number delay =
 abbrev pub IsLast : Placed → ℕ → List Sending → Option ℕ → Type 0
 IsLast p seen sendings None = (number : ℕ) → is_sent sendings number ≡ false
 IsLast p seen sendings (Some last) =
-    ((number : ℕ) → last ≤ number → is_sent sendings number ≡ (last == number)) × ((cycle : ℕ) → seen ≤ cycle + 1 → last ≤ latest p cycle)
+    ((number : ℕ) → last ≤ number → is_sent sendings number ≡ (last == number))
+    × ((cycle : ℕ) → seen ≤ cycle + 1 → last ≤ latest p cycle)
 
 -- what is counted of an entry in frames
 pub record IsTally (frames : List TimedFrame) (p : Placed) (tally : Tally) : Type 0 where
@@ -45,5 +47,6 @@ pub record IsTally (frames : List TimedFrame) (p : Placed) (tally : Tally) : Typ
 -- what is counted of each of some entries
 pub record AreTallies (frames : List TimedFrame) (placed : List Placed) (tallies : List Tally) : Type 0 where
   pub count : length tallies ≡ length placed
-  pub each : (place : ℕ) (p : Placed) (tally : Tally) → slice_get placed place ≡ Some p → slice_get tallies place ≡ Some tally
+  pub each : (place : ℕ) (p : Placed) (tally : Tally)
+      → slice_get placed place ≡ Some p → slice_get tallies place ≡ Some tally
       → IsTally frames p tally

@@ -9,7 +9,8 @@ use Rattle.plan_report.specs.declared.load.Load.{Load}
 -- the row of an entry
 abbrev pub tally_row : Placed → Tally → List ℕ
 tally_row p tally =
-    codes "entry," ++ decimal p.entry.slot ++ codes "," ++ decimal p.origin ++ codes "," ++ decimal tally.instances ++ codes ","
+    codes "entry," ++ decimal p.entry.slot ++ codes "," ++ decimal p.origin
+    ++ codes "," ++ decimal tally.instances ++ codes ","
     ++ field_of tally.least ++ codes "," ++ field_of tally.greatest ++ codes "\n"
 
 -- the row of an identifier, where it has an owner
@@ -19,4 +20,5 @@ owned_row id owned sent asked = if owned then requests_row id sent (asked - sent
 -- the row of the widths
 abbrev pub widths_row : Load → List ℕ
 widths_row load =
-    codes "load," ++ field_of load.least ++ codes "," ++ field_of load.greatest ++ codes "," ++ decimal load.sum ++ codes "\n"
+    codes "load," ++ field_of load.least ++ codes "," ++ field_of load.greatest
+    ++ codes "," ++ decimal load.sum ++ codes "\n"

@@ -1,6 +1,7 @@
 //! What is counted of each identifier of 11 bits: whether it has an owner, its frames in a trace, and its requests.
 
-ghost use Rattle.std.specs.Prelude.{◌≡◌, ℕ, ◌+◌, ◌^◌, ◌<◌, ◌||◌, ◌==◌, IfOk, if◌then◌else◌, length, slice_index, slice_index_or, false};
+ghost use Rattle.std.specs.Prelude.{◌≡◌, ℕ, ◌+◌, ◌^◌, ◌<◌, ◌||◌, ◌==◌};
+ghost use Rattle.std.specs.Prelude.{IfOk, if◌then◌else◌, length, slice_index, slice_index_or, false};
 ghost use Rattle.async_window.specs.Waiting.{frames_with, requests_of};
 ghost use Rattle.plan_report.specs.Report.{identifiers, is_owned};
 

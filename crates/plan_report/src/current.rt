@@ -87,7 +87,8 @@ fn first_left(placed: &[Placed], from: usize, slot: u8, cycle: u64) -> usize
     ensures over { (place : ℕ) (p : Placed) → from ≤ place → place < result → slice_get placed.now place ≡ Some p
         → p.entry.slot ≡ slot
         → is_over cycle p ≡ true }
-    ensures left { (p : Placed) → slice_get placed.now result ≡ Some p → (p.entry.slot ≡ slot) × (is_over cycle p ≡ false) }
+    ensures left { (p : Placed) → slice_get placed.now result ≡ Some p
+        → (p.entry.slot ≡ slot) × (is_over cycle p ≡ false) }
 {
     for place in from..placed.len() {
         if is_left(&placed[place], slot, cycle) {

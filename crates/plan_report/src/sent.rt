@@ -1,6 +1,7 @@
 //! What was sent of each entry in a trace: one walk over the frames, in which each frame of a slot finds its entry.
 
-ghost use Rattle.std.specs.Prelude.{◌≡◌, ℕ, ◌+◌, ◌-◌, ◌^◌, ◌<◌, ◌≤◌, ◌++◌, ◌∷◌, [], List, All, IfOk, MatchOption, length};
+ghost use Rattle.std.specs.Prelude.{◌≡◌, ℕ, ◌+◌, ◌-◌, ◌^◌, ◌<◌, ◌≤◌, ◌++◌, ◌∷◌, []};
+ghost use Rattle.std.specs.Prelude.{List, All, IfOk, MatchOption, length};
 ghost use Rattle.can_frame.specs.declared.data_frame.TimedFrame.{TimedFrame};
 ghost use Rattle.requirement_table.specs.Slots.{slots};
 ghost use Rattle.requirement_table.specs.Table.{IsWellPlaced};
@@ -50,7 +51,8 @@ fn triggers_with(seen: u64, sent: &TimedFrame) -> u64
 
 /// The slot of a frame, where it is one of a slot.
 fn slot_of(sent: &TimedFrame) -> Option<u8>
-    ensures slot { MatchOption result ((slot : ℕ) → slot < slots → sent.now.frame.identifier ≡ first_identifier + slot → ⊥)
+    ensures slot { MatchOption result ((slot : ℕ) → slot < slots
+        → sent.now.frame.identifier ≡ first_identifier + slot → ⊥)
         (λ slot. (slot < slots) × (sent.now.frame.identifier ≡ first_identifier + slot)) }
 {
     let id = sent.frame.id();

@@ -56,7 +56,8 @@ fn push_entry_rows(
     trace: &[TimedFrame],
 ) -> Result<(), AllocError>
     requires well_placed { IsWellPlaced placed.now }
-    ensures ok { OnOk result (string_bytes text.new ≡ string_bytes text.old ++ flat_map (entry_row trace.now) placed.now) }
+    ensures ok { OnOk result
+        (string_bytes text.new ≡ string_bytes text.old ++ flat_map (entry_row trace.now) placed.now) }
 {
     let tallies = tallies(alloc, placed, trace)?;
     for (place, p) in placed.iter().enumerate() {

@@ -1,23 +1,21 @@
 -- The plan of a cycle, from the line of its pending instances.
-use Rattle.std.proofs.Common.{◌≡◌, ◌≢◌, ℕ, zero, suc, ◌+◌, ◌-◌, ◌^◌, ◌<◌, ◌≤◌, ◌&&◌, ◌||◌, ◌↔◌, not, Bool, true, false, nat_eq, nat_le, Option, Some, None, List, [], ◌∷◌, ◌++◌, All, AllPairs, Any, Contains, length, get_or, map, take, drop, refl, sym, ap, ◌∙◌, ⊎_elim, arith, length-take}
+use Rattle.std.proofs.Common.{◌≡◌, ◌≢◌, ℕ, zero, suc, ◌+◌, ◌^◌, ◌<◌, ◌≤◌, ◌||◌, Bool, true, false, nat_eq, nat_le, Some, None, List, [], ◌∷◌, All, AllPairs, Contains, length, get_or, map, take, drop, refl, sym, ap, ◌∙◌, ⊎_elim, arith, length-take}
 use Rattle.std.specs.List.{list_any, sum_by}
 use Rattle.std.specs.Option.{option_map_or}
-use Rattle.std.proofs.lemmas.Bool.{and_from, and_parts, both_ways, cases_lt, eq-eqb, eqb-true, false_from_ne_true}
+use Rattle.std.proofs.lemmas.Bool.{and_from, and_parts, cases_lt, eq-eqb, eqb-true, false_from_ne_true}
 use Rattle.std.proofs.lemmas.List.{get_or-map, get_or-take, length-map, take-map, take-take}
 use Rattle.std.proofs.lemmas.List.Elements.{All-contains, All-drop, All-head, All-map, All-tail, All-take, All-weaker, Contains-get_or}
 use Rattle.std.proofs.lemmas.List.Folds.{Any-from_list_any, list_any-from_Any}
 use Rattle.std.proofs.lemmas.List.Sums.{sum_by-cons, sum_by-take-le}
-use Rattle.requirement_table.specs.declared.entries.Placed.{Placed}
-use Rattle.requirement_table.specs.Instance.{Instance, MaySend, deadline_of, release_of, worst_of}
+use Rattle.requirement_table.specs.Instance.{MaySend, deadline_of, worst_of}
 use Rattle.requirement_table.specs.Slots.{contains_slot, set_of, slots}
 use Rattle.requirement_table.specs.Table.{IsWellPlaced, instance_in, is_last_in, width_in, worst_in}
-use Rattle.requirement_table.proofs.Shared.{set_of-from_slots, sum_where-same}
+use Rattle.requirement_table.proofs.Shared.{found-in, found-of, set_of-from_slots, sum_where-same}
 use Rattle.planner_policies.specs.declared.due.Due.{Due}
 use Rattle.planner_policies.specs.declared.state.Miss.{Miss}
-use Rattle.planner_policies.specs.Due.{IsDueIn, IsLeastMissed, IsLongestFit, IsWholeLine, is_due_by, miss_of}
+use Rattle.planner_policies.specs.Due.{IsDueIn, IsLeastMissed, IsLongestFit, IsWholeLine, is_due_by}
 use Rattle.planner_policies.specs.Order.{IsInKeyOrder, IsLongestFront}
 use Rattle.planner_policies.specs.Plan.{HasNoMissIn, IsHeldFrom, IsMissIn, IsValid, Planning, by_number, is_by, is_missed_in, key_in, key_of, left_after, pending_in, planned_in, priority_in}
-use Rattle.planner_policies.proofs.Held.{found-in, found-of}
 use Rattle.planner_policies.proofs.Longest.{has, left-iff, planned-iff, same-test, sum_where-list}
 use Rattle.planner_policies.proofs.Pairs.{pairs-map}
 

@@ -1,18 +1,17 @@
 -- What is planned fits the window, is pending, and has something to send; states without a miss stay valid.
 use Rattle.std.proofs.Common.{◌≡◌, ◌≢◌, ℕ, zero, suc, ◌+◌, ◌-◌, ◌<◌, ◌≤◌, ◌&&◌, ◌||◌, ◌⊎◌, inl, inr, not, Bool, true, false, nat_eq, nat_le, nat_lt, if◌then◌else◌, Option, Some, None, IsSome, List, refl, sym, ap, ◌∙◌, ⊎_elim, arith}
 use Rattle.std.specs.Option.{option_map_or}
-use Rattle.std.proofs.lemmas.Bool.{and_from, and_parts, both_ways, cases_Bool, cases_eq, cases_lt, eq-eqb, false_from_ne_true, leb-true, lt-ltb, ltb-true, not_from_false, or_cases}
+use Rattle.std.proofs.lemmas.Bool.{and_from, and_parts, both_ways, cases_Bool, cases_eq, eq-eqb, leb-true, ltb-true, or_cases}
 use Rattle.requirement_table.specs.declared.entries.Placed.{Placed}
-use Rattle.requirement_table.specs.Instance.{Instance, MaySend, deadline_of, release_of}
+use Rattle.requirement_table.specs.Instance.{Instance, MaySend, deadline_of}
 use Rattle.requirement_table.specs.Slots.{contains_slot, set_of, slots, sum_where}
 use Rattle.requirement_table.specs.Table.{IsWellPlaced, held_before, instance_in, is_last_in, releases_in, width_in, worst_in}
 use Rattle.requirement_table.specs.Flags.{IsGoodCycle, waits}
-use Rattle.requirement_table.proofs.Shared.{contains_slot-set_of}
-use Rattle.planner_policies.specs.Plan.{HasNoMiss, HasNoMissIn, IsHeldFrom, IsValid, Planning, flags_of, is_by, is_missed_at, is_missed_in, left_after, pending_at, pending_before, pending_in, planned_at, planned_in}
-use Rattle.planner_policies.proofs.Going.{before-first, before-next, pending-test, state-left, state-missed}
-use Rattle.planner_policies.proofs.Held.{found-in, found-of}
+use Rattle.requirement_table.proofs.Shared.{contains_slot-set_of, found-in, found-of}
+use Rattle.planner_policies.specs.Plan.{HasNoMiss, HasNoMissIn, IsValid, Planning, flags_of, is_by, is_missed_in, left_after, pending_at, pending_before, pending_in, planned_at, planned_in}
+use Rattle.planner_policies.proofs.Going.{before-first, state-left, state-missed}
 use Rattle.planner_policies.proofs.KeyOrder.{is_by-refl, is_by-total, is_by-trans}
-use Rattle.planner_policies.proofs.Rows.{IsReleaser, releaser-of}
+use Rattle.planner_policies.proofs.Rows.{releaser-of}
 
 -- among the slots below n that pass a test there is a last one in key order, if there is any
 record IsLastOf (plan : Planning) (c : ℕ) (p : ℕ → Bool) (n : ℕ) : Type 0 where

@@ -1,23 +1,21 @@
 -- The instances that are pending in a cycle, found among the rows of a table.
-use Rattle.std.proofs.Common.{◌≡◌, ◌≢◌, ℕ, zero, suc, ◌+◌, ◌<◌, ◌≤◌, ◌&&◌, ◌||◌, Bool, true, false, nat_eq, if◌then◌else◌, Option, Some, None, is_some, List, [], ◌∷◌, ◌++◌, All, AllPairs, Any, Contains, IsPermutation, length, get_or, map, take, slice_get, refl, sym, ap, ◌∙◌, ⊎_elim, eqb, subst, arith}
-use Rattle.std.specs.List.{count_by, list_any, sum_by}
-use Rattle.std.proofs.lemmas.Bool.{both_ways, cases_eq, eq-eqb, eqb-true, and_parts, and_from, or_cases, or_from, or_left, or_parts, or_right}
+use Rattle.std.proofs.Common.{◌≡◌, ◌≢◌, ℕ, ◌+◌, ◌<◌, ◌≤◌, ◌&&◌, ◌||◌, Bool, true, false, nat_eq, if◌then◌else◌, Option, Some, None, is_some, List, [], ◌∷◌, All, AllPairs, Contains, IsPermutation, length, get_or, map, take, slice_get, refl, sym, ap, ◌∙◌, ⊎_elim, arith}
+use Rattle.std.specs.List.{count_by, list_any}
+use Rattle.std.proofs.lemmas.Bool.{both_ways, eq-eqb, eqb-true, and_parts, and_from, or_cases, or_from, or_left, or_parts, or_right}
 use Rattle.std.proofs.lemmas.Option.{slice_get-get_or, same_Some}
-use Rattle.std.proofs.lemmas.List.{length-map, take_all, take_more}
-use Rattle.std.proofs.lemmas.List.Elements.{All-append, All-contains, All-contains_itself, All-cons, All-head, All-map, All-nil, All-same, All-tail, All-weaker, Contains-get_or}
+use Rattle.std.proofs.lemmas.List.{length-map}
+use Rattle.std.proofs.lemmas.List.Elements.{All-contains, All-contains_itself, All-cons, All-head, All-map, All-nil, All-tail, All-weaker}
 use Rattle.std.proofs.lemmas.List.Folds.{Any-from_list_any, list_any-append, list_any-from_Any, list_any_kept, list_any_more}
 use Rattle.std.proofs.lemmas.List.Sorted.{All-permutation, list_any-IsPermutation, sum_by-IsPermutation}
 use Rattle.std.proofs.lemmas.List.Sums.{get_or-le-sum_by, sum_by-cons, sum_by_more_le}
 use Rattle.requirement_table.specs.declared.entries.Placed.{Placed}
-use Rattle.requirement_table.specs.Instance.{Exists, Instance, IsReleasedIn, MaySend, instance_of, release_of, released_by}
+use Rattle.requirement_table.specs.Instance.{Exists, IsReleasedIn, MaySend, instance_of, release_of, released_by}
 use Rattle.requirement_table.specs.Slots.{contains_slot, slots}
 use Rattle.requirement_table.specs.Table.{IsInRange, IsWellPlaced, instance_in, releases_in}
-use Rattle.requirement_table.proofs.Shared.{IsReleasedIn-from_released_by, MaySend-from_instance, instance_of-sent, one_instance, released_by-released}
-use Rattle.planner_policies.specs.declared.Policy.{Policy}
+use Rattle.requirement_table.proofs.Shared.{IsReleasedIn-from_released_by, MaySend-from_instance, found-in, found-of, instance_of-sent, one_instance, released_by-released}
 use Rattle.planner_policies.specs.declared.due.Due.{Due}
-use Rattle.planner_policies.specs.Due.{IsDueIn, IsDueOf, IsLined, IsOf, IsPending, IsPutIn, IsWholeLine, is_due_by, waits}
-use Rattle.planner_policies.specs.Plan.{IsHeldFrom, IsValid, Planning, pending_in}
-use Rattle.planner_policies.proofs.Held.{found-in, found-of}
+use Rattle.planner_policies.specs.Due.{IsDueIn, IsDueOf, IsLined, IsPending, IsPutIn, IsWholeLine, is_due_by}
+use Rattle.planner_policies.specs.Plan.{IsValid, Planning, pending_in}
 use Rattle.planner_policies.proofs.KeyOrder.{due_by-total}
 use Rattle.planner_policies.proofs.Pairs.{all-join, all-parts, pairs-cons, count-distinct, pairs-head, pairs-join, pairs-map, pairs-tail}
 

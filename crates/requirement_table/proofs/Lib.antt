@@ -1,8 +1,10 @@
 mod Bytes
 mod FlaggedOnce
+mod Found
 mod FreeSlots
 mod Latest
 mod NotOver
+mod Rounds
 pub mod Shared
 mod SlotInstances
 mod SlotSets

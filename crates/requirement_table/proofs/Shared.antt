@@ -4,3 +4,5 @@ pub use Rattle.requirement_table.proofs.SlotSets.{contains_slot-none, contains_s
 pub use Rattle.requirement_table.proofs.Latest.{div-since, period-parts, exists-true, Exists-from_test, latest-of_sent, latest-of_released, instance_of-sent, MaySend-from_instance, released_by-released, IsReleasedIn-from_released_by}
 pub use Rattle.requirement_table.proofs.SlotInstances.{one_instance, instance_in-found, instance_in-sound, released_in-sound, released_in-complete}
 pub use Rattle.requirement_table.proofs.NotOver.{not_over-well_placed, instance_in-not_over, releases_in-not_over}
+pub use Rattle.requirement_table.proofs.Found.{IsFound, found-in, found-of}
+pub use Rattle.requirement_table.proofs.Rounds.{GoesRound, IsMoved, SameAgain, instance-again, later, moved-again, same-again}

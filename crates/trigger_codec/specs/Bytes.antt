@@ -1,5 +1,6 @@
 -- The trigger message of an elementary cycle. The layout of its bytes is this project's own.
-use Rattle.std.specs.Prelude.{ℕ, ◌+◌, ◌*◌, ◌/◌, ◌%◌, ◌^◌, List, [], ◌∷◌, length, slice_index, nat_eq, nat_le, ◌&&◌, if◌then◌else◌, Option, Some, None}
+use Rattle.std.specs.Prelude.{ℕ, ◌+◌, ◌*◌, ◌/◌, ◌%◌, ◌^◌, List, [], ◌∷◌}
+use Rattle.std.specs.Prelude.{length, slice_index, nat_eq, nat_le, ◌&&◌, if◌then◌else◌, Option, Some, None}
 use Rattle.std.specs.Int.{byte_at}
 use Rattle.can_frame.specs.DataFrame.{DataFrame}
 use Rattle.trigger_codec.specs.declared.message.Trigger.{Trigger}

@@ -1,5 +1,6 @@
 -- What a pass knows, and how each call changes it.
-use Rattle.std.specs.Prelude.{◌≡◌, ◌≢◌, ℕ, ◌+◌, ◌-◌, ◌*◌, ◌⊎◌, List, [], ◌∷◌, ◌++◌, length, true, false, cond, nat_le, Option, Some, None, Contains}
+use Rattle.std.specs.Prelude.{◌≡◌, ◌≢◌, ℕ, ◌+◌, ◌-◌, ◌*◌, ◌⊎◌, List, [], ◌∷◌, ◌++◌}
+use Rattle.std.specs.Prelude.{length, true, false, cond, nat_le, Option, Some, None, Contains}
 use mathlib.Core.List.{IsPrefix}
 use Rattle.atomic_table.specs.Seated.{TableId}
 use Rattle.turn_lock.specs.History.{own, added, HasEnded}
@@ -34,11 +35,39 @@ module _ {E F : Type 0} where
 
   -- the first pass of a lock
   abbrev pub first_view : F → View E F
-  first_view fixed = record { spent = false; found = None; number = 0; refused = 0; last = 0; made = 0; out = 0; fixed = Some fixed; seen = []; mine = []; ended = []; taken = []; met = [] }
+  first_view fixed = record {
+    spent = false;
+    found = None;
+    number = 0;
+    refused = 0;
+    last = 0;
+    made = 0;
+    out = 0;
+    fixed = Some fixed;
+    seen = [];
+    mine = [];
+    ended = [];
+    taken = [];
+    met = [];
+  }
 
   -- what is left of a pass that was joined
   abbrev pub spent_view : View E F
-  spent_view = record { spent = true; found = None; number = 0; refused = 0; last = 0; made = 0; out = 0; fixed = None; seen = []; mine = []; ended = []; taken = []; met = [] }
+  spent_view = record {
+    spent = true;
+    found = None;
+    number = 0;
+    refused = 0;
+    last = 0;
+    made = 0;
+    out = 0;
+    fixed = None;
+    seen = [];
+    mine = [];
+    ended = [];
+    taken = [];
+    met = [];
+  }
 
   -- the turn was granted, and this list found
   abbrev pub granted : List E → View E F → View E F
@@ -62,7 +91,21 @@ module _ {E F : Type 0} where
 
   -- the pass that was split from it
   abbrev pub split_off : View E F → View E F
-  split_off v = record { spent = false; found = None; number = v.made + 1; refused = 0; last = 0; made = 0; out = 0; fixed = v.fixed; seen = v.seen; mine = []; ended = []; taken = []; met = [] }
+  split_off v = record {
+    spent = false;
+    found = None;
+    number = v.made + 1;
+    refused = 0;
+    last = 0;
+    made = 0;
+    out = 0;
+    fixed = v.fixed;
+    seen = v.seen;
+    mine = [];
+    ended = [];
+    taken = [];
+    met = [];
+  }
 
   -- another pass was joined into it
   abbrev pub joined : View E F → View E F → View E F
@@ -76,7 +119,8 @@ module _ {E F : Type 0} where
 
   -- each entry that was seen is the pass's own, or one of a pass that was joined into it
   abbrev pub IsCovered : View E F → Type 0
-  IsCovered v = (e : E) → Contains v.seen e → Contains v.mine e ⊎ ((n : ℕ) × (entries : List E) × Contains v.ended (n, entries) × Contains entries e)
+  IsCovered v = (e : E) → Contains v.seen e
+      → Contains v.mine e ⊎ ((n : ℕ) × (entries : List E) × Contains v.ended (n, entries) × Contains entries e)
 
 module _ {T E F : Type 0} (entries : T → List E) where
   -- the value stands for the list that was found
@@ -85,14 +129,16 @@ module _ {T E F : Type 0} (entries : T → List E) where
 
   -- the value stands for the list that was found with one entry behind it, which a pass of this number may make
   abbrev pub IsOneMore : (E → ℕ) → View E F → T → E → Type 0
-  IsOneMore number v value e = (found : List E) × (v.found ≡ Some found) × (entries value ≡ found ++ e ∷ []) × (number e ≡ v.number)
+  IsOneMore number v value e =
+      (found : List E) × (v.found ≡ Some found) × (entries value ≡ found ++ e ∷ []) × (number e ≡ v.number)
 
 -- what is true of every pass
 pub record Facts {E F : Type 0} (number : E → ℕ) (v : View E F) : Type 0 where
   -- its own entries are all that it has seen with its number
   pub own_are : own number v.number v.seen ≡ v.mine
   -- the entries of a pass that was joined into it are all that it has seen with that number, which is another
-  pub ended_are : (n : ℕ) (entries : List E) → Contains v.ended (n, entries) → (own number n v.seen ≡ entries) × (n ≢ v.number)
+  pub ended_are : (n : ℕ) (entries : List E) → Contains v.ended (n, entries)
+      → (own number n v.seen ≡ entries) × (n ≢ v.number)
   -- what was split from it is out, or was joined into it
   pub counted : v.made ≡ v.out + length v.ended
   -- the lists that met in the last joining begin what it has seen
@@ -102,7 +148,8 @@ pub record Facts {E F : Type 0} (number : E → ℕ) (v : View E F) : Type 0 whe
   -- the last word that refused it is odd
   pub odd : v.refused ≢ 0 → (k : ℕ) × (v.last ≡ 2 * k + 1)
   -- where the first pass has none out, a pass of another number was granted the turn at the length that refused it
-  pub waited : v.number ≡ 0 → v.out ≡ 0 → v.refused ≢ 0 → (n k : ℕ) × (n ≢ 0) × (v.last ≡ 2 * k + 1) × Contains v.taken (n, k)
+  pub waited : v.number ≡ 0 → v.out ≡ 0 → v.refused ≢ 0
+      → (n k : ℕ) × (n ≢ 0) × (v.last ≡ 2 * k + 1) × Contains v.taken (n, k)
 
 -- the slots that a pass holds: the one slot, with nothing in it, while it holds the turn
 abbrev pub carried : {T E : Type 0} → Option (List E) → List (ℕ × Option T)

@@ -1,6 +1,7 @@
 //! The turn: to try for it, and to let it go.
 
-ghost use Rattle.std.specs.Prelude.{◌≡◌, ◌≢◌, ◌+◌, ◌*◌, ◌%◌, ◌≤◌, ◌∷◌, ◌++◌, [], ℕ, Some, IfOk, IfErr, MatchResult, length};
+ghost use Rattle.std.specs.Prelude.{◌≡◌, ◌≢◌, ◌+◌, ◌*◌, ◌%◌, ◌≤◌, ◌∷◌, ◌++◌, [], ℕ};
+ghost use Rattle.std.specs.Prelude.{Some, IfOk, IfErr, MatchResult, length};
 ghost use Rattle.std.specs.Borrow.{sem, RestsIfErr, Lends};
 ghost use mathlib.Core.List.{IsPrefix};
 ghost use mir.Syntax.{named};

@@ -50,7 +50,8 @@ impl Desk {
     /// Puts a call behind the others, if there is room.
     fn note(&mut self, call: (u64, u64)) -> bool
         ensures name { self.new.name ≡ self.old.name }
-        ensures noted { MatchBool result (self.new.calls.items ≡ self.old.calls.items ++ call ∷ []) (self.new.calls.items ≡ self.old.calls.items) }
+        ensures noted { MatchBool result (self.new.calls.items ≡ self.old.calls.items ++ call ∷ [])
+            (self.new.calls.items ≡ self.old.calls.items) }
     {
         if self.calls.len() >= MOST {
             return false;
@@ -65,7 +66,8 @@ fn note_once(turn: &Turn<Desk>, pass: &mut Pass<Desk>, count: u64, wanted: bool)
     ensures ready { IsReady turn.now pass.new }
     ensures number { pass.new.view.number ≡ pass.old.view.number }
     ensures out { pass.new.view.out ≡ pass.old.view.out }
-    ensures mine { MatchBool result (pass.new.view.mine ≡ pass.old.view.mine ++ (pass.old.view.number, count) ∷ []) (pass.new.view.mine ≡ pass.old.view.mine) }
+    ensures mine { MatchBool result (pass.new.view.mine ≡ pass.old.view.mine ++ (pass.old.view.number, count) ∷ [])
+        (pass.new.view.mine ≡ pass.old.view.mine) }
 {
     let number = pass.number();
     match pass.try_turn(turn) {
@@ -154,7 +156,8 @@ fn hire(
     requires ready { IsReady turn.now first.old }
     requires first { (first.old.view.number ≡ 0) × (first.old.view.made ≡ 0) × (first.old.view.out ≡ 0) }
     requires few { count < 100 }
-    ensures first { IfOk result (λ passes. IsReady turn.now first.new × (first.new.view.number ≡ 0) × (first.new.view.out ≡ vec_len passes)) }
+    ensures first { IfOk result
+        (λ passes. IsReady turn.now first.new × (first.new.view.number ≡ 0) × (first.new.view.out ≡ vec_len passes)) }
     ensures passes { IfOk result (λ passes. All (λ pass. IsReady turn.now pass × (pass.view.number ≢ 0)) passes.items) }
 {
     let mut passes = Vec::new(alloc);

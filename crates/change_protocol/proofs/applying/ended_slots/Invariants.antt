@@ -5,4 +5,4 @@ use Rattle.change_protocol.specs.Operations.{ends}
 use Rattle.change_protocol.proofs.applying.ended_slots.Given as goal
 
 abbrev pub invariant-loop-op : goal.invariant-loop-op
-invariant-loop-op l = (slot : ℕ) → contains_slot l.slots slot ≡ list_any (ends slot) (take l.op-index l.ops)
+invariant-loop-op l = (slot : ℕ) → contains_slot l.ended slot ≡ list_any (ends slot) (take l.op-index l.ops)

@@ -2,13 +2,13 @@
 use Rattle.std.proofs.Common.{◌≡◌, true, sym, ◌∙◌}
 use Rattle.std.specs.Char.{is_ascii_digit}
 use Rattle.std.specs.List.{list_all}
-use Rattle.input_text.proofs.CsvFields.{digits_utf8, parsed}
+use Rattle.input_text.proofs.CsvFields.{decimal_utf8, parsed}
 use Rattle.input_text.proofs.csv_rows.read_number.Goals as goal
 
 pub returns-in_default : goal.returns-in_default
 returns-in_default c =
     let digits : list_all is_ascii_digit c.args.field.now ≡ true = sym c.if-not-all_digits.ensures.value in
-    absurd (c.in_default.ensures.cases.0 (digits_utf8 c.args.field.now digits))
+    absurd (c.in_default.ensures.cases.0 (decimal_utf8 c.args.field.now digits))
 
 pub returns : goal.returns
 returns c =

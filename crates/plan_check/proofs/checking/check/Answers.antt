@@ -1,12 +1,10 @@
-use Rattle.std.proofs.Common.{◌≡◌, ℕ, ◌-◌, ◌+◌, ◌∙◌, refl, sym, ap, not, ◌&&◌, nat_eq, ◌<◌, ◌≤◌, List, Result, Ok, Err, IsOk, IsErr, length, arith}
+use Rattle.std.proofs.Common.{◌≡◌, ℕ, ◌-◌, ◌+◌, ◌∙◌, refl, ap, not, ◌&&◌, nat_eq, ◌<◌, ◌≤◌, List, Result, Ok, Err, IsOk, IsErr, length, arith}
 use Rattle.std.specs.List.{list_any}
 use Rattle.requirement_table.specs.declared.entries.Placed.{Placed}
 use Rattle.requirement_table.specs.Slots.{contains_slot, slots}
-use Rattle.plan_check.specs.declared.breach.Breach.{Breach}
-use Rattle.plan_check.specs.declared.breach.Breach.TheVariants.{BadLoop, NotClosed}
+use Rattle.plan_check.specs.declared.breach.Breach.TheVariants.{BadLoop}
 use Rattle.plan_check.specs.Certificate.{CertificateView, IsCertificate, length_of}
-use Rattle.plan_check.specs.PlanKept.{IsTaken, NoSlot, differ, goes_round, is_bad, is_held, is_open}
-use Rattle.plan_check.specs.Breaches.{IsBreach, IsLeastSlot, IsNotClosed}
+use Rattle.plan_check.specs.PlanKept.{IsTaken, differ, goes_round, is_bad, is_held, is_open}
 use Rattle.plan_check.proofs.CycleSteps.{least-same, none-same}
 use Rattle.plan_check.proofs.Taken.{breach-wrong, passes-none, taken-of}
 use Rattle.plan_check.proofs.checking.check.Goals as goal

@@ -1,7 +1,7 @@
-use Rattle.std.proofs.Common.{◌≡◌, ◌<◌, ◌≤◌, ◌∙◌, sym, ap, refl, not, ◌&&◌, None, slice_index_or, arith}
+use Rattle.std.proofs.Common.{◌≤◌, ◌∙◌, ap, refl, not, ◌&&◌, None, slice_index_or, arith}
 use Rattle.requirement_table.specs.Slots.{contains_slot}
 use Rattle.plan_check.specs.PlanKept.{NoSlot}
-use Rattle.plan_check.specs.Rows.{unreleased_in, waits_in, width_of_row}
+use Rattle.plan_check.specs.Rows.{unreleased_in, width_of_row}
 use Rattle.plan_check.proofs.CycleSteps.{none-same, row-missed}
 use Rattle.plan_check.proofs.checking.check_cycle.Goals as goal
 

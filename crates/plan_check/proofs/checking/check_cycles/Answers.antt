@@ -1,9 +1,7 @@
-use Rattle.std.proofs.Common.{◌≡◌, ℕ, ◌+◌, ◌-◌, ◌<◌, ◌≤◌, ◌∙◌, refl, sym, ap, List, get_or, length, rules, arith}
+use Rattle.std.proofs.Common.{◌≡◌, ℕ, ◌+◌, ◌-◌, ◌<◌, ◌≤◌, ◌∙◌, refl, ap, List, get_or, length, rules, arith}
 use Rattle.std.proofs.lemmas.List.{get_or_default}
-use Rattle.requirement_table.specs.Slots.{contains_slot, slots}
 use Rattle.plan_check.specs.Certificate.{CertificateView, IsCertificate, length_of}
-use Rattle.plan_check.specs.PlanKept.{is_held}
-use Rattle.plan_check.specs.Breaches.{IsBreach, IsGoodAt, is_flagged}
+use Rattle.plan_check.specs.Breaches.{IsBreach}
 use Rattle.plan_check.proofs.Current.{passed-later}
 use Rattle.plan_check.proofs.CycleSteps.{before-step, good-more, held-start, mask-flags, passed-start, step-breach, step-good, step-held}
 use Rattle.plan_check.proofs.checking.check_cycles.Goals as goal

@@ -1,7 +1,7 @@
-use Rattle.std.proofs.Common.{◌≡◌, ◌+◌, ◌*◌, ◌^◌, ◌<◌, ◌≤◌, ◌++◌, ◌∷◌, [], List, ap, sym, ◌∙◌, get_or, length, suc, take, arith}
+use Rattle.std.proofs.Common.{◌≡◌, ◌+◌, ◌*◌, ◌++◌, ◌∷◌, [], List, ap, sym, ◌∙◌, get_or, length, suc, arith}
 use Rattle.std.proofs.lemmas.List.{take_more}
 use Rattle.std.proofs.Math.Nat.{pow-suc}
-use Rattle.plan_check.specs.PlanText.{hex_digits, mask_digits}
+use Rattle.plan_check.specs.PlanText.{hex_digits}
 use Rattle.plan_check.proofs.HexText.{hex-at, hex-next, hex_digits-zero, length-hex, pow-small}
 use Rattle.plan_check.proofs.plan_reading.read_mask.Goals as goal
 

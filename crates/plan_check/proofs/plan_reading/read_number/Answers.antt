@@ -1,6 +1,5 @@
-use Rattle.std.proofs.Common.{◌≡◌, ◌<◌, ◌&&◌, ◌∙◌, true, false, sym, ap, subst, length, get_or, nat_eq, nat_lt, List, Ok, arith}
+use Rattle.std.proofs.Common.{◌≡◌, ◌<◌, ◌&&◌, ◌∙◌, true, sym, ap, length, get_or, nat_eq, nat_lt, List, arith}
 use Rattle.std.specs.Char.{is_ascii_digit}
-use Rattle.std.specs.Fmt.{decimal}
 use Rattle.std.specs.List.{list_all}
 use Rattle.plan_check.proofs.Decimals.{decimal-digits, decimal-leading, decimal-parsed, decimal-some, digits-utf8, none-length, parsed-decimal, some-length}
 use Rattle.plan_check.proofs.plan_reading.read_number.Goals as goal

@@ -1,4 +1,4 @@
-use Rattle.std.proofs.Common.{rules, arith, append_assoc}
+use Rattle.std.proofs.Common.{arith, append_assoc}
 use Rattle.std.proofs.lemmas.Grind.{common_steps}
 use Rattle.plan_check.proofs.plan_text.push_head.Goals as goal
 

@@ -1,8 +1,4 @@
-use Rattle.std.proofs.Common.{◌≡◌, ◌≢◌, ℕ, ◌+◌, ◌^◌, ◌<◌, ◌≤◌, ◌++◌, ◌∷◌, [], List, codes, get_or, refl, sym, ap, ◌∙◌, arith}
-use Rattle.std.specs.Fmt.{decimal}
-use Rattle.requirement_table.specs.Slots.{slots}
-use Rattle.plan_check.specs.Certificate.{CertificateView, length_of}
-use Rattle.plan_check.specs.PlanText.{BeginsAsPlan, HasNoFeed, IsFirstWrongLine, IsReadable, IsReadableHead, lines_of_head, mask_digits, plan_lines, text_of}
+use Rattle.std.proofs.Common.{sym}
 use Rattle.plan_check.proofs.HeadReads.{wrong-first, wrong-from, wrong-head, wrong-length, wrong-length-range, wrong-near, wrong-pending}
 use Rattle.plan_check.proofs.plan_text.read_head.Goals as goal
 

@@ -1,6 +1,5 @@
-use Rattle.std.proofs.Common.{◌≡◌, ◌+◌, ◌^◌, ◌<◌, ◌++◌, ◌∷◌, [], All, length, ap, ◌∙◌, sym, subst, List, ℕ, rules, arith}
+use Rattle.std.proofs.Common.{◌≡◌, ◌+◌, ◌++◌, ◌∷◌, [], length, ap, ◌∙◌, List, ℕ, rules, arith}
 use Rattle.std.proofs.lemmas.List.{length-append}
-use Rattle.requirement_table.specs.Slots.{slots}
 use Rattle.plan_check.proofs.PlanReads.{all-snoc, masks-more}
 use Rattle.plan_check.proofs.plan_text.read_masks.Goals as goal
 

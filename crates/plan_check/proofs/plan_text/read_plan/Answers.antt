@@ -1,8 +1,7 @@
-use Rattle.std.proofs.Common.{◌≡◌, ℕ, ◌+◌, ◌-◌, ◌<◌, ◌≤◌, ◌++◌, ◌∷◌, [], List, codes, false, length, nat_eq, refl, sym, ap, ◌∙◌, rules, arith}
-use Rattle.plan_check.specs.declared.text_fault.PlanTextFault.{PlanTextFault}
-use Rattle.plan_check.specs.declared.text_fault.PlanTextFault.TheVariants.{Line, Memory}
-use Rattle.plan_check.specs.PlanText.{IsFirstWrongLine, IsTextFault}
-use Rattle.plan_check.proofs.BodyReads.{WasRead, fault-back, mask-fault, was-read, wrong-behind, wrong-end, wrong-mask}
+use Rattle.std.proofs.Common.{◌≡◌, ℕ, ◌+◌, ◌-◌, ◌∷◌, [], List, false, length, nat_eq, refl, sym, ap, rules, arith}
+use Rattle.plan_check.specs.declared.text_fault.PlanTextFault.TheVariants.{Memory}
+use Rattle.plan_check.specs.PlanText.{IsTextFault}
+use Rattle.plan_check.proofs.BodyReads.{fault-back, mask-fault, was-read, wrong-behind, wrong-end, wrong-mask}
 use Rattle.plan_check.proofs.Decimals.{none-length, some-length}
 use Rattle.plan_check.proofs.plan_text.read_plan.Goals as goal
 

@@ -1,4 +1,4 @@
-use Rattle.std.proofs.Common.{◌≡◌, ◌++◌, map, ap, ◌∙◌, codes}
+use Rattle.std.proofs.Common.{◌++◌, map, ap, ◌∙◌}
 use Rattle.std.specs.String.{string_bytes}
 use Rattle.plan_check.specs.PlanText.{mask_digits, text_of}
 use Rattle.plan_check.proofs.TextLines.{whole_text}

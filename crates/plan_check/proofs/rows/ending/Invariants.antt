@@ -1,4 +1,4 @@
-use Rattle.std.proofs.Common.{◌≡◌, ℕ, ◌<◌, ◌≤◌, ◌||◌, ◌&&◌, None, nat_le, slice_index_or}
+use Rattle.std.proofs.Common.{◌≡◌, ℕ, ◌<◌, ◌||◌, ◌&&◌, None, nat_le, slice_index_or}
 use Rattle.requirement_table.specs.Slots.{contains_slot}
 use Rattle.plan_check.specs.Rows.{is_last}
 use Rattle.plan_check.proofs.rows.ending.Given as goal

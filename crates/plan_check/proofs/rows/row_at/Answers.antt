@@ -1,4 +1,4 @@
-use Rattle.std.proofs.Common.{◌∙◌, arith}
+use Rattle.std.proofs.Common.{◌∙◌}
 use Rattle.std.proofs.Math.ListN.{length-set}
 use Rattle.plan_check.proofs.Current.{row-next}
 use Rattle.plan_check.proofs.rows.row_at.Goals as goal

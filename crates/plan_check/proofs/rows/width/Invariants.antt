@@ -1,4 +1,4 @@
-use Rattle.std.proofs.Common.{◌≡◌, ℕ, ◌*◌, ◌<◌, ◌≤◌, None, slice_index_or}
+use Rattle.std.proofs.Common.{◌≡◌, ◌*◌, ◌≤◌, None, slice_index_or}
 use Rattle.requirement_table.specs.Slots.{contains_slot, sum_where}
 use Rattle.plan_check.specs.Rows.{cost_of}
 use Rattle.plan_check.proofs.rows.width.Given as goal
