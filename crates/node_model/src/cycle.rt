@@ -41,8 +41,14 @@ pub fn is_in(at: u64, cycle: u64, length: u64) -> bool
     start <= at && at - start < length
 }
 
-/// The cycle as its trigger opens it for a node with these entries; without one it has nothing synchronous.
-pub fn opened_by(cycle: u64, trigger: Option<Trigger>, entries: &[Placed]) -> Open
+/// The cycle as its trigger opens it for a node with these entries; without one it has nothing synchronous. The numbers
+/// of the instances that may be sent in it are noted by slot.
+pub fn opened_by(
+    cycle: u64,
+    trigger: Option<Trigger>,
+    entries: &[Placed],
+    numbers: &mut [u64],
+) -> Open
     requires well_placed { IsWellPlaced entries.now }
     ensures opened { opened_of result ≡ opened_by cycle trigger }
     ensures due { KnowsDue entries.now result }
@@ -57,7 +63,7 @@ pub fn opened_by(cycle: u64, trigger: Option<Trigger>, entries: &[Placed]) -> Op
         width,
         mask,
         heard,
-        due: unheard(mask, sendable_slots(entries, cycle), heard),
+        due: unheard(mask, sendable_slots(entries, cycle, numbers), heard),
     }
 }
 
@@ -71,14 +77,19 @@ pub fn sends_from(opened: &Option<Open>, next: u64) -> u64
     }
 }
 
-/// The open cycle, where there is one, of a node that learnt these entries.
-pub fn after_learning(before: &Option<Open>, entries: &[Placed]) -> Option<Open>
+/// The open cycle, where there is one, of a node that learnt these entries. The numbers of the instances that may be
+/// sent in it are noted by slot.
+pub fn after_learning(
+    before: &Option<Open>,
+    entries: &[Placed],
+    numbers: &mut [u64],
+) -> Option<Open>
     requires well_placed { IsWellPlaced entries.now }
     ensures opened { option_map opened_of result ≡ option_map opened_of before.now }
     ensures due { IfSome result (KnowsDue entries.now) }
 {
     let before = before.as_ref()?;
-    let sendable = sendable_slots(entries, before.cycle);
+    let sendable = sendable_slots(entries, before.cycle, numbers);
     Some(Open {
         due: unheard(before.mask, sendable, before.heard),
         ..*before

@@ -1,8 +1,8 @@
 //! The entries of a node: which of a list are its own, their slots, and the instances that may be sent in a cycle.
 
-ghost use Rattle.std.specs.Prelude.{◌≡◌, ◌≤◌, ℕ, [], Some, ◌+◌, Bool, is_some, length, option_map, vec_capacity, IfSome, IfOk};
+ghost use Rattle.std.specs.Prelude.{◌≡◌, ◌<◌, ◌≤◌, ℕ, true, [], Some, ◌+◌, Bool, is_some, length, option_map, vec_capacity, IfSome, IfOk};
 ghost use Rattle.requirement_table.specs.Slots.{contains_slot};
-ghost use Rattle.requirement_table.specs.Instance.{bytes_of};
+ghost use Rattle.requirement_table.specs.Instance.{MaySend, bytes_of, release_of};
 ghost use Rattle.requirement_table.specs.Table.{IsWellPlaced, instance_in, not_over};
 ghost use Rattle.node_model.specs.Node.{entries_of, identifiers_of};
 ghost use Rattle.node_model.specs.Kept.{AreSlotsOf, HaveInstances};
@@ -50,6 +50,8 @@ pub struct Remaining {
     pub until: u64,
     /// For each slot the place of its first entry among them. A slot's instance is looked for there first.
     pub first: [Option<usize>; SLOTS as usize],
+    /// For each slot the number of its instance in the cycle that was looked at last: a guess, which is tested.
+    pub numbers: [u64; SLOTS as usize],
 }
 
 impl Remaining {
@@ -61,6 +63,7 @@ impl Remaining {
             entries: Vec::new(alloc),
             until: u64::MAX,
             first: [None; SLOTS as usize],
+            numbers: [0; SLOTS as usize],
         }
     }
 
@@ -111,12 +114,14 @@ impl Remaining {
         ensures few { IfSome result (λ bytes. length bytes ≤ 8) }
     {
         let place = *self.first.get(usize::from(slot))?;
-        payload_at(self.entries.as_slice(), place?, slot, cycle)
+        let guess = *self.numbers.get(usize::from(slot))?;
+        payload_at(self.entries.as_slice(), place?, slot, guess, cycle)
     }
 }
 
-/// The bytes of the instance of a slot that may be sent in a cycle, where it is that of the entry at a place.
-fn payload_at(entries: &[Placed], place: usize, slot: u8, cycle: u64) -> Option<Payload>
+/// The bytes of the instance of a slot that may be sent in a cycle, where it is that of the entry at a place. Its number
+/// may be guessed.
+fn payload_at(entries: &[Placed], place: usize, slot: u8, guess: u64, cycle: u64) -> Option<Payload>
     requires well_placed { IsWellPlaced entries.now }
     ensures bytes { IfSome result (λ bytes. option_map bytes_of (instance_in entries.now slot cycle) ≡ Some bytes) }
     ensures few { IfSome result (λ bytes. length bytes ≤ 8) }
@@ -125,8 +130,51 @@ fn payload_at(entries: &[Placed], place: usize, slot: u8, cycle: u64) -> Option<
     if p.entry.slot != slot {
         return None;
     }
-    let number = current(p, cycle)?;
+    let number = number_in(p, guess, cycle)?;
     Some(Payload::of(p.entry.length, number))
+}
+
+/// The number of the instance of an entry that may be sent in a cycle. Where the guess is right, no division is made.
+fn number_in(p: &Placed, guess: u64, cycle: u64) -> Option<u64>
+    requires deadline { 1 ≤ p.now.entry.deadline }
+    requires period { p.now.entry.deadline ≤ p.now.entry.period }
+    ensures sendable { IfSome result (λ k. MaySend p.now k cycle) }
+{
+    if may_send(p, guess, cycle) {
+        Some(guess)
+    } else {
+        current(p, cycle)
+    }
+}
+
+/// Whether an instance of an entry may be sent in a cycle.
+fn may_send(p: &Placed, number: u64, cycle: u64) -> bool
+    ensures sendable { result ≡ true → MaySend p.now number cycle }
+{
+    match release(p, number) {
+        Some(release) => {
+            release <= cycle && cycle - release < u64::from(p.entry.deadline) && exists(p, release)
+        }
+        None => false,
+    }
+}
+
+/// The cycle in which an instance of an entry is released, where that fits.
+fn release(p: &Placed, number: u64) -> Option<u64>
+    ensures release { IfSome result (λ cycle. cycle ≡ release_of p.now number) }
+{
+    let first = p.origin.checked_add(u64::from(p.entry.phase))?;
+    first.checked_add(number.checked_mul(u64::from(p.entry.period))?)
+}
+
+/// Whether an instance of an entry with this release exists.
+fn exists(p: &Placed, release: u64) -> bool
+    ensures exists { result ≡ true → IfSome p.now.end (λ end. release < end) }
+{
+    match p.end {
+        Some(end) => release < end,
+        None => true,
+    }
 }
 
 /// For each slot the place of its first entry.
@@ -167,18 +215,26 @@ pub fn slots_of(entries: &[Placed]) -> Mask
     slots
 }
 
-/// The slots of which an instance may be sent in a cycle.
-pub fn sendable_slots(entries: &[Placed], cycle: u64) -> Mask
+/// The slots of which an instance may be sent in a cycle. The instances' numbers are noted by slot.
+pub fn sendable_slots(entries: &[Placed], cycle: u64, numbers: &mut [u64]) -> Mask
     requires well_placed { IsWellPlaced entries.now }
     ensures slots { (slot : ℕ) → contains_slot result slot ≡ is_some (instance_in entries.now slot cycle) }
 {
     let mut slots = Mask::empty();
     for p in entries {
-        if current(p, cycle).is_some() {
+        if let Some(number) = current(p, cycle) {
+            note(numbers, p.entry.slot, number);
             slots = slots.with(p.entry.slot);
         }
     }
     slots
+}
+
+/// Notes a number at the place of a slot.
+fn note(numbers: &mut [u64], slot: u8, number: u64) {
+    if let Some(noted) = numbers.get_mut(usize::from(slot)) {
+        *noted = number;
+    }
 }
 
 /// The bytes of the instance of a slot that may be sent in a cycle.

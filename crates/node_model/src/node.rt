@@ -149,7 +149,11 @@ impl Node {
         self.own = entries::slots_of(self.entries.as_slice());
         let from = cycle::sends_from(&self.opened, self.next);
         self.remaining.keep(self.entries.as_slice(), from);
-        self.opened = cycle::after_learning(&self.opened, self.remaining.entries.as_slice());
+        self.opened = cycle::after_learning(
+            &self.opened,
+            self.remaining.entries.as_slice(),
+            &mut self.remaining.numbers,
+        );
     }
 
     /// Hears a frame of the bus.
@@ -261,7 +265,12 @@ impl Node {
         self.ahead = None;
         let trigger = self.next_trigger(trigger);
         self.remaining.pass(self.next);
-        self.opened = Some(cycle::opened_by(self.next, trigger, self.remaining.entries.as_slice()));
+        self.opened = Some(cycle::opened_by(
+            self.next,
+            trigger,
+            self.remaining.entries.as_slice(),
+            &mut self.remaining.numbers,
+        ));
         self.next += 1;
     }
 
