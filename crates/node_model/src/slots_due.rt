@@ -25,9 +25,9 @@ impl Node {
         requires slot { slot < slots }
         ensures frame { result ≡ frame_due self.now.state slot }
     {
-        let open_cycle = self.opened?;
+        let open_cycle = self.opened.as_ref()?;
         if open_cycle.due.has(slot) {
-            Some(self.due_frame(&open_cycle, slot))
+            Some(self.due_frame(open_cycle, slot))
         } else {
             None
         }
