@@ -10,6 +10,10 @@ use std::process::ExitCode;
 use std::sync::Wait;
 use std::thread::Threads;
 
+/// The room for output that is gathered, in bytes. A row of the log has about forty, so some 1,600 rows go with one call
+/// of the system.
+const GATHERED: usize = 65_536;
+
 fn main(rt: HostRuntime) -> ExitCode {
     ExitCode::from(call(&rt, &rt).code())
 }
@@ -19,7 +23,7 @@ fn call<T: Threads + Wait + Sync>(rt: &HostRuntime, threads: &T) -> Status {
     let Ok(words) = words(rt) else {
         return stopped(rt, "out of memory\n", Status::Memory);
     };
-    let Ok(writer) = BufWriter::new(rt.alloc(), io::writer(rt)) else {
+    let Ok(writer) = BufWriter::with_capacity(rt.alloc(), GATHERED, io::writer(rt)) else {
         return stopped(rt, "out of memory\n", Status::Memory);
     };
     let mut shelf = FileShelf::new(rt);
