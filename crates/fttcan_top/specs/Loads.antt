@@ -1,36 +1,35 @@
 -- What the loading of files says to the calls above it.
-use Rattle.std.specs.Prelude.{◌≡◌, ⊤, ◌⊎◌, Result, Err}
+use Rattle.std.specs.Prelude.{◌≡◌, ⊤, ◌⊎◌, Option, None, Result, Err}
 use Rattle.input_text.specs.SystemFile.{IsSystem}
 use Rattle.input_text.specs.RequestsFile.{AreLegal}
 use Rattle.input_text.specs.StepsFile.{AreLegalSteps}
 use Rattle.plan_check.specs.Certificate.{CertificateView}
 use Rattle.plan_check.specs.PlanText.{IsReadable}
-use Rattle.plan_check.specs.declared.text_fault.PlanTextFault.{PlanTextFault}
-use Rattle.plan_check.specs.declared.text_fault.PlanTextFault.TheVariants.{Line, Memory as NoMemory}
-use Rattle.fttcan_top.specs.declared.load.Refusal.{Refusal}
-use Rattle.fttcan_top.specs.declared.load.Refusal.TheVariants.{TooLong, System, Steps, Requests, Plan, LaterPlan}
 use Rattle.fttcan_top.specs.declared.load.Job.{Job as LoadedJob}
 use Rattle.fttcan_top.specs.declared.load.Task.{Task}
 use Rattle.fttcan_top.specs.declared.load.Task.TheVariants.{Log, Table, Check, Summary}
-use Rattle.fttcan_top.specs.declared.load.Stop.{Stop}
-use Rattle.fttcan_top.specs.declared.load.Stop.TheVariants.{Input, Read, Memory}
-use Rattle.fttcan_top.specs.Output.{Asked, IsFromStart, Job, Stopped, absent, check_of, later_plan, log_of, plan_of, summary_of, too_long, wrong_plan, wrong_requests, wrong_steps, wrong_system}
+use Rattle.fttcan_top.specs.declared.stop.Stop.{Stop}
+use Rattle.fttcan_top.specs.declared.stop.Stop.TheVariants.{Words, Input, Read, Memory}
+use Rattle.fttcan_top.specs.Output.{Asked, IsFromStart, Job, Stopped, absent, check_of, log_of, plan_of, refused, summary_of}
 
--- a refusal as the reason why there is nothing to do
-abbrev pub stopped_by : Refusal → Stopped
-stopped_by (TooLong source) = too_long source
-stopped_by (System fault) = wrong_system fault
-stopped_by (Steps fault) = wrong_steps fault
-stopped_by (Requests fault) = wrong_requests fault
-stopped_by (Plan line) = wrong_plan line
-stopped_by LaterPlan = later_plan
+-- the words ask for nothing, where this is what they ask for; memory may run out at any time
+abbrev pub ExplainsWords : {A : Type 0} → Option A → Stop → Type 0
+ExplainsWords asked_for why = (why ≡ Memory) ⊎ ((why ≡ Words) × (asked_for ≡ None))
 
--- the reason is one for which the words ask for nothing, or a fault of the shelf where its count rose; memory may run
--- out at any time
+-- a file is refused for this reason, or it could not be read, for which there is a cause; memory may run out at any
+-- time
+abbrev pub IsOfFiles : Type 0 → Stop → Type 0
+IsOfFiles cause (Input refusal) = ⊤
+IsOfFiles cause Read = cause
+IsOfFiles cause Memory = ⊤
+IsOfFiles cause _ = ⊥
+
+-- the reason is one for which the files give nothing, or a fault of the shelf where its count rose
 abbrev pub Explains : {A : Type 0} → (Result A Stopped → Type 0) → Type 0 → Stop → Type 0
-Explains IsFor rose (Input refusal) = IsFor (Err (stopped_by refusal))
+Explains IsFor rose (Input refusal) = IsFor (Err (refused refusal))
 Explains IsFor rose Read = rose ⊎ IsFor (Err absent)
 Explains IsFor rose Memory = ⊤
+Explains IsFor rose _ = ⊥
 
 -- a job as it is asked for
 abbrev pub job_of : LoadedJob → Job

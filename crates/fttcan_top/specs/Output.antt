@@ -27,35 +27,26 @@ use Rattle.input_text.specs.StepText.{text_of as steps_line}
 use Rattle.input_text.specs.RequestsFile.{requests_of}
 use Rattle.input_text.specs.RequestText.{text_of as requests_line}
 use Rattle.input_text.specs.declared.steps.Step.{Step}
-use Rattle.input_text.specs.declared.step_fault.StepFault.{StepFault}
 use Rattle.input_text.specs.declared.system.System.{System}
-use Rattle.input_text.specs.declared.system_fault.SystemFault.{SystemFault}
-use Rattle.input_text.specs.declared.request_fault.RequestFault.{RequestFault}
 use Rattle.admission.specs.Verdict.{is_accepted}
 use Rattle.master_core.specs.Certificates.{IsCertificateOfPlan}
 use Rattle.master_core.specs.History.{IsPlainlyLegal, placed_of}
 use Rattle.master_core.specs.declared.event.Event.{Event}
 use Rattle.master_core.specs.declared.event.Event.TheVariants.{Submit, Look, Open}
-use Rattle.fttcan_top.specs.declared.load.Source.{Source}
 use Rattle.fttcan_top.specs.declared.status.Status.{Status}
 use Rattle.fttcan_top.specs.declared.status.Status.TheVariants.{Done, Refused, Words, Input, Read, Write, Memory, No}
+use Rattle.fttcan_top.specs.declared.stop.Refusal.{Refusal}
+use Rattle.fttcan_top.specs.declared.stop.Source.{Source}
 use Rattle.fttcan_top.specs.LastRows.{last_rows}
 use Rattle.fttcan_top.specs.Summary.{summary_text}
 use Rattle.fttcan_top.specs.Words.{Command, RunWords, admit, check, command_of, generate, live_of, replay}
 
 -- What is asked
 
--- why a call has nothing to do: the words are no command's; a file is longer than its limit; the text of one breaks a
--- rule of its format, of a plan at this line; the plan does not begin at cycle 0 with nothing pending; or a file is not
--- there
+-- why a call has nothing to do: the words are no command's, a file is refused, or a file is not there
 pub data Stopped : Type 0 where
   no_command : Stopped
-  too_long : Source → Stopped
-  wrong_system : SystemFault → Stopped
-  wrong_steps : StepFault → Stopped
-  wrong_requests : RequestFault → Stopped
-  wrong_plan : ℕ → Stopped
-  later_plan : Stopped
+  refused : Refusal → Stopped
   absent : Stopped
 
 -- a run that is asked for: the system, the steps and the requests
@@ -87,26 +78,27 @@ Err why >>= next = Err why
 -- the bytes of a file that is there and within the limit
 abbrev pub within_limit : Source → Option (List ℕ) → Result (List ℕ) Stopped
 within_limit source None = Err absent
-within_limit source (Some bytes) = if nat_le (length bytes) file_limit then Ok bytes else Err (too_long source)
+within_limit source (Some bytes) = if nat_le (length bytes) file_limit then Ok bytes else Err
+    (refused (Refusal.TooLong source))
 
--- the meaning of a text, or the fault in it as the reason why there is nothing to do
-abbrev pub meant : {A Fault : Type 0} → (Fault → Stopped) → Result A Fault → Result A Stopped
-meant why (Ok value) = Ok value
-meant why (Err fault) = Err (why fault)
+-- the meaning of a text, or the refusal of its file for the fault in it
+abbrev pub meant : {A Fault : Type 0} → (Fault → Refusal) → Result A Fault → Result A Stopped
+meant refusal (Ok value) = Ok value
+meant refusal (Err fault) = Err (refused (refusal fault))
 
 -- the system in the file of this name
 abbrev pub system_in : NamedFiles → List ℕ → Result System Stopped
-system_in files name = within_limit Source.System (files name) >>= λ bytes. meant wrong_system (system_of bytes)
+system_in files name = within_limit Source.System (files name) >>= λ bytes. meant Refusal.System (system_of bytes)
 
 -- the steps in the file of this name
 abbrev pub steps_in : NamedFiles → List ℕ → Result (List Step) Stopped
-steps_in files name = within_limit Source.Steps (files name) >>= λ bytes. meant wrong_steps (steps_of bytes)
+steps_in files name = within_limit Source.Steps (files name) >>= λ bytes. meant Refusal.Steps (steps_of bytes)
 
 -- the requests in the file of this name, for these owners; none where no file is named
 abbrev pub requests_in : NamedFiles → Option (List ℕ) → List Owner → Result (List Request) Stopped
 requests_in files None owners = Ok []
 requests_in files (Some name) owners =
-    within_limit Source.Requests (files name) >>= λ bytes. meant wrong_requests (requests_of owners bytes)
+    within_limit Source.Requests (files name) >>= λ bytes. meant Refusal.Requests (requests_of owners bytes)
 
 -- the run that files of these names ask for: first the system's file and its text, then the steps', then the requests'
 abbrev pub job_in : NamedFiles → List ℕ → List ℕ → Option (List ℕ) → Result Job Stopped
@@ -135,14 +127,9 @@ pub record IsLaterPlan (bytes : List ℕ) : Type 0 where
 -- what the bytes of a plan's file mean, for a check
 abbrev pub IsPlanMeant : List ℕ → Result CertificateView Stopped → Type 0
 IsPlanMeant bytes (Ok certificate) = IsPlanOf bytes certificate × IsFromStart certificate
-IsPlanMeant bytes (Err (wrong_plan line)) = IsFirstWrongLine bytes line
-IsPlanMeant bytes (Err later_plan) = IsLaterPlan bytes
-IsPlanMeant bytes (Err no_command) = ⊥
-IsPlanMeant bytes (Err (too_long source)) = ⊥
-IsPlanMeant bytes (Err (wrong_system fault)) = ⊥
-IsPlanMeant bytes (Err (wrong_steps fault)) = ⊥
-IsPlanMeant bytes (Err (wrong_requests fault)) = ⊥
-IsPlanMeant bytes (Err absent) = ⊥
+IsPlanMeant bytes (Err (refused (Refusal.Plan line))) = IsFirstWrongLine bytes line
+IsPlanMeant bytes (Err (refused Refusal.LaterPlan)) = IsLaterPlan bytes
+IsPlanMeant bytes (Err _) = ⊥
 
 -- what a plan's file means, where it could be read
 abbrev pub IsPlanRead : Result (List ℕ) Stopped → Result CertificateView Stopped → Type 0
@@ -154,7 +141,8 @@ abbrev pub IsPlanIn : NamedFiles → List ℕ → Result CertificateView Stopped
 IsPlanIn files name plan = IsPlanRead (within_limit Source.Plan (files name)) plan
 
 -- what a check asks for behind its system and steps
-pub record IsCheckAsked (files : NamedFiles) (name : List ℕ) (job : Job) (asked_for : Result Asked Stopped) : Type 0 where
+pub record IsCheckAsked (files : NamedFiles) (name : List ℕ) (job : Job)
+    (asked_for : Result Asked Stopped) : Type 0 where
   pub plan : Result CertificateView Stopped
   pub in_file : IsPlanIn files name plan
   pub is : asked_for ≡ (plan >>= λ certificate. Ok (check_of job certificate))
@@ -167,7 +155,8 @@ IsCheckOf files name (Err why) asked_for = asked_for ≡ Err why
 abbrev pub IsAskedOf : NamedFiles → Command → Result Asked Stopped → Type 0
 IsAskedOf files (replay run tail) asked_for =
     asked_for ≡ (job_in files run.system run.steps run.requests >>= λ job. Ok (log_of job tail run.report))
-IsAskedOf files (admit system steps) asked_for = asked_for ≡ (job_in files system steps None >>= λ job. Ok (plan_of job))
+IsAskedOf files (admit system steps) asked_for = asked_for
+    ≡ (job_in files system steps None >>= λ job. Ok (plan_of job))
 IsAskedOf files (check system steps plan) asked_for = IsCheckOf files plan (job_in files system steps None) asked_for
 IsAskedOf files (generate number) asked_for = asked_for ≡ Ok (summary_of number)
 
@@ -219,7 +208,8 @@ pub record IsLog (job : Job) (tail : Option ℕ) (report : Bool) (status : Statu
   pub trace : List TimedFrame
   pub run : IsRun job.system job.steps job.requests history trace
   pub ended : status ≡ status_of history
-  pub written : text ≡ last_rows tail (log_text history trace) ++ report_if report history trace job.system.owners job.requests
+  pub written : text ≡ last_rows tail (log_text history trace)
+      ++ report_if report history trace job.system.owners job.requests
 
 -- the plan of the table that stands when a master has answered the steps: from cycle 0 on, and it keeps that table for
 -- ever
@@ -236,7 +226,8 @@ pub record IsPlanText (job : Job) (status : Status) (text : List ℕ) : Type 0 w
 -- the line of a breach
 abbrev pub breach_line : Breach → List ℕ
 breach_line (BadLoop slot) = codes "no,badloop," ++ decimal slot ++ codes "\n"
-breach_line (NotReleased cycle slot) = codes "no,notreleased," ++ decimal cycle ++ codes "," ++ decimal slot ++ codes "\n"
+breach_line (NotReleased cycle slot) = codes "no,notreleased," ++ decimal cycle ++ codes "," ++ decimal slot
+    ++ codes "\n"
 breach_line (TooWide cycle sum) = codes "no,toowide," ++ decimal cycle ++ codes "," ++ decimal sum ++ codes "\n"
 breach_line (Missed slot release cycle) =
     codes "no,missed," ++ decimal slot ++ codes "," ++ decimal release ++ codes "," ++ decimal cycle ++ codes "\n"
@@ -251,14 +242,10 @@ pub record IsRefuted (job : Job) (certificate : CertificateView) (text : List �
 -- the answer to a plan: it keeps the table that the steps ask for, or the first breach
 abbrev pub IsCheckText : Job → CertificateView → Status → List ℕ → Type 0
 IsCheckText job certificate Done text =
-    IsTaken (table_of job.system.rules.nodes job.steps).placed job.system.rules.window certificate × (text ≡ codes "yes\n")
+    IsTaken (table_of job.system.rules.nodes job.steps).placed job.system.rules.window certificate
+    × (text ≡ codes "yes\n")
 IsCheckText job certificate No text = IsRefuted job certificate text
-IsCheckText job certificate Refused text = ⊥
-IsCheckText job certificate Words text = ⊥
-IsCheckText job certificate Input text = ⊥
-IsCheckText job certificate Read text = ⊥
-IsCheckText job certificate Write text = ⊥
-IsCheckText job certificate Memory text = ⊥
+IsCheckText job certificate _ text = ⊥
 
 -- the summary of the run of the input that a number makes: the history answers its steps, and history and trace keep
 -- what is promised; the call is done also where a change was refused
@@ -306,16 +293,13 @@ pub record TellsBegun (job : Job) (report : Bool) (old new : Option (List ℕ)) 
   pub trace : List TimedFrame
   pub begun : IsBegun job.system job.steps job.requests history trace
   pub puts : PutsPrefix old new (events_rows trace [] history)
-  pub front : (status : Status) (text : List ℕ) → IsOutput (log_of job None report) status text → PutsPrefix old new text
+  pub front : (status : Status) (text : List ℕ) → IsOutput (log_of job None report) status text
+      → PutsPrefix old new text
 
 -- this may be so of a whole log alone, which is written while the run goes on
 abbrev pub IsCutWhileRun : Asked → Option (List ℕ) → Option (List ℕ) → Type 0
 IsCutWhileRun (log_of job None report) old new = TellsBegun job report old new
-IsCutWhileRun (log_of job (Some count) report) old new = ⊥
-IsCutWhileRun (summary_of number) old new = ⊥
-IsCutWhileRun (plan_of job) old new = ⊥
-IsCutWhileRun (check_of job certificate) old new = ⊥
-IsCutWhileRun (live_log_of job report) old new = ⊥
+IsCutWhileRun _ old new = ⊥
 
 -- How a call ends
 
@@ -352,24 +336,13 @@ IsStopped Write = ⊥
 IsStopped Memory = ⊥
 IsStopped No = ⊥
 
--- a file is refused
-abbrev pub IsRefusal : Stopped → Type 0
-IsRefusal no_command = ⊥
-IsRefusal (too_long source) = ⊤
-IsRefusal (wrong_system fault) = ⊤
-IsRefusal (wrong_steps fault) = ⊤
-IsRefusal (wrong_requests fault) = ⊤
-IsRefusal (wrong_plan line) = ⊤
-IsRefusal later_plan = ⊤
-IsRefusal absent = ⊥
-
 -- the status is a true answer to what was asked, where `IsFor` says what was asked, and `shelf_rose` and `out_rose`
 -- that the shelf's and the output's count of faults rose in this call; memory may run out in any call
 abbrev pub IsAnswer : (Result Asked Stopped → Type 0) → Type 0 → Type 0 → Status → Type 0
 IsAnswer IsFor shelf_rose out_rose Done = (asked_for : Asked) × IsFor (Ok asked_for)
 IsAnswer IsFor shelf_rose out_rose Refused = (asked_for : Asked) × IsFor (Ok asked_for)
 IsAnswer IsFor shelf_rose out_rose Words = IsFor (Err no_command)
-IsAnswer IsFor shelf_rose out_rose Input = (why : Stopped) × IsRefusal why × IsFor (Err why)
+IsAnswer IsFor shelf_rose out_rose Input = (refusal : Refusal) × IsFor (Err (refused refusal))
 IsAnswer IsFor shelf_rose out_rose Read = shelf_rose ⊎ IsFor (Err absent)
 IsAnswer IsFor shelf_rose out_rose Write = out_rose × ((asked_for : Asked) × IsFor (Ok asked_for))
 IsAnswer IsFor shelf_rose out_rose Memory = ⊤
@@ -385,31 +358,33 @@ length_line Source.Requests = codes "requests: longer than 4194304 bytes\n"
 length_line Source.Plan = codes "plan: longer than 4194304 bytes\n"
 
 -- the line for a file that is refused
-abbrev pub refusal : Stopped → List ℕ
-refusal no_command = []
-refusal (too_long source) = length_line source
-refusal (wrong_system fault) = system_fault_line fault
-refusal (wrong_steps fault) = steps_line fault
-refusal (wrong_requests fault) = requests_line fault
-refusal (wrong_plan line) = codes "plan: line " ++ decimal line ++ codes "\n"
-refusal later_plan = codes "plan: start\n"
-refusal absent = []
+abbrev pub refusal_line : Refusal → List ℕ
+refusal_line (Refusal.TooLong source) = length_line source
+refusal_line (Refusal.System fault) = system_fault_line fault
+refusal_line (Refusal.Steps fault) = steps_line fault
+refusal_line (Refusal.Requests fault) = requests_line fault
+refusal_line (Refusal.Plan line) = codes "plan: line " ++ decimal line ++ codes "\n"
+refusal_line Refusal.LaterPlan = codes "plan: start\n"
 
 -- the lines that say which words a call may have
 abbrev pub usage : List ℕ
 usage =
-    codes "usage: fttcan replay SYSTEM STEPS [REQUESTS] [--tail N] [--report]\nusage: fttcan admit SYSTEM STEPS\nusage: fttcan check SYSTEM STEPS PLAN\nusage: fttcan gen NUMBER\nusage: fttcan live SYSTEM STEPS [REQUESTS] [--report]\n"
+    codes "usage: fttcan replay SYSTEM STEPS [REQUESTS] [--tail N] [--report]\n"
+    ++ codes "usage: fttcan admit SYSTEM STEPS\n"
+    ++ codes "usage: fttcan check SYSTEM STEPS PLAN\n"
+    ++ codes "usage: fttcan gen NUMBER\n"
+    ++ codes "usage: fttcan live SYSTEM STEPS [REQUESTS] [--report]\n"
 
--- the lines of a status, where it is that of a refused file, for this reason
-abbrev pub message_of : Status → Stopped → List ℕ
-message_of Done why = []
-message_of Refused why = []
-message_of Words why = usage
-message_of Input why = refusal why
-message_of Read why = codes "read fault\n"
-message_of Write why = codes "write fault\n"
-message_of Memory why = codes "out of memory\n"
-message_of No why = []
+-- the lines of a status; where it is that of a refused file, for this refusal
+abbrev pub message_of : Status → Refusal → List ℕ
+message_of Done refusal = []
+message_of Refused refusal = []
+message_of Words refusal = usage
+message_of Input refusal = refusal_line refusal
+message_of Read refusal = codes "read fault\n"
+message_of Write refusal = codes "write fault\n"
+message_of Memory refusal = codes "out of memory\n"
+message_of No refusal = []
 
 -- the text was put to a sink, or its count of faults rose and the first bytes of the text were put
 abbrev pub Says : Option (List ℕ) → Option (List ℕ) → Type 0 → List ℕ → Type 0

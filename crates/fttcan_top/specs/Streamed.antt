@@ -11,9 +11,12 @@ use Rattle.fttcan_top.specs.Output.{report_if}
 -- the report of a run was put, where its frames were kept, whatever its trace is
 abbrev pub PutsReport : Written → List Owner → List Request → Option (List ℕ) → Option (List ℕ) → Type 0
 PutsReport run owners requests old new =
-    (trace : List TimedFrame) → KeepsFrames run.trace trace → Puts old new (report_if (is_some run.trace) run.master.history trace owners requests)
+    (trace : List TimedFrame) → KeepsFrames run.trace trace
+    → Puts old new (report_if (is_some run.trace) run.master.history trace owners requests)
 
 -- or its first bytes
-abbrev pub PutsReportFront : Written → List Owner → List Request → Option (List ℕ) → Option (List ℕ) → Type 0
+abbrev pub PutsReportFront : Written → List Owner → List Request → Option (List ℕ) → Option (List ℕ)
+    → Type 0
 PutsReportFront run owners requests old new =
-    (trace : List TimedFrame) → KeepsFrames run.trace trace → PutsPrefix old new (report_if (is_some run.trace) run.master.history trace owners requests)
+    (trace : List TimedFrame) → KeepsFrames run.trace trace
+    → PutsPrefix old new (report_if (is_some run.trace) run.master.history trace owners requests)

@@ -37,7 +37,8 @@ history_rows history =
 -- took
 unfoldable pub rest_rows : List TimedFrame → ℕ → List ℕ
 rest_rows trace requests =
-    row (codes "left") (requests - count_by is_asynchronous trace) ++ row (codes "busy") (sum_by (λ sent. sent.len) trace)
+    row (codes "left") (requests - count_by is_asynchronous trace)
+    ++ row (codes "busy") (sum_by (λ sent. sent.len) trace)
 
 -- the rows of a trace: the synchronous and the asynchronous frames, and the rest
 unfoldable pub trace_rows : List TimedFrame → ℕ → List ℕ

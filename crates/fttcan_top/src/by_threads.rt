@@ -1,27 +1,28 @@
 //! The top call of a run by threads: from the words of a call and the files that they name to the bytes that are
 //! written.
 
-ghost use Rattle.std.specs.Prelude.{◌≡◌, ◌+◌, ◌≤◌, ◌⊎◌, map, string_bytes, IsSome, None, Ok, Err};
+ghost use Rattle.std.specs.Prelude.{◌≡◌, ◌+◌, ◌≤◌, ◌⊎◌, map, string_bytes, IfOk, IsErrOf, IsSome, None, Ok, Err, OnErr};
 ghost use Rattle.std.specs.Option.{ForSome};
 ghost use Rattle.ftt_io.specs.Counts.{Rose};
-ghost use Rattle.fttcan_top.specs.declared.load.Refusal.{Refusal};
-ghost use Rattle.fttcan_top.specs.declared.program.End.{End};
 ghost use Rattle.fttcan_top.specs.declared.status.Status.{Status};
-ghost use Rattle.fttcan_top.specs.Ends.{end_status, IsRunEnd};
-ghost use Rattle.fttcan_top.specs.Loads.{IsJob, job_of, stopped_by};
-ghost use Rattle.fttcan_top.specs.Output.{Asked, Stopped, IsAnswer, IsCut, IsDone, IsLiveAsked, IsRefusal, IsStopped, Says, Tells, TellsFront, live_log_of, message_of};
+ghost use Rattle.fttcan_top.specs.declared.stop.Refusal.{Refusal};
+ghost use Rattle.fttcan_top.specs.Ends.{IsEnd};
+ghost use Rattle.fttcan_top.specs.Loads.{IsJob, job_of};
+ghost use Rattle.fttcan_top.specs.Output.{Asked, IsAnswer, IsCut, IsDone, IsLiveAsked, IsStopped, Says, Tells, TellsFront, live_log_of, message_of, refused};
 ghost use Rattle.fttcan_top.specs.Words.{live_file_count, live_of};
 
-use crate::load::{Job, Refusal, load_live};
-use crate::program::{End, put_answer, tell};
+use crate::load::{Job, load_live};
+use crate::rows::put_rows;
 use crate::status::Status;
-use crate::words::{WordsFault, live_in};
+use crate::stop::{Stop, tell};
+use crate::words::live_in;
 use crate::work::live_log_of;
 use ftt_io::{Shelf, Sink};
 use live_run::Gate;
 use std::alloc::Global;
 use std::sync::Wait;
 use std::thread::Threads;
+use written_run::Cut;
 
 /// Runs what was asked, and writes the answer.
 fn carry_out<T: Threads + Wait + Sync, O: Sink, G: Gate>(
@@ -31,20 +32,19 @@ fn carry_out<T: Threads + Wait + Sync, O: Sink, G: Gate>(
     report: bool,
     out: &mut O,
     gate: &G,
-) -> End
+) -> Result<Status, Cut>
     requires job { IsJob job }
     ensures faults_never_fall { O.faults out.old ≤ O.faults out.new }
-    ensures run { IsRunEnd result }
-    ensures done { IsDone (end_status result)
-        → Tells (live_log_of (job_of job) report) (end_status result) (O.told_bytes out.old) (O.told_bytes out.new) }
-    ensures cut { IsCut (end_status result) → (O.told_bytes out.new ≡ O.told_bytes out.old)
-        ⊎ TellsFront (live_log_of (job_of job) report) (O.told_bytes out.old) (O.told_bytes out.new) }
-    ensures write { result ≡ End.Write → Rose (O.faults out.old) (O.faults out.new) }
+    ensures done { IfOk result IsDone }
+    ensures tells { IfOk result
+        (λ status. Tells (live_log_of (job_of job) report) status (O.told_bytes out.old) (O.told_bytes out.new)) }
+    ensures cut { OnErr result ((O.told_bytes out.new ≡ O.told_bytes out.old)
+        ⊎ TellsFront (live_log_of (job_of job) report) (O.told_bytes out.old) (O.told_bytes out.new)) }
+    ensures failed { IsErrOf result Cut.Write → Rose (O.faults out.old) (O.faults out.new) }
 {
-    match live_log_of(rt, alloc, job, report, gate) {
-        Ok(outcome) => put_answer(outcome, out),
-        Err(_) => End::Memory,
-    }
+    let answer = live_log_of(rt, alloc, job, report, gate)?;
+    put_rows(out, answer.text.as_slice())?;
+    Ok(answer.status)
 }
 
 /// Carries out the words of a call.
@@ -55,37 +55,24 @@ fn call<T: Threads + Wait + Sync, S: Shelf, O: Sink, G: Gate>(
     shelf: &mut S,
     out: &mut O,
     gate: &G,
-) -> End
-    ensures answer { ForSome (S.told_files shelf.old) (λ files. IsAnswer (IsLiveAsked (map string_bytes words.now) files)
-        (Rose (S.faults shelf.old) (S.faults shelf.new)) (Rose (O.faults out.old) (O.faults out.new)) (end_status result)) }
-    ensures refusal { (refusal : Refusal) → result ≡ End.Input refusal
-        → ForSome (S.told_files shelf.old) (λ files. IsLiveAsked (map string_bytes words.now) files (Err (stopped_by refusal))) }
-    ensures words { result ≡ End.Words → live_of (map string_bytes words.now) ≡ None }
-    ensures command { live_of (map string_bytes words.now) ≡ None → (result ≡ End.Words) ⊎ (result ≡ End.Memory) }
-    ensures read { result ≡ End.Read → Rose (S.faults shelf.old) (S.faults shelf.new) ⊎ IsSome (S.told_files shelf.old) }
-    ensures write { result ≡ End.Write → Rose (O.faults out.old) (O.faults out.new) }
-    ensures done { IsDone (end_status result) → (asked_for : Asked)
-        × ForSome (S.told_files shelf.old) (λ files. IsLiveAsked (map string_bytes words.now) files (Ok asked_for))
-        × Tells asked_for (end_status result) (O.told_bytes out.old) (O.told_bytes out.new) }
-    ensures cut { IsCut (end_status result) → (O.told_bytes out.new ≡ O.told_bytes out.old) ⊎ ((asked_for : Asked)
-        × ForSome (S.told_files shelf.old) (λ files. IsLiveAsked (map string_bytes words.now) files (Ok asked_for))
-        × TellsFront asked_for (O.told_bytes out.old) (O.told_bytes out.new)) }
-    ensures nothing { IsStopped (end_status result) → O.told_bytes out.new ≡ O.told_bytes out.old }
+) -> Result<Status, Stop>
+    ensures done { IfOk result IsDone }
+    ensures ended { IsEnd (live_of (map string_bytes words.now) ≡ None) (S.told_files shelf.old)
+        (IsLiveAsked (map string_bytes words.now))
+        TellsFront (Rose (S.faults shelf.old) (S.faults shelf.new)) (Rose (O.faults out.old) (O.faults out.new))
+        (O.told_bytes out.old) (O.told_bytes out.new) result }
+    ensures command { live_of (map string_bytes words.now) ≡ None
+        → IsErrOf result Stop.Words ⊎ IsErrOf result Stop.Memory }
     ensures fetches { S.fetches shelf.new ≤ S.fetches shelf.old + live_file_count (map string_bytes words.now) }
     ensures files_stay { S.told_files shelf.new ≡ S.told_files shelf.old }
     ensures fetches_never_fall { S.fetches shelf.old ≤ S.fetches shelf.new }
     ensures faults_never_fall { S.faults shelf.old ≤ S.faults shelf.new }
     ensures out_faults_never_fall { O.faults out.old ≤ O.faults out.new }
 {
-    let run = match live_in(alloc, words) {
-        Ok(run) => run,
-        Err(WordsFault::NoCommand) => return End::Words,
-        Err(WordsFault::Memory) => return End::Memory,
-    };
-    match load_live(alloc, shelf, run) {
-        Ok(job) => carry_out(rt, alloc, job, run.report, out, gate),
-        Err(stop) => stop.end(),
-    }
+    let run = live_in(alloc, words)?;
+    let job = load_live(alloc, shelf, run)?;
+    let status = carry_out(rt, alloc, job, run.report, out, gate)?;
+    Ok(status)
 }
 
 /// Carries out the words of a call whose first word is `live`, the program's name left out. Lines on what went wrong go
@@ -109,11 +96,14 @@ pub fn live<T: Threads + Wait + Sync, S: Shelf, O: Sink, R: Sink, G: Gate>(
 ) -> Status
     // How it ended: what was asked of the files, where the shelf tells them; words alone; and each fault where its
     // count rose.
-    ensures answer { ForSome (S.told_files shelf.old) (λ files. IsAnswer (IsLiveAsked (map string_bytes words.now) files)
+    ensures answer { ForSome (S.told_files shelf.old)
+        (λ files. IsAnswer (IsLiveAsked (map string_bytes words.now) files)
         (Rose (S.faults shelf.old) (S.faults shelf.new)) (Rose (O.faults out.old) (O.faults out.new)) result) }
     ensures words { result ≡ Status.Words → live_of (map string_bytes words.now) ≡ None }
-    ensures command { live_of (map string_bytes words.now) ≡ None → (result ≡ Status.Words) ⊎ (result ≡ Status.Memory) }
-    ensures read { result ≡ Status.Read → Rose (S.faults shelf.old) (S.faults shelf.new) ⊎ IsSome (S.told_files shelf.old) }
+    ensures command { live_of (map string_bytes words.now) ≡ None
+        → (result ≡ Status.Words) ⊎ (result ≡ Status.Memory) }
+    ensures read { result ≡ Status.Read
+        → Rose (S.faults shelf.old) (S.faults shelf.new) ⊎ IsSome (S.told_files shelf.old) }
     ensures write { result ≡ Status.Write → Rose (O.faults out.old) (O.faults out.new) }
 
     // What was put to `out`: the answer to what was asked, its first bytes, or nothing.
@@ -126,9 +116,11 @@ pub fn live<T: Threads + Wait + Sync, S: Shelf, O: Sink, R: Sink, G: Gate>(
     ensures nothing { IsStopped result → O.told_bytes out.new ≡ O.told_bytes out.old }
 
     // What was put to `err`, and how often a file was fetched.
-    ensures message { (why : Stopped)
-        × (result ≡ Status.Input → IsRefusal why × ForSome (S.told_files shelf.old) (λ files. IsLiveAsked (map string_bytes words.now) files (Err why)))
-        × Says (R.told_bytes err.old) (R.told_bytes err.new) (Rose (R.faults err.old) (R.faults err.new)) (message_of result why) }
+    ensures message { (refusal : Refusal)
+        × (result ≡ Status.Input → ForSome (S.told_files shelf.old)
+        (λ files. IsLiveAsked (map string_bytes words.now) files (Err (refused refusal))))
+        × Says (R.told_bytes err.old) (R.told_bytes err.new) (Rose (R.faults err.old) (R.faults err.new))
+        (message_of result refusal) }
     ensures fetches { S.fetches shelf.new ≤ S.fetches shelf.old + live_file_count (map string_bytes words.now) }
 
     // The files stay, and no count falls.
@@ -138,6 +130,6 @@ pub fn live<T: Threads + Wait + Sync, S: Shelf, O: Sink, R: Sink, G: Gate>(
     ensures out_faults_never_fall { O.faults out.old ≤ O.faults out.new }
     ensures err_faults_never_fall { R.faults err.old ≤ R.faults err.new }
 {
-    let end = call(rt, alloc, words, shelf, out, gate);
-    tell(alloc, &end, err)
+    let ended = call(rt, alloc, words, shelf, out, gate);
+    tell(alloc, &ended, err)
 }

@@ -7,11 +7,9 @@ ghost use Rattle.ftt_io.specs.Puts.{Stays};
 ghost use Rattle.fttcan_top.specs.Output.{IsDone, Says};
 
 use crate::status::Status;
-use ftt_io::{Sink, StdSink, write_all};
+use crate::stop::say;
+use ftt_io::{Sink, StdSink};
 use std::io::{BufWriter, Write};
-
-/// The line for the error sink where the end of the output could not be written.
-const WRITE_FAULT: &[u8] = b"write fault\n";
 
 /// Writes the rest of a gathered log, behind [`plain`](crate::plain), and answers how the call ends: with the status of
 /// `plain`, or with [`Status::Write`] where a run was done and its log could not be written to the end. That is told to
@@ -22,14 +20,16 @@ pub fn flushed<W: Write + Drop, R: Sink>(
     err: &mut R,
 ) -> Status
     // How it ended; where a run was done nothing of its log is held back.
-    ensures status { (result ≡ status) ⊎ (IsDone status × (result ≡ Status.Write) × Rose out.old.faults out.new.faults) }
+    ensures status { (result ≡ status)
+        ⊎ (IsDone status × (result ≡ Status.Write) × Rose out.old.faults out.new.faults) }
     ensures written { IsDone result → writer_buffer out.new.writer ≡ [] }
 
     // What was put to `out`, and to `err`.
     ensures nothing { Stays (writer_contents W.contents out.old.writer) (writer_contents W.contents out.new.writer) }
     ensures quiet { result ≡ status → R.told_bytes err.new ≡ R.told_bytes err.old }
     ensures message { (result ≡ status → ⊥)
-        → Says (R.told_bytes err.old) (R.told_bytes err.new) (Rose (R.faults err.old) (R.faults err.new)) (codes "write fault\n") }
+        → Says (R.told_bytes err.old) (R.told_bytes err.new) (Rose (R.faults err.old) (R.faults err.new))
+        (codes "write fault\n") }
 
     // No count falls.
     ensures out_faults_never_fall { out.old.faults ≤ out.new.faults }
@@ -41,9 +41,6 @@ pub fn flushed<W: Write + Drop, R: Sink>(
     }
     match out.flush() {
         Ok(()) => status,
-        Err(_) => {
-            let _ = write_all(err, WRITE_FAULT);
-            Status::Write
-        }
+        Err(_) => say(err, "write fault\n", Status::Write),
     }
 }

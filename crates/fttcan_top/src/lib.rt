@@ -8,6 +8,7 @@ mod load;
 mod program;
 mod rows;
 mod status;
+mod stop;
 mod streamed;
 mod summary;
 mod words;

@@ -13,11 +13,35 @@ use std::thread::Threads;
 const ONE_NODE: &str = "[bus]\ncycle = 1000\nwindow = 135\nnodes = 1\n";
 
 /// Two nodes with an asynchronous identifier each.
-const TWO_OWNERS: &str =
-    "[bus]\ncycle = 1000\nwindow = 135\nnodes = 2\n\n[[async]]\nid = 0x200\nnode = 0\n\n[[async]]\nid = 0x201\nnode = 1\n";
+const TWO_OWNERS: &str = "\
+[bus]
+cycle = 1000
+window = 135
+nodes = 2
+
+[[async]]
+id = 0x200
+node = 0
+
+[[async]]
+id = 0x201
+node = 1
+";
 
 /// Operator 1 looks and then asks for an entry from cycle 100 on, while four cycles are run.
 const LATE_CHANGE: &str = "look,1\nadd,1,100,0,0,0,0,1,1,0\ncycle,4\n";
+
+/// The log of one cycle with a request of each owner, and the report behind it.
+const LOG_AND_REPORT: &str = "\
+open,0,0000000000,0
+frame,0,127,000,0000000000000000
+frame,200,51,200,
+frame,251,50,201,
+end,1
+async,200,1,0
+async,201,1,0
+load,0,0,0
+";
 
 const USAGE: &str = "\
 usage: fttcan replay SYSTEM STEPS [REQUESTS] [--tail N] [--report]
@@ -142,9 +166,7 @@ fn the_log_and_the_report_are_written(rt: HostRuntime) -> Result<(), Fail> {
     let words = "live system steps requests --report";
     let answer = call(&rt, rt.alloc(), words, texts, &OpenGate)?;
     assert_eq!(rt; answer.status, Status::Done);
-    let written =
-        "open,0,0000000000,0\nframe,0,127,000,0000000000000000\nframe,200,51,200,\nframe,251,50,201,\nend,1\nasync,200,1,0\nasync,201,1,0\nload,0,0,0\n";
-    assert_eq!(rt; str::from_utf8(answer.out.bytes()), Ok(written));
+    assert_eq!(rt; str::from_utf8(answer.out.bytes()), Ok(LOG_AND_REPORT));
     Ok(())
 }
 

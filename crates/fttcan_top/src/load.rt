@@ -6,12 +6,12 @@ ghost use Rattle.ftt_io.specs.Counts.{next_count, Rose};
 ghost use Rattle.input_text.specs.SystemFile.{IsSystem};
 ghost use Rattle.input_text.specs.RequestsFile.{AreLegal};
 ghost use Rattle.input_text.specs.StepsFile.{AreLegalSteps};
-ghost use Rattle.fttcan_top.specs.declared.load.Refusal.{Refusal};
 ghost use Rattle.fttcan_top.specs.Output.{IsAskedOf, IsLiveAskedOf, IsPlanIn, IsPlanMeant, job_in, live_log_of, requests_in, steps_in, system_in, within_limit};
-ghost use Rattle.fttcan_top.specs.Loads.{Explains, IsJob, IsTask, IsToCheck, asked_of, job_of, stopped_by};
+ghost use Rattle.fttcan_top.specs.Loads.{Explains, IsJob, IsOfFiles, IsTask, IsToCheck, asked_of, job_of};
 ghost use Rattle.fttcan_top.specs.Words.{admit, check, files_named, live_files_named, named, replay};
 ghost use Rattle.fttcan_top.specs.WordsRead.{command_read, run_read};
 
+use crate::stop::{Refusal, Source, Stop};
 use crate::words::{Command, RunWords};
 use async_window::{Owner, Request};
 use ftt_io::{FetchFault, Shelf};
@@ -24,43 +24,6 @@ use std::alloc::Global;
 
 /// The greatest number of bytes of a file.
 const FILE_LIMIT: usize = 4_194_304;
-
-/// The files that a command reads.
-#[derive(Clone, Copy, PartialEq, Eq, Debug)]
-pub enum Source {
-    System,
-    Steps,
-    Requests,
-    Plan,
-}
-
-/// Why a file is refused.
-#[derive(Debug, Drop)]
-pub enum Refusal {
-    /// The file is longer than its limit.
-    TooLong(Source),
-    /// The text of the system file breaks a rule of its format.
-    System(SystemFault),
-    /// The text of the steps file does.
-    Steps(StepFault),
-    /// The text of the requests file does.
-    Requests(RequestFault),
-    /// The text of the plan is none from this line on, counted from 1.
-    Plan(u64),
-    /// The plan does not begin at cycle 0 with nothing pending.
-    LaterPlan,
-}
-
-/// Why there is nothing to do.
-#[derive(Debug, Drop)]
-pub enum Stop {
-    /// A file is refused.
-    Input(Refusal),
-    /// A file could not be read.
-    Read,
-    /// Memory ran out.
-    Memory,
-}
 
 /// A run: in which system, by which steps, and with which requests.
 #[derive(Debug, Drop)]
@@ -94,10 +57,13 @@ fn fetch_file<S: Shelf>(
     ensures counted { S.fetches shelf.new ≡ next_count (S.fetches shelf.old) }
     ensures fetches_never_fall { S.fetches shelf.old ≤ S.fetches shelf.new }
     ensures faults_never_fall { S.faults shelf.old ≤ S.faults shelf.new }
-    ensures ok { IfOk result (λ bytes. ForSome (S.told_files shelf.old) (λ files. within_limit source (files name.now) ≡ Ok bytes.items)) }
+    ensures ok { IfOk result (λ bytes. ForSome (S.told_files shelf.old)
+        (λ files. within_limit source (files name.now) ≡ Ok bytes.items)) }
     ensures stop { IfErr result (λ why. ForSome (S.told_files shelf.old)
-        (λ files. Explains (λ read. read ≡ within_limit source (files name.now)) (Rose (S.faults shelf.old) (S.faults shelf.new)) why)) }
-    ensures read { IsErrOf result Stop.Read → Rose (S.faults shelf.old) (S.faults shelf.new) ⊎ IsSome (S.told_files shelf.old) }
+        (λ files. Explains (λ read. read ≡ within_limit source (files name.now))
+        (Rose (S.faults shelf.old) (S.faults shelf.new)) why)) }
+    ensures files { IfErr result
+        (IsOfFiles (Rose (S.faults shelf.old) (S.faults shelf.new) ⊎ IsSome (S.told_files shelf.old))) }
 {
     match shelf.fetch(alloc, name, FILE_LIMIT) {
         Ok(bytes) => Ok(bytes),
@@ -114,10 +80,13 @@ fn load_system<S: Shelf>(alloc: Global, shelf: &mut S, name: &str) -> Result<Sys
     ensures fetches_never_fall { S.fetches shelf.old ≤ S.fetches shelf.new }
     ensures faults_never_fall { S.faults shelf.old ≤ S.faults shelf.new }
     ensures valid { IfOk result IsSystem }
-    ensures ok { IfOk result (λ system. ForSome (S.told_files shelf.old) (λ files. system_in files name.now ≡ Ok system)) }
+    ensures ok { IfOk result (λ system. ForSome (S.told_files shelf.old)
+        (λ files. system_in files name.now ≡ Ok system)) }
     ensures stop { IfErr result (λ why. ForSome (S.told_files shelf.old)
-        (λ files. Explains (λ read. read ≡ system_in files name.now) (Rose (S.faults shelf.old) (S.faults shelf.new)) why)) }
-    ensures read { IsErrOf result Stop.Read → Rose (S.faults shelf.old) (S.faults shelf.new) ⊎ IsSome (S.told_files shelf.old) }
+        (λ files. Explains (λ read. read ≡ system_in files name.now)
+        (Rose (S.faults shelf.old) (S.faults shelf.new)) why)) }
+    ensures files { IfErr result
+        (IsOfFiles (Rose (S.faults shelf.old) (S.faults shelf.new) ⊎ IsSome (S.told_files shelf.old))) }
 {
     let bytes = fetch_file(alloc, shelf, Source::System, name)?;
     match read_system(alloc, bytes.as_slice()) {
@@ -134,10 +103,13 @@ fn load_steps<S: Shelf>(alloc: Global, shelf: &mut S, name: &str) -> Result<Vec<
     ensures fetches_never_fall { S.fetches shelf.old ≤ S.fetches shelf.new }
     ensures faults_never_fall { S.faults shelf.old ≤ S.faults shelf.new }
     ensures valid { IfOk result (λ steps. AreLegalSteps steps.items) }
-    ensures ok { IfOk result (λ steps. ForSome (S.told_files shelf.old) (λ files. steps_in files name.now ≡ Ok steps.items)) }
+    ensures ok { IfOk result (λ steps. ForSome (S.told_files shelf.old)
+        (λ files. steps_in files name.now ≡ Ok steps.items)) }
     ensures stop { IfErr result (λ why. ForSome (S.told_files shelf.old)
-        (λ files. Explains (λ read. read ≡ steps_in files name.now) (Rose (S.faults shelf.old) (S.faults shelf.new)) why)) }
-    ensures read { IsErrOf result Stop.Read → Rose (S.faults shelf.old) (S.faults shelf.new) ⊎ IsSome (S.told_files shelf.old) }
+        (λ files. Explains (λ read. read ≡ steps_in files name.now)
+        (Rose (S.faults shelf.old) (S.faults shelf.new)) why)) }
+    ensures files { IfErr result
+        (IsOfFiles (Rose (S.faults shelf.old) (S.faults shelf.new) ⊎ IsSome (S.told_files shelf.old))) }
 {
     let bytes = fetch_file(alloc, shelf, Source::Steps, name)?;
     match read_steps(alloc, bytes.as_slice()) {
@@ -159,10 +131,13 @@ fn load_requests<S: Shelf>(
     ensures fetches_never_fall { S.fetches shelf.old ≤ S.fetches shelf.new }
     ensures faults_never_fall { S.faults shelf.old ≤ S.faults shelf.new }
     ensures valid { IfOk result (λ requests. AreLegal owners.now requests.items) }
-    ensures ok { IfOk result (λ requests. ForSome (S.told_files shelf.old) (λ files. requests_in files (Some name.now) owners.now ≡ Ok requests.items)) }
+    ensures ok { IfOk result (λ requests. ForSome (S.told_files shelf.old)
+        (λ files. requests_in files (Some name.now) owners.now ≡ Ok requests.items)) }
     ensures stop { IfErr result (λ why. ForSome (S.told_files shelf.old)
-        (λ files. Explains (λ read. read ≡ requests_in files (Some name.now) owners.now) (Rose (S.faults shelf.old) (S.faults shelf.new)) why)) }
-    ensures read { IsErrOf result Stop.Read → Rose (S.faults shelf.old) (S.faults shelf.new) ⊎ IsSome (S.told_files shelf.old) }
+        (λ files. Explains (λ read. read ≡ requests_in files (Some name.now) owners.now)
+        (Rose (S.faults shelf.old) (S.faults shelf.new)) why)) }
+    ensures files { IfErr result
+        (IsOfFiles (Rose (S.faults shelf.old) (S.faults shelf.new) ⊎ IsSome (S.told_files shelf.old))) }
 {
     let bytes = fetch_file(alloc, shelf, Source::Requests, name)?;
     match read_requests(alloc, bytes.as_slice(), owners) {
@@ -187,8 +162,10 @@ fn load_named_requests<S: Shelf>(
     ensures ok { IfOk result (λ requests. ForSome (S.told_files shelf.old)
         (λ files. requests_in files (option_map (λ word. word.now) name.entry) owners.now ≡ Ok requests.items)) }
     ensures stop { IfErr result (λ why. ForSome (S.told_files shelf.old)
-        (λ files. Explains (λ read. read ≡ requests_in files (option_map (λ word. word.now) name.entry) owners.now) (Rose (S.faults shelf.old) (S.faults shelf.new)) why)) }
-    ensures read { IsErrOf result Stop.Read → Rose (S.faults shelf.old) (S.faults shelf.new) ⊎ IsSome (S.told_files shelf.old) }
+        (λ files. Explains (λ read. read ≡ requests_in files (option_map (λ word. word.now) name.entry) owners.now)
+        (Rose (S.faults shelf.old) (S.faults shelf.new)) why)) }
+    ensures files { IfErr result
+        (IsOfFiles (Rose (S.faults shelf.old) (S.faults shelf.new) ⊎ IsSome (S.told_files shelf.old))) }
 {
     match name {
         Some(name) => load_requests(alloc, shelf, name, owners),
@@ -206,16 +183,20 @@ fn load_job<S: Shelf>(
     requests_name: Option<&str>,
 ) -> Result<Job, Stop>
     ensures files_stay { S.told_files shelf.new ≡ S.told_files shelf.old }
-    ensures counted { S.fetches shelf.new ≤ S.fetches shelf.old + (2 + named (option_map (λ word. word.now) requests_name.entry)) }
+    ensures counted { S.fetches shelf.new
+        ≤ S.fetches shelf.old + (2 + named (option_map (λ word. word.now) requests_name.entry)) }
     ensures fetches_never_fall { S.fetches shelf.old ≤ S.fetches shelf.new }
     ensures faults_never_fall { S.faults shelf.old ≤ S.faults shelf.new }
     ensures job { IfOk result IsJob }
     ensures ok { IfOk result (λ job. ForSome (S.told_files shelf.old)
-        (λ files. job_in files system_name.now steps_name.now (option_map (λ word. word.now) requests_name.entry) ≡ Ok (job_of job))) }
+        (λ files. job_in files system_name.now steps_name.now (option_map (λ word. word.now) requests_name.entry)
+        ≡ Ok (job_of job))) }
     ensures stop { IfErr result (λ why. ForSome (S.told_files shelf.old)
-        (λ files. Explains (λ read. read ≡ job_in files system_name.now steps_name.now (option_map (λ word. word.now) requests_name.entry))
+        (λ files. Explains (λ read. read ≡ job_in files system_name.now steps_name.now
+        (option_map (λ word. word.now) requests_name.entry))
         (Rose (S.faults shelf.old) (S.faults shelf.new)) why)) }
-    ensures read { IsErrOf result Stop.Read → Rose (S.faults shelf.old) (S.faults shelf.new) ⊎ IsSome (S.told_files shelf.old) }
+    ensures files { IfErr result
+        (IsOfFiles (Rose (S.faults shelf.old) (S.faults shelf.new) ⊎ IsSome (S.told_files shelf.old))) }
 {
     let system = load_system(alloc, shelf, system_name)?;
     let steps = load_steps(alloc, shelf, steps_name)?;
@@ -231,7 +212,8 @@ fn load_job<S: Shelf>(
 fn plan_in(alloc: Global, bytes: &[u8]) -> Result<Certificate, Stop>
     ensures certificate { IfOk result IsToCheck }
     ensures ok { IfOk result (λ certificate. IsPlanMeant bytes.now (Ok certificate)) }
-    ensures stop { IfErr result (λ why. why ≡ Stop.Memory ⊎ ((refusal : Refusal) × (why ≡ Stop.Input refusal) × IsPlanMeant bytes.now (Err (stopped_by refusal)))) }
+    ensures stop { IfErr result (Explains (IsPlanMeant bytes.now) ⊥) }
+    ensures files { IfErr result (IsOfFiles ⊥) }
 {
     let certificate = match read_plan(alloc, bytes) {
         Ok(certificate) => certificate,
@@ -251,10 +233,12 @@ fn load_plan<S: Shelf>(alloc: Global, shelf: &mut S, name: &str) -> Result<Certi
     ensures fetches_never_fall { S.fetches shelf.old ≤ S.fetches shelf.new }
     ensures faults_never_fall { S.faults shelf.old ≤ S.faults shelf.new }
     ensures certificate { IfOk result IsToCheck }
-    ensures ok { IfOk result (λ certificate. ForSome (S.told_files shelf.old) (λ files. IsPlanIn files name.now (Ok certificate))) }
+    ensures ok { IfOk result (λ certificate. ForSome (S.told_files shelf.old)
+        (λ files. IsPlanIn files name.now (Ok certificate))) }
     ensures stop { IfErr result (λ why. ForSome (S.told_files shelf.old)
         (λ files. Explains (IsPlanIn files name.now) (Rose (S.faults shelf.old) (S.faults shelf.new)) why)) }
-    ensures read { IsErrOf result Stop.Read → Rose (S.faults shelf.old) (S.faults shelf.new) ⊎ IsSome (S.told_files shelf.old) }
+    ensures files { IfErr result
+        (IsOfFiles (Rose (S.faults shelf.old) (S.faults shelf.new) ⊎ IsSome (S.told_files shelf.old))) }
 {
     let bytes = fetch_file(alloc, shelf, Source::Plan, name)?;
     plan_in(alloc, bytes.as_slice())
@@ -268,14 +252,18 @@ fn load_replay<S: Shelf>(
     tail: Option<u16>,
 ) -> Result<Task, Stop>
     ensures files_stay { S.told_files shelf.new ≡ S.told_files shelf.old }
-    ensures counted { S.fetches shelf.new ≤ S.fetches shelf.old + files_named (Some (replay (run_read run.entry) tail)) }
+    ensures counted { S.fetches shelf.new
+        ≤ S.fetches shelf.old + files_named (Some (replay (run_read run.entry) tail)) }
     ensures fetches_never_fall { S.fetches shelf.old ≤ S.fetches shelf.new }
     ensures faults_never_fall { S.faults shelf.old ≤ S.faults shelf.new }
     ensures task { IfOk result IsTask }
-    ensures ok { IfOk result (λ task. ForSome (S.told_files shelf.old) (λ files. IsAskedOf files (replay (run_read run.entry) tail) (Ok (asked_of task)))) }
+    ensures ok { IfOk result (λ task. ForSome (S.told_files shelf.old)
+        (λ files. IsAskedOf files (replay (run_read run.entry) tail) (Ok (asked_of task)))) }
     ensures stop { IfErr result (λ why. ForSome (S.told_files shelf.old)
-        (λ files. Explains (IsAskedOf files (replay (run_read run.entry) tail)) (Rose (S.faults shelf.old) (S.faults shelf.new)) why)) }
-    ensures read { IsErrOf result Stop.Read → Rose (S.faults shelf.old) (S.faults shelf.new) ⊎ IsSome (S.told_files shelf.old) }
+        (λ files. Explains (IsAskedOf files (replay (run_read run.entry) tail))
+        (Rose (S.faults shelf.old) (S.faults shelf.new)) why)) }
+    ensures files { IfErr result
+        (IsOfFiles (Rose (S.faults shelf.old) (S.faults shelf.new) ⊎ IsSome (S.told_files shelf.old))) }
 {
     let job = load_job(alloc, shelf, run.system, run.steps, run.requests)?;
     Ok(Task::Log(job, tail, run.report))
@@ -289,15 +277,18 @@ fn load_table<S: Shelf>(
     steps_name: &str,
 ) -> Result<Task, Stop>
     ensures files_stay { S.told_files shelf.new ≡ S.told_files shelf.old }
-    ensures counted { S.fetches shelf.new ≤ S.fetches shelf.old + files_named (Some (admit system_name.now steps_name.now)) }
+    ensures counted { S.fetches shelf.new
+        ≤ S.fetches shelf.old + files_named (Some (admit system_name.now steps_name.now)) }
     ensures fetches_never_fall { S.fetches shelf.old ≤ S.fetches shelf.new }
     ensures faults_never_fall { S.faults shelf.old ≤ S.faults shelf.new }
     ensures task { IfOk result IsTask }
     ensures ok { IfOk result (λ task. ForSome (S.told_files shelf.old)
         (λ files. IsAskedOf files (admit system_name.now steps_name.now) (Ok (asked_of task)))) }
     ensures stop { IfErr result (λ why. ForSome (S.told_files shelf.old)
-        (λ files. Explains (IsAskedOf files (admit system_name.now steps_name.now)) (Rose (S.faults shelf.old) (S.faults shelf.new)) why)) }
-    ensures read { IsErrOf result Stop.Read → Rose (S.faults shelf.old) (S.faults shelf.new) ⊎ IsSome (S.told_files shelf.old) }
+        (λ files. Explains (IsAskedOf files (admit system_name.now steps_name.now))
+        (Rose (S.faults shelf.old) (S.faults shelf.new)) why)) }
+    ensures files { IfErr result
+        (IsOfFiles (Rose (S.faults shelf.old) (S.faults shelf.new) ⊎ IsSome (S.told_files shelf.old))) }
 {
     let job = load_job(alloc, shelf, system_name, steps_name, None)?;
     Ok(Task::Table(job))
@@ -321,7 +312,8 @@ fn load_check<S: Shelf>(
     ensures stop { IfErr result (λ why. ForSome (S.told_files shelf.old)
         (λ files. Explains (IsAskedOf files (check system_name.now steps_name.now plan_name.now))
         (Rose (S.faults shelf.old) (S.faults shelf.new)) why)) }
-    ensures read { IsErrOf result Stop.Read → Rose (S.faults shelf.old) (S.faults shelf.new) ⊎ IsSome (S.told_files shelf.old) }
+    ensures files { IfErr result
+        (IsOfFiles (Rose (S.faults shelf.old) (S.faults shelf.new) ⊎ IsSome (S.told_files shelf.old))) }
 {
     let job = load_job(alloc, shelf, system_name, steps_name, None)?;
     let certificate = load_plan(alloc, shelf, plan_name)?;
@@ -335,10 +327,13 @@ pub fn load<S: Shelf>(alloc: Global, shelf: &mut S, command: Command<'_>) -> Res
     ensures fetches_never_fall { S.fetches shelf.old ≤ S.fetches shelf.new }
     ensures faults_never_fall { S.faults shelf.old ≤ S.faults shelf.new }
     ensures task { IfOk result IsTask }
-    ensures ok { IfOk result (λ task. ForSome (S.told_files shelf.old) (λ files. IsAskedOf files (command_read command.entry) (Ok (asked_of task)))) }
+    ensures ok { IfOk result (λ task. ForSome (S.told_files shelf.old)
+        (λ files. IsAskedOf files (command_read command.entry) (Ok (asked_of task)))) }
     ensures stop { IfErr result (λ why. ForSome (S.told_files shelf.old)
-        (λ files. Explains (IsAskedOf files (command_read command.entry)) (Rose (S.faults shelf.old) (S.faults shelf.new)) why)) }
-    ensures read { IsErrOf result Stop.Read → Rose (S.faults shelf.old) (S.faults shelf.new) ⊎ IsSome (S.told_files shelf.old) }
+        (λ files. Explains (IsAskedOf files (command_read command.entry))
+        (Rose (S.faults shelf.old) (S.faults shelf.new)) why)) }
+    ensures files { IfErr result
+        (IsOfFiles (Rose (S.faults shelf.old) (S.faults shelf.new) ⊎ IsSome (S.told_files shelf.old))) }
 {
     match command {
         Command::Replay { run, tail } => load_replay(alloc, shelf, run, tail),
@@ -362,8 +357,10 @@ pub fn load_live<S: Shelf>(alloc: Global, shelf: &mut S, run: RunWords<'_>) -> R
     ensures ok { IfOk result (λ job. ForSome (S.told_files shelf.old)
         (λ files. IsLiveAskedOf files (run_read run.entry) (Ok (live_log_of (job_of job) run.entry.report)))) }
     ensures stop { IfErr result (λ why. ForSome (S.told_files shelf.old)
-        (λ files. Explains (IsLiveAskedOf files (run_read run.entry)) (Rose (S.faults shelf.old) (S.faults shelf.new)) why)) }
-    ensures read { IsErrOf result Stop.Read → Rose (S.faults shelf.old) (S.faults shelf.new) ⊎ IsSome (S.told_files shelf.old) }
+        (λ files. Explains (IsLiveAskedOf files (run_read run.entry))
+        (Rose (S.faults shelf.old) (S.faults shelf.new)) why)) }
+    ensures files { IfErr result
+        (IsOfFiles (Rose (S.faults shelf.old) (S.faults shelf.new) ⊎ IsSome (S.told_files shelf.old))) }
 {
     let job = load_job(alloc, shelf, run.system, run.steps, run.requests)?;
     Ok(job)

@@ -25,8 +25,10 @@ fn put_report<O: Sink>(
     out: &mut O,
 ) -> Result<(), Cut>
     ensures faults_never_fall { O.faults out.old ≤ O.faults out.new }
-    ensures all { OnOk result (PutsReport run.now owners.now requests.now (O.told_bytes out.old) (O.told_bytes out.new)) }
-    ensures prefix { OnErr result (PutsReportFront run.now owners.now requests.now (O.told_bytes out.old) (O.told_bytes out.new)) }
+    ensures all { OnOk result
+        (PutsReport run.now owners.now requests.now (O.told_bytes out.old) (O.told_bytes out.new)) }
+    ensures prefix { OnErr result
+        (PutsReportFront run.now owners.now requests.now (O.told_bytes out.old) (O.told_bytes out.new)) }
     ensures failed { IsErrOf result Cut.Write → Rose (O.faults out.old) (O.faults out.new) }
 {
     match &run.trace {
@@ -57,8 +59,10 @@ pub fn write_log<O: Sink>(
     requires job { IsJob job.now }
     ensures faults_never_fall { O.faults out.old ≤ O.faults out.new }
     ensures done { IfOk result IsDone }
-    ensures tells { IfOk result (λ status. Tells (log_of (job_of job.now) None report) status (O.told_bytes out.old) (O.told_bytes out.new)) }
-    ensures cut { OnErr result (TellsFront (log_of (job_of job.now) None report) (O.told_bytes out.old) (O.told_bytes out.new)
+    ensures tells { IfOk result
+        (λ status. Tells (log_of (job_of job.now) None report) status (O.told_bytes out.old) (O.told_bytes out.new)) }
+    ensures cut { OnErr result
+        (TellsFront (log_of (job_of job.now) None report) (O.told_bytes out.old) (O.told_bytes out.new)
         ⊎ TellsBegun (job_of job.now) report (O.told_bytes out.old) (O.told_bytes out.new)) }
     ensures failed { IsErrOf result Cut.Write → Rose (O.faults out.old) (O.faults out.new) }
 {

@@ -27,8 +27,20 @@ usage: fttcan live SYSTEM STEPS [REQUESTS] [--report]
 ";
 
 /// Two nodes with an asynchronous identifier each, and no entry.
-const TWO_OWNERS: &str =
-    "[bus]\ncycle = 1000\nwindow = 135\nnodes = 2\n\n[[async]]\nid = 0x200\nnode = 0\n\n[[async]]\nid = 0x201\nnode = 1\n";
+const TWO_OWNERS: &str = "\
+[bus]
+cycle = 1000
+window = 135
+nodes = 2
+
+[[async]]
+id = 0x200
+node = 0
+
+[[async]]
+id = 0x201
+node = 1
+";
 
 /// A window for two frames of eight bytes.
 const WIDE_WINDOW: &str = "[bus]\ncycle = 1000\nwindow = 270\nnodes = 1\n";
@@ -45,6 +57,19 @@ first 0
 length 2
 0000000003
 0000000004
+end
+";
+
+/// The summary of the input that 1 makes.
+const SUMMARY: &str = "\
+gen,1
+accepted,32
+refused,8
+cycles,5000
+synchronous,34028
+asynchronous,19929
+left,71
+busy,5457708
 end
 ";
 
@@ -222,12 +247,10 @@ fn each_command_writes_its_answer(rt: HostRuntime) -> Result<(), Fail> {
 #[test]
 fn a_generated_input_is_summed_up(rt: HostRuntime) -> Result<(), Fail> {
     let alloc = rt.alloc();
-    let summary =
-        "gen,1\naccepted,32\nrefused,8\ncycles,5000\nsynchronous,34028\nasynchronous,19929\nleft,71\nbusy,5457708\nend\n";
     let shelf = MemShelf::new(Vec::new(alloc), Vec::new(alloc));
     let answer = call(alloc, &["gen", "1"], shelf, sink(alloc)?)?;
     assert_eq!(rt; answer.status, Status::Done);
-    assert_eq!(rt; str::from_utf8(answer.out.bytes()), Ok(summary));
+    assert_eq!(rt; str::from_utf8(answer.out.bytes()), Ok(SUMMARY));
     Ok(())
 }
 

@@ -1,16 +1,18 @@
 //! The words of a call, which say what is asked.
 
-ghost use Rattle.std.specs.Prelude.{◌≡◌, codes, unwrap_or, ℕ, [], List, Option, Some, None, true, IfOk, IsErrOf, map, option_map, string_bytes};
+ghost use Rattle.std.specs.Prelude.{◌≡◌, ◌⊎◌, codes, unwrap_or, [], Some, true, IfOk, IfErr, map, option_map, string_bytes};
 ghost use Rattle.clap.specs.Words.{fault_of, app_of, first_of, found_of, is_simple_and_free, matches_of, rows_of, App, Row};
+ghost use Rattle.fttcan_top.specs.Loads.{ExplainsWords};
 ghost use Rattle.fttcan_top.specs.Words.{admit_app, admit_meant, check_app, check_meant, command_of, generate_app, generate_meant, is_set, live_app, live_of, number_of, replay_app, replay_meant, run_meant, taken_by, word_of};
 ghost use Rattle.fttcan_top.specs.WordsRead.{run_read, command_read};
 
 use crate::arguments::{
     admit_command, check_command, generate_command, live_command, replay_command,
 };
+use crate::stop::Stop;
 use clap::ArgMatches;
 use clap::error::ErrorKind;
-use std::alloc::{AllocError, Global};
+use std::alloc::Global;
 
 /// The words of a run: the names of its files, and whether its report is asked for.
 #[derive(Clone, Copy)]
@@ -46,39 +48,24 @@ pub enum Command<'a> {
     },
 }
 
-/// Why words are not taken.
-#[derive(Clone, Copy, PartialEq, Eq, Debug)]
-pub enum WordsFault {
-    /// They are in no row of the table of commands.
-    NoCommand,
-    /// Memory ran out.
-    Memory,
-}
-
-impl From<AllocError> for WordsFault {
-    ghost use Rattle.fttcan_top.specs.declared.words.WordsFault.{WordsFault};
-
-    ghost from_gives = { λ _ fault. fault ≡ WordsFault.Memory };
-
-    fn from(_error: AllocError) -> WordsFault {
-        WordsFault::Memory
-    }
-}
-
 /// What clap's command makes of the words.
-fn parsed<'a>(command: clap::Command<'a>, words: &'a [String]) -> Result<ArgMatches<'a>, WordsFault>
+fn parsed<'a>(command: clap::Command<'a>, words: &'a [String]) -> Result<ArgMatches<'a>, Stop>
     requires simple { is_simple_and_free (app_of command) ≡ true }
-    ensures taken { IfOk result (λ matches. fault_of (app_of command.entry) (map string_bytes words.entry.now) ≡ []) }
-    ensures rows { IfOk result (λ matches. rows_of (found_of matches) ≡ matches_of (app_of command.entry) (map string_bytes words.entry.now)) }
-    ensures words { IsErrOf result WordsFault.NoCommand → fault_of (app_of command.entry) (map string_bytes words.entry.now) ≡ [] → ⊥ }
+    ensures taken { IfOk result
+        (λ matches. fault_of (app_of command.entry) (map string_bytes words.entry.now) ≡ []) }
+    ensures rows { IfOk result (λ matches. rows_of (found_of matches)
+        ≡ matches_of (app_of command.entry) (map string_bytes words.entry.now)) }
+    ensures stop { IfErr result (λ why. (why ≡ Stop.Memory)
+        ⊎ ((why ≡ Stop.Words)
+        × (fault_of (app_of command.entry) (map string_bytes words.entry.now) ≡ [] → ⊥))) }
 {
     match command.try_get_matches_from(words) {
         Ok(matches) => Ok(matches),
         Err(error) => {
             if error.kind() == ErrorKind::OutOfMemory {
-                Err(WordsFault::Memory)
+                Err(Stop::Memory)
             } else {
-                Err(WordsFault::NoCommand)
+                Err(Stop::Words)
             }
         }
     }
@@ -135,9 +122,10 @@ fn run_words<'a>(matches: &ArgMatches<'a>) -> RunWords<'a>
 }
 
 /// What the words of `replay` ask for.
-fn replay_in(alloc: Global, words: &[String]) -> Result<Command<'_>, WordsFault>
-    ensures ok { IfOk result (λ command. Some (command_read command) ≡ taken_by replay_app replay_meant (map string_bytes words.now)) }
-    ensures words { IsErrOf result WordsFault.NoCommand → taken_by replay_app replay_meant (map string_bytes words.now) ≡ None }
+fn replay_in(alloc: Global, words: &[String]) -> Result<Command<'_>, Stop>
+    ensures ok { IfOk result (λ command. Some (command_read command)
+        ≡ taken_by replay_app replay_meant (map string_bytes words.now)) }
+    ensures stop { IfErr result (ExplainsWords (taken_by replay_app replay_meant (map string_bytes words.now))) }
 {
     let command = replay_command(alloc)?;
     let matches = parsed(command, words)?;
@@ -148,9 +136,10 @@ fn replay_in(alloc: Global, words: &[String]) -> Result<Command<'_>, WordsFault>
 }
 
 /// What the words of `admit` ask for.
-fn admit_in(alloc: Global, words: &[String]) -> Result<Command<'_>, WordsFault>
-    ensures ok { IfOk result (λ command. Some (command_read command) ≡ taken_by admit_app admit_meant (map string_bytes words.now)) }
-    ensures words { IsErrOf result WordsFault.NoCommand → taken_by admit_app admit_meant (map string_bytes words.now) ≡ None }
+fn admit_in(alloc: Global, words: &[String]) -> Result<Command<'_>, Stop>
+    ensures ok { IfOk result (λ command. Some (command_read command)
+        ≡ taken_by admit_app admit_meant (map string_bytes words.now)) }
+    ensures stop { IfErr result (ExplainsWords (taken_by admit_app admit_meant (map string_bytes words.now))) }
 {
     let command = admit_command(alloc)?;
     let matches = parsed(command, words)?;
@@ -161,9 +150,10 @@ fn admit_in(alloc: Global, words: &[String]) -> Result<Command<'_>, WordsFault>
 }
 
 /// What the words of `check` ask for.
-fn check_in(alloc: Global, words: &[String]) -> Result<Command<'_>, WordsFault>
-    ensures ok { IfOk result (λ command. Some (command_read command) ≡ taken_by check_app check_meant (map string_bytes words.now)) }
-    ensures words { IsErrOf result WordsFault.NoCommand → taken_by check_app check_meant (map string_bytes words.now) ≡ None }
+fn check_in(alloc: Global, words: &[String]) -> Result<Command<'_>, Stop>
+    ensures ok { IfOk result (λ command. Some (command_read command)
+        ≡ taken_by check_app check_meant (map string_bytes words.now)) }
+    ensures stop { IfErr result (ExplainsWords (taken_by check_app check_meant (map string_bytes words.now))) }
 {
     let command = check_command(alloc)?;
     let matches = parsed(command, words)?;
@@ -175,9 +165,10 @@ fn check_in(alloc: Global, words: &[String]) -> Result<Command<'_>, WordsFault>
 }
 
 /// What the words of `gen` ask for.
-fn generate_in(alloc: Global, words: &[String]) -> Result<Command<'_>, WordsFault>
-    ensures ok { IfOk result (λ command. Some (command_read command) ≡ taken_by generate_app generate_meant (map string_bytes words.now)) }
-    ensures words { IsErrOf result WordsFault.NoCommand → taken_by generate_app generate_meant (map string_bytes words.now) ≡ None }
+fn generate_in(alloc: Global, words: &[String]) -> Result<Command<'_>, Stop>
+    ensures ok { IfOk result (λ command. Some (command_read command)
+        ≡ taken_by generate_app generate_meant (map string_bytes words.now)) }
+    ensures stop { IfErr result (ExplainsWords (taken_by generate_app generate_meant (map string_bytes words.now))) }
 {
     let command = generate_command(alloc)?;
     let matches = parsed(command, words)?;
@@ -187,12 +178,12 @@ fn generate_in(alloc: Global, words: &[String]) -> Result<Command<'_>, WordsFaul
 }
 
 /// What the words ask for.
-pub fn command_in(alloc: Global, words: &[String]) -> Result<Command<'_>, WordsFault>
+pub fn command_in(alloc: Global, words: &[String]) -> Result<Command<'_>, Stop>
     ensures ok { IfOk result (λ command. Some (command_read command) ≡ command_of (map string_bytes words.now)) }
-    ensures words { IsErrOf result WordsFault.NoCommand → command_of (map string_bytes words.now) ≡ None }
+    ensures stop { IfErr result (ExplainsWords (command_of (map string_bytes words.now))) }
 {
     let Some(name) = words.first() else {
-        return Err(WordsFault::NoCommand);
+        return Err(Stop::Words);
     };
     if name.as_str() == "replay" {
         return replay_in(alloc, words);
@@ -206,13 +197,14 @@ pub fn command_in(alloc: Global, words: &[String]) -> Result<Command<'_>, WordsF
     if name.as_str() == "gen" {
         return generate_in(alloc, words);
     }
-    Err(WordsFault::NoCommand)
+    Err(Stop::Words)
 }
 
 /// The run by threads that the words of `live` ask for, where they are in its row of the table.
-fn live_words(alloc: Global, words: &[String]) -> Result<RunWords<'_>, WordsFault>
-    ensures ok { IfOk result (λ run. Some (run_read run) ≡ taken_by live_app run_meant (map string_bytes words.now)) }
-    ensures words { IsErrOf result WordsFault.NoCommand → taken_by live_app run_meant (map string_bytes words.now) ≡ None }
+fn live_words(alloc: Global, words: &[String]) -> Result<RunWords<'_>, Stop>
+    ensures ok { IfOk result (λ run. Some (run_read run)
+        ≡ taken_by live_app run_meant (map string_bytes words.now)) }
+    ensures stop { IfErr result (ExplainsWords (taken_by live_app run_meant (map string_bytes words.now))) }
 {
     let command = live_command(alloc)?;
     let matches = parsed(command, words)?;
@@ -220,15 +212,15 @@ fn live_words(alloc: Global, words: &[String]) -> Result<RunWords<'_>, WordsFaul
 }
 
 /// The run by threads that the words of `live` ask for.
-pub fn live_in(alloc: Global, words: &[String]) -> Result<RunWords<'_>, WordsFault>
+pub fn live_in(alloc: Global, words: &[String]) -> Result<RunWords<'_>, Stop>
     ensures ok { IfOk result (λ run. Some (run_read run) ≡ live_of (map string_bytes words.now)) }
-    ensures words { IsErrOf result WordsFault.NoCommand → live_of (map string_bytes words.now) ≡ None }
+    ensures stop { IfErr result (ExplainsWords (live_of (map string_bytes words.now))) }
 {
     let Some(name) = words.first() else {
-        return Err(WordsFault::NoCommand);
+        return Err(Stop::Words);
     };
     if name.as_str() == "live" {
         return live_words(alloc, words);
     }
-    Err(WordsFault::NoCommand)
+    Err(Stop::Words)
 }

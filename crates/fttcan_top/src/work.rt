@@ -72,7 +72,8 @@ fn push_report(
     requests: &[Request],
     report: bool,
 ) -> Result<(), AllocError>
-    ensures report { OnOk result (text.new.items ≡ text.old.items ++ report_if report master.now.history trace.now owners.now requests.now) }
+    ensures report { OnOk result
+        (text.new.items ≡ text.old.items ++ report_if report master.now.history trace.now owners.now requests.now) }
 {
     if !report {
         return Ok(());
@@ -201,7 +202,8 @@ fn breach_line(alloc: Global, breach: &Breach) -> Result<Vec<u8>, AllocError>
 fn check_of(alloc: Global, job: &Job, certificate: &Certificate) -> Result<Outcome, AllocError>
     requires job { IsJob job.now }
     requires certificate { IsToCheck certificate.now }
-    ensures answer { IfOk result (λ outcome. IsCheckText (job_of job.now) certificate.now outcome.status outcome.text.items) }
+    ensures answer { IfOk result
+        (λ outcome. IsCheckText (job_of job.now) certificate.now outcome.status outcome.text.items) }
     ensures done { IfOk result (λ outcome. IsDone outcome.status) }
 {
     let rules = &job.system.rules;

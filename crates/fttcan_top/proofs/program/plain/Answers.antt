@@ -1,29 +1,35 @@
-use Rattle.std.proofs.Common.{◌≡◌, sym, subst, Ok, Err}
-use Rattle.std.specs.Option.{ForSome}
+use Rattle.std.proofs.Common.{◌≡◌, None, Err, refl, sym, subst}
 use Rattle.std.specs.Prelude.{map, string_bytes}
-use Rattle.fttcan_top.specs.declared.status.Status.TheVariants.{Input}
-use Rattle.fttcan_top.specs.Ends.{end_reason}
-use Rattle.fttcan_top.specs.Output.{Asked, IsAsked, IsDone, IsRefusal, Tells}
-use Rattle.fttcan_top.proofs.EndLemmas.{at_status, end-input, is_refusal}
+use Rattle.ftt_io.specs.Counts.{Rose}
+use Rattle.fttcan_top.specs.Ends.{PutsPart, refusal_of}
+use Rattle.fttcan_top.specs.Output.{IsAsked, IsAskedBy, no_command}
+use Rattle.fttcan_top.specs.Words.{command_of}
+use Rattle.fttcan_top.proofs.EndLemmas.{command-status, said}
 use Rattle.fttcan_top.proofs.program.plain.Goals as goal
 
-pub returns-clause-message : goal.returns-clause-message
-returns-clause-message g c = (
-  end_reason c.call-end.result,
-  at_status (λ status. status ≡ Input → IsRefusal (end_reason c.call-end.result) × ForSome (g.S.Shelf.told_files c.args.shelf.now)
-      (λ files. IsAsked (map string_bytes c.args.words.now) files (Err (end_reason c.call-end.result))))
-      c.call-end.result c.tell.result c.tell.ensures.status
-      (λ is. let found = end-input c.call-end.result is in
-      subst (λ end. IsRefusal (end_reason end)
-      × ForSome (g.S.Shelf.told_files c.args.shelf.now) (λ files. IsAsked (map string_bytes c.args.words.now) files (Err (end_reason end))))
-      (sym found.1) (is_refusal found.0, c.call-end.ensures.refusal found.0 found.1))
-      (λ input is. absurd (cc)),
-  c.tell.ensures.message,
-)
-
-pub returns-clause-done : goal.returns-clause-done
-returns-clause-done g c =
-    at_status (λ status. IsDone status → (asked_for : Asked)
-    × ForSome (g.S.Shelf.told_files c.args.shelf.now) (λ files. IsAsked (map string_bytes c.args.words.now) files (Ok asked_for))
-    × Tells asked_for status (g.O.Sink.told_bytes c.args.out.now) (g.O.Sink.told_bytes c.call-end.new.out))
-    c.call-end.result c.tell.result c.tell.ensures.status c.call-end.ensures.done (λ input done. absurd done)
+pub returns : goal.returns
+returns g c =
+    let all = said (command_of (map string_bytes c.args.words.now) ≡ None) (g.S.Shelf.told_files c.args.shelf.now)
+    (IsAsked (map string_bytes c.args.words.now)) PutsPart
+    (Rose (g.S.Shelf.faults c.args.shelf.now) (g.S.Shelf.faults c.call-ended.new.shelf))
+    (Rose (g.O.Sink.faults c.args.out.now) (g.O.Sink.faults c.call-ended.new.out))
+    (g.O.Sink.told_bytes c.args.out.now) (g.O.Sink.told_bytes c.call-ended.new.out)
+    c.call-ended.result c.tell.result c.tell.ensures.status c.call-ended.ensures.done c.call-ended.ensures.ended
+    (λ none files. subst (λ command. IsAskedBy files command (Err no_command)) (sym none) refl) in
+    record {
+      answer = all.answer;
+      words = all.words;
+      command = λ none. command-status c.call-ended.result c.tell.result c.tell.ensures.status (c.call-ended.ensures.command none);
+      read = all.read;
+      write = all.write;
+      done = all.done;
+      cut = all.cut;
+      nothing = all.nothing;
+      message = (refusal_of c.call-ended.result, all.input, c.tell.ensures.message);
+      fetches = c.call-ended.ensures.fetches;
+      files_stay = c.call-ended.ensures.files_stay;
+      fetches_never_fall = c.call-ended.ensures.fetches_never_fall;
+      faults_never_fall = c.call-ended.ensures.faults_never_fall;
+      out_faults_never_fall = c.call-ended.ensures.out_faults_never_fall;
+      err_faults_never_fall = c.tell.ensures.faults_never_fall;
+    }
