@@ -1,9 +1,10 @@
 //! What is done with each node of a bus.
 
-ghost use Rattle.std.specs.Prelude.{◌≡◌, ℕ, ◌+◌, ◌^◌, ◌<◌, ◌≤◌, ◌++◌, Some, All, AllPairs, Contains, IfSome, IsSome, OnOk, is_some, length, map};
+ghost use Rattle.std.specs.Prelude.{◌≡◌, ◌≢◌, ℕ, ◌+◌, ◌^◌, ◌<◌, ◌≤◌, ◌++◌, Some, All, AllPairs, Contains, IfSome, IsSome, OnOk, is_some, length, map};
 ghost use Rattle.arbitration.specs.Arbitration.{AreDistinct};
 ghost use Rattle.requirement_table.specs.Slots.{contains_slot, slots};
 ghost use Rattle.requirement_table.specs.Table.{IsWellPlaced};
+ghost use Rattle.trigger_codec.specs.Bytes.{trigger_of};
 ghost use Rattle.bus_line.specs.Stations.{IsWake, sooner};
 ghost use Rattle.node_model.specs.Node.{learnt, node_offer};
 ghost use Rattle.node_model.specs.Window.{AreOfSlots};
@@ -17,6 +18,7 @@ use can_frame::{Frame, TimedFrame};
 use node_model::Node;
 use requirement_table::{Mask, Placed};
 use std::alloc::{AllocError, Global};
+use trigger_codec::{TRIGGER_IDENTIFIER, Trigger, decode};
 
 /// Makes each node able to learn a list of so many entries without memory.
 pub fn reserve(alloc: Global, nodes: &mut [Node], entries: usize) -> Result<(), AllocError>
@@ -40,9 +42,33 @@ pub fn learn(nodes: &mut [Node], placed: &[Placed])
     }
 }
 
-/// Tells each node of a frame.
+/// Tells each node of a frame. Where it is a trigger, it is read once for all of them.
 pub fn hear(nodes: &mut [Node], sent: &TimedFrame)
     requires next { sent.now.frame.identifier ≡ 0 → All (λ node. node.next < 2 ^ 42) (states_of nodes.old) }
+    ensures heard { states_of nodes.new ≡ all_hear (states_of nodes.old) sent.now }
+{
+    if sent.frame.id() == TRIGGER_IDENTIFIER {
+        hear_trigger(nodes, sent, &decode(&sent.frame).ok());
+    } else {
+        hear_other(nodes, sent);
+    }
+}
+
+/// Tells each node of a frame with identifier 0, whose reading as a trigger is this one.
+fn hear_trigger(nodes: &mut [Node], sent: &TimedFrame, trigger: &Option<Trigger>)
+    requires identifier { sent.now.frame.identifier ≡ 0 }
+    requires reading { trigger.now ≡ trigger_of sent.now.frame }
+    requires next { All (λ node. node.next < 2 ^ 42) (states_of nodes.old) }
+    ensures heard { states_of nodes.new ≡ all_hear (states_of nodes.old) sent.now }
+{
+    for node in nodes {
+        node.hear_trigger(sent, trigger);
+    }
+}
+
+/// Tells each node of a frame with another identifier.
+fn hear_other(nodes: &mut [Node], sent: &TimedFrame)
+    requires identifier { sent.now.frame.identifier ≢ 0 }
     ensures heard { states_of nodes.new ≡ all_hear (states_of nodes.old) sent.now }
 {
     for node in nodes {

@@ -14,7 +14,7 @@ mod Offers
 mod LookAhead
 mod WindowSets
 mod HeardSlots
-mod DueRow
+mod DueBehind
 mod InWindow
 mod InCycle
 mod DueSlots

@@ -28,11 +28,6 @@ due_frame node slot = record { identifier = first_identifier + slot; bytes = due
 abbrev pub frame_due : NodeState → ℕ → Option DataFrame
 frame_due node slot = if is_due_slot node slot then Some (due_frame node slot) else None
 
--- what stands at a place, or else another one
-abbrev pub or_else : Option DataFrame → Option DataFrame → Option DataFrame
-or_else None other = other
-or_else (Some frame) other = Some frame
-
 -- an open cycle in which more slots were heard
 abbrev pub with_all_heard : ℕ → Opened → Opened
 with_all_heard heard opened = record opened { heard = set_of slots (λ slot. contains_slot opened.heard slot || contains_slot heard slot) }

@@ -1,38 +1,18 @@
 //! What a node does in the synchronous window of the cycle that is open for it, for all its slots at once.
 
-ghost use Rattle.std.specs.Prelude.{◌≡◌, ℕ, ◌^◌, ◌<◌, ◌&&◌, ◌||◌, not, None, Some, IfSome, List, length, fold, option_map, slice_index_or, true};
+ghost use Rattle.std.specs.Prelude.{◌≡◌, ℕ, ◌^◌, ◌<◌, ◌&&◌, ◌||◌, not, Some, IfSome, List, fold, option_map, true};
 ghost use Rattle.requirement_table.specs.declared.entries.Placed.{Placed};
 ghost use Rattle.requirement_table.specs.Slots.{contains_slot, set_of, slots};
 ghost use Rattle.node_model.specs.Node.{after_hearing};
 ghost use Rattle.node_model.specs.Kept.{KnowsDue, opened_of};
-ghost use Rattle.node_model.specs.Window.{AreOfSlots, due_frame, frame_due, is_due_slot, or_else, with_all_heard};
+ghost use Rattle.node_model.specs.Window.{AreOfSlots, due_frame, is_due_slot, with_all_heard};
 
-use crate::cycle::{FIRST_IDENTIFIER, Open, least_slot};
+use crate::cycle::{FIRST_IDENTIFIER, Open};
 use crate::node::Node;
 use can_frame::{Frame, TimedFrame};
 use requirement_table::Mask;
 
 impl Node {
-    /// Puts the frame of each slot that the node is to send in the open cycle at the slot's place in a row of as many
-    /// places as there are slots, where none stands there yet.
-    pub fn put_due(&self, row: &mut [Option<Frame>])
-        requires places { length row.old ≡ slots }
-        ensures places { length row.new ≡ slots }
-        ensures put { (slot : ℕ) → slot < slots
-            → slice_index_or row.new slot None ≡ or_else (slice_index_or row.old slot None) (frame_due self.now.state slot) }
-    {
-        if let Some(open_cycle) = self.opened {
-            let mut left = open_cycle.due;
-            while let Some(slot) = least_slot(left) {
-                let place = usize::from(slot);
-                row[place] = or_else(row[place], self.due_frame(&open_cycle, slot));
-                left.known();
-                left = left.without(slot);
-                left.known();
-            }
-        }
-    }
-
     /// The frame of a slot that the node is to send in the open cycle.
     pub(crate) fn due_frame(&self, open_cycle: &Open, slot: u8) -> Frame
         requires slot { slot < slots }
@@ -60,16 +40,6 @@ impl Node {
         self.frames = self.frames.saturating_add(frames.len() as u64);
         let own = common(self.own, sent);
         self.opened = after_slots(&self.opened, own);
-    }
-}
-
-/// The frame that there is, or else another one.
-fn or_else(frame: Option<Frame>, other: Frame) -> Option<Frame>
-    ensures frame { result ≡ or_else frame (Some other) }
-{
-    match frame {
-        Some(frame) => Some(frame),
-        None => Some(other),
     }
 }
 

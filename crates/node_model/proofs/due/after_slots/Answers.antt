@@ -1,5 +1,5 @@
 use Rattle.std.proofs.Common.{rules, ◌≡◌, Some}
-use Rattle.node_model.proofs.DueRow.{due-heard}
+use Rattle.node_model.proofs.DueBehind.{due-heard}
 use Rattle.node_model.proofs.due.after_slots.Goals as goal
 
 pub returns-clause-due : goal.returns-clause-due

@@ -1,7 +1,7 @@
 use Rattle.std.proofs.Common.{option_map, ◌∙◌}
 use Rattle.node_model.specs.Node.{NodeState}
 use Rattle.node_model.specs.Kept.{opened_of}
-use Rattle.node_model.proofs.DueRow.{small-opened}
+use Rattle.node_model.proofs.DueBehind.{small-opened}
 use Rattle.node_model.proofs.HeardSlots.{heard-slots, mark-sent}
 use Rattle.node_model.proofs.node.Node.hear_slots.Goals as goal
 

@@ -1,6 +1,6 @@
 use Rattle.node_model.specs.Node.{after_hearing}
 use Rattle.cycle_engine.proofs.NodeByNode.{DoneBefore}
-use Rattle.cycle_engine.proofs.each.hear.Given as goal
+use Rattle.cycle_engine.proofs.each.hear_trigger.Given as goal
 
 -- the nodes before this one have heard the frame
 abbrev pub invariant-loop-node : goal.invariant-loop-node

@@ -1,16 +1,13 @@
-use Rattle.std.proofs.Common.{◌<◌, ◌^◌, arith}
+use Rattle.std.proofs.Common.{◌<◌, arith}
 use Rattle.node_model.specs.Node.{after_hearing}
-use Rattle.cycle_engine.proofs.NodeByNode.{DoneBefore-none, DoneBefore-more, DoneBefore-all, known_at}
-use Rattle.cycle_engine.proofs.each.hear.Goals as goal
+use Rattle.cycle_engine.proofs.NodeByNode.{DoneBefore-none, DoneBefore-more, DoneBefore-all}
+use Rattle.cycle_engine.proofs.each.hear_other.Goals as goal
 
 pub loop-node-init : goal.loop-node-init
 loop-node-init c = DoneBefore-none (λ node. after_hearing node c.args.sent.now) c.args.nodes.now
 
 pub hear-requires : goal.hear-requires
-hear-requires c = record {
-  cycle = λ zero. known_at (λ node. node.next < 2 ^ 42) c.args.nodes.now c.loop-node.node-items c.loop-node.node-index c.node-item.result
-      (c.requires.next zero) c.loop-node-test.true (c.loop-node.invariant.rest c.loop-node.node-index c.node-item.result (omega arith));
-}
+hear-requires c = record { cycle = λ zero. absurd (c.requires.identifier zero) }
 
 pub loop-node-preserved : goal.loop-node-preserved
 loop-node-preserved c =

@@ -1,0 +1,37 @@
+-- What is due for a node behind frames of slots that it heard.
+use Rattle.std.proofs.Common.{◌≡◌, ℕ, ◌^◌, ◌<◌, ◌&&◌, ◌||◌, Bool, true, false, not, Option, Some, None, IfSome, List, is_some, option_map, refl, sym, ap, ◌∙◌, subst}
+use Rattle.std.proofs.lemmas.Bool.{lt-ltb}
+use Rattle.requirement_table.specs.declared.entries.Placed.{Placed}
+use Rattle.requirement_table.specs.Slots.{contains_slot, set_of, slots}
+use Rattle.requirement_table.specs.Table.{instance_in}
+use Rattle.requirement_table.proofs.Shared.{contains_slot-set_of}
+use Rattle.node_model.specs.Node.{is_due}
+use Rattle.node_model.specs.Kept.{KnowsDue, opened_of}
+use Rattle.node_model.specs.declared.cycle.Open.{Open}
+
+-- the slots that are due behind frames that were heard
+not_either : (flagged some was now : Bool) → ((flagged && (some && not was)) && not now) ≡ (flagged && (some && not (was || now)))
+not_either true true true now = refl
+not_either true true false now = refl
+not_either true false was now = refl
+not_either false some was now = refl
+
+pub due-heard : (before : Option Open) (o : Open) (all_heard due heard : ℕ) → before ≡ Some o
+    → all_heard ≡ set_of slots (λ slot. contains_slot o.heard slot || contains_slot heard slot)
+    → ((slot : ℕ) → slot < slots → contains_slot due slot ≡ (contains_slot o.due slot && not (contains_slot heard slot)))
+    → (entries : List Placed) → IfSome before (KnowsDue entries) → (slot : ℕ) → slot < slots
+    → contains_slot due slot ≡ is_due entries (record { cycle = o.cycle; width = o.width; mask = o.mask; heard = all_heard }) slot
+due-heard before o all_heard due heard is all without entries knows slot within =
+    let known : KnowsDue entries o = subst (λ x. IfSome x (KnowsDue entries)) is knows in
+    let some : Bool = is_some (instance_in entries slot o.cycle) in
+    without slot within
+    ∙ ap (λ b. b && not (contains_slot heard slot)) (known slot within)
+    ∙ not_either (contains_slot o.mask slot) some (contains_slot o.heard slot) (contains_slot heard slot)
+    ∙ ap (λ b. contains_slot o.mask slot && (some && not b))
+    (sym (ap (λ n. contains_slot n slot) all
+    ∙ contains_slot-set_of slots (λ s. contains_slot o.heard s || contains_slot heard s) slot
+    ∙ ap (λ b. b && (contains_slot o.heard slot || contains_slot heard slot)) (lt-ltb slot slots within)))
+
+pub small-opened : (before : Option Open) → IfSome before (λ o. o.heard < 2 ^ slots) → IfSome (option_map opened_of before) (λ o. o.heard < 2 ^ slots)
+small-opened None small = tt
+small-opened (Some o) small = small
