@@ -1,5 +1,7 @@
 -- Mailboxes: the unsent requests of each of some identifiers, and what they offer. Times are bit times.
-use Rattle.std.specs.Prelude.{◌≡◌, ◌≢◌, ℕ, ◌+◌, ◌/◌, ◌^◌, ◌<◌, ◌≤◌, ◌==◌, ◌&&◌, Bool, false, nat_le, if◌then◌else◌, List, [], ◌∷◌, length, All, AllPairs, map, filter, drop, find, fold, min, sum_by, Option, Some, None}
+use Rattle.std.specs.Prelude.{◌≡◌, ◌≢◌, ℕ, ◌+◌, ◌/◌, ◌^◌, ◌<◌, ◌≤◌, ◌==◌, ◌&&◌, Bool, false}
+use Rattle.std.specs.Prelude.{nat_le, if◌then◌else◌, List, [], ◌∷◌, length, All, AllPairs, map}
+use Rattle.std.specs.Prelude.{filter, drop, find, fold, min, sum_by, Option, Some, None}
 use Rattle.std.specs.Option.{option_map_or}
 use Rattle.stuff_bound.specs.Stuffing.{worst}
 use Rattle.can_frame.specs.declared.data_frame.TimedFrame.{TimedFrame}
@@ -60,7 +62,8 @@ IsNextInCycle cycle at Has time = IsLeastWith (λ later. (at < later) × (later 
 abbrev pub may_start : CycleLayout → ℕ → ℕ → ℕ → List Request → Bool
 may_start layout c l at [] = false
 may_start layout c l at (request ∷ later) =
-    nat_le request.at at && (nat_le (async_open layout c) at && nat_le (at + worst (length request.frame.bytes)) (sync_start layout c l))
+    nat_le request.at at &&
+    (nat_le (async_open layout c) at && nat_le (at + worst (length request.frame.bytes)) (sync_start layout c l))
 
 -- the least of some numbers
 abbrev pub least_of : List ℕ → Option ℕ

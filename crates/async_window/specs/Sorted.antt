@@ -29,7 +29,8 @@ AreShort requests = All (λ request. length request.frame.bytes ≤ 8) requests
 
 -- what holds of mailboxes that stand for the mail of `ids`: they are in the order of their identifiers, with a table of
 -- their places, a tournament of their first arrivals and the number of requests that are left
-pub record AreKept (ids : List ℕ) (boxes : List Mail) (table : List ℕ) (levels : ℕ) (nodes : List (List ℕ)) (remaining : ℕ) : Type 0 where
+pub record AreKept (ids : List ℕ) (boxes : List Mail) (table : List ℕ) (levels : ℕ)
+    (nodes : List (List ℕ)) (remaining : ℕ) : Type 0 where
   pub mail : IsMail (mail_of ids boxes)
   pub same : (id : ℕ) → unsent_of (mail_of ids boxes) id ≡ unsent_of boxes id
   pub known : IsMail boxes

@@ -1,6 +1,7 @@
 -- The least arrivals of first requests, as a tournament over mailboxes: words for contracts inside the crate. Times are
 -- bit times.
-use Rattle.std.specs.Prelude.{◌≡◌, ◌≢◌, ℕ, ◌+◌, ◌*◌, ◌-◌, ◌^◌, ◌<◌, ◌≤◌, nat_le, if◌then◌else◌, List, [], ◌∷◌, ◌++◌, length, map, min, slice_index_or, Option}
+use Rattle.std.specs.Prelude.{◌≡◌, ◌≢◌, ℕ, ◌+◌, ◌*◌, ◌-◌, ◌^◌, ◌<◌, ◌≤◌}
+use Rattle.std.specs.Prelude.{nat_le, if◌then◌else◌, List, [], ◌∷◌, ◌++◌, length, map, min, slice_index_or, Option}
 use Rattle.async_window.specs.declared.request.Request.{Request}
 use Rattle.stuff_bound.specs.Stuffing.{worst}
 use Rattle.async_window.specs.Mailbox.{Mail, IsLeastWith}
@@ -32,13 +33,15 @@ node_value bytes nodes mail node = slice_index_or (tree bytes nodes mail) node n
 -- a node has the lesser value of the two below it
 abbrev pub HasLesser : List (List ℕ) → List Mail → ℕ → Type 0
 HasLesser nodes mail node = (bytes : ℕ) → bytes ≤ 8
-    → node_value bytes nodes mail node ≡ min (node_value bytes nodes mail (2 * node)) (node_value bytes nodes mail (2 * node + 1))
+    → node_value bytes nodes mail node
+    ≡ min (node_value bytes nodes mail (2 * node)) (node_value bytes nodes mail (2 * node + 1))
 
 -- one inner node gets the lesser value of the two below it, and the others stay
 pub record Renews (old new : List (List ℕ)) (mail : List Mail) (node : ℕ) : Type 0 where
   pub length : length new ≡ length old
   pub renewed : (bytes : ℕ) → bytes ≤ 8
-      → node_value bytes new mail node ≡ min (node_value bytes old mail (2 * node)) (node_value bytes old mail (2 * node + 1))
+      → node_value bytes new mail node
+      ≡ min (node_value bytes old mail (2 * node)) (node_value bytes old mail (2 * node + 1))
   pub others : (bytes other : ℕ) → other ≢ node → node_value bytes new mail other ≡ node_value bytes old mail other
 
 -- a tree with room for the mailboxes in which each inner node has the lesser value of the two below it, but perhaps for
@@ -57,5 +60,6 @@ IsTournament levels nodes mail = IsTournamentBut 0 levels nodes mail
 -- bytes, in a window that has opened at `opened` and in which the longest frame of so many bytes ends before `closed`
 abbrev pub IsSoonest : List (List ℕ) → List Mail → ℕ → ℕ → ℕ → ℕ → Option ℕ → Type 0
 IsSoonest nodes mail opened closed at count least =
-    IsLeastWith (λ later. (bytes : ℕ) × (bytes < count) × (at < later) × (node_value bytes nodes mail 1 ≤ later) × (opened ≤ later)
+    IsLeastWith (λ later. (bytes : ℕ) × (bytes < count) × (at < later)
+    × (node_value bytes nodes mail 1 ≤ later) × (opened ≤ later)
     × (later + worst bytes ≤ closed)) least

@@ -1,22 +1,26 @@
 //! What follows from the definitions, each as the contract of a function that does nothing.
 
-ghost use Rattle.std.specs.Prelude.{◌≡◌, ◌≢◌, ◌↔◌, ℕ, ◌/◌, ◌^◌, ◌<◌, ◌≤◌, ◌==◌, if◌then◌else◌, All, AllPairs, Contains, IsSome, IsTrue, List, [], ◌∷◌, ◌++◌, Option, Some, drop, map};
+ghost use Rattle.std.specs.Prelude.{◌≡◌, ◌≢◌, ◌↔◌, ℕ, ◌/◌, ◌^◌, ◌<◌, ◌≤◌, ◌==◌, if◌then◌else◌, All, AllPairs};
+ghost use Rattle.std.specs.Prelude.{Contains, IsSome, IsTrue, List, [], ◌∷◌, ◌++◌, Option, Some, drop, map};
 ghost use Rattle.can_frame.specs.declared.data_frame.TimedFrame.{TimedFrame};
 ghost use Rattle.cycle_layout.specs.Layout.{CycleLayout};
 ghost use Rattle.async_window.specs.declared.request.Request.{Request};
 ghost use Rattle.async_window.specs.Waiting.{MayStart, unsent_after};
-ghost use Rattle.async_window.specs.Mailbox.{IsLeastWith, IsMail, Mail, Offers, mail_after, mail_offer, may_start, unsent_of, without_first};
+ghost use Rattle.async_window.specs.Mailbox.{IsLeastWith, IsMail, Mail, Offers, mail_after};
+ghost use Rattle.async_window.specs.Mailbox.{mail_offer, may_start, unsent_of, without_first};
 
 /// What is not sent once some frames have started.
 pub fn unsent_laws()
-    ensures known { (ids : List ℕ) (requests : List Request) (past : List TimedFrame) → AllPairs (λ one other. one ≢ other) ids
+    ensures known { (ids : List ℕ) (requests : List Request) (past : List TimedFrame)
+        → AllPairs (λ one other. one ≢ other) ids
         → All (λ id. 0x200 ≤ id) ids → All (λ id. id ≤ 0x7EF) ids → All (λ request. request.at < 2 ^ 40) requests
         → IsMail (mail_after ids requests past) }
 
     // An identifier that has a mailbox has the requests that wait by the frames in the past, and another one has none.
     ensures among { (ids : List ℕ) (requests : List Request) (past : List TimedFrame) (id : ℕ) → Contains ids id
         → unsent_of (mail_after ids requests past) id ≡ unsent_after requests past id }
-    ensures elsewhere { (ids : List ℕ) (requests : List Request) (past : List TimedFrame) (id : ℕ) → (Contains ids id → ⊥)
+    ensures elsewhere { (ids : List ℕ) (requests : List Request) (past : List TimedFrame) (id : ℕ)
+        → (Contains ids id → ⊥)
         → unsent_of (mail_after ids requests past) id ≡ [] }
 
     ensures identifiers { (ids : List ℕ) (requests : List Request) (past : List TimedFrame)
@@ -24,7 +28,8 @@ pub fn unsent_laws()
 
     // Each frame takes away the first request of its identifier.
     ensures sent { (ids : List ℕ) (requests : List Request) (past : List TimedFrame) (sent : TimedFrame)
-        → mail_after ids requests (past ++ sent ∷ []) ≡ without_first sent.frame.identifier (mail_after ids requests past) }
+        → mail_after ids requests (past ++ sent ∷ [])
+        ≡ without_first sent.frame.identifier (mail_after ids requests past) }
 {}
 
 /// What is left without the first request of an identifier.
@@ -36,7 +41,8 @@ pub fn taking_laws()
     ensures known { (id : ℕ) (mail : List Mail) → IsMail mail → IsMail (without_first id mail) }
 
     // Where the identifier has no request, nothing changes.
-    ensures nothing { (id : ℕ) (mail : List Mail) → IsMail mail → unsent_of mail id ≡ [] → without_first id mail ≡ mail }
+    ensures nothing { (id : ℕ) (mail : List Mail) → IsMail mail
+        → unsent_of mail id ≡ [] → without_first id mail ≡ mail }
 {}
 
 /// Which identifiers are offered, by their first requests that are not sent.

@@ -1,8 +1,11 @@
 //! Mailboxes: the requests of some identifiers, first in, first out for each identifier.
 
-ghost use Rattle.std.specs.Prelude.{◌≡◌, ◌≢◌, ◌↔◌, ℕ, ◌+◌, ◌-◌, ◌/◌, ◌^◌, ◌<◌, ◌≤◌, ◌==◌, [], ◌++◌, All, AllPairs, IfOk, IfSome, IsSome, MatchOption, Some, true, drop, is_some, if◌then◌else◌, length, map, min, option_map, slice_get, slice_index_or};
+ghost use Rattle.std.specs.Prelude.{◌≡◌, ◌≢◌, ◌↔◌, ℕ, ◌+◌, ◌-◌, ◌/◌, ◌^◌, ◌<◌, ◌≤◌, ◌==◌, [], ◌++◌, All};
+ghost use Rattle.std.specs.Prelude.{AllPairs, IfOk, IfSome, IsSome, MatchOption, Some, true, drop, is_some};
+ghost use Rattle.std.specs.Prelude.{if◌then◌else◌, length, map, min, option_map, slice_get, slice_index_or};
 ghost use Rattle.std.specs.Option.{option_map_or, option_to_list};
-ghost use Rattle.async_window.specs.Mailbox.{IsLeastWith, IsMail, IsNextInCycle, Mail, Offers, StaysUntil, least_of, left, mail_after, mail_offer, unsent_of, without_first};
+ghost use Rattle.async_window.specs.Mailbox.{IsLeastWith, IsMail, IsNextInCycle, Mail, Offers, StaysUntil};
+ghost use Rattle.async_window.specs.Mailbox.{least_of, left, mail_after, mail_offer, unsent_of, without_first};
 ghost use Rattle.async_window.specs.Adding.{with_request};
 ghost use Rattle.async_window.specs.Sorted.{IsPlaceTable};
 ghost use Rattle.async_window.specs.Tournament.{first_bytes};
@@ -184,7 +187,8 @@ impl Mailboxes {
     pub fn wake(&self, layout: &Layout, at: u64, l: u32) -> Option<u64>
         requires window { l ≤ layout.now.window }
         requires time { at < 2 ^ 60 }
-        ensures next { IsNextInCycle layout.now.cycle at (λ later. IsSome (mail_offer layout.now l self.now later)) result }
+        ensures next { IsNextInCycle layout.now.cycle at
+            (λ later. IsSome (mail_offer layout.now l self.now later)) result }
     {
         self.wake_in(layout, at / u64::from(layout.cycle()), at, l)
     }
@@ -195,7 +199,8 @@ impl Mailboxes {
         requires window { l ≤ layout.now.window }
         requires time { at < 2 ^ 60 }
         requires cycle { cycle ≡ at / layout.now.cycle }
-        ensures next { IsNextInCycle layout.now.cycle at (λ later. IsSome (mail_offer layout.now l self.now later)) result }
+        ensures next { IsNextInCycle layout.now.cycle at
+            (λ later. IsSome (mail_offer layout.now l self.now later)) result }
     {
         let window = window_in(layout, cycle, at, l);
         let boxes = self.boxes.as_slice();
@@ -231,7 +236,8 @@ fn offer_of(mailbox: &Mailbox, window: &Window, sooner: u64) -> Offer
 /// Whether a place has a mailbox, and in it a request that is not sent.
 fn has_request(boxes: &[Mailbox], place: usize) -> bool
     ensures within { result ≡ true → place < length boxes.now }
-    ensures some { (d : Mail) → place < length boxes.now → result ≡ is_some (slice_get (slice_index_or boxes.now place d).unsent 0) }
+    ensures some { (d : Mail) → place < length boxes.now
+        → result ≡ is_some (slice_get (slice_index_or boxes.now place d).unsent 0) }
 {
     match boxes.get(place) {
         Some(mailbox) => mailbox.has_request(),

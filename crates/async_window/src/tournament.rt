@@ -1,10 +1,12 @@
 //! The least arrivals of the mailboxes' first requests, as a tournament: which is the first mailbox whose request has
 //! arrived and is short enough is found in as many steps as the tree has levels.
 
-ghost use Rattle.std.specs.Prelude.{◌≡◌, ℕ, ◌+◌, ◌*◌, ◌/◌, ◌^◌, ◌<◌, ◌≤◌, ◌++◌, IfOk, MatchOption, false, length, min, slice_index_or};
+ghost use Rattle.std.specs.Prelude.{◌≡◌, ℕ, ◌+◌, ◌*◌, ◌/◌, ◌^◌, ◌<◌, ◌≤◌, ◌++◌};
+ghost use Rattle.std.specs.Prelude.{IfOk, MatchOption, false, length, min, slice_index_or};
 ghost use Rattle.std.specs.Option.{option_to_list};
 ghost use Rattle.async_window.specs.Mailbox.{Mail, least_of};
-ghost use Rattle.async_window.specs.Tournament.{IsSoonest, IsTournament, IsTournamentBut, Renews, arrival_within, never, node_value};
+ghost use Rattle.async_window.specs.Tournament.{IsSoonest, IsTournament, IsTournamentBut};
+ghost use Rattle.async_window.specs.Tournament.{Renews, arrival_within, never, node_value};
 
 use crate::mailbox::{Mailbox, NEVER};
 use crate::window::Window;
@@ -63,7 +65,8 @@ impl Tournament {
     /// Brings the tree up to date where the first request of one mailbox changed.
     pub fn mend(&mut self, boxes: &[Mailbox], place: usize)
         requires place { place < length boxes.now }
-        requires tournament { IsTournamentBut ((2 ^ self.old.levels + place) / 2) self.old.levels self.old.nodes.items boxes.now }
+        requires tournament { IsTournamentBut ((2 ^ self.old.levels + place) / 2)
+            self.old.levels self.old.nodes.items boxes.now }
         ensures tournament { IsTournament self.new.levels self.new.nodes.items boxes.now }
     {
         let mut node = self.nodes.len() + place;
@@ -88,7 +91,8 @@ impl Tournament {
     fn lesser(&self, boxes: &[Mailbox], node: usize) -> [u64; LENGTHS]
         requires node { node < 2 ^ 12 }
         ensures lesser { (bytes : ℕ) → bytes ≤ 8 → slice_index_or result bytes never
-            ≡ min (node_value bytes self.now.nodes.items boxes.now node) (node_value bytes self.now.nodes.items boxes.now (node + 1)) }
+            ≡ min (node_value bytes self.now.nodes.items boxes.now node)
+            (node_value bytes self.now.nodes.items boxes.now (node + 1)) }
     {
         let mut least = [NEVER; LENGTHS];
         for bytes in 0..LENGTHS {
@@ -136,9 +140,11 @@ impl Tournament {
         requires time { at < 2 ^ 60 }
         requires tournament { IsTournament self.now.levels self.now.nodes.items boxes.now }
         ensures first { MatchOption result
-            ((place : ℕ) (d : Mail) → place < length boxes.now → at < arrival_within bytes (slice_index_or boxes.now place d).unsent)
+            ((place : ℕ) (d : Mail) → place < length boxes.now
+            → at < arrival_within bytes (slice_index_or boxes.now place d).unsent)
             (λ first. (first.place < length boxes.now)
-            × ((d : Mail) → arrival_within bytes (slice_index_or boxes.now first.place d).unsent ≤ at) × (at < first.sooner)
+            × ((d : Mail) → arrival_within bytes (slice_index_or boxes.now first.place d).unsent ≤ at)
+            × (at < first.sooner)
             × ((place : ℕ) (d : Mail) → place < first.place
             → first.sooner ≤ arrival_within bytes (slice_index_or boxes.now place d).unsent)) }
     {
@@ -177,7 +183,8 @@ impl Tournament {
         requires node { step.node < 2 ^ 12 }
         ensures left { node_value bytes self.now.nodes.items boxes.now (2 * step.node) ≤ at
             → (result.node ≡ 2 * step.node) × (result.sooner ≡ step.sooner) }
-        ensures right { at < node_value bytes self.now.nodes.items boxes.now (2 * step.node) → (result.node ≡ 2 * step.node + 1)
+        ensures right { at < node_value bytes self.now.nodes.items boxes.now (2 * step.node)
+            → (result.node ≡ 2 * step.node + 1)
             × (result.sooner ≡ min step.sooner (node_value bytes self.now.nodes.items boxes.now (2 * step.node))) }
     {
         let left = 2 * step.node;
@@ -221,7 +228,8 @@ fn leaves_of(levels: u32) -> usize
 /// The arrival of the first request of a mailbox, where there is one and it has at most so many data bytes.
 fn leaf_value(boxes: &[Mailbox], place: usize, bytes: usize) -> u64
     requires bytes { bytes ≤ 8 }
-    ensures value { (d : Mail) → place < length boxes.now → result ≡ arrival_within bytes (slice_index_or boxes.now place d).unsent }
+    ensures value { (d : Mail) → place < length boxes.now
+        → result ≡ arrival_within bytes (slice_index_or boxes.now place d).unsent }
     ensures nowhere { length boxes.now ≤ place → result ≡ never }
 {
     match boxes.get(place) {

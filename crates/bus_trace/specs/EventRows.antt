@@ -44,7 +44,8 @@ rows_of_event (Open cycle mask) frames = opened_row cycle mask (width_told_in fr
 
 -- the same rows as values
 abbrev pub told_of_event : Event → List TimedFrame → List LogRow
-told_of_event (Submit caller change from verdict trail) frames = row.Submit caller from (verdict_told verdict) ∷ plan_told from trail
+told_of_event (Submit caller change from verdict trail) frames =
+    row.Submit caller from (verdict_told verdict) ∷ plan_told from trail
 told_of_event (Look caller next) frames = row.Look caller next ∷ []
 told_of_event (Open cycle mask) frames = row.Open cycle mask (width_told_in frames) ∷ map row.Frame frames
 
@@ -54,7 +55,8 @@ abbrev pub SaysWidth : List TimedFrame → List Event → Event → Type 0
 SaysWidth trace before (Submit caller change from verdict trail) = Unit {0}
 SaysWidth trace before (Look caller next) = Unit {0}
 SaysWidth trace before (Open cycle mask) =
-    width_told_in (started_in cycle 0 trace) ≡ width_of (record { cycle = cycle; mask = mask; placed = placed_of before })
+    width_told_in (started_in cycle 0 trace)
+    ≡ width_of (record { cycle = cycle; mask = mask; placed = placed_of before })
 
 -- Words for contracts inside the crate
 

@@ -28,9 +28,11 @@ last_field (Some number) = codes "," ++ decimal number
 -- the fields of a verdict: `malformed,OP,WHY[,UNTIL]`, `passed,START,NEXT`, `miss,SLOT,RELEASE,CYCLE`,
 -- `horizon,FROM,WALKED` or `accepted,FIRST,LENGTH`
 abbrev pub verdict_fields : Verdict → List ℕ
-verdict_fields (Malformed op why) = codes "malformed," ++ decimal op ++ codes "," ++ decimal (code_of why) ++ last_field (until_of why)
+verdict_fields (Malformed op why) =
+    codes "malformed," ++ decimal op ++ codes "," ++ decimal (code_of why) ++ last_field (until_of why)
 verdict_fields (Passed start next) = codes "passed," ++ decimal start ++ codes "," ++ decimal next
-verdict_fields (Miss slot release cycle) = codes "miss," ++ decimal slot ++ codes "," ++ decimal release ++ codes "," ++ decimal cycle
+verdict_fields (Miss slot release cycle) =
+    codes "miss," ++ decimal slot ++ codes "," ++ decimal release ++ codes "," ++ decimal cycle
 verdict_fields (Horizon from walked) = codes "horizon," ++ decimal from ++ codes "," ++ decimal walked
 verdict_fields (Accepted first length) = codes "accepted," ++ decimal first ++ codes "," ++ decimal length
 
@@ -55,12 +57,14 @@ look_row caller next = codes "look," ++ decimal caller ++ codes "," ++ decimal n
 -- the row of an opened cycle: `open,CYCLE,MASK,WIDTH`, with the mask as ten hexadecimal digits
 abbrev pub open_row : Opening → List ℕ
 open_row opening =
-    codes "open," ++ decimal opening.cycle ++ codes "," ++ hex_digits 10 opening.mask ++ codes "," ++ decimal (width_of opening) ++ codes "\n"
+    codes "open," ++ decimal opening.cycle ++ codes "," ++ hex_digits 10 opening.mask
+    ++ codes "," ++ decimal (width_of opening) ++ codes "\n"
 
 -- the row of a frame: `frame,START,LEN,ID,DATA`, with three hexadecimal digits of the identifier and two for each byte
 abbrev pub frame_row : TimedFrame → List ℕ
 frame_row sent =
-    codes "frame," ++ decimal sent.start ++ codes "," ++ decimal sent.len ++ codes "," ++ hex_digits 3 sent.frame.identifier ++ codes ","
+    codes "frame," ++ decimal sent.start ++ codes "," ++ decimal sent.len
+    ++ codes "," ++ hex_digits 3 sent.frame.identifier ++ codes ","
     ++ flat_map (hex_digits 2) sent.frame.bytes ++ codes "\n"
 
 -- the last row, with the number of opened cycles
@@ -81,15 +85,18 @@ started_in cycle seen (sent ∷ later) =
 -- the rows of an event, after the events before it: a change that is refused for a miss is followed by its plan up to
 -- the miss, and an opening by the frames of its cycle
 abbrev pub event_rows : List TimedFrame → List Event → Event → List ℕ
-event_rows trace before (Submit caller change from verdict trail) = submit_row caller from verdict ++ plan_rows from trail
+event_rows trace before (Submit caller change from verdict trail) =
+    submit_row caller from verdict ++ plan_rows from trail
 event_rows trace before (Look caller next) = look_row caller next
 event_rows trace before (Open cycle mask) =
-    open_row (record { cycle = cycle; mask = mask; placed = placed_of before }) ++ flat_map frame_row (started_in cycle 0 trace)
+    open_row (record { cycle = cycle; mask = mask; placed = placed_of before })
+    ++ flat_map frame_row (started_in cycle 0 trace)
 
 -- the rows of events, after the events before them
 abbrev pub events_rows : List TimedFrame → List Event → List Event → List ℕ
 events_rows trace before [] = []
-events_rows trace before (event ∷ later) = event_rows trace before event ++ events_rows trace (before ++ event ∷ []) later
+events_rows trace before (event ∷ later) =
+    event_rows trace before event ++ events_rows trace (before ++ event ∷ []) later
 
 -- *Log text*: the rows of the history's events in their order, and the last row
 abbrev pub log_text : List Event → List TimedFrame → List ℕ

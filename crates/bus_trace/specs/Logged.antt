@@ -1,6 +1,7 @@
 -- What is written of a log while it is made: which events are done, which frames are left, and which entries may still
 -- be sent.
-use Rattle.std.specs.Prelude.{◌≡◌, ℕ, ◌^◌, ◌<◌, ◌≤◌, ◌==◌, ◌&&◌, Bool, true, is_some, if◌then◌else◌, List, [], ◌∷◌, ◌++◌, codes, map}
+use Rattle.std.specs.Prelude.{◌≡◌, ℕ, ◌^◌, ◌<◌, ◌≤◌, ◌==◌, ◌&&◌}
+use Rattle.std.specs.Prelude.{Bool, true, is_some, if◌then◌else◌, List, [], ◌∷◌, ◌++◌, codes, map}
 use Rattle.std.specs.List.{flat_map}
 use Rattle.std.specs.Fmt.{decimal}
 use Rattle.can_frame.specs.declared.data_frame.TimedFrame.{TimedFrame}
@@ -62,14 +63,16 @@ opened_row cycle mask width =
 -- the rows of an event, by the entries whose instances may be sent in the cycle that it opens, and the rows of these
 -- frames
 abbrev pub rows_with : List Placed → List TimedFrame → Event → List ℕ
-rows_with placed frames (Submit caller change from verdict trail) = submit_row caller from verdict ++ plan_rows from trail
+rows_with placed frames (Submit caller change from verdict trail) =
+    submit_row caller from verdict ++ plan_rows from trail
 rows_with placed frames (Look caller next) = look_row caller next
 rows_with placed frames (Open cycle mask) =
     opened_row cycle mask (width_in placed cycle (contains_slot mask)) ++ flat_map frame_row frames
 
 -- the same rows as values
 abbrev pub told_with : List Placed → List TimedFrame → Event → List LogRow
-told_with placed frames (Submit caller change from verdict trail) = row.Submit caller from (verdict_told verdict) ∷ plan_told from trail
+told_with placed frames (Submit caller change from verdict trail) =
+    row.Submit caller from (verdict_told verdict) ∷ plan_told from trail
 told_with placed frames (Look caller next) = row.Look caller next ∷ []
 told_with placed frames (Open cycle mask) =
     row.Open cycle mask (width_in placed cycle (contains_slot mask)) ∷ map row.Frame frames

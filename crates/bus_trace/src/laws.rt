@@ -16,12 +16,15 @@ ghost use Rattle.bus_trace.specs.declared.row.LogRow.TheVariants.{End};
 /// the frames that start in the cycle that it opens, and then the last row, are the log: as texts, and as values.
 pub fn events_make_the_log()
     ensures rows { (trace : List TimedFrame) (history : List Event) → AllAfter (SaysWidth trace) [] history
-        → flat_map (λ event. rows_of_event event (frames_of_event trace event)) history ++ end_row (next_of history) ≡ log_text history trace }
+        → flat_map (λ event. rows_of_event event (frames_of_event trace event)) history ++ end_row (next_of history)
+        ≡ log_text history trace }
     ensures values { (trace : List TimedFrame) (history : List Event) → AllAfter (SaysWidth trace) [] history
-        → flat_map (λ event. told_of_event event (frames_of_event trace event)) history ++ End (next_of history) ∷ [] ≡ log_rows history trace }
+        → flat_map (λ event. told_of_event event (frames_of_event trace event)) history ++ End (next_of history) ∷ []
+        ≡ log_rows history trace }
 {}
 
 /// The log is the text of its rows. So where they are in the ranges of their types, reading the log gives them back.
 pub fn logs_are_rows()
-    ensures rows { (history : List Event) (trace : List TimedFrame) → log_text history trace ≡ text_of_rows (log_rows history trace) }
+    ensures rows { (history : List Event) (trace : List TimedFrame)
+        → log_text history trace ≡ text_of_rows (log_rows history trace) }
 {}

@@ -1,6 +1,7 @@
 //! The log as one text.
 
-ghost use Rattle.std.specs.Prelude.{if◌then◌else◌, ◌≡◌, ℕ, ◌+◌, ◌^◌, ◌<◌, ◌≤◌, ◌++◌, All, List, IfOk, OnOk, length, take, drop};
+ghost use Rattle.std.specs.Prelude.{if◌then◌else◌, ◌≡◌, ℕ, ◌+◌, ◌^◌, ◌<◌, ◌≤◌, ◌++◌};
+ghost use Rattle.std.specs.Prelude.{All, List, IfOk, OnOk, length, take, drop};
 ghost use Rattle.can_frame.specs.declared.data_frame.TimedFrame.{TimedFrame};
 ghost use Rattle.requirement_table.specs.declared.entries.Placed.{Placed};
 ghost use Rattle.requirement_table.specs.Table.{IsWellPlaced};
@@ -9,7 +10,8 @@ ghost use Rattle.admission.specs.Verdict.{IsRules};
 ghost use Rattle.master_core.specs.History.{IsLegal, is_open, placed_after};
 ghost use Rattle.bus_trace.specs.Log.{log_text};
 ghost use Rattle.bus_trace.specs.LogRows.{log_rows};
-ghost use Rattle.bus_trace.specs.Logged.{HasEntries, IsFormedIn, IsInTurn, IsLeft, IsNear, frames_of_event, rows_with, told_with};
+ghost use Rattle.bus_trace.specs.Logged.{HasEntries, IsFormedIn, IsInTurn, IsLeft};
+ghost use Rattle.bus_trace.specs.Logged.{IsNear, frames_of_event, rows_with, told_with};
 ghost use Rattle.bus_trace.specs.Row.{IsLogRow};
 
 use crate::entries::Entries;
@@ -46,7 +48,8 @@ fn push_event(
 ) -> Result<(), AllocError>
     requires near { IsNear event.now }
     requires left { IsWellPlaced entries.now.left.items }
-    ensures ok { OnOk result (text.new.items ≡ text.old.items ++ rows_with entries.now.left.items frames.now event.now) }
+    ensures ok { OnOk result
+        (text.new.items ≡ text.old.items ++ rows_with entries.now.left.items frames.now event.now) }
     ensures in_range { OnOk result (All IsLogRow (told_with entries.now.left.items frames.now event.now)) }
 {
     match event {
@@ -77,7 +80,8 @@ fn place_event(
 ) -> Result<(), AllocError>
     requires placed { IsWellPlaced entries.old.placed.items }
     requires formed { IsFormedIn entries.old.placed.items event.now }
-    ensures entries { OnOk result ((list : List Placed) → HasEntries list next entries.old.placed.items entries.old.left.items
+    ensures entries { OnOk result ((list : List Placed)
+        → HasEntries list next entries.old.placed.items entries.old.left.items
         → HasEntries (placed_after list event.now) next entries.new.placed.items entries.new.left.items) }
 {
     if let Event::Submit {

@@ -1,7 +1,9 @@
 //! A row of a log, read from its fields.
 
 ghost use Rattle.std.specs.Prelude.{◌≡◌, ◌^◌, ◌<◌, ◌≤◌, map, option_and_then};
-ghost use Rattle.bus_trace.specs.RowFields.{accepted_of, end_of, frame_of, horizon_of, look_of, malformed_of, miss_of, number_at, open_of, passed_of, plan_of, row_of, rule_of, submit_of, until_of, verdict_of};
+ghost use Rattle.bus_trace.specs.RowFields.{accepted_of, end_of, frame_of, horizon_of, look_of};
+ghost use Rattle.bus_trace.specs.RowFields.{malformed_of, miss_of, number_at, open_of, passed_of};
+ghost use Rattle.bus_trace.specs.RowFields.{plan_of, row_of, rule_of, submit_of, until_of, verdict_of};
 
 use crate::row::{LogRow, LogVerdict};
 use crate::row_fields::{field, frame, mask, number};

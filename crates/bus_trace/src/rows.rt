@@ -1,10 +1,12 @@
 //! The rows of the log. Each is made from its end to its start, at the end of an array that is
 //! lent for it.
 
-ghost use Rattle.std.specs.Prelude.{◌≡◌, ◌+◌, ◌^◌, ◌<◌, ◌≤◌, ◌++◌, All, IfSome, codes, drop, length, map, take, OnOk, OnErr};
+ghost use Rattle.std.specs.Prelude.{◌≡◌, ◌+◌, ◌^◌, ◌<◌, ◌≤◌, ◌++◌};
+ghost use Rattle.std.specs.Prelude.{All, IfSome, codes, drop, length, map, take, OnOk, OnErr};
 ghost use Rattle.std.specs.Fmt.{decimal};
 ghost use Rattle.std.specs.List.{flat_map};
-ghost use Rattle.bus_trace.specs.Log.{end_row, frame_row, last_field, look_row, plan_row, plan_rows, submit_row, until_of, verdict_fields};
+ghost use Rattle.bus_trace.specs.Log.{end_row, frame_row, last_field, look_row, plan_row};
+ghost use Rattle.bus_trace.specs.Log.{plan_rows, submit_row, until_of, verdict_fields};
 ghost use Rattle.bus_trace.specs.LogRows.{plan_told, verdict_told};
 ghost use Rattle.bus_trace.specs.Logged.{opened_row};
 ghost use Rattle.bus_trace.specs.Row.{IsLogRow, IsLogVerdict};

@@ -6,7 +6,8 @@ ghost use Rattle.ftt_io.specs.Counts.{Rose};
 ghost use Rattle.ftt_io.specs.Puts.{Puts, PutsPrefix};
 ghost use Rattle.can_frame.specs.DataFrame.{IsFrame};
 ghost use Rattle.trigger_codec.specs.Bytes.{width_told};
-ghost use Rattle.bus_trace.specs.EventRows.{HasItsFrames, HasWidth, HasWidthIn, rows_of_event, told_of_event, width_told_in};
+ghost use Rattle.bus_trace.specs.EventRows.{HasItsFrames, HasWidth, HasWidthIn};
+ghost use Rattle.bus_trace.specs.EventRows.{rows_of_event, told_of_event, width_told_in};
 ghost use Rattle.bus_trace.specs.Log.{end_row, frame_row, plan_rows};
 ghost use Rattle.bus_trace.specs.LogRows.{plan_told};
 ghost use Rattle.bus_trace.specs.Logged.{IsNear};
@@ -107,7 +108,8 @@ fn put_plan_rows<O: Sink>(out: &mut O, from: u64, masks: &[Mask]) -> Result<(), 
     ensures faults_never_fall { O.faults out.old ≤ O.faults out.new }
     ensures all { OnOk result (Puts (O.told_bytes out.old) (O.told_bytes out.new) (plan_rows from masks.now)) }
     ensures failed { OnErr result (Rose (O.faults out.old) (O.faults out.new)) }
-    ensures prefix { OnErr result (PutsPrefix (O.told_bytes out.old) (O.told_bytes out.new) (plan_rows from masks.now)) }
+    ensures prefix { OnErr result
+        (PutsPrefix (O.told_bytes out.old) (O.told_bytes out.new) (plan_rows from masks.now)) }
     ensures in_range { OnOk result (All IsLogRow (plan_told from masks.now)) }
 {
     let mut row = [0; ROOM];
@@ -122,7 +124,8 @@ fn put_frame_rows<O: Sink>(out: &mut O, frames: &[TimedFrame]) -> Result<(), Fai
     ensures faults_never_fall { O.faults out.old ≤ O.faults out.new }
     ensures all { OnOk result (Puts (O.told_bytes out.old) (O.told_bytes out.new) (flat_map frame_row frames.now)) }
     ensures failed { OnErr result (Rose (O.faults out.old) (O.faults out.new)) }
-    ensures prefix { OnErr result (PutsPrefix (O.told_bytes out.old) (O.told_bytes out.new) (flat_map frame_row frames.now)) }
+    ensures prefix { OnErr result
+        (PutsPrefix (O.told_bytes out.old) (O.told_bytes out.new) (flat_map frame_row frames.now)) }
     ensures in_range { OnOk result (All IsLogRow (map FrameRow frames.now)) }
 {
     let mut row = [0; ROOM];
@@ -145,9 +148,11 @@ pub fn put_event_rows<O: Sink>(
     requires near { IsNear event.now }
     requires frames { HasItsFrames event.now frames.now }
     ensures faults_never_fall { O.faults out.old ≤ O.faults out.new }
-    ensures all { OnOk result (Puts (O.told_bytes out.old) (O.told_bytes out.new) (rows_of_event event.now frames.now)) }
+    ensures all { OnOk result
+        (Puts (O.told_bytes out.old) (O.told_bytes out.new) (rows_of_event event.now frames.now)) }
     ensures failed { OnErr result (Rose (O.faults out.old) (O.faults out.new)) }
-    ensures prefix { OnErr result (PutsPrefix (O.told_bytes out.old) (O.told_bytes out.new) (rows_of_event event.now frames.now)) }
+    ensures prefix { OnErr result
+        (PutsPrefix (O.told_bytes out.old) (O.told_bytes out.new) (rows_of_event event.now frames.now)) }
     ensures in_range { OnOk result (All IsLogRow (told_of_event event.now frames.now)) }
 {
     let mut row = [0; ROOM];

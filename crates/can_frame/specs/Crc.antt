@@ -2,7 +2,8 @@
 --
 -- A polynomial over two elements is written as the number whose bit k is the coefficient of x^k, so x^3 + 1 is 9.
 -- The sum of two is then their `bit_xor`, and the product with x^k is that with 2 ^ k.
-use Rattle.std.specs.Prelude.{◌≡◌, ℕ, zero, suc, ◌+◌, ◌*◌, ◌^◌, ◌<◌, Bool, nat_lt, List, [], ◌∷◌, length, bit_xor, if◌then◌else◌}
+use Rattle.std.specs.Prelude.{◌≡◌, ℕ, zero, suc, ◌+◌, ◌*◌, ◌^◌, ◌<◌}
+use Rattle.std.specs.Prelude.{Bool, nat_lt, List, [], ◌∷◌, length, bit_xor, if◌then◌else◌}
 use Rattle.can_frame.specs.Number.{number}
 
 -- the generator, x^15 + x^14 + x^10 + x^8 + x^7 + x^4 + x^3 + 1

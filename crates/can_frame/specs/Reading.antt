@@ -3,7 +3,8 @@
 -- The bits before a wrong place are right: they begin the wire of a frame, as far as can be seen there. A place is an
 -- index into the bits. A sixth equal bit stands at a stuff place, which has no bit of a field, so no place has two
 -- faults.
-use Rattle.std.specs.Prelude.{◌≡◌, ◌≢◌, ℕ, ◌+◌, ◌*◌, ◌^◌, ◌<◌, ◌≤◌, ◌⊎◌, Bool, not, List, [], ◌∷◌, ◌++◌, length, take, drop, reverse, replicate, Result, Ok, Err}
+use Rattle.std.specs.Prelude.{◌≡◌, ◌≢◌, ℕ, ◌+◌, ◌*◌, ◌^◌, ◌<◌, ◌≤◌, ◌⊎◌, Bool, not, List, [], ◌∷◌, ◌++◌}
+use Rattle.std.specs.Prelude.{length, take, drop, reverse, replicate, Result, Ok, Err}
 use Rattle.stuff_bound.specs.Stuffing.{run, HasNoSix, without_stuff, stuffed}
 use Rattle.can_frame.specs.declared.wire_fault.WireFault.{WireFault}
 use Rattle.can_frame.specs.declared.wire_fault.WireFault.TheVariants.{Stuff, Form, Crc, Short, Tail, Memory}

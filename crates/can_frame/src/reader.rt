@@ -1,6 +1,7 @@
 //! Reading the bits of a frame back, from left to right, up to the first wrong place.
 
-ghost use Rattle.std.specs.Prelude.{◌≡◌, ◌+◌, ◌*◌, ◌<◌, ◌≤◌, ◌^◌, Bool, List, [], ◌∷◌, ◌++◌, length, take, drop, reverse, nat_le, Result, Err, IfOk, IfErr, OnOk, MatchOption};
+ghost use Rattle.std.specs.Prelude.{◌≡◌, ◌+◌, ◌*◌, ◌<◌, ◌≤◌, ◌^◌, Bool, List, [], ◌∷◌, ◌++◌};
+ghost use Rattle.std.specs.Prelude.{length, take, drop, reverse, nat_le, Result, Err, IfOk, IfErr, OnOk, MatchOption};
 ghost use Rattle.std.specs.List.{flat_map};
 ghost use Rattle.stuff_bound.specs.Stuffing.{run, HasNoSix, at_stuff_place, stuffed};
 ghost use Rattle.can_frame.specs.declared.wire_fault.WireFault.{WireFault};

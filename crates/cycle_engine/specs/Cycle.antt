@@ -1,5 +1,6 @@
 -- What an opened cycle sends on the bus, behind the cycles before it. Times are bit times.
-use Rattle.std.specs.Prelude.{◌≡◌, ℕ, ◌+◌, ◌/◌, ◌<◌, ◌≤◌, ◌⊎◌, ◌==◌, true, false, List, [], ◌∷◌, All, filter, Some, IsSome}
+use Rattle.std.specs.Prelude.{◌≡◌, ℕ, ◌+◌, ◌/◌, ◌<◌, ◌≤◌, ◌⊎◌, ◌==◌}
+use Rattle.std.specs.Prelude.{true, false, List, [], ◌∷◌, All, filter, Some, IsSome}
 use Rattle.can_frame.specs.declared.data_frame.TimedFrame.{TimedFrame}
 use Rattle.cycle_layout.specs.Layout.{CycleLayout, async_open}
 use Rattle.requirement_table.specs.Slots.{contains_slot, slots}
@@ -65,17 +66,21 @@ pub record RunsCycle (layout : CycleLayout) (opening : Opening) (frames : List T
 
 -- in each of the opened cycles the frames of the trace are those of the cycle
 abbrev pub RunsCycles : CycleLayout → List Opening → List TimedFrame → Type 0
-RunsCycles layout openings trace = All (λ opening. RunsCycle layout opening (frames_in layout opening.cycle trace)) openings
+RunsCycles layout openings trace =
+    All (λ opening. RunsCycle layout opening (frames_in layout opening.cycle trace)) openings
 
 -- each flagged slot has an instance that may be sent in the cycle, and together they fit into the largest synchronous
 -- window
 pub record FitsWindow (layout : CycleLayout) (opening : Opening) : Type 0 where
-  pub present : (slot : ℕ) → slot < slots → contains_slot opening.mask slot ≡ true → IsSome (instance_in opening.placed slot opening.cycle)
+  pub present : (slot : ℕ) → slot < slots → contains_slot opening.mask slot ≡ true
+      → IsSome (instance_in opening.placed slot opening.cycle)
   pub width : width_of opening ≤ layout.window
 
 -- in an opened cycle these frames follow the CAN trace of the cycles below it, which has ended by the cycle's start
-pub record FollowsTrace (layout : CycleLayout) (requests : List Request) (openings : List Opening) (opening : Opening) (trace frames : List TimedFrame) : Type 0 where
+pub record FollowsTrace (layout : CycleLayout) (requests : List Request) (openings : List Opening)
+    (opening : Opening) (trace frames : List TimedFrame) : Type 0 where
   pub below : All (λ earlier. earlier.cycle < opening.cycle) openings
   pub can_trace : IsCanTrace layout requests openings opening.cycle trace
   pub ended : All (λ sent. end_of sent ≤ start_of layout opening) trace
-  pub follows : Follows (offered_in layout requests opening) trace (start_of layout opening) (end_of_cycle layout opening) frames
+  pub follows : Follows (offered_in layout requests opening) trace
+      (start_of layout opening) (end_of_cycle layout opening) frames

@@ -1,5 +1,6 @@
 -- The nodes of a bus together.
-use Rattle.std.specs.Prelude.{◌≡◌, ℕ, ◌*◌, ◌<◌, List, All, Any, Contains, map, fold, sum_by, Option, Some, None, IsSome, true}
+use Rattle.std.specs.Prelude.{◌≡◌, ℕ, ◌*◌, ◌<◌}
+use Rattle.std.specs.Prelude.{List, All, Any, Contains, map, fold, sum_by, Option, Some, None, IsSome, true}
 use Rattle.can_frame.specs.declared.data_frame.TimedFrame.{TimedFrame}
 use Rattle.cycle_layout.specs.Layout.{CycleLayout}
 use Rattle.requirement_table.specs.declared.entries.Placed.{Placed}
@@ -49,7 +50,8 @@ pub record IsOwned (owners : List Owner) (nodes : List NodeState) (request : Req
 
 -- the nodes of a bus before the cycle `next`: each knows its entries of a list, and its unsent requests after the
 -- frames `past`; and each request is that of a node
-pub record IsBus (layout : CycleLayout) (owners : List Owner) (requests : List Request) (placed : List Placed) (past : List TimedFrame) (next : ℕ) (nodes : List NodeState) : Type 0 where
+pub record IsBus (layout : CycleLayout) (owners : List Owner) (requests : List Request) (placed : List Placed)
+    (past : List TimedFrame) (next : ℕ) (nodes : List NodeState) : Type 0 where
   pub well_placed : IsWellPlaced placed
   pub are_owners : AreOwners owners
   pub stand : All (Stands layout owners requests placed past next) nodes
@@ -70,7 +72,8 @@ abbrev pub opening_of : Order → List Placed → Opening
 opening_of order placed = record { cycle = order.cycle; mask = order.mask; placed = placed }
 
 -- the nodes of a bus before the cycle of an order, after the frames `past` of the cycles before it
-pub record IsBefore (layout : CycleLayout) (owners : List Owner) (requests : List Request) (placed : List Placed) (past : List TimedFrame) (order : Order) (nodes : List NodeState) : Type 0 where
+pub record IsBefore (layout : CycleLayout) (owners : List Owner) (requests : List Request) (placed : List Placed)
+    (past : List TimedFrame) (order : Order) (nodes : List NodeState) : Type 0 where
   pub bus : IsBus layout owners requests placed past order.cycle nodes
   pub fits : FitsOrder order.l (opening_of order placed) nodes
   pub before : All (λ sent. sent.start < order.cycle * layout.cycle) past

@@ -12,7 +12,8 @@ use Rattle.node_model.specs.Offered.{OffersTrigger, OffersRequest, OffersSlot}
 abbrev pub offered_in : CycleLayout → List Request → Opening → Offers
 offered_in layout requests opening past at frame =
     OffersTrigger layout opening at frame
-    ⊎ (OffersRequest layout requests opening past at frame ⊎ ((slot : ℕ) × OffersSlot layout opening past at frame slot))
+    ⊎ (OffersRequest layout requests opening past at frame
+    ⊎ ((slot : ℕ) × OffersSlot layout opening past at frame slot))
 
 -- what is offered in the opened cycles together
 abbrev pub offered : CycleLayout → List Request → List Opening → Offers
@@ -21,7 +22,8 @@ offered layout requests openings past at frame =
 
 -- *CAN trace*: that of `count` opened cycles
 abbrev pub IsCanTrace : CycleLayout → List Request → List Opening → ℕ → List TimedFrame → Type 0
-IsCanTrace layout requests openings count trace = IsTrace (offered layout requests openings) (count * layout.cycle) trace
+IsCanTrace layout requests openings count trace =
+    IsTrace (offered layout requests openings) (count * layout.cycle) trace
 
 -- no two of the openings are of one cycle
 abbrev pub AreOfDistinctCycles : List Opening → Type 0
@@ -29,4 +31,5 @@ AreOfDistinctCycles openings = AllPairs (λ one other. one.cycle ≢ other.cycle
 
 -- the identifiers of all requests are asynchronous ones
 abbrev pub AreAsynchronous : List Request → Type 0
-AreAsynchronous requests = All (λ request. (0x200 ≤ request.frame.identifier) × (request.frame.identifier ≤ 0x7EF)) requests
+AreAsynchronous requests =
+    All (λ request. (0x200 ≤ request.frame.identifier) × (request.frame.identifier ≤ 0x7EF)) requests

@@ -1,5 +1,6 @@
 -- The nodes of a bus as stations, and with them the master, which offers the trigger of a cycle at the cycle's start.
-use Rattle.std.specs.Prelude.{◌≡◌, ◌≢◌, ℕ, ◌^◌, ◌<◌, ◌≤◌, ◌==◌, Bool, false, if◌then◌else◌, List, [], ◌∷◌, ◌++◌, All, AllPairs, length, Option, None, Some, IfSome, IsSome, find, map, filter_map}
+use Rattle.std.specs.Prelude.{◌≡◌, ◌≢◌, ℕ, ◌^◌, ◌<◌, ◌≤◌, ◌==◌, Bool, false, if◌then◌else◌, List, [], ◌∷◌, ◌++◌}
+use Rattle.std.specs.Prelude.{All, AllPairs, length, Option, None, Some, IfSome, IsSome, find, map, filter_map}
 use Rattle.std.specs.Option.{option_map_or}
 use Rattle.can_frame.specs.DataFrame.{DataFrame}
 use Rattle.can_frame.specs.declared.data_frame.TimedFrame.{TimedFrame}
@@ -42,7 +43,8 @@ offers_this id (Some own) = own == id
 -- the frame of the first node that offers the identifier at a time
 abbrev pub frame_by_nodes : List NodeState → ℕ → ℕ → DataFrame
 frame_by_nodes nodes at id =
-    option_map_or (λ node. node_frame node at id) (find (λ node. offers_this id (node_offer node at)) nodes) (record { identifier = id; bytes = [] })
+    option_map_or (λ node. node_frame node at id)
+    (find (λ node. offers_this id (node_offer node at)) nodes) (record { identifier = id; bytes = [] })
 
 -- the frame behind an identifier: the trigger where it has it, else that of a node
 abbrev pub frame_of : Stationed → ℕ → ℕ → DataFrame
@@ -50,7 +52,8 @@ frame_of stationed at id = frame_with stationed.trigger
   where
     frame_with : Option DueTrigger → DataFrame
     frame_with None = frame_by_nodes stationed.nodes at id
-    frame_with (Some trigger) = if trigger.frame.identifier == id then trigger.frame else frame_by_nodes stationed.nodes at id
+    frame_with (Some trigger) =
+        if trigger.frame.identifier == id then trigger.frame else frame_by_nodes stationed.nodes at id
 
 -- all nodes hear a frame
 abbrev pub all_hear : List NodeState → TimedFrame → List NodeState
@@ -80,4 +83,8 @@ pub record AreStations (stations : Stationed) : Type 0 where
 
 -- nodes before a trigger is sent that is offered at a time
 abbrev pub announced : CycleLayout → ℕ → DataFrame → List NodeState → Stationed
-announced layout at frame nodes = record { layout = layout; trigger = Some (record { at = at; frame = frame }); nodes = nodes }
+announced layout at frame nodes = record {
+  layout = layout;
+  trigger = Some (record { at = at; frame = frame });
+  nodes = nodes;
+}

@@ -1,6 +1,7 @@
 -- A synchronous window: the nodes are asked once for the frames that they are to send in it, and these leave in the
 -- order of their slots.
-use Rattle.std.specs.Prelude.{◌≡◌, ◌≢◌, ℕ, ◌+◌, ◌*◌, ◌≤◌, nat_lt, if◌then◌else◌, List, [], ◌∷◌, ◌++◌, All, filter_map, length, Option, None, Some}
+use Rattle.std.specs.Prelude.{◌≡◌, ◌≢◌, ℕ, ◌+◌, ◌*◌, ◌≤◌, nat_lt, if◌then◌else◌, List, [], ◌∷◌, ◌++◌}
+use Rattle.std.specs.Prelude.{All, filter_map, length, Option, None, Some}
 use Rattle.std.specs.List.{range_with_len}
 use Rattle.can_frame.specs.DataFrame.{DataFrame}
 use Rattle.can_frame.specs.Wire.{wire_length}
@@ -57,10 +58,12 @@ pub record IsSentBy (before after : List NodeState) (from until : ℕ) (old new 
 
 -- a cycle has run up to its synchronous window: these frames were sent and heard, from the time `from` on the nodes are
 -- in the window, and what arbitration decides in it makes the frames those of the cycle
-pub record IsBeforeWindow (layout : CycleLayout) (cycle l mask : ℕ) (before after : List NodeState) (frames : List TimedFrame) (from : ℕ) : Type 0 where
+pub record IsBeforeWindow (layout : CycleLayout) (cycle l mask : ℕ) (before after : List NodeState)
+    (frames : List TimedFrame) (from : ℕ) : Type 0 where
   pub in_window : All (IsInWindow from ((cycle + 1) * layout.cycle)) after
   pub few : cycle * layout.cycle + 47 * length frames ≤ from
   pub heard : after ≡ heard_by frames before
-  pub whole : (later : List TimedFrame) → Follows (offers_of cycle_line (nodes_alone layout after)) [] from ((cycle + 1) * layout.cycle) later
+  pub whole : (later : List TimedFrame)
+      → Follows (offers_of cycle_line (nodes_alone layout after)) [] from ((cycle + 1) * layout.cycle) later
       → Follows (offers_of cycle_line (announced layout (cycle * layout.cycle) (trigger_frame cycle l mask) before))
       [] (cycle * layout.cycle) ((cycle + 1) * layout.cycle) (frames ++ later)

@@ -39,14 +39,19 @@ pub fn run_cycle(alloc: Global, order: &Order, nodes: &mut Nodes) -> Result<Segm
     ensures next { OnOk result (All (λ node. node.next ≡ order.now.cycle + 1) (states_of nodes.new.nodes)) }
     ensures memory { OnErr result (states_of nodes.new.nodes ≡ states_of nodes.old.nodes) }
     // The segment is the part of the CAN trace in the order's cycle, whatever bus the nodes stand for.
-    ensures runs { IfOk result (λ segment. (owners : List Owner) (requests : List Request) (placed : List Placed) (past : List TimedFrame)
-        → IsBefore nodes.old.layout owners requests placed past order.now (learnt_by order.now.learned (states_of nodes.old.nodes))
+    ensures runs { IfOk result
+        (λ segment. (owners : List Owner) (requests : List Request) (placed : List Placed) (past : List TimedFrame)
+        → IsBefore nodes.old.layout owners requests placed past order.now
+        (learnt_by order.now.learned (states_of nodes.old.nodes))
         → Follows (offered_in nodes.old.layout requests (opening_of order.now placed)) past
         (order.now.cycle * nodes.old.layout.cycle) ((order.now.cycle + 1) * nodes.old.layout.cycle) segment) }
     // Afterwards they stand for that bus before the next cycle.
-    ensures stand { IfOk result (λ segment. (owners : List Owner) (requests : List Request) (placed : List Placed) (past : List TimedFrame)
-        → IsBefore nodes.old.layout owners requests placed past order.now (learnt_by order.now.learned (states_of nodes.old.nodes))
-        → IsBus nodes.old.layout owners requests placed (past ++ segment) (order.now.cycle + 1) (states_of nodes.new.nodes)) }
+    ensures stand { IfOk result
+        (λ segment. (owners : List Owner) (requests : List Request) (placed : List Placed) (past : List TimedFrame)
+        → IsBefore nodes.old.layout owners requests placed past order.now
+        (learnt_by order.now.learned (states_of nodes.old.nodes))
+        → IsBus nodes.old.layout owners requests placed (past ++ segment)
+        (order.now.cycle + 1) (states_of nodes.new.nodes)) }
 {
     wire_lengths();
     offers_its_part();

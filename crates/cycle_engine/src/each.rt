@@ -1,6 +1,7 @@
 //! What is done with each node of a bus.
 
-ghost use Rattle.std.specs.Prelude.{◌≡◌, ◌≢◌, ℕ, ◌+◌, ◌^◌, ◌<◌, ◌≤◌, ◌++◌, Some, All, AllPairs, Contains, IfSome, IsSome, OnOk, is_some, length, map};
+ghost use Rattle.std.specs.Prelude.{◌≡◌, ◌≢◌, ℕ, ◌+◌, ◌^◌, ◌<◌, ◌≤◌, ◌++◌};
+ghost use Rattle.std.specs.Prelude.{Some, All, AllPairs, Contains, IfSome, IsSome, OnOk, is_some, length, map};
 ghost use Rattle.arbitration.specs.Arbitration.{AreDistinct};
 ghost use Rattle.requirement_table.specs.Slots.{contains_slot, slots};
 ghost use Rattle.requirement_table.specs.Table.{IsWellPlaced};
@@ -78,7 +79,8 @@ fn hear_other(nodes: &mut [Node], sent: &TimedFrame)
 
 /// The slots that nodes are to send in their open cycle.
 pub fn due_slots(nodes: &[Node]) -> Mask
-    ensures slots { (slot : ℕ) → slot < slots → contains_slot result slot ≡ is_some (due_by (states_of nodes.now) slot) }
+    ensures slots { (slot : ℕ) → slot < slots
+        → contains_slot result slot ≡ is_some (due_by (states_of nodes.now) slot) }
 {
     let mut due = Mask::empty();
     for node in nodes {
@@ -158,7 +160,8 @@ pub fn sooner(one: Option<u64>, other: Option<u64>) -> Option<u64>
 pub fn frame(nodes: &[Node], first: usize, at: u64, id: u16) -> Frame
     requires time { at < 2 ^ 60 }
     requires offered { Contains (offered_by_nodes (states_of nodes.now) at) id }
-    requires only { AllPairs (λ one other. node_offer one at ≡ Some id → node_offer other at ≡ Some id → ⊥) (states_of nodes.now) }
+    requires only { AllPairs (λ one other. node_offer one at ≡ Some id
+        → node_offer other at ≡ Some id → ⊥) (states_of nodes.now) }
     ensures frame { result ≡ frame_by_nodes (states_of nodes.now) at id }
     ensures identifier { result.identifier ≡ id }
 {
@@ -171,7 +174,8 @@ pub fn frame(nodes: &[Node], first: usize, at: u64, id: u16) -> Frame
 /// The frame of the node at a place, where there is one and it offers an identifier at a time.
 fn frame_at(nodes: &[Node], place: usize, at: u64, id: u16) -> Option<Frame>
     requires time { at < 2 ^ 60 }
-    requires only { AllPairs (λ one other. node_offer one at ≡ Some id → node_offer other at ≡ Some id → ⊥) (states_of nodes.now) }
+    requires only { AllPairs (λ one other. node_offer one at ≡ Some id
+        → node_offer other at ≡ Some id → ⊥) (states_of nodes.now) }
     ensures frame { IfSome result (λ frame. frame ≡ frame_by_nodes (states_of nodes.now) at id) }
     ensures identifier { IfSome result (λ frame. frame.identifier ≡ id) }
 {

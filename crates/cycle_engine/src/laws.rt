@@ -50,17 +50,21 @@ pub fn one_can_trace()
 /// cycle sends what its opening says.
 pub fn next_cycle()
     ensures can_trace { (layout : CycleLayout) (requests : List Request) (openings : List Opening) (opening : Opening)
-        → (trace frames : List TimedFrame) → IsLayout layout → FollowsTrace layout requests openings opening trace frames
+        → (trace frames : List TimedFrame) → IsLayout layout
+        → FollowsTrace layout requests openings opening trace frames
         → IsCanTrace layout requests (openings ++ opening ∷ []) (opening.cycle + 1) (trace ++ frames) }
     ensures ended { (layout : CycleLayout) (requests : List Request) (openings : List Opening) (opening : Opening)
-        → (trace frames : List TimedFrame) → IsLayout layout → FollowsTrace layout requests openings opening trace frames
+        → (trace frames : List TimedFrame) → IsLayout layout
+        → FollowsTrace layout requests openings opening trace frames
         → AreAsynchronous requests → FitsWindow layout opening
         → All (λ sent. end_of sent ≤ end_of_cycle layout opening) (trace ++ frames) }
     ensures runs { (layout : CycleLayout) (requests : List Request) (openings : List Opening) (opening : Opening)
-        → (trace frames : List TimedFrame) → IsLayout layout → FollowsTrace layout requests openings opening trace frames
+        → (trace frames : List TimedFrame) → IsLayout layout
+        → FollowsTrace layout requests openings opening trace frames
         → AreAsynchronous requests → FitsWindow layout opening → RunsCycle layout opening frames }
     ensures all_run { (layout : CycleLayout) (requests : List Request) (openings : List Opening) (opening : Opening)
-        → (trace frames : List TimedFrame) → IsLayout layout → FollowsTrace layout requests openings opening trace frames
+        → (trace frames : List TimedFrame) → IsLayout layout
+        → FollowsTrace layout requests openings opening trace frames
         → AreAsynchronous requests → FitsWindow layout opening
         → RunsCycles layout openings trace → RunsCycles layout (openings ++ opening ∷ []) (trace ++ frames) }
 {

@@ -1,6 +1,7 @@
 //! The nodes of a bus.
 
-ghost use Rattle.std.specs.Prelude.{◌≡◌, ◌≢◌, ℕ, ◌+◌, ◌*◌, ◌/◌, ◌^◌, ◌<◌, ◌≤◌, [], All, AllPairs, Any, IfOk, IfSome, OnErr, OnOk, Some, length, slice_get, slice_index_or, vec_len, vec_capacity};
+ghost use Rattle.std.specs.Prelude.{◌≡◌, ◌≢◌, ℕ, ◌+◌, ◌*◌, ◌/◌, ◌^◌, ◌<◌, ◌≤◌, [], All, AllPairs, Any, IfOk, IfSome};
+ghost use Rattle.std.specs.Prelude.{OnErr, OnOk, Some, length, slice_get, slice_index_or, vec_len, vec_capacity};
 ghost use Rattle.cycle_layout.specs.Layout.{IsLayout};
 ghost use Rattle.requirement_table.specs.Table.{IsWellPlaced};
 ghost use Rattle.trigger_codec.specs.Bytes.{trigger_frame};
@@ -125,9 +126,11 @@ impl Nodes {
         requires room { self.old.layout.cycle / 47 + 1 ≤ vec_capacity frames.old }
         ensures layout { self.new.layout ≡ self.old.layout }
         ensures heard { states_of self.new.nodes ≡ heard_by frames.new.items (states_of self.old.nodes) }
-        ensures runs { Follows (offers_of cycle_line (announced self.old.layout (order.now.cycle * self.old.layout.cycle)
+        ensures runs { Follows
+            (offers_of cycle_line (announced self.old.layout (order.now.cycle * self.old.layout.cycle)
             (trigger_frame order.now.cycle order.now.l order.now.mask) (states_of self.old.nodes)))
-            [] (order.now.cycle * self.old.layout.cycle) ((order.now.cycle + 1) * self.old.layout.cycle) frames.new.items }
+            [] (order.now.cycle * self.old.layout.cycle)
+            ((order.now.cycle + 1) * self.old.layout.cycle) frames.new.items }
     {
         let layout = self.layout();
         let end = (order.cycle + 1) * u64::from(layout.cycle());
@@ -144,7 +147,8 @@ impl Nodes {
         requires empty { frames.old.items ≡ [] }
         requires room { self.old.layout.cycle / 47 + 1 ≤ vec_capacity frames.old }
         ensures layout { self.new.layout ≡ self.old.layout }
-        ensures before_window { IsBeforeWindow self.old.layout order.now.cycle order.now.l order.now.mask (states_of self.old.nodes)
+        ensures before_window { IsBeforeWindow self.old.layout order.now.cycle order.now.l order.now.mask
+            (states_of self.old.nodes)
             (states_of self.new.nodes) frames.new.items result }
         ensures capacity { vec_capacity frames.old ≤ vec_capacity frames.new }
     {

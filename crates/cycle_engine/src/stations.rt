@@ -1,6 +1,7 @@
 //! The nodes of a bus as stations on it, and with them the master, which offers a trigger.
 
-ghost use Rattle.std.specs.Prelude.{◌≡◌, ◌+◌, ◌-◌, ◌/◌, ◌^◌, ◌<◌, ◌≤◌, [], None, Some, All, Contains, OnOk, length, map, vec_capacity};
+ghost use Rattle.std.specs.Prelude.{◌≡◌, ◌+◌, ◌-◌, ◌/◌, ◌^◌, ◌<◌, ◌≤◌, []};
+ghost use Rattle.std.specs.Prelude.{None, Some, All, Contains, OnOk, length, map, vec_capacity};
 ghost use Rattle.cycle_layout.specs.Layout.{IsLayout};
 ghost use Rattle.requirement_table.specs.Table.{IsWellPlaced};
 ghost use Rattle.node_model.specs.Node.{learnt};
@@ -114,7 +115,11 @@ impl NodeStations {
     pub fn announce(&mut self, at: u64, frame: Frame)
         requires identifier { frame.identifier ≡ 0 }
         requires next { All (λ node. node.next < 2 ^ 42) (states_of self.old.nodes) }
-        ensures announced { self.new ≡ record { layout = self.old.layout; trigger = Some (record { at = at; frame = frame }); nodes = self.old.nodes } }
+        ensures announced { self.new ≡ record {
+          layout = self.old.layout;
+          trigger = Some (record { at = at; frame = frame });
+          nodes = self.old.nodes;
+        } }
         ensures known { AreNodes self.new.layout (states_of self.new.nodes) }
     {
         self.trigger = Some(DueTrigger { at, frame });
@@ -139,7 +144,8 @@ impl NodeStations {
         requires window { All (IsInWindow from until) (states_of self.old.nodes) }
         requires room { from < until → length out.old.items + ((until - from) / 47 + 1) ≤ vec_capacity out.old }
         ensures layout { self.new.layout ≡ self.old.layout }
-        ensures sent { IsSentBy (states_of self.old.nodes) (states_of self.new.nodes) from until out.old.items out.new.items }
+        ensures sent { IsSentBy (states_of self.old.nodes)
+            (states_of self.new.nodes) from until out.old.items out.new.items }
     {
         stays_a_node();
         nodes_are_apart();

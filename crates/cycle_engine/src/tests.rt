@@ -92,7 +92,8 @@ fn sent_in(
     l: u32,
     count: u64,
 ) -> Result<(Vec<(u64, u32, u16)>, usize), Fail>
-    requires owned { All (λ request. (request.frame.identifier ≡ 0x210) ⊎ ((request.frame.identifier ≡ 0x200) ⊎ (request.frame.identifier ≡ 0x201))) requests.now }
+    requires owned { All (λ request. (request.frame.identifier ≡ 0x210)
+        ⊎ ((request.frame.identifier ≡ 0x200) ⊎ (request.frame.identifier ≡ 0x201))) requests.now }
     requires arrivals { AllPairs (λ one other. one.at ≤ other.at) requests.now }
     requires early { All (λ request. request.at < 10000) requests.now }
     requires well_placed { IsWellPlaced placed.now }

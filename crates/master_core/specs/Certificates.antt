@@ -12,7 +12,8 @@ use Rattle.master_core.specs.History.{next_of, placed_of, plan_of}
 -- the planning of the placed entries that goes on from the next cycle, with what is pending before it in their plan
 abbrev pub onward_of : Rules → List Event → Planning
 onward_of rules history =
-    plan_from rules (placed_of history) (next_of history) (pending_at (plan_of rules (placed_of history)) (next_of history))
+    plan_from rules (placed_of history) (next_of history)
+    (pending_at (plan_of rules (placed_of history)) (next_of history))
 
 -- the certificate begins at cycle 0 with nothing pending. It lists the plan of the placed entries, and the part that is
 -- repeated is the recurrence of the planning that goes on from the next cycle, which is found within the horizon

@@ -1,6 +1,7 @@
 -- *Histories* of a master: the calls in their order, each with its answer; what follows from them, and which of them
 -- are legal.
-use Rattle.std.specs.Prelude.{◌≡◌, ℕ, ◌≤◌, Bool, true, false, List, [], ◌∷◌, ◌++◌, Option, Some, None, All, count_by, fold, if◌then◌else◌}
+use Rattle.std.specs.Prelude.{◌≡◌, ℕ, ◌≤◌, Bool, true, false, List, [], ◌∷◌, ◌++◌}
+use Rattle.std.specs.Prelude.{Option, Some, None, All, count_by, fold, if◌then◌else◌}
 use Rattle.requirement_table.specs.declared.entries.Placed.{Placed}
 use Rattle.change_protocol.specs.declared.operations.Change.{Change}
 use Rattle.change_protocol.specs.Applied.{applied}
@@ -30,7 +31,8 @@ accepts (Open cycle mask) = false
 
 -- the placed entries after an event: an accepted change is applied to those before it
 abbrev pub placed_after : List Placed → Event → List Placed
-placed_after placed (Submit caller change from verdict trail) = if is_accepted verdict then applied placed change else placed
+placed_after placed (Submit caller change from verdict trail) =
+    if is_accepted verdict then applied placed change else placed
 placed_after placed (Look caller next) = placed
 placed_after placed (Open cycle mask) = placed
 
@@ -45,24 +47,29 @@ plan_of rules placed = plan_from rules placed 0 0
 -- no change was accepted in this history after the cycle `from` was opened: at each accepted one the next cycle was
 -- `from` or a lower one
 abbrev pub IsSince : List Event → ℕ → Type 0
-IsSince history from = (front back : List Event) (event : Event) → history ≡ front ++ event ∷ back → accepts event ≡ true → next_of front ≤ from
+IsSince history from = (front back : List Event) (event : Event)
+    → history ≡ front ++ event ∷ back → accepts event ≡ true → next_of front ≤ from
 
 -- a change is answered right after this history: it was planned from a cycle that is not above the next one, and behind
 -- which no change was accepted; from what is pending before that cycle in the plan of the placed entries. The numbers
 -- of a change are in the ranges of their types, as those of every change that is handed in are
-pub record IsRightAnswer (rules : Rules) (history : List Event) (change : Change) (from : ℕ) (verdict : Verdict) (trail : List ℕ) : Type 0 where
+pub record IsRightAnswer (rules : Rules) (history : List Event) (change : Change) (from : ℕ)
+    (verdict : Verdict) (trail : List ℕ) : Type 0 where
   pub types : All HasTypes change.ops
   pub since : IsSince history from
   pub opened : from ≤ next_of history
-  pub answer : IsVerdict rules (placed_of history) (pending_at (plan_of rules (placed_of history)) from) from (next_of history) change verdict
+  pub answer : IsVerdict rules (placed_of history)
+      (pending_at (plan_of rules (placed_of history)) from) from (next_of history) change verdict
   pub plan : trail
-      ≡ trail_of (plan_from rules (applied (placed_of history) change) from (pending_at (plan_of rules (placed_of history)) from)) verdict
+      ≡ trail_of (plan_from rules (applied (placed_of history) change)
+      from (pending_at (plan_of rules (placed_of history)) from)) verdict
 
 -- the event is right after this history
 abbrev pub IsRight : Rules → List Event → Event → Type 0
 IsRight rules history (Submit caller change from verdict trail) = IsRightAnswer rules history change from verdict trail
 IsRight rules history (Look caller next) = next ≡ next_of history
-IsRight rules history (Open cycle mask) = (cycle ≡ next_of history) × (mask ≡ mask_at (plan_of rules (placed_of history)) cycle)
+IsRight rules history (Open cycle mask) =
+    (cycle ≡ next_of history) × (mask ≡ mask_at (plan_of rules (placed_of history)) cycle)
 
 -- each of the events has the property after the events before it
 abbrev pub AllAfter : (List Event → Event → Type 0) → List Event → List Event → Type 0

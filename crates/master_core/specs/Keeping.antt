@@ -16,7 +16,8 @@ pub record MasterView : Type 0 where
 
 -- the fields agree with the history: the placed entries, the next cycle and what is pending before it, and what the
 -- nodes are to learn; the plan is made from the entries that were not over by the cycle `since`
-pub record IsKept (rules : Rules) (history : List Event) (list : List Placed) (since : ℕ) (ranked : Ranking) (cycle pending : ℕ) (learned : Option (List Placed)) : Type 0 where
+pub record IsKept (rules : Rules) (history : List Event) (list : List Placed) (since : ℕ) (ranked : Ranking)
+    (cycle pending : ℕ) (learned : Option (List Placed)) : Type 0 where
   pub ranges : IsRules rules
   pub legal : IsPlainlyLegal rules history
   pub placed : list ≡ placed_of history

@@ -13,10 +13,13 @@ ghost use Rattle.master_core.specs.Openings.{openings_of};
 /// The placed entries of a legal history are well placed, and no deadline of theirs is ever missed. So what is pending
 /// before the next cycle can be planned from.
 pub fn legal_histories()
-    ensures well_placed { (rules : Rules) (history : List Event) → IsLegal rules history → IsWellPlaced (placed_of history) }
-    ensures in_time { (rules : Rules) (history : List Event) → IsLegal rules history → NeverMisses (plan_of rules (placed_of history)) }
+    ensures well_placed { (rules : Rules) (history : List Event)
+        → IsLegal rules history → IsWellPlaced (placed_of history) }
+    ensures in_time { (rules : Rules) (history : List Event)
+        → IsLegal rules history → NeverMisses (plan_of rules (placed_of history)) }
     ensures valid { (rules : Rules) (history : List Event) → IsLegal rules history
-        → IsValid (placed_of history) (next_of history) (pending_at (plan_of rules (placed_of history)) (next_of history)) }
+        → IsValid (placed_of history) (next_of history)
+        (pending_at (plan_of rules (placed_of history)) (next_of history)) }
 {}
 
 /// One event more does not change the cycles that were opened: it changes the list from a start on that is not below
@@ -24,13 +27,20 @@ pub fn legal_histories()
 /// instance there, but for an end that its entry got.
 pub fn one_event_more()
     ensures changed { (rules : Rules) (history : List Event) (event : Event) → IsLegal rules (history ++ event ∷ [])
-        → (start : ℕ) × (next_of history ≤ start) × IsChangedAt start (placed_of history) (placed_of (history ++ event ∷ [])) }
-    ensures masks { (rules : Rules) (history : List Event) (event : Event) (c : ℕ) → IsLegal rules (history ++ event ∷ []) → c < next_of history
-        → mask_at (plan_of rules (placed_of (history ++ event ∷ []))) c ≡ mask_at (plan_of rules (placed_of history)) c }
-    ensures pending { (rules : Rules) (history : List Event) (event : Event) (c : ℕ) → IsLegal rules (history ++ event ∷ []) → c ≤ next_of history
-        → pending_at (plan_of rules (placed_of (history ++ event ∷ []))) c ≡ pending_at (plan_of rules (placed_of history)) c }
-    ensures instances { (rules : Rules) (history : List Event) (event : Event) (c slot : ℕ) → IsLegal rules (history ++ event ∷ []) → c < next_of history
-        → option_map without_end (instance_in (placed_of (history ++ event ∷ [])) slot c) ≡ option_map without_end (instance_in (placed_of history) slot c) }
+        → (start : ℕ) × (next_of history ≤ start)
+        × IsChangedAt start (placed_of history) (placed_of (history ++ event ∷ [])) }
+    ensures masks { (rules : Rules) (history : List Event) (event : Event) (c : ℕ)
+        → IsLegal rules (history ++ event ∷ []) → c < next_of history
+        → mask_at (plan_of rules (placed_of (history ++ event ∷ []))) c
+        ≡ mask_at (plan_of rules (placed_of history)) c }
+    ensures pending { (rules : Rules) (history : List Event) (event : Event) (c : ℕ)
+        → IsLegal rules (history ++ event ∷ []) → c ≤ next_of history
+        → pending_at (plan_of rules (placed_of (history ++ event ∷ []))) c
+        ≡ pending_at (plan_of rules (placed_of history)) c }
+    ensures instances { (rules : Rules) (history : List Event) (event : Event) (c slot : ℕ)
+        → IsLegal rules (history ++ event ∷ []) → c < next_of history
+        → option_map without_end (instance_in (placed_of (history ++ event ∷ [])) slot c)
+        ≡ option_map without_end (instance_in (placed_of history) slot c) }
 {}
 
 /// A legal history opens the cycles below the next one, in their order, each once. Each was opened with the plan of all

@@ -211,7 +211,8 @@ impl Master {
     /// The slots that `open` would flag now; the next cycle is below 2^41.
     pub fn planned(&self) -> Mask
         requires next { next_of self.now.history < 2 ^ 41 }
-        ensures mask { result ≡ mask_at (plan_of self.now.rules (placed_of self.now.history)) (next_of self.now.history) }
+        ensures mask { result
+            ≡ mask_at (plan_of self.now.rules (placed_of self.now.history)) (next_of self.now.history) }
     {
         cycle_mask(&self.table.ranked, self.rules.window, &self.state)
     }
@@ -219,7 +220,8 @@ impl Master {
     /// The next cycle, and the slots that are pending before it: what `open` plans from.
     pub fn state(&self) -> PlanState
         ensures cycle { result.cycle ≡ next_of self.now.history }
-        ensures pending { result.pending ≡ pending_at (plan_of self.now.rules (placed_of self.now.history)) (next_of self.now.history) }
+        ensures pending { result.pending
+            ≡ pending_at (plan_of self.now.rules (placed_of self.now.history)) (next_of self.now.history) }
     {
         self.state
     }

@@ -16,7 +16,8 @@ pub fn plan_next(ranked: &Ranked, window: u32, state: &PlanState) -> Planned
     ensures mask { let plan = planning_of ranked.now window state.now.cycle state.now.pending in
         result.mask ≡ set_of slots (planned_in plan state.now.cycle (contains_slot state.now.pending)) }
     ensures width { let plan = planning_of ranked.now window state.now.cycle state.now.pending in
-        result.width ≡ width_in ranked.now.placed state.now.cycle (planned_in plan state.now.cycle (contains_slot state.now.pending)) }
+        result.width ≡ width_in ranked.now.placed state.now.cycle
+        (planned_in plan state.now.cycle (contains_slot state.now.pending)) }
     ensures cycle { result.next.cycle ≡ state.now.cycle + 1 }
     ensures pending { let plan = planning_of ranked.now window state.now.cycle state.now.pending in
         result.next.pending ≡ set_of slots (left_after plan state.now.cycle (contains_slot state.now.pending)) }

@@ -15,7 +15,8 @@ Stays node from offer = (later : ℕ) → from ≤ later → later ≤ offer.unt
 
 -- behind the look the node offers something next at the time that it found, and then as long as it says
 abbrev pub IsAhead : NodeState → Ahead → Type 0
-IsAhead node look = IsNextOffer node look.since (next_time look.next) × IfSome look.next (λ next. Stays node next.from next.offer)
+IsAhead node look =
+    IsNextOffer node look.since (next_time look.next) × IfSome look.next (λ next. Stays node next.from next.offer)
 
 -- the time lies behind the look, and before the time that it found, where it found one
 pub record IsQuietAt (look : Ahead) (at : ℕ) : Type 0 where

@@ -34,7 +34,8 @@ abbrev pub HaveInstances : List Placed → ℕ → List Placed → Type 0
 HaveInstances entries from left = (slot c : ℕ) → from ≤ c → instance_in left slot c ≡ instance_in entries slot c
 
 -- what is true of the fields of every node: those that contracts see make a node, and the others follow from them
-pub record IsKept (state : NodeState) (own : ℕ) (left : List Placed) (current : Option Open) (look : Option Ahead) : Type 0 where
+pub record IsKept (state : NodeState) (own : ℕ) (left : List Placed) (current : Option Open) (look : Option Ahead)
+    : Type 0 where
   pub node : IsNode state
   pub own_slots : AreSlotsOf state.entries own
   pub placed : IsWellPlaced left

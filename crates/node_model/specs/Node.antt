@@ -1,5 +1,7 @@
 -- One node: what it knows, what it does with a frame that it hears, and what it offers. Times are bit times.
-use Rattle.std.specs.Prelude.{ℕ, zero, suc, ◌+◌, ◌-◌, ◌/◌, ◌%◌, ◌^◌, ◌<◌, ◌≤◌, ◌==◌, ◌&&◌, ◌||◌, not, Bool, nat_le, nat_eq, if◌then◌else◌, List, [], map, filter, min, Option, Some, None, IfSome, IsSome, is_some, option_map, slice_get}
+use Rattle.std.specs.Prelude.{ℕ, zero, suc, ◌+◌, ◌-◌, ◌/◌, ◌%◌, ◌^◌, ◌<◌, ◌≤◌, ◌==◌, ◌&&◌, ◌||◌, not}
+use Rattle.std.specs.Prelude.{Bool, nat_le, nat_eq, if◌then◌else◌, List, [], map, filter, min, Option}
+use Rattle.std.specs.Prelude.{Some, None, IfSome, IsSome, is_some, option_map, slice_get}
 use Rattle.std.specs.Option.{option_map_or}
 use Rattle.std.specs.List.{list_any}
 use Rattle.can_frame.specs.DataFrame.{DataFrame}
@@ -78,7 +80,9 @@ learnt placed node = record node { entries = entries_of node.number placed }
 -- the trigger that opens the next cycle, where the frame is one: its window is at most the largest one, and its byte 0
 -- is that cycle modulo 256
 abbrev pub next_trigger : NodeState → DataFrame → Option Trigger
-next_trigger node frame = trigger_where (λ trigger. nat_le trigger.l node.layout.window && (trigger.low == node.next % 256)) (trigger_of frame)
+next_trigger node frame =
+    trigger_where (λ trigger. nat_le trigger.l node.layout.window && (trigger.low == node.next % 256))
+    (trigger_of frame)
   where
     trigger_where : (Trigger → Bool) → Option Trigger → Option Trigger
     trigger_where fits None = None
@@ -91,7 +95,10 @@ opened_by cycle (Some trigger) = record { cycle = cycle; width = trigger.l; mask
 
 -- a node for which a frame with identifier 0 opens the next cycle
 abbrev pub after_opening : NodeState → DataFrame → NodeState
-after_opening node frame = record node { opened = Some (opened_by node.next (next_trigger node frame)); next = node.next + 1 }
+after_opening node frame = record node {
+  opened = Some (opened_by node.next (next_trigger node frame));
+  next = node.next + 1;
+}
 
 -- whether the identifier is that of a slot in which the node has an entry
 abbrev pub is_own_slot : List Placed → ℕ → Bool
@@ -136,7 +143,8 @@ least_where (suc n) p = if is_some (least_where n p) then least_where n p else (
 -- the cycle, and has not heard it
 abbrev pub is_due : List Placed → Opened → ℕ → Bool
 is_due entries opened slot =
-    contains_slot opened.mask slot && (is_some (instance_in entries slot opened.cycle) && not (contains_slot opened.heard slot))
+    contains_slot opened.mask slot
+    && (is_some (instance_in entries slot opened.cycle) && not (contains_slot opened.heard slot))
 
 -- what a node offers in an open cycle: in the synchronous window the least slot that it is to send, and before it what
 -- its mailboxes offer

@@ -18,9 +18,11 @@ pub record OffersTrigger (layout : CycleLayout) (opening : Opening) (at : ℕ) (
 
 -- in the asynchronous window the first unsent request of an identifier is offered that has arrived, where its longest
 -- frame ends before the synchronous window
-pub record OffersRequest (layout : CycleLayout) (requests : List Request) (opening : Opening) (past : List TimedFrame) (at : ℕ) (frame : DataFrame) : Type 0 where
+pub record OffersRequest (layout : CycleLayout) (requests : List Request) (opening : Opening)
+    (past : List TimedFrame) (at : ℕ) (frame : DataFrame) : Type 0 where
   pub request : Request
-  pub may_start : MayStart layout opening.cycle (width_of opening) (unsent_after requests past frame.identifier) at request
+  pub may_start : MayStart layout opening.cycle (width_of opening)
+      (unsent_after requests past frame.identifier) at request
   pub its_frame : frame ≡ request.frame
 
 -- no frame of the slot started in the cycle, among the frames before
@@ -30,7 +32,8 @@ IsUnsent layout opening slot past =
 
 -- in the cycle, from the synchronous window's start on, each flagged slot is offered that has not been sent in the
 -- cycle: with its identifier, and the bytes of the instance that may be sent in the cycle
-pub record OffersSlot (layout : CycleLayout) (opening : Opening) (past : List TimedFrame) (at : ℕ) (frame : DataFrame) (slot : ℕ) : Type 0 where
+pub record OffersSlot (layout : CycleLayout) (opening : Opening) (past : List TimedFrame)
+    (at : ℕ) (frame : DataFrame) (slot : ℕ) : Type 0 where
   pub begun : start_of layout opening ≤ at
   pub late_enough : window_start layout opening ≤ at
   pub within : at < end_of_cycle layout opening

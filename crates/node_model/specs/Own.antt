@@ -1,6 +1,7 @@
 -- How a node stands to the whole bus: which part of what is offered is its own, and what it knows after the frames of a
 -- bus.
-use Rattle.std.specs.Prelude.{◌≡◌, ℕ, ◌+◌, ◌<◌, ◌≤◌, ◌⊎◌, ◌==◌, ◌&&◌, nat_le, Bool, true, List, Contains, map, Some, MatchOption}
+use Rattle.std.specs.Prelude.{◌≡◌, ℕ, ◌+◌, ◌<◌, ◌≤◌, ◌⊎◌, ◌==◌, ◌&&◌}
+use Rattle.std.specs.Prelude.{nat_le, Bool, true, List, Contains, map, Some, MatchOption}
 use Rattle.std.specs.List.{list_any}
 use Rattle.can_frame.specs.DataFrame.{DataFrame}
 use Rattle.can_frame.specs.declared.data_frame.TimedFrame.{TimedFrame}
@@ -31,11 +32,13 @@ OffersLeastOwn layout owners requests opening past at node =
     MatchOption (node_offer node at)
     ((frame : DataFrame) → OffersOwn node.number layout owners requests opening past at frame → ⊥)
     (λ id. OffersOwn node.number layout owners requests opening past at (node_frame node at id)
-    × ((frame : DataFrame) → OffersOwn node.number layout owners requests opening past at frame → id ≤ frame.identifier))
+    × ((frame : DataFrame) → OffersOwn node.number layout owners requests opening past at frame
+    → id ≤ frame.identifier))
 
 -- a node that has this layout, knows its own entries of a list, and heard the frames `past` of a bus with these owners
 -- and requests, so that these of its requests are unsent; `next` is its next cycle
-pub record Stands (layout : CycleLayout) (owners : List Owner) (requests : List Request) (placed : List Placed) (past : List TimedFrame) (next : ℕ) (node : NodeState) : Type 0 where
+pub record Stands (layout : CycleLayout) (owners : List Owner) (requests : List Request) (placed : List Placed)
+    (past : List TimedFrame) (next : ℕ) (node : NodeState) : Type 0 where
   pub same_layout : node.layout ≡ layout
   pub own_entries : node.entries ≡ entries_of node.number placed
   pub own_mail : node.mail ≡ mail_after (identifiers_of node.number owners) requests past
@@ -44,10 +47,12 @@ pub record Stands (layout : CycleLayout) (owners : List Owner) (requests : List 
 -- whether a frame of the slot started from the cycle's start on
 abbrev pub was_sent : CycleLayout → Opening → List TimedFrame → ℕ → Bool
 was_sent layout opening past slot =
-    list_any (λ sent. (sent.frame.identifier == first_identifier + slot) && nat_le (start_of layout opening) sent.start) past
+    list_any (λ sent. (sent.frame.identifier == first_identifier + slot)
+    && nat_le (start_of layout opening) sent.start) past
 
 -- the cycle is open for the node, as its trigger said, and the node's slots that were sent in it are marked
-pub record IsOpenFor (layout : CycleLayout) (opening : Opening) (past : List TimedFrame) (node : NodeState) (opened : Opened) : Type 0 where
+pub record IsOpenFor (layout : CycleLayout) (opening : Opening) (past : List TimedFrame)
+    (node : NodeState) (opened : Opened) : Type 0 where
   pub is_open : node.opened ≡ Some opened
   pub cycle : opened.cycle ≡ opening.cycle
   pub width : opened.width ≡ width_of opening
@@ -56,13 +61,15 @@ pub record IsOpenFor (layout : CycleLayout) (opening : Opening) (past : List Tim
       → contains_slot opened.heard slot ≡ was_sent layout opening past slot
 
 -- a node within an opened cycle, after the frames `past`
-pub record StandsIn (layout : CycleLayout) (owners : List Owner) (requests : List Request) (opening : Opening) (past : List TimedFrame) (node : NodeState) : Type 0 where
+pub record StandsIn (layout : CycleLayout) (owners : List Owner) (requests : List Request)
+    (opening : Opening) (past : List TimedFrame) (node : NodeState) : Type 0 where
   pub stands : Stands layout owners requests opening.placed past (opening.cycle + 1) node
   pub opened : Opened
   pub is_open : IsOpenFor layout opening past node opened
 
 -- two nodes that have no identifier in common, and no slot of which both may send an instance in one cycle
 pub record AreApart (one other : NodeState) : Type 0 where
-  pub mail : (id : ℕ) → Contains (map (λ box. box.identifier) one.mail) id → Contains (map (λ box. box.identifier) other.mail) id → ⊥
+  pub mail : (id : ℕ) → Contains (map (λ box. box.identifier) one.mail) id
+      → Contains (map (λ box. box.identifier) other.mail) id → ⊥
   pub slots : (slot cycle : ℕ) (mine theirs : Instance) → instance_in one.entries slot cycle ≡ Some mine
       → instance_in other.entries slot cycle ≡ Some theirs → ⊥

@@ -1,6 +1,8 @@
 //! A cycle that is open for a node, and which slot the node sends next in it.
 
-ghost use Rattle.std.specs.Prelude.{◌≡◌, ℕ, ◌+◌, ◌-◌, ◌*◌, ◌/◌, ◌^◌, ◌<◌, ◌&&◌, not, nat_eq, nat_lt, max, if◌then◌else◌, is_some, false, true, List, Some, None, IfSome, MatchOption, option_map};
+ghost use Rattle.std.specs.Prelude.{◌≡◌, ℕ, ◌+◌, ◌-◌, ◌*◌, ◌/◌, ◌^◌, ◌<◌, ◌&&◌, not, nat_eq};
+ghost use Rattle.std.specs.Prelude.{nat_lt, max, if◌then◌else◌, is_some, false, true, List};
+ghost use Rattle.std.specs.Prelude.{Some, None, IfSome, MatchOption, option_map};
 ghost use Rattle.requirement_table.specs.declared.entries.Placed.{Placed};
 ghost use Rattle.requirement_table.specs.Slots.{contains_slot, slots};
 ghost use Rattle.requirement_table.specs.Table.{IsWellPlaced};
@@ -114,7 +116,8 @@ pub fn after_slot(before: &Option<Open>, slot: u8) -> Option<Open>
 
 /// The identifier of the least slot that is to be sent in a cycle.
 pub fn least_due(open_cycle: &Open) -> Option<u16>
-    ensures least { result ≡ option_map (λ slot. first_identifier + slot) (least_where slots (contains_slot open_cycle.now.due)) }
+    ensures least { result
+        ≡ option_map (λ slot. first_identifier + slot) (least_where slots (contains_slot open_cycle.now.due)) }
 {
     Some(FIRST_IDENTIFIER + u16::from(least_slot(open_cycle.due)?))
 }
@@ -138,7 +141,8 @@ pub fn offer_due(open_cycle: &Open, end: u64) -> Option<Offer>
 /// window, which starts at `window`.
 pub fn next_due(open_cycle: &Open, at: u64, window: u64, end: u64) -> Option<u64>
     requires time { at < 2 ^ 60 }
-    ensures next { result ≡ (if is_some (least_where slots (contains_slot open_cycle.now.due)) && nat_lt (max (at + 1) window) end
+    ensures next { result
+        ≡ (if is_some (least_where slots (contains_slot open_cycle.now.due)) && nat_lt (max (at + 1) window) end
         then Some (max (at + 1) window) else None) }
 {
     least_slot(open_cycle.due)?;

@@ -75,7 +75,8 @@ pub(crate) fn both(one: Mask, other: Mask) -> Mask
 
 /// The slots of a set that do not stand in another one.
 fn without_all(one: Mask, other: Mask) -> Mask
-    ensures slots { (slot : ℕ) → slot < slots → contains_slot result slot ≡ (contains_slot one slot && not (contains_slot other slot)) }
+    ensures slots { (slot : ℕ) → slot < slots
+        → contains_slot result slot ≡ (contains_slot one slot && not (contains_slot other slot)) }
 {
     Mask::from_bits(one.bits() & !other.bits())
 }

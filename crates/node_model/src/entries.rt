@@ -1,6 +1,7 @@
 //! The entries of a node: which of a list are its own, their slots, and the instances that may be sent in a cycle.
 
-ghost use Rattle.std.specs.Prelude.{◌≡◌, ◌<◌, ◌≤◌, ℕ, true, [], Some, ◌+◌, Bool, is_some, length, option_map, vec_capacity, IfSome, IfOk};
+ghost use Rattle.std.specs.Prelude.{◌≡◌, ◌<◌, ◌≤◌, ℕ, true, [], Some, ◌+◌};
+ghost use Rattle.std.specs.Prelude.{Bool, is_some, length, option_map, vec_capacity, IfSome, IfOk};
 ghost use Rattle.requirement_table.specs.Slots.{contains_slot};
 ghost use Rattle.requirement_table.specs.Instance.{MaySend, bytes_of, release_of};
 ghost use Rattle.requirement_table.specs.Table.{IsWellPlaced, instance_in, not_over};
@@ -110,7 +111,8 @@ impl Remaining {
     /// The bytes of the instance of a slot that may be sent in a cycle, where it is that of the slot's first entry.
     fn first_payload(&self, slot: u8, cycle: u64) -> Option<Payload>
         requires well_placed { IsWellPlaced self.now.entries.items }
-        ensures bytes { IfSome result (λ bytes. option_map bytes_of (instance_in self.now.entries.items slot cycle) ≡ Some bytes) }
+        ensures bytes { IfSome result
+            (λ bytes. option_map bytes_of (instance_in self.now.entries.items slot cycle) ≡ Some bytes) }
         ensures few { IfSome result (λ bytes. length bytes ≤ 8) }
     {
         let place = *self.first.get(usize::from(slot))?;
@@ -119,7 +121,8 @@ impl Remaining {
     }
 }
 
-/// The bytes of the instance of a slot that may be sent in a cycle, where it is that of the entry at a place. Its number
+/// The bytes of the instance of a slot that may be sent in
+a cycle, where it is that of the entry at a place. Its number
 /// may be guessed.
 fn payload_at(entries: &[Placed], place: usize, slot: u8, guess: u64, cycle: u64) -> Option<Payload>
     requires well_placed { IsWellPlaced entries.now }

@@ -1,7 +1,8 @@
 //! Laws about the definitions of this crate. Each function has an empty body or calls other laws, and its contract is
 //! the law.
 
-ghost use Rattle.std.specs.Prelude.{◌≡◌, ◌≢◌, ℕ, ◌+◌, ◌/◌, ◌^◌, ◌<◌, ◌≤◌, ◌==◌, ◌&&◌, ◌⊎◌, not, List, [], ◌∷◌, ◌++◌, All, MatchOption, Some, false, true};
+ghost use Rattle.std.specs.Prelude.{◌≡◌, ◌≢◌, ℕ, ◌+◌, ◌/◌, ◌^◌, ◌<◌, ◌≤◌, ◌==◌, ◌&&◌, ◌⊎◌};
+ghost use Rattle.std.specs.Prelude.{not, List, [], ◌∷◌, ◌++◌, All, MatchOption, Some, false, true};
 ghost use Rattle.can_frame.specs.declared.data_frame.TimedFrame.{TimedFrame};
 ghost use Rattle.cycle_layout.specs.Layout.{CycleLayout};
 ghost use Rattle.requirement_table.specs.declared.entries.Placed.{Placed};
@@ -61,7 +62,8 @@ pub fn nodes_are_apart()
     ensures by_number { (layout : CycleLayout) (owners : List Owner) (requests other_requests : List Request)
         (placed others : List Placed) (past heard : List TimedFrame) (next then : ℕ) (one other : NodeState)
         → one.number ≢ other.number → AreOwners owners → IsWellPlaced placed → (others ≡ placed) ⊎ (others ≡ [])
-        → Stands layout owners requests placed past next one → Stands layout owners other_requests others heard then other
+        → Stands layout owners requests placed past next one
+        → Stands layout owners other_requests others heard then other
         → AreApart one other }
     ensures learning { (placed : List Placed) (one other : NodeState)
         → one.number ≢ other.number → IsWellPlaced placed → AreApart one other
@@ -78,8 +80,10 @@ pub fn nodes_are_apart()
 
 /// What holds of every node still holds when it learns a list or hears a frame.
 pub fn stays_a_node()
-    ensures learning { (placed : List Placed) (node : NodeState) → IsWellPlaced placed → IsNode node → IsNode (learnt placed node) }
-    ensures hearing { (node : NodeState) (sent : TimedFrame) → (sent.frame.identifier ≡ 0 → node.next < 2 ^ 42) → IsNode node
+    ensures learning { (placed : List Placed) (node : NodeState)
+        → IsWellPlaced placed → IsNode node → IsNode (learnt placed node) }
+    ensures hearing { (node : NodeState) (sent : TimedFrame)
+        → (sent.frame.identifier ≡ 0 → node.next < 2 ^ 42) → IsNode node
         → IsNode (after_hearing node sent) }
 {
     taking_laws();
@@ -88,20 +92,24 @@ pub fn stays_a_node()
 /// A node in the synchronous window of the cycle that is open for it: it offers the least slot that it is to send, and
 /// the frame of a slot takes that slot away and no other one. A trigger opens the cycle.
 pub fn sends_its_slots()
-    ensures offers { (node : NodeState) (from until at : ℕ) → IsNode node → IsInWindow from until node → from ≤ at → at < until
+    ensures offers { (node : NodeState) (from until at : ℕ) → IsNode node
+        → IsInWindow from until node → from ≤ at → at < until
         → MatchOption (node_offer node at) ((slot : ℕ) → slot < slots → is_due_slot node slot ≡ false)
         (λ id. (slot : ℕ) × (slot < slots) × (id ≡ first_identifier + slot) × (is_due_slot node slot ≡ true)
         × ((other : ℕ) → other < slot → is_due_slot node other ≡ false)) }
-    ensures frames { (node : NodeState) (from until at slot : ℕ) → IsNode node → IsInWindow from until node → from ≤ at → at < until
+    ensures frames { (node : NodeState) (from until at slot : ℕ)
+        → IsNode node → IsInWindow from until node → from ≤ at → at < until
         → slot < slots → node_frame node at (first_identifier + slot) ≡ due_frame node slot }
     ensures stays { (node : NodeState) (from until : ℕ) (sent : TimedFrame) → sent.frame.identifier ≢ 0
         → IsInWindow from until node → IsInWindow from until (after_hearing node sent) }
     ensures same_frames { (node : NodeState) (slot other : ℕ) (sent : TimedFrame) → IsNode node
-        → sent.frame.identifier ≡ first_identifier + slot → slot < slots → due_frame (after_hearing node sent) other ≡ due_frame node other }
+        → sent.frame.identifier ≡ first_identifier + slot → slot < slots
+        → due_frame (after_hearing node sent) other ≡ due_frame node other }
     ensures takes { (node : NodeState) (slot other : ℕ) (sent : TimedFrame) → IsNode node
         → sent.frame.identifier ≡ first_identifier + slot → slot < slots → other < slots
         → is_due_slot (after_hearing node sent) other ≡ (not (other == slot) && is_due_slot node other) }
-    ensures opens { (node : NodeState) (l mask : ℕ) (sent : TimedFrame) → l ≤ node.layout.window → node.layout.window ≤ 16383
+    ensures opens { (node : NodeState) (l mask : ℕ) (sent : TimedFrame)
+        → l ≤ node.layout.window → node.layout.window ≤ 16383
         → mask < 2 ^ slots → sent.frame ≡ trigger_frame node.next l mask
         → (after_hearing node sent).opened ≡ Some (record { cycle = node.next; width = l; mask = mask; heard = 0 }) }
 {}

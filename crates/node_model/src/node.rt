@@ -1,6 +1,7 @@
 //! A node, which offers what follows from what it learnt and heard.
 
-ghost use Rattle.std.specs.Prelude.{◌≡◌, ◌≢◌, ◌↔◌, ℕ, ◌+◌, ◌*◌, ◌/◌, ◌^◌, ◌<◌, ◌≤◌, [], All, AllPairs, IfOk, IfSome, IsSome, MatchOption, OnErr, OnOk, Some, None, false, true, length, option_map};
+ghost use Rattle.std.specs.Prelude.{◌≡◌, ◌≢◌, ◌↔◌, ℕ, ◌+◌, ◌*◌, ◌/◌, ◌^◌, ◌<◌, ◌≤◌, [], All, AllPairs, IfOk, IfSome};
+ghost use Rattle.std.specs.Prelude.{IsSome, MatchOption, OnErr, OnOk, Some, None, false, true, length, option_map};
 ghost use Rattle.can_frame.specs.DataFrame.{DataFrame};
 ghost use Rattle.trigger_codec.specs.Bytes.{trigger_of};
 ghost use Rattle.requirement_table.specs.Slots.{slots};
@@ -9,7 +10,8 @@ ghost use Rattle.requirement_table.specs.Table.{IsWellPlaced, instance_in};
 ghost use Rattle.async_window.specs.Mailbox.{IsNextInCycle, left};
 ghost use Rattle.async_window.specs.Owners.{AreOwners};
 ghost use Rattle.node_model.specs.Opening.{first_identifier};
-ghost use Rattle.node_model.specs.Node.{IsNextOffer, IsNode, after_hearing, after_opening, after_request, after_slot, counted, fresh_node, is_own_slot, learnt, next_trigger, node_frame, node_offer};
+ghost use Rattle.node_model.specs.Node.{IsNextOffer, IsNode, after_hearing, after_opening, after_request, after_slot};
+ghost use Rattle.node_model.specs.Node.{counted, fresh_node, is_own_slot, learnt, next_trigger, node_frame, node_offer};
 ghost use Rattle.node_model.specs.Ahead.{IsAhead, Stays, next_time};
 ghost use Rattle.node_model.specs.Kept.{IsClosedAt, IsOpenAt, sends_from};
 
@@ -259,7 +261,8 @@ impl Node {
     /// Opens the next cycle, by a frame with identifier 0 whose reading as a trigger is this one.
     fn open_next(&mut self, trigger: &Option<Trigger>)
         requires cycle { self.old.state.next < 2 ^ 42 }
-        ensures opened { (frame : DataFrame) → trigger.now ≡ trigger_of frame → self.new.state ≡ after_opening self.old.state frame }
+        ensures opened { (frame : DataFrame) → trigger.now ≡ trigger_of frame
+            → self.new.state ≡ after_opening self.old.state frame }
         ensures spare { self.new.spare ≡ self.old.spare }
     {
         self.ahead = None;
@@ -276,7 +279,8 @@ impl Node {
 
     /// The trigger that opens the next cycle, where a frame with this reading is one.
     fn next_trigger(&self, trigger: &Option<Trigger>) -> Option<Trigger>
-        ensures trigger { (frame : DataFrame) → trigger.now ≡ trigger_of frame → result ≡ next_trigger self.now.state frame }
+        ensures trigger { (frame : DataFrame) → trigger.now ≡ trigger_of frame
+            → result ≡ next_trigger self.now.state frame }
         ensures fits { IfSome result (λ trigger. trigger.l ≤ self.now.state.layout.window) }
     {
         let trigger = (*trigger)?;
@@ -373,7 +377,8 @@ impl Node {
     /// The least time behind `at`, in the cycle of `at`, at which `offer` is something while nothing is heard.
     pub fn wake(&self, at: u64) -> Option<u64>
         requires time { at < 2 ^ 60 }
-        ensures next { IsNextInCycle self.now.state.layout.cycle at (λ later. IsSome (node_offer self.now.state later)) result }
+        ensures next { IsNextInCycle self.now.state.layout.cycle at
+            (λ later. IsSome (node_offer self.now.state later)) result }
     {
         let open_cycle = self.open_at(at)?;
         let window = self.layout.sync_start(open_cycle.cycle, open_cycle.width);
@@ -448,7 +453,8 @@ impl Node {
     pub fn offered_frame(&self, at: u64, id: u16) -> Option<Frame>
         requires time { at < 2 ^ 60 }
         ensures frame { MatchOption result (node_offer self.now.state at ≡ Some id → ⊥)
-            (λ frame. (node_offer self.now.state at ≡ Some id) × (frame ≡ node_frame self.now.state at id) × (frame.identifier ≡ id)) }
+            (λ frame. (node_offer self.now.state at ≡ Some id)
+            × (frame ≡ node_frame self.now.state at id) × (frame.identifier ≡ id)) }
     {
         if self.offers(at, id) {
             Some(self.frame(at, id))

@@ -12,7 +12,8 @@ use requirement_table::Mask;
 impl Node {
     /// A set of slots, with those that the node is to send in the open cycle.
     pub fn with_due_slots(&self, others: Mask) -> Mask
-        ensures slots { (slot : ℕ) → slot < slots → contains_slot result slot ≡ (contains_slot others slot || is_due_slot self.now.state slot) }
+        ensures slots { (slot : ℕ) → slot < slots
+            → contains_slot result slot ≡ (contains_slot others slot || is_due_slot self.now.state slot) }
     {
         match self.opened {
             Some(open_cycle) => both(others, open_cycle.due),

@@ -1,5 +1,7 @@
 -- What the code keeps of an instance that is pending in a cycle: words for contracts inside the crate.
-use Rattle.std.specs.Prelude.{◌≡◌, ◌≢◌, ℕ, ◌+◌, ◌<◌, ◌≤◌, Bool, true, false, ◌||◌, ◌&&◌, nat_eq, nat_le, nat_lt, if◌then◌else◌, List, ◌∷◌, ◌++◌, All, AllPairs, Any, length, sum_by, take, Option, Some, None}
+use Rattle.std.specs.Prelude.{◌≡◌, ◌≢◌, ℕ, ◌+◌, ◌<◌, ◌≤◌, Bool, true, false, ◌||◌, ◌&&◌}
+use Rattle.std.specs.Prelude.{nat_eq, nat_le, nat_lt, if◌then◌else◌, List, ◌∷◌, ◌++◌, All}
+use Rattle.std.specs.Prelude.{AllPairs, Any, length, sum_by, take, Option, Some, None}
 use Rattle.std.specs.List.{list_any}
 use Rattle.std.specs.Option.{option_map_or}
 use Rattle.requirement_table.specs.declared.entries.Placed.{Placed}
@@ -78,7 +80,8 @@ pub record IsWholeLine (plan : Planning) (c : ℕ) (before : ℕ → Bool) (line
   pub each : All (IsDueIn plan c before) line
   pub distinct : AllPairs (λ one other. one.slot ≢ other.slot) line
   pub lined : IsLined line
-  pub all : (slot : ℕ) → slot < slots → pending_in plan.placed c before slot ≡ true → list_any (λ due. nat_eq due.slot slot) line ≡ true
+  pub all : (slot : ℕ) → slot < slots → pending_in plan.placed c before slot ≡ true
+      → list_any (λ due. nat_eq due.slot slot) line ≡ true
 
 -- the first n fit the window together, and one more does not
 pub record IsLongestFit (window : ℕ) (line : List Due) (n : ℕ) : Type 0 where

@@ -1,5 +1,6 @@
 -- The list of the pending slots in key order, and how many of its first ones fit a window. Lengths are bit times.
-use Rattle.std.specs.Prelude.{◌≡◌, ◌≢◌, ℕ, ◌<◌, ◌≤◌, Bool, true, ◌↔◌, List, All, AllPairs, Contains, length, sum_by, take}
+use Rattle.std.specs.Prelude.{◌≡◌, ◌≢◌, ℕ, ◌<◌, ◌≤◌, Bool, true, ◌↔◌}
+use Rattle.std.specs.Prelude.{List, All, AllPairs, Contains, length, sum_by, take}
 use Rattle.requirement_table.specs.Slots.{slots}
 use Rattle.planner_policies.specs.Plan.{Planning, is_by, pending_in}
 

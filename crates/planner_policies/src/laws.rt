@@ -1,14 +1,18 @@
 //! Laws about plans. Each function has an empty body, and its contract is the law.
 
-ghost use Rattle.std.specs.Prelude.{◌≡◌, ℕ, ◌+◌, ◌-◌, ◌<◌, ◌≤◌, ◌↔◌, Bool, true, false, IsSome, List, All, Contains, take, drop, filter};
+ghost use Rattle.std.specs.Prelude.{◌≡◌, ℕ, ◌+◌, ◌-◌, ◌<◌, ◌≤◌, ◌↔◌};
+ghost use Rattle.std.specs.Prelude.{Bool, true, false, IsSome, List, All, Contains, take, drop, filter};
 ghost use Rattle.requirement_table.specs.declared.entries.Placed.{Placed};
 ghost use Rattle.requirement_table.specs.Slots.{contains_slot, set_of, slots};
 ghost use Rattle.requirement_table.specs.Flags.{IsGoodCycle};
-ghost use Rattle.requirement_table.specs.Table.{IsFreeAt, IsWellPlaced, held_before, instance_in, releases_in, width_in, worst_in};
+ghost use Rattle.requirement_table.specs.Table.{IsFreeAt, IsWellPlaced, held_before};
+ghost use Rattle.requirement_table.specs.Table.{instance_in, releases_in, width_in, worst_in};
 ghost use Rattle.planner_policies.specs.declared.Policy.{Policy};
 ghost use Rattle.planner_policies.specs.Loop.{RepeatsFrom};
 ghost use Rattle.planner_policies.specs.Order.{IsInKeyOrder, IsLongestFront};
-ghost use Rattle.planner_policies.specs.Plan.{HasNoMiss, HasNoMissIn, IsMissAt, IsMissIn, IsValid, NeverMisses, Planning, flags_of, is_by, is_missed_at, is_missed_in, left_after, mask_at, pending_at, pending_before, pending_in, planned_at, planned_in};
+ghost use Rattle.planner_policies.specs.Plan.{HasNoMiss, HasNoMissIn, IsMissAt, IsMissIn, IsValid, NeverMisses};
+ghost use Rattle.planner_policies.specs.Plan.{Planning, flags_of, is_by, is_missed_at, is_missed_in, left_after};
+ghost use Rattle.planner_policies.specs.Plan.{mask_at, pending_at, pending_before, pending_in, planned_at, planned_in};
 
 /// Key order is a total order of the slots.
 pub fn key_order()
@@ -18,16 +22,19 @@ pub fn key_order()
     ensures one_way { (policy : Policy) (placed : List Placed) (c one other : ℕ)
         → is_by policy placed c one other ≡ true → is_by policy placed c other one ≡ true → one ≡ other }
     ensures along { (policy : Policy) (placed : List Placed) (c one other third : ℕ)
-        → is_by policy placed c one other ≡ true → is_by policy placed c other third ≡ true → is_by policy placed c one third ≡ true }
+        → is_by policy placed c one other ≡ true → is_by policy placed c other third ≡ true
+        → is_by policy placed c one third ≡ true }
 {}
 
 /// What is planned in a cycle is the longest front of the pending slots, in key order, whose worst lengths fit the
 /// window together.
 pub fn longest_front()
-    ensures planned { (plan : Planning) (c : ℕ) (before : ℕ → Bool) (order : List ℕ) (n slot : ℕ) → IsInKeyOrder plan c before order
+    ensures planned { (plan : Planning) (c : ℕ) (before : ℕ → Bool) (order : List ℕ) (n slot : ℕ)
+        → IsInKeyOrder plan c before order
         → IsLongestFront (worst_in plan.placed c) plan.window order n → slot < slots
         → (planned_in plan c before slot ≡ true) ↔ Contains (take n order) slot }
-    ensures left { (plan : Planning) (c : ℕ) (before : ℕ → Bool) (order : List ℕ) (n slot : ℕ) → IsInKeyOrder plan c before order
+    ensures left { (plan : Planning) (c : ℕ) (before : ℕ → Bool) (order : List ℕ) (n slot : ℕ)
+        → IsInKeyOrder plan c before order
         → IsLongestFront (worst_in plan.placed c) plan.window order n → slot < slots
         → (left_after plan c before slot ≡ true) ↔ Contains (drop n order) slot }
 {}
@@ -36,28 +43,40 @@ pub fn longest_front()
 /// have the same plan.
 pub fn same_instances()
     ensures pending { (plan : Planning) (placed : List Placed) (n : ℕ)
-        → ((k slot : ℕ) → k < n → slot < slots → instance_in placed slot (plan.from + k) ≡ instance_in plan.placed slot (plan.from + k))
-        → ((k slot : ℕ) → k < n → slot < slots → releases_in placed (plan.from + k) slot ≡ releases_in plan.placed (plan.from + k) slot)
-        → (m slot : ℕ) → m ≤ n → slot < slots → pending_before (record plan { placed = placed }) m slot ≡ pending_before plan m slot }
+        → ((k slot : ℕ) → k < n → slot < slots
+        → instance_in placed slot (plan.from + k) ≡ instance_in plan.placed slot (plan.from + k))
+        → ((k slot : ℕ) → k < n → slot < slots
+        → releases_in placed (plan.from + k) slot ≡ releases_in plan.placed (plan.from + k) slot)
+        → (m slot : ℕ) → m ≤ n → slot < slots
+        → pending_before (record plan { placed = placed }) m slot ≡ pending_before plan m slot }
     ensures planned { (plan : Planning) (placed : List Placed) (n : ℕ)
-        → ((k slot : ℕ) → k < n → slot < slots → instance_in placed slot (plan.from + k) ≡ instance_in plan.placed slot (plan.from + k))
-        → ((k slot : ℕ) → k < n → slot < slots → releases_in placed (plan.from + k) slot ≡ releases_in plan.placed (plan.from + k) slot)
-        → (m slot : ℕ) → m < n → slot < slots → planned_at (record plan { placed = placed }) m slot ≡ planned_at plan m slot }
+        → ((k slot : ℕ) → k < n → slot < slots
+        → instance_in placed slot (plan.from + k) ≡ instance_in plan.placed slot (plan.from + k))
+        → ((k slot : ℕ) → k < n → slot < slots
+        → releases_in placed (plan.from + k) slot ≡ releases_in plan.placed (plan.from + k) slot)
+        → (m slot : ℕ) → m < n → slot < slots
+        → planned_at (record plan { placed = placed }) m slot ≡ planned_at plan m slot }
     ensures missed { (plan : Planning) (placed : List Placed) (n : ℕ)
-        → ((k slot : ℕ) → k < n → slot < slots → instance_in placed slot (plan.from + k) ≡ instance_in plan.placed slot (plan.from + k))
-        → ((k slot : ℕ) → k < n → slot < slots → releases_in placed (plan.from + k) slot ≡ releases_in plan.placed (plan.from + k) slot)
-        → (m slot : ℕ) → m < n → slot < slots → is_missed_at (record plan { placed = placed }) m slot ≡ is_missed_at plan m slot }
+        → ((k slot : ℕ) → k < n → slot < slots
+        → instance_in placed slot (plan.from + k) ≡ instance_in plan.placed slot (plan.from + k))
+        → ((k slot : ℕ) → k < n → slot < slots
+        → releases_in placed (plan.from + k) slot ≡ releases_in plan.placed (plan.from + k) slot)
+        → (m slot : ℕ) → m < n → slot < slots
+        → is_missed_at (record plan { placed = placed }) m slot ≡ is_missed_at plan m slot }
 {}
 
 /// A planning goes on from what it left: the one that begins at a later cycle, with the slots that are pending before
 /// it, has the same plan from there on.
 pub fn going_on()
     ensures pending { (plan : Planning) (n m slot : ℕ) → slot < slots
-        → pending_before plan (n + m) slot ≡ pending_before (record plan { from = plan.from + n; pending = pending_at plan n }) m slot }
+        → pending_before plan (n + m) slot
+        ≡ pending_before (record plan { from = plan.from + n; pending = pending_at plan n }) m slot }
     ensures planned { (plan : Planning) (n m slot : ℕ) → slot < slots
-        → planned_at plan (n + m) slot ≡ planned_at (record plan { from = plan.from + n; pending = pending_at plan n }) m slot }
+        → planned_at plan (n + m) slot
+        ≡ planned_at (record plan { from = plan.from + n; pending = pending_at plan n }) m slot }
     ensures missed { (plan : Planning) (n m slot : ℕ) → slot < slots
-        → is_missed_at plan (n + m) slot ≡ is_missed_at (record plan { from = plan.from + n; pending = pending_at plan n }) m slot }
+        → is_missed_at plan (n + m) slot
+        ≡ is_missed_at (record plan { from = plan.from + n; pending = pending_at plan n }) m slot }
 {}
 
 /// A state at the n-th cycle of a planning, which is the cycle and the set of the slots pending before it, has what is
@@ -70,7 +89,8 @@ pub fn states()
     ensures missed { (plan : Planning) (n slot : ℕ) → slot < slots
         → is_missed_in plan (plan.from + n) (contains_slot (pending_at plan n)) slot ≡ is_missed_at plan n slot }
     ensures miss { (plan : Planning) (n slot release : ℕ)
-        → IsMissIn plan (plan.from + n) (contains_slot (pending_at plan n)) slot release → IsMissAt plan n slot release }
+        → IsMissIn plan (plan.from + n) (contains_slot (pending_at plan n)) slot release
+        → IsMissAt plan n slot release }
 {}
 
 /// The loop of a plan: where the same slots are pending before two cycles, by which all entries have settled and
@@ -91,7 +111,8 @@ pub fn loops()
 
 /// What is planned fits the window, is pending, and where the state is valid has an instance that may be sent.
 pub fn planned_slots()
-    ensures fits { (plan : Planning) (c : ℕ) (before : ℕ → Bool) → width_in plan.placed c (planned_in plan c before) ≤ plan.window }
+    ensures fits { (plan : Planning) (c : ℕ) (before : ℕ → Bool)
+        → width_in plan.placed c (planned_in plan c before) ≤ plan.window }
     ensures pending { (plan : Planning) (c : ℕ) (before : ℕ → Bool) (slot : ℕ) → planned_in plan c before slot ≡ true
         → pending_in plan.placed c before slot ≡ true }
     ensures sendable { (plan : Planning) (c pending slot : ℕ) → IsWellPlaced plan.placed → IsValid plan.placed c pending
@@ -111,7 +132,8 @@ pub fn valid_states()
 /// them in time.
 pub fn keeping()
     ensures held { (plan : Planning) (n slot : ℕ)
-        → held_before plan.placed (flags_of plan) plan.from (contains_slot plan.pending) n slot ≡ pending_before plan n slot }
+        → held_before plan.placed (flags_of plan) plan.from (contains_slot plan.pending) n slot
+        ≡ pending_before plan n slot }
     ensures good { (plan : Planning) (n m : ℕ) → HasNoMiss plan n → m < n
         → IsGoodCycle plan.placed (flags_of plan) plan.from (contains_slot plan.pending) m }
 {}

@@ -1,6 +1,7 @@
 //! The plan of one cycle.
 
-ghost use Rattle.std.specs.Prelude.{◌≡◌, ℕ, ◌+◌, ◌^◌, ◌<◌, ◌≤◌, ◌↔◌, nat_eq, [], sum_by, take, All, IsTrue, IfOk, IfErr};
+ghost use Rattle.std.specs.Prelude.{◌≡◌, ℕ, ◌+◌, ◌^◌, ◌<◌, ◌≤◌, ◌↔◌, nat_eq, []};
+ghost use Rattle.std.specs.Prelude.{sum_by, take, All, IsTrue, IfOk, IfErr};
 ghost use Rattle.std.specs.List.{list_any};
 ghost use Rattle.requirement_table.specs.Slots.{contains_slot, set_of, slots};
 ghost use Rattle.requirement_table.specs.Table.{IsInRange, IsWellPlaced, width_in};
@@ -57,7 +58,8 @@ pub fn plan_cycle(ranked: &Ranked, w: u32, state: &PlanState) -> Result<(Mask, P
         IfOk result (λ r. r.0 ≡ set_of slots (planned_in plan state.now.cycle (contains_slot state.now.pending))) }
     ensures next_cycle { IfOk result (λ r. r.1.cycle ≡ state.now.cycle + 1) }
     ensures left { let plan = planning_of ranked.now w state.now.cycle state.now.pending in
-        IfOk result (λ r. r.1.pending ≡ set_of slots (left_after plan state.now.cycle (contains_slot state.now.pending))) }
+        IfOk result
+        (λ r. r.1.pending ≡ set_of slots (left_after plan state.now.cycle (contains_slot state.now.pending))) }
     ensures next_valid { IfOk result (λ r. IsValid ranked.now.placed r.1.cycle r.1.pending) }
     ensures none_missed { let plan = planning_of ranked.now w state.now.cycle state.now.pending in
         IfOk result (λ _. HasNoMissIn plan state.now.cycle (contains_slot state.now.pending)) }
@@ -94,11 +96,13 @@ pub fn plan_with_width(ranked: &Ranked, w: u32, state: &PlanState) -> Result<Pla
     ensures planned { let plan = planning_of ranked.now w state.now.cycle state.now.pending in
         IfOk result (λ r. r.mask ≡ set_of slots (planned_in plan state.now.cycle (contains_slot state.now.pending))) }
     ensures width { let plan = planning_of ranked.now w state.now.cycle state.now.pending in
-        IfOk result (λ r. r.width ≡ width_in plan.placed state.now.cycle (planned_in plan state.now.cycle (contains_slot state.now.pending))) }
+        IfOk result (λ r. r.width ≡ width_in plan.placed state.now.cycle
+        (planned_in plan state.now.cycle (contains_slot state.now.pending))) }
     ensures fits { IfOk result (λ r. r.width ≤ w) }
     ensures next_cycle { IfOk result (λ r. r.next.cycle ≡ state.now.cycle + 1) }
     ensures left { let plan = planning_of ranked.now w state.now.cycle state.now.pending in
-        IfOk result (λ r. r.next.pending ≡ set_of slots (left_after plan state.now.cycle (contains_slot state.now.pending))) }
+        IfOk result
+        (λ r. r.next.pending ≡ set_of slots (left_after plan state.now.cycle (contains_slot state.now.pending))) }
     ensures next_valid { IfOk result (λ r. IsValid ranked.now.placed r.next.cycle r.next.pending) }
     ensures none_missed { let plan = planning_of ranked.now w state.now.cycle state.now.pending in
         IfOk result (λ _. HasNoMissIn plan state.now.cycle (contains_slot state.now.pending)) }
@@ -150,7 +154,8 @@ pub fn cycle_mask(ranked: &Ranked, w: u32, state: &PlanState) -> Mask
 fn is_idle(ranked: &Ranked, w: u32, state: &PlanState) -> bool
     requires cycle { state.now.cycle < 2 ^ 42 }
     requires valid { IsValid ranked.now.placed state.now.cycle state.now.pending }
-    ensures idle { IsTrue result → IsWholeLine (planning_of ranked.now w state.now.cycle state.now.pending) state.now.cycle
+    ensures idle { IsTrue result
+        → IsWholeLine (planning_of ranked.now w state.now.cycle state.now.pending) state.now.cycle
         (contains_slot state.now.pending) [] }
     ensures well_placed { IsWellPlaced ranked.now.placed }
 {
@@ -197,7 +202,8 @@ fn front_of(line: &[Due], w: u32) -> Front
     requires known { All (λ due. due.slot < slots) line.now }
     ensures longest { IsLongestFit w line.now result.count }
     ensures width { result.width ≡ sum_by (λ due. due.cost) (take result.count line.now) }
-    ensures slots { (slot : ℕ) → contains_slot result.mask slot ≡ list_any (λ due. nat_eq due.slot slot) (take result.count line.now) }
+    ensures slots { (slot : ℕ)
+        → contains_slot result.mask slot ≡ list_any (λ due. nat_eq due.slot slot) (take result.count line.now) }
     ensures below { result.mask < 2 ^ slots }
 {
     let mut width = 0;

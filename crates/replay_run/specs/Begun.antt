@@ -12,7 +12,8 @@ use Rattle.replay_run.specs.Run.{Call, call_of, calls_of}
 
 -- a run of the first calls of the steps: the history answers them, each change planned when it is answered, and history
 -- and trace keep what is promised
-pub record IsBegun (system : System) (steps : List Step) (requests : List Request) (history : List Event) (trace : List TimedFrame) : Type 0 where
+pub record IsBegun (system : System) (steps : List Step) (requests : List Request)
+    (history : List Event) (trace : List TimedFrame) : Type 0 where
   pub later : List Call
   pub answers : map call_of history ++ later ≡ flat_map calls_of steps
   pub plain : IsPlainlyLegal system.rules history

@@ -38,7 +38,8 @@ AnswersSteps history steps = map call_of history ≡ flat_map calls_of steps
 
 -- *Run*: the history answers the steps, each change planned when it is answered, and history and trace keep what is
 -- promised
-pub record IsRun (system : System) (steps : List Step) (requests : List Request) (history : List Event) (trace : List TimedFrame) : Type 0 where
+pub record IsRun (system : System) (steps : List Step) (requests : List Request)
+    (history : List Event) (trace : List TimedFrame) : Type 0 where
   pub answers : AnswersSteps history steps
   pub plain : IsPlainlyLegal system.rules history
   pub kept : Kept system.rules system.layout requests history trace

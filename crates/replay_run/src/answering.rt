@@ -18,7 +18,8 @@ fn open_cycles(master: &mut Master, alloc: Global, count: u64) -> Result<(), All
     requires few { next_of master.old.history + count ≤ 20000 }
     ensures rules { OnOk result (master.new.rules ≡ master.old.rules) }
     ensures plain { OnOk result (IsPlainlyLegal master.new.rules master.new.history) }
-    ensures calls { OnOk result (map call_of master.new.history ≡ map call_of master.old.history ++ replicate count opens) }
+    ensures calls { OnOk result
+        (map call_of master.new.history ≡ map call_of master.old.history ++ replicate count opens) }
     ensures next { OnOk result (next_of master.new.history ≡ next_of master.old.history + count) }
 {
     master.reserve(alloc, count as usize)?;

@@ -22,7 +22,8 @@ fn ask(asked: &mut Asked, alloc: Global, nodes: u8, change: &Change) -> Result<(
     requires well_placed { IsWellPlaced asked.old.placed.items }
     ensures well_placed { OnOk result (IsWellPlaced asked.new.placed.items) }
     ensures next { OnOk result (asked.new.next ≡ asked.old.next) }
-    ensures applied { OnOk result (asked.new.placed.items ≡ after_change nodes asked.old.placed.items asked.old.next change.now) }
+    ensures applied { OnOk result
+        (asked.new.placed.items ≡ after_change nodes asked.old.placed.items asked.old.next change.now) }
 {
     if change.start < asked.next {
         return Ok(());

@@ -24,9 +24,11 @@ use kept_run::laws::{beginning, calls_between, cycles_run, requests_of_owners};
 /// Steps have one history: two that answer them, each change planned when it is answered, are the same. So each verdict
 /// is the one that the rules give. And they have one run: with these requests there is one trace, too.
 pub fn one_run()
-    ensures one_history { (rules : Rules) (steps : List Step) (one other : List Event) → IsPlainlyLegal rules one → IsPlainlyLegal rules other
+    ensures one_history { (rules : Rules) (steps : List Step) (one other : List Event)
+        → IsPlainlyLegal rules one → IsPlainlyLegal rules other
         → AnswersSteps one steps → AnswersSteps other steps → one ≡ other }
-    ensures one_trace { (system : System) (steps : List Step) (requests : List Request) (one other : List Event) (trace second : List TimedFrame)
+    ensures one_trace { (system : System) (steps : List Step) (requests : List Request)
+        (one other : List Event) (trace second : List TimedFrame)
         → IsRun system steps requests one trace → IsRun system steps requests other second → trace ≡ second }
 {
     one_verdict();
@@ -36,7 +38,8 @@ pub fn one_run()
 /// history, and its frames the first ones of the whole trace, whose other frames start behind the cycles that it opens.
 pub fn beginnings()
     ensures history { (system : System) (steps : List Step) (requests : List Request) (history whole : List Event)
-        (trace frames : List TimedFrame) → IsBegun system steps requests history trace → IsRun system steps requests whole frames
+        (trace frames : List TimedFrame) → IsBegun system steps requests history trace
+        → IsRun system steps requests whole frames
         → (rest : List Event) × (whole ≡ history ++ rest) }
     ensures trace { (system : System) (steps : List Step) (requests : List Request) (history whole : List Event)
         (trace frames : List TimedFrame) → IsSystem system → IsBegun system steps requests history trace

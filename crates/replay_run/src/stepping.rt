@@ -37,7 +37,8 @@ fn open_cycle(run: &mut Run, alloc: Global) -> Result<(), AllocError>
     requires few { next_of run.old.master.history < 20000 }
     requires spare { 1 ≤ run.old.master.spare }
     ensures on_the_way { OnOk result (IsGoing setting run.new) }
-    ensures calls { OnOk result (map call_of run.new.master.history ≡ map call_of run.old.master.history ++ opens ∷ []) }
+    ensures calls { OnOk result
+        (map call_of run.new.master.history ≡ map call_of run.old.master.history ++ opens ∷ []) }
     ensures next { OnOk result (next_of run.new.master.history ≡ next_of run.old.master.history + 1) }
     ensures spare { OnOk result (run.new.master.spare + 1 ≡ run.old.master.spare) }
 {
@@ -55,7 +56,8 @@ fn open_cycles(run: &mut Run, alloc: Global, count: u64) -> Result<(), AllocErro
     requires on_the_way { IsGoing setting run.old }
     requires few { next_of run.old.master.history + count ≤ 20000 }
     ensures on_the_way { OnOk result (IsGoing setting run.new) }
-    ensures calls { OnOk result (map call_of run.new.master.history ≡ map call_of run.old.master.history ++ replicate count opens) }
+    ensures calls { OnOk result
+        (map call_of run.new.master.history ≡ map call_of run.old.master.history ++ replicate count opens) }
     ensures next { OnOk result (next_of run.new.master.history ≡ next_of run.old.master.history + count) }
 {
     run.master.reserve(alloc, count as usize)?;
@@ -71,7 +73,8 @@ fn submit(run: &mut Run, alloc: Global, caller: u8, change: &Change) -> Result<(
     requires on_the_way { IsGoing setting run.old }
     requires caller { (1 ≤ caller) × (caller ≤ 8) }
     ensures on_the_way { OnOk result (IsGoing setting run.new) }
-    ensures calls { OnOk result (map call_of run.new.master.history ≡ map call_of run.old.master.history ++ asks caller change.now ∷ []) }
+    ensures calls { OnOk result
+        (map call_of run.new.master.history ≡ map call_of run.old.master.history ++ asks caller change.now ∷ []) }
     ensures next { OnOk result (next_of run.new.master.history ≡ next_of run.old.master.history) }
 {
     calls_between();
@@ -85,7 +88,8 @@ fn look(run: &mut Run, alloc: Global, caller: u8) -> Result<(), AllocError>
     requires on_the_way { IsGoing setting run.old }
     requires caller { (1 ≤ caller) × (caller ≤ 8) }
     ensures on_the_way { OnOk result (IsGoing setting run.new) }
-    ensures calls { OnOk result (map call_of run.new.master.history ≡ map call_of run.old.master.history ++ looks caller ∷ []) }
+    ensures calls { OnOk result
+        (map call_of run.new.master.history ≡ map call_of run.old.master.history ++ looks caller ∷ []) }
     ensures next { OnOk result (next_of run.new.master.history ≡ next_of run.old.master.history) }
 {
     calls_between();
@@ -101,7 +105,8 @@ fn run_step(run: &mut Run, alloc: Global, step: &Step) -> Result<(), AllocError>
     requires step { IsStep step.now }
     requires few { next_of run.old.master.history + count_of step.now ≤ 20000 }
     ensures on_the_way { OnOk result (IsGoing setting run.new) }
-    ensures calls { OnOk result (map call_of run.new.master.history ≡ map call_of run.old.master.history ++ calls_of step.now) }
+    ensures calls { OnOk result
+        (map call_of run.new.master.history ≡ map call_of run.old.master.history ++ calls_of step.now) }
     ensures next { OnOk result (next_of run.new.master.history ≡ next_of run.old.master.history + count_of step.now) }
 {
     match step {

@@ -14,7 +14,8 @@ waits placed flags from held n slot = held_before placed flags from held n slot 
 -- it is
 pub record IsGoodCycle (placed : List Placed) (flags : ℕ → ℕ → Bool) (from : ℕ) (held : ℕ → Bool) (n : ℕ) : Type 0 where
   pub holding : (slot : ℕ) → slot < slots → flags (from + n) slot ≡ true → waits placed flags from held n slot ≡ true
-  pub in_time : (slot : ℕ) → slot < slots → waits placed flags from held n slot ≡ true → is_last_in placed (from + n) slot ≡ true
+  pub in_time : (slot : ℕ) → slot < slots → waits placed flags from held n slot ≡ true
+      → is_last_in placed (from + n) slot ≡ true
       → flags (from + n) slot ≡ true
 
 -- the slot is flagged in exactly one of the cycles from `first` to `last`

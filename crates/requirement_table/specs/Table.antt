@@ -1,5 +1,7 @@
 -- Lists of placed entries: when a list is well placed, and what its entries release and may send.
-use Rattle.std.specs.Prelude.{◌≡◌, ℕ, zero, suc, ◌+◌, ◌-◌, ◌^◌, ◌<◌, ◌≤◌, Bool, false, not, ◌&&◌, ◌||◌, nat_eq, nat_le, if◌then◌else◌, Option, None, IfSome, IsSomeAnd, is_some, List, filter, All, AllPairs, slice_get, option_map}
+use Rattle.std.specs.Prelude.{◌≡◌, ℕ, zero, suc, ◌+◌, ◌-◌, ◌^◌, ◌<◌, ◌≤◌, Bool, false, not, ◌&&◌}
+use Rattle.std.specs.Prelude.{◌||◌, nat_eq, nat_le, if◌then◌else◌, Option, None, IfSome, IsSomeAnd}
+use Rattle.std.specs.Prelude.{is_some, List, filter, All, AllPairs, slice_get, option_map}
 use Rattle.std.specs.Option.{option_map_or}
 use Rattle.std.specs.List.{list_any, filter_map}
 use Rattle.requirement_table.specs.declared.entries.Placed.{Placed}
@@ -69,7 +71,8 @@ released_in placed c = set_of slots (releases_in placed c)
 
 -- whether `c` is the last cycle in which the slot's instance may be sent that may be sent in it
 abbrev pub is_last_in : List Placed → ℕ → ℕ → Bool
-is_last_in placed c slot = option_map_or (λ i. nat_eq (deadline_of i.placed i.number) (c + 1)) (instance_in placed slot c) false
+is_last_in placed c slot =
+    option_map_or (λ i. nat_eq (deadline_of i.placed i.number) (c + 1)) (instance_in placed slot c) false
 
 -- what the slot costs in cycle `c`, in bit times: the worst length of the frame of its instance that may be sent; 0
 -- where there is none

@@ -1,7 +1,8 @@
 //! The instances that a placed entry releases, by arithmetic, and the bytes that they carry.
 
 ghost use Rattle.std.specs.Prelude.{◌≡◌, ℕ, ◌+◌, ◌*◌, ◌^◌, ◌<◌, ◌≤◌, Some, IfSome, MatchOption, option_map, length};
-ghost use Rattle.requirement_table.specs.Instance.{worst, release_of, exists, payload, IsLastCycle, IsReleasedIn, MaySend, released_by, instance_of};
+ghost use Rattle.requirement_table.specs.Instance.{worst, release_of, exists, payload, IsLastCycle};
+ghost use Rattle.requirement_table.specs.Instance.{IsReleasedIn, MaySend, released_by, instance_of};
 
 use crate::entries::Placed;
 use std::marker::Model;

@@ -1,9 +1,11 @@
 //! Laws about the definitions of this crate. Each function has an empty body, and its contract is the
 //! law.
 
-ghost use Rattle.std.specs.Prelude.{◌≡◌, ℕ, ◌+◌, ◌^◌, ◌<◌, ◌≤◌, ◌↔◌, ◌&&◌, Bool, nat_lt, IsTrue, Some, IfSome, List, Any, Contains, slice_get};
+ghost use Rattle.std.specs.Prelude.{◌≡◌, ℕ, ◌+◌, ◌^◌, ◌<◌, ◌≤◌, ◌↔◌, ◌&&◌};
+ghost use Rattle.std.specs.Prelude.{Bool, nat_lt, IsTrue, Some, IfSome, List, Any, Contains, slice_get};
 ghost use Rattle.requirement_table.specs.declared.entries.Placed.{Placed};
-ghost use Rattle.requirement_table.specs.Instance.{Exists, IsLastCycle, IsReleasedIn, MaySend, instance_of, release_of, released_by};
+ghost use Rattle.requirement_table.specs.Instance.{Exists, IsLastCycle, IsReleasedIn, MaySend};
+ghost use Rattle.requirement_table.specs.Instance.{instance_of, release_of, released_by};
 ghost use Rattle.requirement_table.specs.Flags.{IsFlaggedOnce, IsGoodCycle};
 ghost use Rattle.requirement_table.specs.Slots.{contains_slot, set_of};
 ghost use Rattle.requirement_table.specs.Table.{IsWellPlaced, instance_in, not_over, released_in, releases_in};
@@ -55,7 +57,8 @@ pub fn flagged_once()
 /// The entries that are not over by a cycle are well placed where the whole list is, and from that cycle on
 /// they have the same instances to release and to send.
 pub fn entries_that_are_over()
-    ensures well_placed { (since : ℕ) (placed : List Placed) → IsWellPlaced placed → IsWellPlaced (not_over since placed) }
+    ensures well_placed { (since : ℕ) (placed : List Placed)
+        → IsWellPlaced placed → IsWellPlaced (not_over since placed) }
     ensures instances { (since : ℕ) (placed : List Placed) (slot c : ℕ) → since ≤ c
         → instance_in (not_over since placed) slot c ≡ instance_in placed slot c }
     ensures releases { (since : ℕ) (placed : List Placed) (slot c : ℕ) → IsWellPlaced placed → since ≤ c

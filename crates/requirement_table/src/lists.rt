@@ -1,8 +1,10 @@
 //! Lists of placed entries.
 
-ghost use Rattle.std.specs.Prelude.{◌≡◌, ℕ, ◌+◌, ◌^◌, ◌<◌, ◌≤◌, ◌↔◌, IsTrue, false, Some, IsSomeAnd, IfOk, vec_capacity};
+ghost use Rattle.std.specs.Prelude.{◌≡◌, ℕ, ◌+◌, ◌^◌, ◌<◌, ◌≤◌, ◌↔◌};
+ghost use Rattle.std.specs.Prelude.{IsTrue, false, Some, IsSomeAnd, IfOk, vec_capacity};
 ghost use Rattle.std.specs.List.{list_any};
-ghost use Rattle.requirement_table.specs.Table.{IsEntry, IsInRange, IsWellPlaced, free_from, is_over, not_over, released_in};
+ghost use Rattle.requirement_table.specs.Table.{IsEntry, IsInRange, IsWellPlaced};
+ghost use Rattle.requirement_table.specs.Table.{free_from, is_over, not_over, released_in};
 
 use crate::entries::{Entry, Placed};
 use crate::instances::releases;

@@ -1,6 +1,7 @@
 -- *Stuffing* in the words of the standard, by places: a place is an index, and the bits are in the order of sending.
 -- `laws` ties these words to those of `Stuffing` and `StuffFault`.
-use Rattle.std.specs.Prelude.{◌≡◌, ℕ, ◌+◌, ◌-◌, ◌<◌, Bool, false, not, ◌&&◌, nat_le, List, length, map, slice_index_or, filter, IsTrue, IsFalse}
+use Rattle.std.specs.Prelude.{◌≡◌, ℕ, ◌+◌, ◌-◌, ◌<◌, Bool, false, not, ◌&&◌}
+use Rattle.std.specs.Prelude.{nat_le, List, length, map, slice_index_or, filter, IsTrue, IsFalse}
 use Rattle.std.specs.Bool.{beq}
 use Rattle.std.specs.List.{list_all, range_with_len}
 
@@ -11,7 +12,8 @@ bit_at wire place = slice_index_or wire place false
 -- the `count` bits of `wire` from `start` on are there, and are equal
 abbrev pub are_equal : List Bool → ℕ → ℕ → Bool
 are_equal wire start count =
-    nat_le (start + count) (length wire) && list_all (λ k. beq (bit_at wire (start + k)) (bit_at wire start)) (range_with_len 0 count)
+    nat_le (start + count) (length wire)
+    && list_all (λ k. beq (bit_at wire (start + k)) (bit_at wire start)) (range_with_len 0 count)
 
 -- a stuff place: the five bits before it are equal
 abbrev pub is_stuff_place : List Bool → ℕ → Bool

@@ -1,5 +1,6 @@
 -- Words for the contracts of a sender that is given many plain bits at once.
-use Rattle.std.specs.Prelude.{◌≡◌, ℕ, zero, suc, ◌+◌, ◌*◌, ◌/◌, ◌%◌, ◌==◌, nat_lt, nat_le, Bool, if◌then◌else◌, List, length, reverse}
+use Rattle.std.specs.Prelude.{◌≡◌, ℕ, zero, suc, ◌+◌, ◌*◌, ◌/◌, ◌%◌, ◌==◌}
+use Rattle.std.specs.Prelude.{nat_lt, nat_le, Bool, if◌then◌else◌, List, length, reverse}
 use Rattle.std.specs.Bool.{beq}
 use Rattle.stuff_bound.specs.Stuffing.{last_bit, run, with_stuff}
 

@@ -5,7 +5,8 @@
 -- The words here look at what was sent newest first, so that the tail of such a list is what stood before its head. A
 -- list in the order of sending is turned round by `reverse` once. `ByPlace` says the same by places in the order of
 -- sending.
-use Rattle.std.specs.Prelude.{◌≡◌, ℕ, ◌+◌, ◌*◌, ◌<◌, Bool, false, not, if◌then◌else◌, nat_le, List, [], ◌∷◌, min, reverse}
+use Rattle.std.specs.Prelude.{◌≡◌, ℕ, ◌+◌, ◌*◌, ◌<◌}
+use Rattle.std.specs.Prelude.{Bool, false, not, if◌then◌else◌, nat_le, List, [], ◌∷◌, min, reverse}
 use Rattle.std.specs.Bool.{beq}
 
 -- the bit that was sent last (`false` where none was)

@@ -1,6 +1,7 @@
 //! Stuffing a list of bits, taking the stuff bits out again, and how long stuffed bits and frames are.
 
-ghost use Rattle.std.specs.Prelude.{◌≡◌, ℕ, ◌+◌, ◌*◌, ◌<◌, ◌≤◌, ◌^◌, ◌≢◌, ◌↔◌, Bool, List, length, take, IfOk, IsOkUnless};
+ghost use Rattle.std.specs.Prelude.{◌≡◌, ℕ, ◌+◌, ◌*◌, ◌<◌, ◌≤◌, ◌^◌, ◌≢◌, ◌↔◌};
+ghost use Rattle.std.specs.Prelude.{Bool, List, length, take, IfOk, IsOkUnless};
 ghost use Rattle.stuff_bound.specs.Stuffing.{Stuffs, stuffed, worst};
 ghost use Rattle.stuff_bound.specs.Fields.{bits_of};
 ghost use Rattle.stuff_bound.specs.declared.stuffing.StuffFault.TheVariants.{Memory};

@@ -69,22 +69,26 @@ pub record CanPutLast (history : List Event) (frames : List TimedFrame) : Type 0
   pub its : HasItsFrames event frames
 
 -- the run was brought on by one event, with these frames, and the event's rows are what it adds to the run's rows
-pub record IsBroughtOn (setting : Setting) (trace : List TimedFrame) (old new : Written) (frames : List TimedFrame) : Type 0 where
+pub record IsBroughtOn (setting : Setting) (trace : List TimedFrame) (old new : Written) (frames : List TimedFrame)
+    : Type 0 where
   pub event : Event
   pub history : new.master.history ≡ old.master.history ++ event ∷ []
   pub going : IsGoing setting (trace ++ frames) new
-  pub rows : events_rows (trace ++ frames) [] new.master.history ≡ events_rows trace [] old.master.history ++ rows_of_event event frames
+  pub rows : events_rows (trace ++ frames) [] new.master.history
+      ≡ events_rows trace [] old.master.history ++ rows_of_event event frames
 
 -- so it is in each setting and with each trace with which the run was going
 abbrev pub BringsOn : Written → Written → List TimedFrame → Type 0
-BringsOn old new frames = (setting : Setting) (trace : List TimedFrame) → IsGoing setting trace old → IsBroughtOn setting trace old new frames
+BringsOn old new frames = (setting : Setting) (trace : List TimedFrame)
+    → IsGoing setting trace old → IsBroughtOn setting trace old new frames
 
 -- the rows of the history's last event were put, or their first bytes
 abbrev pub PutsLast : List Event → List TimedFrame → Option (List ℕ) → Option (List ℕ) → Type 0
 PutsLast history frames old new = (event : Event) → EndsIn history event → Puts old new (rows_of_event event frames)
 
 abbrev pub PutsFrontOfLast : List Event → List TimedFrame → Option (List ℕ) → Option (List ℕ) → Type 0
-PutsFrontOfLast history frames old new = (event : Event) → EndsIn history event → PutsPrefix old new (rows_of_event event frames)
+PutsFrontOfLast history frames old new =
+    (event : Event) → EndsIn history event → PutsPrefix old new (rows_of_event event frames)
 
 -- the run and its rows go on from each start from which they went on
 abbrev pub KeepsWriting : Written → Written → Option (List ℕ) → Option (List ℕ) → Type 0
@@ -92,4 +96,5 @@ KeepsWriting old new told now = (start : Start) → IsWriting start old told →
 
 -- or they were cut in these calls behind those before
 abbrev pub IsCutBehind : Written → List Call → Option (List ℕ) → Option (List ℕ) → Type 0
-IsCutBehind old calls told now = (start : Start) → IsWriting start old told → IsCutIn start (map call_of old.master.history ++ calls) now
+IsCutBehind old calls told now = (start : Start) → IsWriting start old told
+    → IsCutIn start (map call_of old.master.history ++ calls) now

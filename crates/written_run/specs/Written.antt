@@ -16,21 +16,24 @@ KeepsFrames None frames = Unit {0}
 KeepsFrames (Some kept) frames = kept.items ≡ frames
 
 -- the run of the steps with this history, whose log was put; where frames were kept, they are its trace
-pub record IsWritten {B : Type 0} (system : System) (steps : List Step) (requests : List Request) (history : List Event) (kept : Option (Vec TimedFrame B)) (old new : Option (List ℕ)) : Type 0 where
+pub record IsWritten {B : Type 0} (system : System) (steps : List Step) (requests : List Request)
+    (history : List Event) (kept : Option (Vec TimedFrame B)) (old new : Option (List ℕ)) : Type 0 where
   pub trace : List TimedFrame
   pub run : IsRun system steps requests history trace
   pub log : Puts old new (log_text history trace)
   pub frames : KeepsFrames kept trace
 
 -- a run of the first calls of the steps, of whose rows the first bytes were put
-pub record IsCutShort (system : System) (steps : List Step) (requests : List Request) (old new : Option (List ℕ)) : Type 0 where
+pub record IsCutShort (system : System) (steps : List Step) (requests : List Request) (old new : Option (List ℕ))
+    : Type 0 where
   pub history : List Event
   pub trace : List TimedFrame
   pub begun : IsBegun system steps requests history trace
   pub puts : PutsPrefix old new (events_rows trace [] history)
 
 -- the run of the steps, of whose log the first bytes were put
-pub record IsCutInLog (system : System) (steps : List Step) (requests : List Request) (old new : Option (List ℕ)) : Type 0 where
+pub record IsCutInLog (system : System) (steps : List Step) (requests : List Request) (old new : Option (List ℕ))
+    : Type 0 where
   pub history : List Event
   pub trace : List TimedFrame
   pub run : IsRun system steps requests history trace
@@ -38,4 +41,5 @@ pub record IsCutInLog (system : System) (steps : List Step) (requests : List Req
 
 -- a run was cut short, or the writing of its last row was
 abbrev pub IsCut : System → List Step → List Request → Option (List ℕ) → Option (List ℕ) → Type 0
-IsCut system steps requests old new = IsCutShort system steps requests old new ⊎ IsCutInLog system steps requests old new
+IsCut system steps requests old new =
+    IsCutShort system steps requests old new ⊎ IsCutInLog system steps requests old new

@@ -1,6 +1,7 @@
 //! A master, nodes and a bus, step by step, and the rows of each event behind it.
 
-ghost use Rattle.std.specs.Prelude.{◌≡◌, ℕ, ◌+◌, ◌<◌, ◌≤◌, ◌++◌, ◌∷◌, [], List, OnOk, OnErr, IfOk, IsErrOf, is_some, map, replicate};
+ghost use Rattle.std.specs.Prelude.{◌≡◌, ℕ, ◌+◌, ◌<◌, ◌≤◌, ◌++◌, ◌∷◌, []};
+ghost use Rattle.std.specs.Prelude.{List, OnOk, OnErr, IfOk, IsErrOf, is_some, map, replicate};
 ghost use Rattle.std.specs.List.{flat_map};
 ghost use Rattle.can_frame.specs.declared.data_frame.TimedFrame.{TimedFrame};
 ghost use Rattle.ftt_io.specs.Counts.{Rose};
@@ -14,7 +15,8 @@ ghost use Rattle.master_core.specs.History.{next_of};
 ghost use Rattle.bus_trace.specs.EventRows.{HasItsFrames};
 ghost use Rattle.replay_run.specs.Progress.{setting_of};
 ghost use Rattle.replay_run.specs.Run.{AnswersSteps, asks, call_of, calls_of, looks, opens};
-ghost use Rattle.written_run.specs.Progress.{BringsOn, CanGo, CanPutLast, CanWrite, IsCutBehind, IsCutIn, IsGoing, IsWriting, KeepsWriting, PutsFrontOfLast, PutsLast, Start};
+ghost use Rattle.written_run.specs.Progress.{BringsOn, CanGo, CanPutLast, CanWrite, IsCutBehind, IsCutIn};
+ghost use Rattle.written_run.specs.Progress.{IsGoing, IsWriting, KeepsWriting, PutsFrontOfLast, PutsLast, Start};
 ghost use Rattle.written_run.specs.Written.{IsCut, IsWritten, KeepsFrames};
 
 use async_window::Request;
@@ -85,7 +87,8 @@ fn kept_frames(alloc: Global, keeps: bool) -> Option<Vec<TimedFrame>>
 
 /// Appends frames, where they are kept.
 fn keep(trace: &mut Option<Vec<TimedFrame>>, frames: &[TimedFrame]) -> Result<(), AllocError>
-    ensures frames { OnOk result ((past : List TimedFrame) → KeepsFrames trace.old past → KeepsFrames trace.new (past ++ frames.now)) }
+    ensures frames { OnOk result ((past : List TimedFrame)
+        → KeepsFrames trace.old past → KeepsFrames trace.new (past ++ frames.now)) }
     ensures kept { OnOk result (is_some trace.new ≡ is_some trace.old) }
 {
     match trace {
@@ -101,7 +104,8 @@ fn run_next(run: &mut Written, alloc: Global) -> Result<Segment, AllocError>
     requires spare { 1 ≤ run.old.master.spare }
     ensures on { IfOk result (BringsOn run.old run.new) }
     ensures last { IfOk result (CanPutLast run.new.master.history) }
-    ensures calls { OnOk result (map call_of run.new.master.history ≡ map call_of run.old.master.history ++ opens ∷ []) }
+    ensures calls { OnOk result
+        (map call_of run.new.master.history ≡ map call_of run.old.master.history ++ opens ∷ []) }
     ensures next { OnOk result (next_of run.new.master.history ≡ next_of run.old.master.history + 1) }
     ensures spare { OnOk result (run.new.master.spare + 1 ≡ run.old.master.spare) }
     ensures kept { OnOk result (is_some run.new.trace ≡ is_some run.old.trace) }
@@ -122,7 +126,8 @@ fn ask(run: &mut Written, alloc: Global, caller: u8, change: &Change) -> Result<
     requires few { next_of run.old.master.history ≤ 20000 }
     ensures on { OnOk result (BringsOn run.old run.new []) }
     ensures last { OnOk result (CanPutLast run.new.master.history []) }
-    ensures calls { OnOk result (map call_of run.new.master.history ≡ map call_of run.old.master.history ++ asks caller change.now ∷ []) }
+    ensures calls { OnOk result
+        (map call_of run.new.master.history ≡ map call_of run.old.master.history ++ asks caller change.now ∷ []) }
     ensures next { OnOk result (next_of run.new.master.history ≡ next_of run.old.master.history) }
     ensures kept { OnOk result (is_some run.new.trace ≡ is_some run.old.trace) }
 {
@@ -136,7 +141,8 @@ fn look(run: &mut Written, alloc: Global, caller: u8) -> Result<(), AllocError>
     requires caller { (1 ≤ caller) × (caller ≤ 8) }
     ensures on { OnOk result (BringsOn run.old run.new []) }
     ensures last { OnOk result (CanPutLast run.new.master.history []) }
-    ensures calls { OnOk result (map call_of run.new.master.history ≡ map call_of run.old.master.history ++ looks caller ∷ []) }
+    ensures calls { OnOk result
+        (map call_of run.new.master.history ≡ map call_of run.old.master.history ++ looks caller ∷ []) }
     ensures next { OnOk result (next_of run.new.master.history ≡ next_of run.old.master.history) }
     ensures kept { OnOk result (is_some run.new.trace ≡ is_some run.old.trace) }
 {
@@ -152,7 +158,8 @@ fn answer(run: &mut Written, alloc: Global, caller: u8, act: &Act) -> Result<(),
     requires few { next_of run.old.master.history ≤ 20000 }
     ensures on { OnOk result (BringsOn run.old run.new []) }
     ensures last { OnOk result (CanPutLast run.new.master.history []) }
-    ensures calls { OnOk result (map call_of run.new.master.history ≡ map call_of run.old.master.history ++ calls_of (Step.Act caller act.now)) }
+    ensures calls { OnOk result (map call_of run.new.master.history
+        ≡ map call_of run.old.master.history ++ calls_of (Step.Act caller act.now)) }
     ensures next { OnOk result (next_of run.new.master.history ≡ next_of run.old.master.history) }
     ensures kept { OnOk result (is_some run.new.trace ≡ is_some run.old.trace) }
 {
@@ -168,7 +175,8 @@ fn put_last<O: Sink>(history: &[Event], frames: &[TimedFrame], out: &mut O) -> R
     ensures faults_never_fall { O.faults out.old ≤ O.faults out.new }
     ensures all { OnOk result (PutsLast history.now frames.now (O.told_bytes out.old) (O.told_bytes out.new)) }
     ensures failed { OnErr result (Rose (O.faults out.old) (O.faults out.new)) }
-    ensures prefix { OnErr result (PutsFrontOfLast history.now frames.now (O.told_bytes out.old) (O.told_bytes out.new)) }
+    ensures prefix { OnErr result
+        (PutsFrontOfLast history.now frames.now (O.told_bytes out.old) (O.told_bytes out.new)) }
 {
     let event = &history[history.len() - 1];
     put_event_rows(out, event, frames)
@@ -183,7 +191,8 @@ fn write_cycle<O: Sink>(run: &mut Written, alloc: Global, out: &mut O) -> Result
     ensures writing { OnOk result (KeepsWriting run.old run.new (O.told_bytes out.old) (O.told_bytes out.new)) }
     ensures cut { OnErr result (IsCutBehind run.old (opens ∷ []) (O.told_bytes out.old) (O.told_bytes out.new)) }
     ensures failed { IsErrOf result Cut.Write → Rose (O.faults out.old) (O.faults out.new) }
-    ensures calls { OnOk result (map call_of run.new.master.history ≡ map call_of run.old.master.history ++ opens ∷ []) }
+    ensures calls { OnOk result
+        (map call_of run.new.master.history ≡ map call_of run.old.master.history ++ opens ∷ []) }
     ensures next { OnOk result (next_of run.new.master.history ≡ next_of run.old.master.history + 1) }
     ensures spare { OnOk result (run.new.master.spare + 1 ≡ run.old.master.spare) }
     ensures kept { OnOk result (is_some run.new.trace ≡ is_some run.old.trace) }
@@ -204,9 +213,11 @@ fn write_cycles<O: Sink>(
     requires few { next_of run.old.master.history + count ≤ 20000 }
     ensures faults_never_fall { O.faults out.old ≤ O.faults out.new }
     ensures writing { OnOk result (KeepsWriting run.old run.new (O.told_bytes out.old) (O.told_bytes out.new)) }
-    ensures cut { OnErr result (IsCutBehind run.old (replicate count opens) (O.told_bytes out.old) (O.told_bytes out.new)) }
+    ensures cut { OnErr result
+        (IsCutBehind run.old (replicate count opens) (O.told_bytes out.old) (O.told_bytes out.new)) }
     ensures failed { IsErrOf result Cut.Write → Rose (O.faults out.old) (O.faults out.new) }
-    ensures calls { OnOk result (map call_of run.new.master.history ≡ map call_of run.old.master.history ++ replicate count opens) }
+    ensures calls { OnOk result
+        (map call_of run.new.master.history ≡ map call_of run.old.master.history ++ replicate count opens) }
     ensures next { OnOk result (next_of run.new.master.history ≡ next_of run.old.master.history + count) }
     ensures kept { OnOk result (is_some run.new.trace ≡ is_some run.old.trace) }
 {
@@ -229,9 +240,11 @@ fn write_act<O: Sink>(
     requires few { next_of run.old.master.history ≤ 20000 }
     ensures faults_never_fall { O.faults out.old ≤ O.faults out.new }
     ensures writing { OnOk result (KeepsWriting run.old run.new (O.told_bytes out.old) (O.told_bytes out.new)) }
-    ensures cut { OnErr result (IsCutBehind run.old (calls_of (Step.Act caller act.now)) (O.told_bytes out.old) (O.told_bytes out.new)) }
+    ensures cut { OnErr result
+        (IsCutBehind run.old (calls_of (Step.Act caller act.now)) (O.told_bytes out.old) (O.told_bytes out.new)) }
     ensures failed { IsErrOf result Cut.Write → Rose (O.faults out.old) (O.faults out.new) }
-    ensures calls { OnOk result (map call_of run.new.master.history ≡ map call_of run.old.master.history ++ calls_of (Step.Act caller act.now)) }
+    ensures calls { OnOk result (map call_of run.new.master.history
+        ≡ map call_of run.old.master.history ++ calls_of (Step.Act caller act.now)) }
     ensures next { OnOk result (next_of run.new.master.history ≡ next_of run.old.master.history) }
     ensures kept { OnOk result (is_some run.new.trace ≡ is_some run.old.trace) }
 {
@@ -254,7 +267,8 @@ fn write_step<O: Sink>(
     ensures writing { OnOk result (KeepsWriting run.old run.new (O.told_bytes out.old) (O.told_bytes out.new)) }
     ensures cut { OnErr result (IsCutBehind run.old (calls_of step.now) (O.told_bytes out.old) (O.told_bytes out.new)) }
     ensures failed { IsErrOf result Cut.Write → Rose (O.faults out.old) (O.faults out.new) }
-    ensures calls { OnOk result (map call_of run.new.master.history ≡ map call_of run.old.master.history ++ calls_of step.now) }
+    ensures calls { OnOk result
+        (map call_of run.new.master.history ≡ map call_of run.old.master.history ++ calls_of step.now) }
     ensures next { OnOk result (next_of run.new.master.history ≡ next_of run.old.master.history + count_of step.now) }
     ensures kept { OnOk result (is_some run.new.trace ≡ is_some run.old.trace) }
 {
@@ -304,7 +318,8 @@ fn write_steps<O: Sink>(
     requires steps { AreLegalSteps steps.now }
     ensures faults_never_fall { O.faults out.old ≤ O.faults out.new }
     ensures writing { OnOk result (KeepsWriting run.old run.new (O.told_bytes out.old) (O.told_bytes out.new)) }
-    ensures cut { OnErr result (IsCutBehind run.old (flat_map calls_of steps.now) (O.told_bytes out.old) (O.told_bytes out.new)) }
+    ensures cut { OnErr result
+        (IsCutBehind run.old (flat_map calls_of steps.now) (O.told_bytes out.old) (O.told_bytes out.new)) }
     ensures failed { IsErrOf result Cut.Write → Rose (O.faults out.old) (O.faults out.new) }
     ensures answers { OnOk result (AnswersSteps run.new.master.history steps.now) }
     ensures kept { OnOk result (is_some run.new.trace ≡ is_some run.old.trace) }
