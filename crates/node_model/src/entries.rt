@@ -121,9 +121,8 @@ impl Remaining {
     }
 }
 
-/// The bytes of the instance of a slot that may be sent in
-a cycle, where it is that of the entry at a place. Its number
-/// may be guessed.
+/// The bytes of the instance of a slot that may be sent in a cycle, where it is that of the entry at a place. Its
+/// number may be guessed.
 fn payload_at(entries: &[Placed], place: usize, slot: u8, guess: u64, cycle: u64) -> Option<Payload>
     requires well_placed { IsWellPlaced entries.now }
     ensures bytes { IfSome result (λ bytes. option_map bytes_of (instance_in entries.now slot cycle) ≡ Some bytes) }
