@@ -150,7 +150,7 @@ pub fn cycle_mask(ranked: &Ranked, w: u32, state: &PlanState) -> Mask
     front_of(line.as_slice(), w).mask
 }
 
-/// Whether no instance is pending in the cycle of the state, so that no line has to be made.
+/// Whether the table is empty. Then nothing is pending in the cycle of the state, and no line has to be made.
 fn is_idle(ranked: &Ranked, w: u32, state: &PlanState) -> bool
     requires cycle { state.now.cycle < 2 ^ 42 }
     requires valid { IsValid ranked.now.placed state.now.cycle state.now.pending }
@@ -159,13 +159,7 @@ fn is_idle(ranked: &Ranked, w: u32, state: &PlanState) -> bool
         (contains_slot state.now.pending) [] }
     ensures well_placed { IsWellPlaced ranked.now.placed }
 {
-    let rows = ranked.rows();
-    for row in rows {
-        if due_of(ranked.policy(), row, state).is_some() {
-            return false;
-        }
-    }
-    true
+    ranked.rows().is_empty()
 }
 
 /// The instances that are pending in the cycle of the state, in key order.

@@ -1,9 +1,0 @@
-use Rattle.std.proofs.Common.{[], take}
-use Rattle.planner_policies.specs.Plan.{planning_of}
-use Rattle.requirement_table.specs.Slots.{contains_slot}
-use Rattle.planner_policies.proofs.Rows.{IsLineOf}
-use Rattle.planner_policies.proofs.planning.is_idle.Given as goal
-
-abbrev pub invariant-loop-row : goal.invariant-loop-row
-invariant-loop-row l = IsLineOf (planning_of l.ranked l.w l.state.cycle l.state.pending) l.state.cycle (contains_slot l.state.pending)
-    (take l.row-index l.rows) []
