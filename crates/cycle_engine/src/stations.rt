@@ -12,6 +12,7 @@ ghost use Rattle.async_window.specs.Owners.{AreOwners};
 ghost use Rattle.cycle_engine.specs.Stations.{AreNodes, frame_by_nodes, offered_by_nodes, offered_trigger};
 ghost use Rattle.cycle_engine.specs.SyncWindow.{IsSentBy};
 
+use crate::next_offers::{self, Soonest};
 use crate::{each, sync_window};
 use arbitration::Contenders;
 use async_window::Owner;
@@ -46,17 +47,24 @@ pub struct NodeStations {
     /// For each identifier the place of the node that is asked first for its frame. All others are asked where that one
     /// does not offer it.
     asked_first: [u8; IDENTIFIERS],
+    /// What the nodes offer soonest, where it is known and nothing has changed since.
+    soonest: Option<Soonest>,
 }
 
 impl Model for NodeStations {
     ghost use Rattle.cycle_engine.specs.Nodes.{states_of};
-    ghost use Rattle.cycle_engine.specs.Stations.{AreStations, StationsView};
+    ghost use Rattle.cycle_engine.specs.Soonest.{AreKept};
+    ghost use Rattle.cycle_engine.specs.Stations.{StationsView};
 
     ghost Value = { StationsView };
 
     ghost view = { λ s. record { layout = s.layout; trigger = s.trigger; nodes = s.nodes.items } };
 
-    ghost invariant = { λ s. AreStations (record { layout = s.layout; trigger = s.trigger; nodes = states_of s.nodes.items }) };
+    ghost invariant = { λ s. AreKept (record {
+      layout = s.layout;
+      trigger = s.trigger;
+      nodes = states_of s.nodes.items;
+    }) s.soonest };
 }
 
 impl NodeStations {
@@ -71,6 +79,7 @@ impl NodeStations {
             nodes,
             trigger: None,
             asked_first: nodes_of_owners(owners),
+            soonest: None,
         }
     }
 
@@ -96,6 +105,7 @@ impl NodeStations {
         ensures layout { self.new.layout ≡ self.old.layout }
         ensures same { states_of self.new.nodes ≡ states_of self.old.nodes }
     {
+        self.soonest = None;
         each::reserve(alloc, self.nodes.as_mut_slice(), entries)
     }
 
@@ -108,6 +118,7 @@ impl NodeStations {
     {
         stays_a_node();
         nodes_are_apart();
+        self.soonest = None;
         each::learn(self.nodes.as_mut_slice(), placed);
     }
 
@@ -149,6 +160,7 @@ impl NodeStations {
     {
         stays_a_node();
         nodes_are_apart();
+        self.soonest = None;
         sync_window::run_window(self.nodes.as_mut_slice(), from, until, out);
         self.trigger = None;
     }
@@ -168,12 +180,12 @@ impl Stations for NodeStations {
         nodes_are_apart();
         ids.clear();
         push_trigger(&self.trigger, at, ids);
-        each::push_offers(self.nodes.as_slice(), at, ids);
+        next_offers::push(self.nodes.as_slice(), &self.soonest, at, ids);
     }
 
     fn wake(&self, at: u64) -> Option<u64> {
         sooner_wake();
-        let nodes = each::wake(self.nodes.as_slice(), at);
+        let nodes = next_offers::wake(self.nodes.as_slice(), &self.soonest, at);
         each::sooner(wake_of_trigger(&self.trigger, at), nodes)
     }
 
@@ -196,6 +208,7 @@ impl Stations for NodeStations {
         nodes_are_apart();
         each::hear(self.nodes.as_mut_slice(), sent);
         self.trigger = None;
+        self.soonest = Some(next_offers::find(self.nodes.as_slice(), sent.start));
     }
 }
 
