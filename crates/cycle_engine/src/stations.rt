@@ -136,6 +136,11 @@ impl NodeStations {
         self.trigger = Some(DueTrigger { at, frame });
     }
 
+    /// The place of the node that is asked first for the frame of an identifier.
+    fn first_place(&self, id: u16) -> usize {
+        usize::from(self.asked_first[usize::from(id) % IDENTIFIERS])
+    }
+
     /// The frame of the node that offers an identifier at a time.
     fn frame_of_node(&self, at: u64, id: u16) -> Frame
         requires time { at < 2 ^ 60 }
@@ -144,8 +149,7 @@ impl NodeStations {
         ensures identifier { result.identifier ≡ id }
     {
         nodes_are_apart();
-        let first = self.asked_first[usize::from(id) % IDENTIFIERS];
-        each::frame(self.nodes.as_slice(), usize::from(first), at, id)
+        each::frame(self.nodes.as_slice(), self.first_place(id), at, id)
     }
 
     /// Runs the bus over the nodes in their synchronous window from `from` on, and puts the frames that start before
@@ -206,7 +210,8 @@ impl Stations for NodeStations {
         offers_in_range();
         stays_a_node();
         nodes_are_apart();
-        each::hear(self.nodes.as_mut_slice(), sent);
+        let first = self.first_place(sent.frame.id());
+        each::hear(self.nodes.as_mut_slice(), first, sent);
         self.trigger = None;
         self.soonest = Some(next_offers::find(self.nodes.as_slice(), sent.start));
     }

@@ -11,9 +11,10 @@ ghost use Rattle.async_window.specs.Mailbox.{IsNextInCycle, left};
 ghost use Rattle.async_window.specs.Owners.{AreOwners};
 ghost use Rattle.node_model.specs.Opening.{first_identifier};
 ghost use Rattle.node_model.specs.Node.{IsNextOffer, IsNode, after_hearing, after_opening, after_request, after_slot};
-ghost use Rattle.node_model.specs.Node.{counted, fresh_node, is_own_slot, learnt, next_trigger, node_frame, node_offer};
+ghost use Rattle.node_model.specs.Node.{fresh_node, is_own_slot, learnt, next_trigger, node_frame, node_offer};
 ghost use Rattle.node_model.specs.Ahead.{IsAhead, Stays, next_time};
 ghost use Rattle.node_model.specs.Kept.{IsClosedAt, IsOpenAt, sends_from};
+ghost use Rattle.node_model.specs.Own.{HasRequest, counting};
 
 use crate::ahead::{Ahead, Next};
 use crate::cycle::{self, FIRST_IDENTIFIER, Open};
@@ -202,9 +203,24 @@ impl Node {
         }
     }
 
-    /// Counts a frame.
-    fn count(&mut self)
-        ensures counted { self.new.state ≡ record self.old.state { frames = counted self.old.state.frames } }
+    /// Takes away the node's first unsent request of a frame's identifier, where it has one, and answers whether it has.
+    /// The frame is not counted.
+    pub fn take_own(&mut self, heard: &TimedFrame) -> bool
+        ensures taken { self.new.state ≡ after_request self.old.state heard.now.frame.identifier }
+        ensures own { result ≡ true → HasRequest self.old.state heard.now.frame.identifier }
+        ensures none { result ≡ false → self.new.state ≡ self.old.state }
+        ensures spare { self.new.spare ≡ self.old.spare }
+    {
+        let taken = self.take_request(heard.frame.id());
+        if taken {
+            self.look_ahead(heard.start);
+        }
+        taken
+    }
+
+    /// Counts a frame, and does nothing else with it.
+    pub fn count(&mut self)
+        ensures counted { self.new.state ≡ counting self.old.state }
         ensures spare { self.new.spare ≡ self.old.spare }
     {
         self.frames = self.frames.saturating_add(1);
@@ -309,6 +325,8 @@ impl Node {
     /// Takes away the first unsent request of an identifier, where there is one, and answers whether there was.
     fn take_request(&mut self, id: u16) -> bool
         ensures taken { self.new.state ≡ after_request self.old.state id }
+        ensures own { result ≡ true → HasRequest self.old.state id }
+        ensures none { result ≡ false → self.new.state ≡ self.old.state }
         ensures spare { self.new.spare ≡ self.old.spare }
     {
         if !self.mailboxes.take(id) {

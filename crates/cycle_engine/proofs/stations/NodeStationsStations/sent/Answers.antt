@@ -1,6 +1,8 @@
-use Rattle.std.proofs.Common.{◌^◌, ◌<◌, All, None, sym, ap, ◌∙◌, subst}
+use Rattle.std.proofs.Common.{◌^◌, ◌<◌, All, AllPairs, None, sym, ap, ◌∙◌, subst}
 use Rattle.std.proofs.lemmas.List.{take_at}
 use Rattle.bus_line.specs.Stations.{IsSending}
+use Rattle.node_model.specs.Node.{IsNode}
+use Rattle.node_model.specs.Own.{AreApart}
 use Rattle.cycle_engine.specs.Nodes.{states_of}
 use Rattle.cycle_engine.specs.Soonest.{IsSoonest}
 use Rattle.cycle_engine.specs.Stations.{AreStations, all_hear, cycle_line, stationed}
@@ -14,6 +16,8 @@ hear-requires c = record {
       let some = is_trigger c.offers_in_range.ensures.in_range c.self.inside.trigger (states_of c.self.inside.nodes.items) c.args.sent.now.start c.args.sent.now.frame.identifier
       c.self.invariant.are.nodes.are sending.offered.contends zero in
       subst (λ nodes. All (λ node. node.next < 2 ^ 42) (states_of nodes)) (sym c.as_mut_slice.ensures.value) (c.self.invariant.are.next some);
+  are = subst (λ nodes. All IsNode (states_of nodes)) (sym c.as_mut_slice.ensures.value) c.self.invariant.are.nodes.are;
+  apart = subst (λ nodes. AllPairs AreApart (states_of nodes)) (sym c.as_mut_slice.ensures.value) c.self.invariant.are.nodes.apart;
 }
 
 pub invariant_of-self : goal.invariant_of-self
