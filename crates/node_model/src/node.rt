@@ -165,7 +165,9 @@ impl Node {
         ensures heard { self.new.state ≡ after_hearing self.old.state heard.now }
         ensures spare { self.new.spare ≡ self.old.spare }
     {
-        if self.hear_own(heard) {
+        if heard.frame.id() == TRIGGER_IDENTIFIER {
+            self.hear_trigger(heard, &decode(&heard.frame).ok());
+        } else if self.hear_other(heard) {
             self.look_ahead(heard.start);
         }
     }
@@ -180,22 +182,19 @@ impl Node {
     {
         self.count();
         self.open_next(trigger);
-        self.look_ahead(heard.start);
+        self.ahead = self.search_ahead(heard.start);
     }
 
-    /// The same without a look ahead. The answer is whether the frame is a trigger or one of the node's own; another
-    /// one is only counted.
-    fn hear_own(&mut self, heard: &TimedFrame) -> bool
-        requires cycle { heard.now.frame.identifier ≡ 0 → self.old.state.next < 2 ^ 42 }
+    /// The same of a frame with another identifier, without a look ahead. The answer is whether the frame is one of the
+    /// node's own; another one is only counted.
+    fn hear_other(&mut self, heard: &TimedFrame) -> bool
+        requires identifier { heard.now.frame.identifier ≢ 0 }
         ensures heard { self.new.state ≡ after_hearing self.old.state heard.now }
         ensures spare { self.new.spare ≡ self.old.spare }
     {
         self.count();
         let id = heard.frame.id();
-        if id == TRIGGER_IDENTIFIER {
-            self.open_next(&decode(&heard.frame).ok());
-            true
-        } else if let Some(slot) = self.own_slot(id) {
+        if let Some(slot) = self.own_slot(id) {
             self.mark(slot);
             true
         } else {
@@ -234,7 +233,8 @@ impl Node {
         self.ahead = self.find_ahead(at);
     }
 
-    /// What the node offers next behind a time. What is offered right behind it needs no search.
+    /// What the node offers next behind a time. Behind a frame of its own it often offers something at once, which needs
+    /// no search.
     fn find_ahead(&self, at: u64) -> Option<Ahead>
         ensures ahead { IfSome result (IsAhead self.now.state) }
     {
@@ -247,6 +247,16 @@ impl Node {
                 since: at,
                 next: Some(Next { from, offer }),
             });
+        }
+        self.search_ahead(at)
+    }
+
+    /// The same by a search. Right behind a trigger nothing is offered, so that nothing is looked for there first.
+    fn search_ahead(&self, at: u64) -> Option<Ahead>
+        ensures ahead { IfSome result (IsAhead self.now.state) }
+    {
+        if TIMES <= at {
+            return None;
         }
         match self.find_next_offer(at) {
             Some(from) => self.ahead_to(at, from),
