@@ -45,8 +45,8 @@ pub fn learn(nodes: &mut [Node], placed: &[Placed])
     }
 }
 
-/// Tells each node of a frame. Where it is a trigger, it is read once for all of them; where it is another one, the node
-/// at the place `first` is told first.
+/// Tells each node of a frame. A trigger is read once for all of them; of another frame the node at the place `first`
+/// is told first.
 pub fn hear(nodes: &mut [Node], first: usize, sent: &TimedFrame)
     requires next { sent.now.frame.identifier ≡ 0 → All (λ node. node.next < 2 ^ 42) (states_of nodes.old) }
     requires are { All IsNode (states_of nodes.old) }

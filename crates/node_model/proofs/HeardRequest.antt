@@ -1,6 +1,6 @@
 -- A frame of which a node has an unsent request: that node takes the request away, and a node that is apart from it only
 -- counts the frame.
-use Rattle.std.proofs.Common.{◌≡◌, ℕ, suc, ◌+◌, ◌<◌, ◌≤◌, ◌||◌, ◌==◌, false, cond, eqb, List, [], ◌∷◌, get_or, map, All, Contains, IsSome, slice_get, inl, inr, refl, sym, ap, ◌∙◌, subst, arith}
+use Rattle.std.proofs.Common.{◌≡◌, ℕ, suc, ◌+◌, ◌≤◌, ◌||◌, ◌==◌, false, eqb, List, [], ◌∷◌, get_or, map, All, Contains, IsSome, slice_get, inl, inr, refl, ap, ◌∙◌, subst, arith}
 use Rattle.std.proofs.lemmas.Bool.{cases_eq, cond-false, false≢true, ne_eqb}
 use Rattle.std.proofs.lemmas.List.Elements.{All-head, All-map, All-tail}
 use Rattle.can_frame.specs.declared.data_frame.TimedFrame.{TimedFrame}

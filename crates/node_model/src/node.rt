@@ -202,8 +202,8 @@ impl Node {
         }
     }
 
-    /// Takes away the node's first unsent request of a frame's identifier, where it has one, and answers whether it has.
-    /// The frame is not counted.
+    /// Takes away the node's first unsent request of a frame's identifier, where it has one, and answers whether it had
+    /// one. The frame is not counted.
     pub fn take_own(&mut self, heard: &TimedFrame) -> bool
         ensures taken { self.new.state ≡ after_request self.old.state heard.now.frame.identifier }
         ensures own { result ≡ true → HasRequest self.old.state heard.now.frame.identifier }
@@ -233,7 +233,7 @@ impl Node {
         self.ahead = self.find_ahead(at);
     }
 
-    /// What the node offers next behind a time. Behind a frame of its own it often offers something at once, which needs
+    /// What the node offers next behind a time. Behind a frame of its own that is often something at once, which needs
     /// no search.
     fn find_ahead(&self, at: u64) -> Option<Ahead>
         ensures ahead { IfSome result (IsAhead self.now.state) }

@@ -1,4 +1,4 @@
-use Rattle.std.proofs.Common.{◌<◌, arith}
+use Rattle.std.proofs.Common.{arith}
 use Rattle.node_model.specs.Own.{counting}
 use Rattle.cycle_engine.proofs.NodeByNode.{DoneBefore-none, DoneBefore-more, DoneBefore-all}
 use Rattle.cycle_engine.proofs.each.count.Goals as goal
