@@ -432,7 +432,29 @@ impl Node {
     {
         match self.quiet_at(at) {
             Some(ahead) => ahead.next_time(),
-            None => self.find_next_offer(at),
+            None => self.next_behind(at),
+        }
+    }
+
+    /// The same, where something may be offered at the time itself. What stays behind it needs no search.
+    fn next_behind(&self, at: u64) -> Option<u64>
+        requires time { at < 2 ^ 60 }
+        ensures next { IsNextOffer self.now.state at result }
+    {
+        if self.stays_at(at + 1) {
+            Some(at + 1)
+        } else {
+            self.find_next_offer(at)
+        }
+    }
+
+    /// Whether the node found, when it looked ahead, that it offers something at a time.
+    fn stays_at(&self, at: u64) -> bool
+        ensures stays { result ≡ true → IsSome (node_offer self.now.state at) }
+    {
+        match self.foreseen(at) {
+            Some(offered) => offered.is_some(),
+            None => false,
         }
     }
 
