@@ -1,7 +1,7 @@
 //! What is done with each node of a bus.
 
 ghost use Rattle.std.specs.Prelude.{◌≡◌, ◌≢◌, ℕ, ◌+◌, ◌^◌, ◌<◌, ◌≤◌, ◌++◌};
-ghost use Rattle.std.specs.Prelude.{Some, All, AllPairs, Contains, IfSome, IsSome, OnOk, is_some, length, map};
+ghost use Rattle.std.specs.Prelude.{Some, All, AllPairs, Contains, IfSome, IsSome, OnOk, is_some, length, map, true};
 ghost use Rattle.arbitration.specs.Arbitration.{AreDistinct};
 ghost use Rattle.requirement_table.specs.Slots.{contains_slot, slots};
 ghost use Rattle.requirement_table.specs.Table.{IsWellPlaced};
@@ -165,7 +165,7 @@ pub fn push_offers(nodes: &[Node], at: u64, ids: &mut Contenders)
 }
 
 /// The least time behind `at` at which a node offers something while nothing is heard; `None` exactly where no node
-/// does.
+/// does. Behind the first node that offers something right behind `at` no other is asked.
 pub fn wake(nodes: &[Node], at: u64) -> Option<u64>
     requires time { at < 2 ^ 60 }
     ensures wake { IsWake (offered_by_nodes (states_of nodes.now)) at result }
@@ -173,9 +173,24 @@ pub fn wake(nodes: &[Node], at: u64) -> Option<u64>
     sooner_wake();
     let mut next = None;
     for node in nodes {
-        next = sooner(next, node.next_offer(at));
+        let own = node.next_offer(at);
+        if is_right_behind(own, at) {
+            return own;
+        }
+        next = sooner(next, own);
     }
     next
+}
+
+/// Whether a time, where there is one, is the first one behind another.
+fn is_right_behind(time: Option<u64>, at: u64) -> bool
+    requires time { at < 2 ^ 60 }
+    ensures behind { result ≡ true → time ≡ Some (at + 1) }
+{
+    match time {
+        Some(time) => time == at + 1,
+        None => false,
+    }
 }
 
 /// The sooner of two times, where there is one.
