@@ -6,6 +6,7 @@ mod Left
 mod Lists
 mod NextCycle
 mod NodeByNode
+mod OneTakes
 mod NodesApart
 mod NodesOffer
 mod OneCycle

@@ -1,5 +1,5 @@
 -- When the nodes of a bus offer something next.
-use Rattle.std.proofs.Common.{◌≡◌, ◌≢◌, ℕ, ◌+◌, ◌<◌, List, [], ◌∷◌, ◌++◌, length, take, get_or, Option, None, Some, IsSome, refl, sym, ap, ◌∙◌, subst, arith}
+use Rattle.std.proofs.Common.{◌≡◌, ◌≢◌, ℕ, zero, suc, ◌+◌, ◌<◌, List, [], ◌∷◌, ◌++◌, length, take, get_or, Option, None, Some, IsSome, refl, sym, ap, ◌∙◌, subst, arith}
 use Rattle.std.specs.Prelude.{filter_map}
 use Rattle.std.specs.List.{cons_option}
 use Rattle.std.proofs.lemmas.Bool.{false≢true}
@@ -52,3 +52,29 @@ IsWake-more nodes place node at next own both inside is together sum here before
     subst (IsWake (offered_by_nodes (states_of (take (place + 1) nodes))) at) (sym sum)
     (IsWake-same (λ later. offered_by_nodes (states_of front) later ++ offered_by node.state later) (offered_by_nodes (states_of (take (place + 1) nodes))) at (sooner next own) same
     (together (offered_by_nodes (states_of front)) (offered_by node.state) at next own before (IsWake-one node.state at own here)))
+
+-- where a node offers something at a time, what all offer is no empty list
+cons-some : (o : Option ℕ) (rest : List ℕ) → IsSome o → cons_option o rest ≢ []
+cons-some None rest some = absurd (false≢true some)
+cons-some (Some id) rest some = λ none. absurd (cc)
+
+cons-more : (o : Option ℕ) (rest : List ℕ) → rest ≢ [] → cons_option o rest ≢ []
+cons-more None rest more = more
+cons-more (Some id) rest more = λ none. absurd (cc)
+
+some-offered : (nodes : List NodeView) (place at : ℕ) (node : NodeView) → place < length nodes → node ≡ get_or nodes place node
+    → IsSome (node_offer node.state at) → offered_by_nodes (states_of nodes) at ≢ []
+some-offered [] place at node inside is some = absurd (omega (arith, inside))
+some-offered (n ∷ ns) zero at node inside is some =
+    cons-some (node_offer n.state at) (offered_by_nodes (states_of ns) at)
+    (subst (λ (v : NodeView). IsSome (node_offer v.state at)) is some)
+some-offered (n ∷ ns) (suc place) at node inside is some =
+    cons-more (node_offer n.state at) (offered_by_nodes (states_of ns) at)
+    (some-offered ns place at node (omega (arith, inside)) is some)
+
+-- a node that offers something right behind a time
+pub IsWake-soon : (nodes : List NodeView) (place : ℕ) (node : NodeView) (at next : ℕ) → place < length nodes
+    → node ≡ get_or nodes place node → next ≡ at + 1 → IsNextOffer node.state at (Some next)
+    → IsWake (offered_by_nodes (states_of nodes)) at (Some next)
+IsWake-soon nodes place node at next inside is soon own =
+    (own.0.0, some-offered nodes place next node inside is own.0.1, λ later behind before. absurd (omega arith))

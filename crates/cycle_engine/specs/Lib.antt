@@ -1,5 +1,6 @@
 pub mod Cycle
 pub mod Nodes
 pub mod Offered
+pub mod Soonest
 pub mod Stations
 pub mod SyncWindow

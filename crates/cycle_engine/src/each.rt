@@ -1,13 +1,14 @@
 //! What is done with each node of a bus.
 
 ghost use Rattle.std.specs.Prelude.{◌≡◌, ◌≢◌, ℕ, ◌+◌, ◌^◌, ◌<◌, ◌≤◌, ◌++◌};
-ghost use Rattle.std.specs.Prelude.{Some, All, AllPairs, Contains, IfSome, IsSome, OnOk, is_some, length, map};
+ghost use Rattle.std.specs.Prelude.{Some, All, AllPairs, Contains, IfSome, IsSome, OnOk, is_some, length, map, true};
 ghost use Rattle.arbitration.specs.Arbitration.{AreDistinct};
 ghost use Rattle.requirement_table.specs.Slots.{contains_slot, slots};
 ghost use Rattle.requirement_table.specs.Table.{IsWellPlaced};
 ghost use Rattle.trigger_codec.specs.Bytes.{trigger_of};
 ghost use Rattle.bus_line.specs.Stations.{IsWake, sooner};
-ghost use Rattle.node_model.specs.Node.{learnt, node_offer};
+ghost use Rattle.node_model.specs.Node.{IsNode, learnt, node_offer};
+ghost use Rattle.node_model.specs.Own.{AreApart, counting};
 ghost use Rattle.node_model.specs.Window.{AreOfSlots};
 ghost use Rattle.cycle_engine.specs.Nodes.{heard_by, left_in, states_of};
 ghost use Rattle.cycle_engine.specs.Stations.{all_hear, frame_by_nodes, offered_by_nodes};
@@ -17,6 +18,7 @@ use arbitration::Contenders;
 use bus_line::laws::sooner_wake;
 use can_frame::{Frame, TimedFrame};
 use node_model::Node;
+use node_model::laws::{hears_a_request, nodes_are_apart};
 use requirement_table::{Mask, Placed};
 use std::alloc::{AllocError, Global};
 use trigger_codec::{TRIGGER_IDENTIFIER, Trigger, decode};
@@ -43,13 +45,18 @@ pub fn learn(nodes: &mut [Node], placed: &[Placed])
     }
 }
 
-/// Tells each node of a frame. Where it is a trigger, it is read once for all of them.
-pub fn hear(nodes: &mut [Node], sent: &TimedFrame)
+/// Tells each node of a frame. A trigger is read once for all of them; of another frame the node at the place `first`
+/// is told first.
+pub fn hear(nodes: &mut [Node], first: usize, sent: &TimedFrame)
     requires next { sent.now.frame.identifier ≡ 0 → All (λ node. node.next < 2 ^ 42) (states_of nodes.old) }
+    requires are { All IsNode (states_of nodes.old) }
+    requires apart { AllPairs AreApart (states_of nodes.old) }
     ensures heard { states_of nodes.new ≡ all_hear (states_of nodes.old) sent.now }
 {
     if sent.frame.id() == TRIGGER_IDENTIFIER {
         hear_trigger(nodes, sent, &decode(&sent.frame).ok());
+    } else if first < nodes.len() {
+        hear_from(nodes, first, sent);
     } else {
         hear_other(nodes, sent);
     }
@@ -67,7 +74,34 @@ fn hear_trigger(nodes: &mut [Node], sent: &TimedFrame, trigger: &Option<Trigger>
     }
 }
 
-/// Tells each node of a frame with another identifier.
+/// Tells each node of a frame with another identifier. Where the node at a place has an unsent request of it, all other
+/// nodes only count the frame.
+fn hear_from(nodes: &mut [Node], place: usize, sent: &TimedFrame)
+    requires identifier { sent.now.frame.identifier ≢ 0 }
+    requires place { place < length nodes.old }
+    requires are { All IsNode (states_of nodes.old) }
+    requires apart { AllPairs AreApart (states_of nodes.old) }
+    ensures heard { states_of nodes.new ≡ all_hear (states_of nodes.old) sent.now }
+{
+    hears_a_request();
+    nodes_are_apart();
+    if nodes[place].take_own(sent) {
+        count(nodes);
+    } else {
+        hear_other(nodes, sent);
+    }
+}
+
+/// Lets each node count a frame.
+fn count(nodes: &mut [Node])
+    ensures counted { states_of nodes.new ≡ map counting (states_of nodes.old) }
+{
+    for node in nodes {
+        node.count();
+    }
+}
+
+/// Tells each node of a frame with another identifier, whosever it is.
 fn hear_other(nodes: &mut [Node], sent: &TimedFrame)
     requires identifier { sent.now.frame.identifier ≢ 0 }
     ensures heard { states_of nodes.new ≡ all_hear (states_of nodes.old) sent.now }
@@ -131,7 +165,7 @@ pub fn push_offers(nodes: &[Node], at: u64, ids: &mut Contenders)
 }
 
 /// The least time behind `at` at which a node offers something while nothing is heard; `None` exactly where no node
-/// does.
+/// does. Behind the first node that offers something right behind `at` no other is asked.
 pub fn wake(nodes: &[Node], at: u64) -> Option<u64>
     requires time { at < 2 ^ 60 }
     ensures wake { IsWake (offered_by_nodes (states_of nodes.now)) at result }
@@ -139,9 +173,24 @@ pub fn wake(nodes: &[Node], at: u64) -> Option<u64>
     sooner_wake();
     let mut next = None;
     for node in nodes {
-        next = sooner(next, node.next_offer(at));
+        let own = node.next_offer(at);
+        if is_right_behind(own, at) {
+            return own;
+        }
+        next = sooner(next, own);
     }
     next
+}
+
+/// Whether a time, where there is one, is the first one behind another.
+fn is_right_behind(time: Option<u64>, at: u64) -> bool
+    requires time { at < 2 ^ 60 }
+    ensures behind { result ≡ true → time ≡ Some (at + 1) }
+{
+    match time {
+        Some(time) => time == at + 1,
+        None => false,
+    }
 }
 
 /// The sooner of two times, where there is one.

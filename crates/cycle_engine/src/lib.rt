@@ -7,6 +7,7 @@
 mod cycle;
 mod each;
 pub mod laws;
+mod next_offers;
 mod nodes;
 mod segment;
 mod stations;

@@ -12,6 +12,7 @@ ghost use Rattle.async_window.specs.Owners.{AreOwners};
 ghost use Rattle.cycle_engine.specs.Stations.{AreNodes, frame_by_nodes, offered_by_nodes, offered_trigger};
 ghost use Rattle.cycle_engine.specs.SyncWindow.{IsSentBy};
 
+use crate::next_offers::{self, Soonest};
 use crate::{each, sync_window};
 use arbitration::Contenders;
 use async_window::Owner;
@@ -46,17 +47,24 @@ pub struct NodeStations {
     /// For each identifier the place of the node that is asked first for its frame. All others are asked where that one
     /// does not offer it.
     asked_first: [u8; IDENTIFIERS],
+    /// What the nodes offer soonest, where it is known and nothing has changed since.
+    soonest: Option<Soonest>,
 }
 
 impl Model for NodeStations {
     ghost use Rattle.cycle_engine.specs.Nodes.{states_of};
-    ghost use Rattle.cycle_engine.specs.Stations.{AreStations, StationsView};
+    ghost use Rattle.cycle_engine.specs.Soonest.{AreKept};
+    ghost use Rattle.cycle_engine.specs.Stations.{StationsView};
 
     ghost Value = { StationsView };
 
     ghost view = { λ s. record { layout = s.layout; trigger = s.trigger; nodes = s.nodes.items } };
 
-    ghost invariant = { λ s. AreStations (record { layout = s.layout; trigger = s.trigger; nodes = states_of s.nodes.items }) };
+    ghost invariant = { λ s. AreKept (record {
+      layout = s.layout;
+      trigger = s.trigger;
+      nodes = states_of s.nodes.items;
+    }) s.soonest };
 }
 
 impl NodeStations {
@@ -71,6 +79,7 @@ impl NodeStations {
             nodes,
             trigger: None,
             asked_first: nodes_of_owners(owners),
+            soonest: None,
         }
     }
 
@@ -96,6 +105,7 @@ impl NodeStations {
         ensures layout { self.new.layout ≡ self.old.layout }
         ensures same { states_of self.new.nodes ≡ states_of self.old.nodes }
     {
+        self.soonest = None;
         each::reserve(alloc, self.nodes.as_mut_slice(), entries)
     }
 
@@ -108,6 +118,7 @@ impl NodeStations {
     {
         stays_a_node();
         nodes_are_apart();
+        self.soonest = None;
         each::learn(self.nodes.as_mut_slice(), placed);
     }
 
@@ -125,6 +136,11 @@ impl NodeStations {
         self.trigger = Some(DueTrigger { at, frame });
     }
 
+    /// The place of the node that is asked first for the frame of an identifier.
+    fn first_place(&self, id: u16) -> usize {
+        usize::from(self.asked_first[usize::from(id) % IDENTIFIERS])
+    }
+
     /// The frame of the node that offers an identifier at a time.
     fn frame_of_node(&self, at: u64, id: u16) -> Frame
         requires time { at < 2 ^ 60 }
@@ -133,8 +149,7 @@ impl NodeStations {
         ensures identifier { result.identifier ≡ id }
     {
         nodes_are_apart();
-        let first = self.asked_first[usize::from(id) % IDENTIFIERS];
-        each::frame(self.nodes.as_slice(), usize::from(first), at, id)
+        each::frame(self.nodes.as_slice(), self.first_place(id), at, id)
     }
 
     /// Runs the bus over the nodes in their synchronous window from `from` on, and puts the frames that start before
@@ -149,6 +164,7 @@ impl NodeStations {
     {
         stays_a_node();
         nodes_are_apart();
+        self.soonest = None;
         sync_window::run_window(self.nodes.as_mut_slice(), from, until, out);
         self.trigger = None;
     }
@@ -168,12 +184,12 @@ impl Stations for NodeStations {
         nodes_are_apart();
         ids.clear();
         push_trigger(&self.trigger, at, ids);
-        each::push_offers(self.nodes.as_slice(), at, ids);
+        next_offers::push(self.nodes.as_slice(), &self.soonest, at, ids);
     }
 
     fn wake(&self, at: u64) -> Option<u64> {
         sooner_wake();
-        let nodes = each::wake(self.nodes.as_slice(), at);
+        let nodes = next_offers::wake(self.nodes.as_slice(), &self.soonest, at);
         each::sooner(wake_of_trigger(&self.trigger, at), nodes)
     }
 
@@ -194,8 +210,10 @@ impl Stations for NodeStations {
         offers_in_range();
         stays_a_node();
         nodes_are_apart();
-        each::hear(self.nodes.as_mut_slice(), sent);
+        let first = self.first_place(sent.frame.id());
+        each::hear(self.nodes.as_mut_slice(), first, sent);
         self.trigger = None;
+        self.soonest = Some(next_offers::find(self.nodes.as_slice(), sent.start));
     }
 }
 

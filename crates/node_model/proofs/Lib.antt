@@ -2,6 +2,7 @@ mod OwnEntries
 mod LeastSlot
 mod Standing
 mod OwnPart
+mod HeardRequest
 mod Hearing
 mod Apart
 mod StaysNode

@@ -1,7 +1,7 @@
 -- How a node stands to the whole bus: which part of what is offered is its own, and what it knows after the frames of a
 -- bus.
 use Rattle.std.specs.Prelude.{◌≡◌, ℕ, ◌+◌, ◌<◌, ◌≤◌, ◌⊎◌, ◌==◌, ◌&&◌}
-use Rattle.std.specs.Prelude.{nat_le, Bool, true, List, Contains, map, Some, MatchOption}
+use Rattle.std.specs.Prelude.{nat_le, Bool, true, List, Contains, IsSome, map, slice_get, Some, MatchOption}
 use Rattle.std.specs.List.{list_any}
 use Rattle.can_frame.specs.DataFrame.{DataFrame}
 use Rattle.can_frame.specs.declared.data_frame.TimedFrame.{TimedFrame}
@@ -12,11 +12,11 @@ use Rattle.requirement_table.specs.Instance.{Instance}
 use Rattle.requirement_table.specs.Table.{instance_in}
 use Rattle.async_window.specs.declared.request.Owner.{Owner}
 use Rattle.async_window.specs.declared.request.Request.{Request}
-use Rattle.async_window.specs.Mailbox.{mail_after}
+use Rattle.async_window.specs.Mailbox.{mail_after, unsent_of}
 use Rattle.requirement_table.specs.Opening.{Opening, width_of}
 use Rattle.node_model.specs.Opening.{first_identifier, start_of}
 use Rattle.node_model.specs.Offered.{OffersRequest, OffersSlot}
-use Rattle.node_model.specs.Node.{NodeState, Opened, entries_of, identifiers_of, node_offer, node_frame}
+use Rattle.node_model.specs.Node.{NodeState, Opened, counted, entries_of, identifiers_of, node_offer, node_frame}
 
 -- the part of what is offered in a cycle that is a node's own: the requests of its identifiers, and the slots of which
 -- it has the instance
@@ -66,6 +66,14 @@ pub record StandsIn (layout : CycleLayout) (owners : List Owner) (requests : Lis
   pub stands : Stands layout owners requests opening.placed past (opening.cycle + 1) node
   pub opened : Opened
   pub is_open : IsOpenFor layout opening past node opened
+
+-- the node has an unsent request of the identifier
+abbrev pub HasRequest : NodeState → ℕ → Type 0
+HasRequest node id = IsSome (slice_get (unsent_of node.mail id) 0)
+
+-- a node that counts a frame, and does nothing else with it
+abbrev pub counting : NodeState → NodeState
+counting node = record node { frames = counted node.frames }
 
 -- two nodes that have no identifier in common, and no slot of which both may send an instance in one cycle
 pub record AreApart (one other : NodeState) : Type 0 where

@@ -14,10 +14,11 @@ ghost use Rattle.async_window.specs.declared.request.Request.{Request};
 ghost use Rattle.requirement_table.specs.Opening.{Opening, width_of};
 ghost use Rattle.node_model.specs.Opening.{start_of};
 ghost use Rattle.node_model.specs.Opening.{first_identifier};
-ghost use Rattle.node_model.specs.Node.{IsNode, NodeState, after_hearing, learnt, node_frame, node_offer};
+ghost use Rattle.node_model.specs.Node.{IsNode, NodeState, after_hearing, after_request, learnt, node_frame};
+ghost use Rattle.node_model.specs.Node.{node_offer};
 ghost use Rattle.node_model.specs.Window.{IsInWindow, due_frame, is_due_slot};
 ghost use Rattle.async_window.specs.Owners.{AreOwners};
-ghost use Rattle.node_model.specs.Own.{AreApart, OffersLeastOwn, Stands, StandsIn};
+ghost use Rattle.node_model.specs.Own.{AreApart, HasRequest, OffersLeastOwn, Stands, StandsIn, counting};
 
 use async_window::laws::{offer_laws, taking_laws, unsent_laws};
 
@@ -77,6 +78,15 @@ pub fn nodes_are_apart()
     taking_laws();
     offer_laws();
 }
+
+/// What nodes do with a frame of which one of them has an unsent request: that one takes the request away and counts
+/// the frame, and another one that is apart from it only counts the frame.
+pub fn hears_a_request()
+    ensures own { (node : NodeState) (sent : TimedFrame) → IsNode node → HasRequest node sent.frame.identifier
+        → after_hearing node sent ≡ counting (after_request node sent.frame.identifier) }
+    ensures others { (one other : NodeState) (sent : TimedFrame) → IsNode one → IsNode other → AreApart one other
+        → HasRequest one sent.frame.identifier → after_hearing other sent ≡ counting other }
+{}
 
 /// What holds of every node still holds when it learns a list or hears a frame.
 pub fn stays_a_node()

@@ -11,9 +11,10 @@ ghost use Rattle.async_window.specs.Mailbox.{IsNextInCycle, left};
 ghost use Rattle.async_window.specs.Owners.{AreOwners};
 ghost use Rattle.node_model.specs.Opening.{first_identifier};
 ghost use Rattle.node_model.specs.Node.{IsNextOffer, IsNode, after_hearing, after_opening, after_request, after_slot};
-ghost use Rattle.node_model.specs.Node.{counted, fresh_node, is_own_slot, learnt, next_trigger, node_frame, node_offer};
+ghost use Rattle.node_model.specs.Node.{fresh_node, is_own_slot, learnt, next_trigger, node_frame, node_offer};
 ghost use Rattle.node_model.specs.Ahead.{IsAhead, Stays, next_time};
 ghost use Rattle.node_model.specs.Kept.{IsClosedAt, IsOpenAt, sends_from};
+ghost use Rattle.node_model.specs.Own.{HasRequest, counting};
 
 use crate::ahead::{Ahead, Next};
 use crate::cycle::{self, FIRST_IDENTIFIER, Open};
@@ -164,7 +165,9 @@ impl Node {
         ensures heard { self.new.state ≡ after_hearing self.old.state heard.now }
         ensures spare { self.new.spare ≡ self.old.spare }
     {
-        if self.hear_own(heard) {
+        if heard.frame.id() == TRIGGER_IDENTIFIER {
+            self.hear_trigger(heard, &decode(&heard.frame).ok());
+        } else if self.hear_other(heard) {
             self.look_ahead(heard.start);
         }
     }
@@ -179,22 +182,19 @@ impl Node {
     {
         self.count();
         self.open_next(trigger);
-        self.look_ahead(heard.start);
+        self.ahead = self.search_ahead(heard.start);
     }
 
-    /// The same without a look ahead. The answer is whether the frame is a trigger or one of the node's own; another
-    /// one is only counted.
-    fn hear_own(&mut self, heard: &TimedFrame) -> bool
-        requires cycle { heard.now.frame.identifier ≡ 0 → self.old.state.next < 2 ^ 42 }
+    /// The same of a frame with another identifier, without a look ahead. The answer is whether the frame is one of the
+    /// node's own; another one is only counted.
+    fn hear_other(&mut self, heard: &TimedFrame) -> bool
+        requires identifier { heard.now.frame.identifier ≢ 0 }
         ensures heard { self.new.state ≡ after_hearing self.old.state heard.now }
         ensures spare { self.new.spare ≡ self.old.spare }
     {
         self.count();
         let id = heard.frame.id();
-        if id == TRIGGER_IDENTIFIER {
-            self.open_next(&decode(&heard.frame).ok());
-            true
-        } else if let Some(slot) = self.own_slot(id) {
+        if let Some(slot) = self.own_slot(id) {
             self.mark(slot);
             true
         } else {
@@ -202,9 +202,24 @@ impl Node {
         }
     }
 
-    /// Counts a frame.
-    fn count(&mut self)
-        ensures counted { self.new.state ≡ record self.old.state { frames = counted self.old.state.frames } }
+    /// Takes away the node's first unsent request of a frame's identifier, where it has one, and answers whether it had
+    /// one. The frame is not counted.
+    pub fn take_own(&mut self, heard: &TimedFrame) -> bool
+        ensures taken { self.new.state ≡ after_request self.old.state heard.now.frame.identifier }
+        ensures own { result ≡ true → HasRequest self.old.state heard.now.frame.identifier }
+        ensures none { result ≡ false → self.new.state ≡ self.old.state }
+        ensures spare { self.new.spare ≡ self.old.spare }
+    {
+        let taken = self.take_request(heard.frame.id());
+        if taken {
+            self.look_ahead(heard.start);
+        }
+        taken
+    }
+
+    /// Counts a frame, and does nothing else with it.
+    pub fn count(&mut self)
+        ensures counted { self.new.state ≡ counting self.old.state }
         ensures spare { self.new.spare ≡ self.old.spare }
     {
         self.frames = self.frames.saturating_add(1);
@@ -218,7 +233,8 @@ impl Node {
         self.ahead = self.find_ahead(at);
     }
 
-    /// What the node offers next behind a time. What is offered right behind it needs no search.
+    /// What the node offers next behind a time. Behind a frame of its own that is often something at once, which needs
+    /// no search.
     fn find_ahead(&self, at: u64) -> Option<Ahead>
         ensures ahead { IfSome result (IsAhead self.now.state) }
     {
@@ -231,6 +247,16 @@ impl Node {
                 since: at,
                 next: Some(Next { from, offer }),
             });
+        }
+        self.search_ahead(at)
+    }
+
+    /// The same by a search. Right behind a trigger nothing is offered, so that nothing is looked for there first.
+    fn search_ahead(&self, at: u64) -> Option<Ahead>
+        ensures ahead { IfSome result (IsAhead self.now.state) }
+    {
+        if TIMES <= at {
+            return None;
         }
         match self.find_next_offer(at) {
             Some(from) => self.ahead_to(at, from),
@@ -309,6 +335,8 @@ impl Node {
     /// Takes away the first unsent request of an identifier, where there is one, and answers whether there was.
     fn take_request(&mut self, id: u16) -> bool
         ensures taken { self.new.state ≡ after_request self.old.state id }
+        ensures own { result ≡ true → HasRequest self.old.state id }
+        ensures none { result ≡ false → self.new.state ≡ self.old.state }
         ensures spare { self.new.spare ≡ self.old.spare }
     {
         if !self.mailboxes.take(id) {
@@ -404,7 +432,29 @@ impl Node {
     {
         match self.quiet_at(at) {
             Some(ahead) => ahead.next_time(),
-            None => self.find_next_offer(at),
+            None => self.next_behind(at),
+        }
+    }
+
+    /// The same, where something may be offered at the time itself. What stays behind it needs no search.
+    fn next_behind(&self, at: u64) -> Option<u64>
+        requires time { at < 2 ^ 60 }
+        ensures next { IsNextOffer self.now.state at result }
+    {
+        if self.stays_at(at + 1) {
+            Some(at + 1)
+        } else {
+            self.find_next_offer(at)
+        }
+    }
+
+    /// Whether the node found, when it looked ahead, that it offers something at a time.
+    fn stays_at(&self, at: u64) -> bool
+        ensures stays { result ≡ true → IsSome (node_offer self.now.state at) }
+    {
+        match self.foreseen(at) {
+            Some(offered) => offered.is_some(),
+            None => false,
         }
     }
 

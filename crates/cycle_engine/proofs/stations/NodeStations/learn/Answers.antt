@@ -11,7 +11,10 @@ invariant_of-self c =
     let placed = c.args.placed.now in
     let known = ap states_of (take_at _ _ _ (c.learn.auto.nodes ∙ c.as_mut_slice.ensures.len)) ∙ c.learn.ensures.learnt
     ∙ ap (λ nodes. map (learnt placed) (states_of nodes)) c.as_mut_slice.ensures.value in
-    subst (λ nodes. AreStations (record { layout = c.self.inside.layout; trigger = c.self.inside.trigger; nodes = nodes })) (sym known)
-    (AreStations-learning (record { layout = c.self.inside.layout; trigger = c.self.inside.trigger; nodes = states_of c.self.inside.nodes.items }) placed
-    (λ node. c.stays_a_node.ensures.learning placed node c.requires.well_placed)
-    (λ one other differ. c.nodes_are_apart.ensures.learning placed one other differ c.requires.well_placed) c.self.invariant)
+    record {
+      are = subst (λ nodes. AreStations (record { layout = c.self.inside.layout; trigger = c.self.inside.trigger; nodes = nodes })) (sym known)
+          (AreStations-learning (record { layout = c.self.inside.layout; trigger = c.self.inside.trigger; nodes = states_of c.self.inside.nodes.items }) placed
+          (λ node. c.stays_a_node.ensures.learning placed node c.requires.well_placed)
+          (λ one other differ. c.nodes_are_apart.ensures.learning placed one other differ c.requires.well_placed) c.self.invariant.are);
+      look = tt;
+    }

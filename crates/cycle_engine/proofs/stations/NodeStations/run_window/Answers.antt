@@ -14,7 +14,10 @@ invariant_of-self c =
     let sent = c.run_window.ensures.sent in
     let known = ap states_of (take_at _ _ _ (c.run_window.auto.nodes ∙ c.as_mut_slice.ensures.len)) ∙ sent.heard
     ∙ ap (λ nodes. heard_by sent.frames (states_of nodes)) c.as_mut_slice.ensures.value in
-    subst (λ nodes. AreStations (record { layout = layout; trigger = None; nodes = nodes })) (sym known)
-    (AreStations-alone layout (heard_by sent.frames before)
-    (subst (AreNodes layout) (told-heard sent.frames (nodes_alone layout before))
-    (AreNodes-told layout sent.frames (nodes_alone layout before) c.stays_a_node.ensures.hearing c.nodes_are_apart.ensures.hearing sent.no_trigger c.self.invariant.nodes)))
+    record {
+      are = subst (λ nodes. AreStations (record { layout = layout; trigger = None; nodes = nodes })) (sym known)
+          (AreStations-alone layout (heard_by sent.frames before)
+          (subst (AreNodes layout) (told-heard sent.frames (nodes_alone layout before))
+          (AreNodes-told layout sent.frames (nodes_alone layout before) c.stays_a_node.ensures.hearing c.nodes_are_apart.ensures.hearing sent.no_trigger c.self.invariant.are.nodes)));
+      look = tt;
+    }

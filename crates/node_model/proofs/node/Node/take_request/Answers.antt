@@ -33,3 +33,6 @@ invariant_of-self c = rw (same-mail c) c.self.invariant
 
 pub returns-then-not-take-clause-taken : goal.returns-then-not-take-clause-taken
 returns-then-not-take-clause-taken c = rw (← c.self.view_is, c.take.ensures.taken) refl
+
+pub returns-then-not-take-clause-none : goal.returns-then-not-take-clause-none
+returns-then-not-take-clause-none c = λ _. rw (← c.self.view_is, same-mail c) refl
