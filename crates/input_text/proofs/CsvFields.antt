@@ -1,14 +1,13 @@
 -- The fields of a row and the numbers that they write.
-use Rattle.std.proofs.Common.{◌≡◌, ℕ, ◌-◌, ◌^◌, ◌<◌, true, false, ◌==◌, List, [], ◌∷◌, length, map, option_map, option_and_then, Result, Ok, Err, nat_le, zero, suc, refl, arith, OkIff}
+use Rattle.std.proofs.Common.{◌≡◌, ℕ, ◌+◌, ◌*◌, ◌-◌, ◌^◌, ◌<◌, ◌≤◌, ◌==◌, if◌then◌else◌, true, false, List, [], ◌∷◌, length, map, get_or, Option, Some, None, option_map, option_and_then, nat_le, zero, suc, refl, inl, inr, arith}
+use Rattle.std.proofs.lemmas.Bool.{cases_Bool}
 use Rattle.std.proofs.lemmas.Bool.Decides.{nat_tests}
+use Rattle.std.proofs.lemmas.Option.{none-some}
 use Rattle.std.specs.Char.{digit_value, is_ascii_digit}
 use Rattle.std.specs.List.{list_all}
-use Rattle.std.specs.Result.{result_ok}
-use Rattle.std.specs.Str.{IsUtf8}
-use Rattle.std.specs.Str.Parse.{IsNumeral, ParsesUnsigned, digits_value}
+use Rattle.std.specs.Str.Parse.{digits_value_after}
 use Rattle.csv.specs.Records.{field_at}
 use Rattle.input_text.specs.CsvRows.{number_of, within}
-use Rattle.input_text.proofs.Digits.{digits_are, digits_no_plus, digits_utf8}
 
 -- the field at a place, when each field is changed alike
 pub field_at-map : (change : List ℕ → List ℕ) (row : List (List ℕ)) (place : ℕ) → field_at (map change row) place ≡ option_map change (field_at row place)
@@ -17,38 +16,62 @@ field_at-map change [] place = refl
 field_at-map change (field ∷ rest) zero = refl
 field_at-map change (field ∷ rest) (suc place) = field_at-map change rest place
 
-digit_small : (byte : ℕ) → is_ascii_digit byte ≡ true → digit_value byte < 10
-digit_small byte h = grind (arith, nat_tests)
+-- the number that digits write behind a number, where they are digits and it fits its type
+abbrev pub decimal_from : ℕ → List ℕ → Option ℕ
+decimal_from number digits =
+    if list_all is_ascii_digit digits then within 0 (2 ^ 64 - 1) (digits_value_after 10 number digits) else None
 
-digit_ascii : (byte : ℕ) → is_ascii_digit byte ≡ true → byte < 128
-digit_ascii byte h = grind (arith, nat_tests)
+at_least : (number : ℕ) (digits : List ℕ) → number ≤ digits_value_after 10 number digits
+at_least number [] = omega arith
+at_least number (byte ∷ rest) = omega (arith, at_least (number * 10 + digit_value byte) rest)
 
-digit_no_plus : (byte : ℕ) → is_ascii_digit byte ≡ true → (byte == 43) ≡ false
-digit_no_plus byte h = grind (arith, nat_tests)
-
--- a field of digits is text
-pub decimal_utf8 : (field : List ℕ) → list_all is_ascii_digit field ≡ true → IsUtf8 field
-decimal_utf8 field h = digits_utf8 is_ascii_digit digit_ascii field h
-
-parsed_as : {E : Type 0} (value : ℕ) (r : Result ℕ E) → OkIff r (value < 2 ^ 64) value → result_ok r ≡ within 0 (2 ^ 64 - 1) value
-parsed_as value (Ok number) h =
-    let fits : nat_le value (2 ^ 64 - 1) ≡ true = grind (arith, nat_tests, h.0) in
+within_none : (value : ℕ) → None ≡ within 0 (2 ^ 64 - 1) value → nat_le value (2 ^ 64 - 1) ≡ false
+within_none value h =
     let least : nat_le 0 value ≡ true = grind (arith, nat_tests) in
-    rw (h.1, fits, least)
-parsed_as value (Err e) h =
-    let large : nat_le value (2 ^ 64 - 1) ≡ false = grind (arith, nat_tests, h) in
-    let least : nat_le 0 value ≡ true = grind (arith, nat_tests) in
-    rw (large, least)
+    elim (cases_Bool (nat_le value (2 ^ 64 - 1))) [
+      | inl e ↦ absurd (none-some value (rw (least, e) at h))
+      | inr e ↦ e
+    ]
 
-without_premise : {E : Type 0} (P Q : Type 0) (value : ℕ) (r : Result ℕ E) → OkIff r (P × Q) value → P → OkIff r Q value
-without_premise P Q value (Ok number) h p = (h.0.1, h.1)
-without_premise P Q value (Err e) h p = λ q. h (p, q)
+module _ (number byte : ℕ) (rest : List ℕ) where
+  too_large : nat_le (number * 10 + digit_value byte) (2 ^ 64 - 1) ≡ false
+      → nat_le (digits_value_after 10 (number * 10 + digit_value byte) rest) (2 ^ 64 - 1) ≡ false
+  too_large h = grind (arith, nat_tests, h, at_least (number * 10 + digit_value byte) rest)
 
--- what std's reading of a number gives for one digit or more
-pub parsed : {E : Type 0} (field : List ℕ) (r : Result ℕ E) → (length field == 0) ≡ false → list_all is_ascii_digit field ≡ true → ParsesUnsigned 64 10 field r
-    → result_ok r ≡ option_and_then (within 0 (2 ^ 64 - 1)) (number_of field)
-parsed field r some digits p =
-    let longer : 0 < length field = grind (arith, nat_tests) in
-    let numeral : IsNumeral 10 field = (longer, digits_are is_ascii_digit 10 digit_small field digits) in
-    let plain = rw (digits_no_plus is_ascii_digit digit_no_plus field digits) at p in
-    rw (some, digits) (parsed_as (digits_value 10 field) r (without_premise _ _ _ r plain numeral))
+  -- a byte that is no digit, or a digit with which the number no longer fits its type
+  pub no_next_digit : None ≡ (if is_ascii_digit byte then within 0 (2 ^ 64 - 1) (number * 10 + digit_value byte) else None)
+      → decimal_from number (byte ∷ rest) ≡ None
+  no_next_digit h =
+      elim (cases_Bool (is_ascii_digit byte)) [
+        | inl e ↦
+            let large : nat_le (digits_value_after 10 (number * 10 + digit_value byte) rest) (2 ^ 64 - 1) ≡ false = too_large (within_none (number * 10 + digit_value byte) (rw e at h)) in
+            let least : nat_le 0 (digits_value_after 10 (number * 10 + digit_value byte) rest) ≡ true = grind (arith, nat_tests) in
+            elim (cases_Bool (list_all is_ascii_digit rest)) [
+              | inl all ↦ rw (e, all, least, large) refl
+              | inr other ↦ rw (e, other) refl
+            ]
+        | inr e ↦ rw e refl
+      ]
+
+-- the same of a list with a byte at least
+pub stops_at_front : (number : ℕ) (left : List ℕ) → 1 ≤ length left
+    → None ≡ (if is_ascii_digit (get_or left 0 0) then within 0 (2 ^ 64 - 1) (number * 10 + digit_value (get_or left 0 0)) else None)
+    → decimal_from number left ≡ None
+stops_at_front number [] some h = absurd (omega arith)
+stops_at_front number (byte ∷ rest) some h = no_next_digit number byte rest h
+
+-- no byte is left
+pub no_more_digits : (number : ℕ) (left : List ℕ) → length left < 1 → number < 2 ^ 64 → decimal_from number left ≡ Some number
+no_more_digits number (byte ∷ rest) none small = absurd (omega arith)
+no_more_digits number [] none small =
+    let least : nat_le 0 number ≡ true = grind (arith, nat_tests) in
+    let fits : nat_le number (2 ^ 64 - 1) ≡ true = grind (arith, nat_tests, small) in
+    rw (least, fits) refl
+
+-- the number of a field that is not empty
+pub field_number : (field : List ℕ) → (length field == 0) ≡ false → option_and_then (within 0 (2 ^ 64 - 1)) (number_of field) ≡ decimal_from 0 field
+field_number field some =
+    elim (cases_Bool (list_all is_ascii_digit field)) [
+      | inl e ↦ rw (some, e) refl
+      | inr e ↦ rw (some, e) refl
+    ]

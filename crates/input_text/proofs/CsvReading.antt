@@ -1,5 +1,5 @@
 -- The records of a text, one after the other, as a reader gives them.
-use Rattle.std.proofs.Common.{Bor, ◌≡◌, ℕ, ◌+◌, ◌<◌, ◌≤◌, Bool, true, false, ◌==◌, cond, List, [], ◌∷◌, ◌++◌, length, length-append, map, Option, Some, None, zero, suc, refl, sym, ap, ◌∙◌, arith, append_assoc, inl, inr, ◌⊎◌, ◌-◌, lit≤, add-one}
+use Rattle.std.proofs.Common.{Bor, ◌≡◌, ℕ, ◌+◌, ◌<◌, ◌≤◌, Bool, true, false, ◌==◌, cond, List, [], ◌∷◌, ◌++◌, length, length-append, map, Option, Some, None, unwrap_or, zero, suc, refl, sym, ap, ◌∙◌, arith, append_assoc, inl, inr, ◌⊎◌, ◌-◌, lit≤, add-one}
 use Rattle.std.proofs.lemmas.Bool.{cases_Bool, false≢true}
 use Rattle.std.proofs.lemmas.Option.{none-some, same_Some}
 use Rattle.std.proofs.lemmas.List.{append-nil}
@@ -192,6 +192,18 @@ reads_row bytes a b read fields so_far one first config trim =
         few = omega (arith, so_far.few, shorter a.state so_far.left r so_far.between next.2, length-append read (row ∷ []));
       };
     }
+
+-- how many bytes a reader has left
+abbrev pub bytes_left : Reader (Bor (List ℕ)) → ℕ
+bytes_left reader = length (unwrap_or (source_of (λ s. Some s.now) reader) [])
+
+-- one more row read leaves fewer bytes
+pub fewer_left : (bytes : List ℕ) (a b : Reader (Bor (List ℕ))) (read : List (List (List ℕ))) (fields : List (List ℕ)) → Reads bytes a read
+    → ReadRecord (λ s. Some s.now) a b true fields → bytes_left b < bytes_left a
+fewer_left bytes a b read fields so_far one =
+    let next = read_one (λ (s : Bor (List ℕ)). Some s.now) a b fields so_far.left so_far.config so_far.source one in
+    let r : Read = (fields, b.state, next.0) in
+    rw (next.1, so_far.source) (shorter a.state so_far.left r so_far.between next.2)
 
 -- where no record is left, the rows that were read are all
 pub reads_all : (bytes : List ℕ) (a : Reader (Bor (List ℕ))) (read : List (List (List ℕ))) (so_far : Reads bytes a read)

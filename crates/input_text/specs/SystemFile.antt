@@ -3,7 +3,7 @@
 -- and the first of these is the answer.
 use Rattle.std.specs.Prelude.{◌≡◌, ℕ, ◌+◌, ◌-◌, ◌<◌, ◌≤◌, ◌&&◌, not, pos, Bool, false}
 use Rattle.std.specs.Prelude.{if◌then◌else◌, nat_eq, nat_le, List, [], ◌∷◌, ◌++◌, map, take, All}
-use Rattle.std.specs.Prelude.{Option, Some, None, is_some, is_none, Result, Ok, Err, codes}
+use Rattle.std.specs.Prelude.{Option, Some, None, is_some, is_none, unwrap_or, Result, Ok, Err, codes}
 use Rattle.std.specs.Cmp.Lexicographic.{slice_cmp}
 use Rattle.std.specs.Fmt.{decimal}
 use Rattle.std.specs.List.{filter, flat_map, list_any}
@@ -26,6 +26,32 @@ use Rattle.input_text.specs.declared.system_fault.SystemFault.TheVariants.{Toml,
 abbrev pub document_of : List ℕ → Option Members
 document_of bytes = if is_utf8 bytes then parse_document bytes else None
 
+-- the limits of numbers: of the cycle, the turnaround and the window in bit times, and of the horizon in cycles
+
+abbrev pub least_cycle : ℕ
+least_cycle = 400
+
+abbrev pub greatest_cycle : ℕ
+greatest_cycle = 100000
+
+abbrev pub greatest_turnaround : ℕ
+greatest_turnaround = 1000
+
+abbrev pub least_window : ℕ
+least_window = 55
+
+abbrev pub greatest_window : ℕ
+greatest_window = 16383
+
+abbrev pub greatest_nodes : ℕ
+greatest_nodes = 30
+
+abbrev pub least_horizon : ℕ
+least_horizon = 1
+
+abbrev pub greatest_horizon : ℕ
+greatest_horizon = 100000
+
 -- the table of paths
 
 -- what stands at a key: an integer from a least to a greatest one, one of some texts, a table, or an array
@@ -45,16 +71,20 @@ abbrev pub bus_row : Row
 bus_row = record { key = codes "bus"; kind = section; default = None }
 
 abbrev pub cycle_row : Row
-cycle_row = record { key = codes "cycle"; kind = whole 400 100000; default = None }
+cycle_row = record { key = codes "cycle"; kind = whole least_cycle greatest_cycle; default = None }
 
 abbrev pub turnaround_row : Row
-turnaround_row = record { key = codes "turnaround"; kind = whole 0 1000; default = Some (integer (pos 0)) }
+turnaround_row = record {
+  key = codes "turnaround";
+  kind = whole 0 greatest_turnaround;
+  default = Some (integer (pos 0));
+}
 
 abbrev pub window_row : Row
-window_row = record { key = codes "window"; kind = whole 55 16383; default = None }
+window_row = record { key = codes "window"; kind = whole least_window greatest_window; default = None }
 
 abbrev pub nodes_row : Row
-nodes_row = record { key = codes "nodes"; kind = whole 1 30; default = None }
+nodes_row = record { key = codes "nodes"; kind = whole 1 greatest_nodes; default = None }
 
 abbrev pub bus_rows : List Row
 bus_rows = cycle_row ∷ turnaround_row ∷ window_row ∷ nodes_row ∷ []
@@ -70,7 +100,11 @@ policy_row = record {
 }
 
 abbrev pub horizon_row : Row
-horizon_row = record { key = codes "horizon"; kind = whole 1 100000; default = Some (integer (pos 10000)) }
+horizon_row = record {
+  key = codes "horizon";
+  kind = whole least_horizon greatest_horizon;
+  default = Some (integer (pos 10000));
+}
 
 abbrev pub plan_rows : List Row
 plan_rows = policy_row ∷ horizon_row ∷ []
@@ -302,8 +336,17 @@ faults_of document = unknown_faults document ++ kind_faults document ++ range_fa
 
 -- the system that a document describes, where nothing is wrong with it
 
+-- the policy of this name
+abbrev pub policy_named : List ℕ → Option Policy
+policy_named text =
+    if bytes_eq text (codes "rm") then Some Rm
+    else if bytes_eq text (codes "dm") then Some Dm
+    else if bytes_eq text (codes "edf") then Some Edf
+    else None
+
+-- the policy of this name; rate monotonic where it is none
 abbrev pub policy_of : List ℕ → Policy
-policy_of text = if bytes_eq text (codes "rm") then Rm else if bytes_eq text (codes "dm") then Dm else Edf
+policy_of text = unwrap_or (policy_named text) Rm
 
 abbrev pub owner_of : Data → Owner
 owner_of element = record { id = id_of element; node = number_of (node_row 1) (element_of element) }
@@ -346,8 +389,8 @@ pub record IsSystem (system : System) : Type 0 where
   pub layout : IsLayout system.layout
   pub same_window : system.rules.window ≡ system.layout.window
   pub some_nodes : 1 ≤ system.rules.nodes
-  pub few_nodes : system.rules.nodes ≤ 30
-  pub some_horizon : 1 ≤ system.rules.horizon
-  pub near_horizon : system.rules.horizon ≤ 100000
+  pub few_nodes : system.rules.nodes ≤ greatest_nodes
+  pub some_horizon : least_horizon ≤ system.rules.horizon
+  pub near_horizon : system.rules.horizon ≤ greatest_horizon
   pub are_owners : AreOwners system.owners
   pub known_nodes : All (λ owner. owner.node < system.rules.nodes) system.owners

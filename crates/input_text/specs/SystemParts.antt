@@ -4,19 +4,16 @@ use Rattle.std.specs.Prelude.{nat_le, pos, if◌then◌else◌, Bool, List, [], 
 use Rattle.std.specs.Borrow.{Bor}
 use Rattle.std.specs.BTreeMap.{BTreeMap}
 use Rattle.std.specs.Prelude.{String}
-use Rattle.std.specs.Str.{bytes_eq}
 use Rattle.std.specs.declared.alloc.Global.{Global}
 use Rattle.toml.specs.Data.{Data, integer, Members, no_members}
 use Rattle.toml.specs.View.{table_view}
 use Rattle.toml.specs.declared.value.Value.{Value}
 use Rattle.async_window.specs.declared.request.Owner.{Owner}
-use Rattle.planner_policies.specs.declared.Policy.{Policy}
-use Rattle.planner_policies.specs.declared.Policy.TheVariants.{Rm, Dm, Edf}
 use Rattle.cycle_layout.specs.Layout.{IsCycleLength, IsTurnaround, IsWindow}
 use Rattle.input_text.specs.declared.system.Bus.{Bus}
 use Rattle.input_text.specs.declared.system.Plan.{Plan}
 use Rattle.input_text.specs.SystemFile.{cycle_row, turnaround_row, window_row, nodes_row, policy_row}
-use Rattle.input_text.specs.SystemFile.{horizon_row, number_of, policy_of, text_in, value_of}
+use Rattle.input_text.specs.SystemFile.{greatest_nodes, horizon_row, number_of, policy_of, text_in, value_of}
 use Rattle.input_text.specs.SystemFile.{in_element, is_integer, is_text, is_table, is_array}
 use Rattle.input_text.specs.declared.system_fault.SystemFault.{SystemFault}
 use Rattle.input_text.specs.declared.system_fault.SystemFault.TheVariants as wrong
@@ -61,14 +58,6 @@ abbrev pub whole_in : ℕ → ℕ → Data → Option ℕ
 whole_in low high (integer (pos number)) = if nat_le low number && nat_le number high then Some number else None
 whole_in low high _ = None
 
--- the policy of this name
-abbrev pub policy_named : List ℕ → Option Policy
-policy_named text =
-    if bytes_eq text (codes "rm") then Some Rm
-    else if bytes_eq text (codes "dm") then Some Dm
-    else if bytes_eq text (codes "edf") then Some Edf
-    else None
-
 abbrev pub id_of_owner : Owner → ℕ
 id_of_owner owner = owner.id
 
@@ -84,7 +73,7 @@ pub record IsBus (bus : Bus) : Type 0 where
   pub turnaround : IsTurnaround bus.turnaround
   pub window : IsWindow bus.window
   pub some_nodes : 1 ≤ bus.nodes
-  pub few_nodes : bus.nodes ≤ 30
+  pub few_nodes : bus.nodes ≤ greatest_nodes
 
 -- the values of `plan` are those that the table sets
 pub record IsPlanOf (table : Members) (plan : Plan) : Type 0 where

@@ -52,13 +52,13 @@ const NODES: u8 = 8;
 // The largest synchronous window, in bit times.
 const WINDOW: u32 = 810;
 
-// How many asynchronous identifiers, from the least one on.
+// How many asynchronous identifiers have owners, from the least one on.
 const IDS: u8 = 32;
 
-// The slots that are asked for.
+// How many slots are asked for, from 0 on.
 const SLOTS: u8 = 40;
 
-// The periods that are drawn, in elementary cycles.
+// The periods from which one is drawn, in elementary cycles.
 const PERIODS: [u16; 8] = [2, 3, 4, 5, 6, 8, 10, 12];
 
 // How many elementary cycles run.

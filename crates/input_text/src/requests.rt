@@ -19,7 +19,7 @@ ghost use Rattle.async_window.specs.declared.request.Owner.{Owner};
 ghost use Rattle.input_text.specs.declared.request_fault.RequestFault.TheVariants.{Memory};
 ghost use Rattle.input_text.specs.RequestsFile.{AreRequests, Faults, AreLegal, requests_of};
 
-use super::csv_rows::{field_of, number, read_number};
+use super::csv_rows::{field_of, number, read_next, read_number};
 use super::request_fault::{RequestFault, RequestWhy};
 use async_window::{LEAST_ASYNCHRONOUS, Owner, Request};
 use can_frame::{Frame, MAX_BYTES, MAX_IDENTIFIER};
@@ -228,17 +228,13 @@ pub fn read_requests(
         (λ fault. (fault ≡ Memory) ⊎ (requests_of owners.now bytes.now ≡ Err fault)) }
 {
     let owned = owned_numbers(alloc, owners)?;
-    let reader = ReaderBuilder::new()
+    let mut reader = ReaderBuilder::new()
         .has_headers(false)
         .flexible(true)
         .from_reader(alloc, bytes);
+    let mut row = ByteRecord::new(alloc);
     let mut requests = Vec::new(alloc);
-    for row in reader.into_byte_records() {
-        // Bytes in memory are read without a fault, and rows may differ in length, so this is want
-        // of memory.
-        let Ok(row) = row else {
-            return Err(RequestFault::Memory);
-        };
+    while read_next(&mut reader, &mut row)? {
         match read_row(&row, &owned, &requests) {
             Ok(request) => requests.push(request)?,
             Err(why) => {

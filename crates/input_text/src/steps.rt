@@ -16,6 +16,7 @@ ghost use Rattle.input_text.specs.declared.step_rows.Line.{Line};
 ghost use Rattle.input_text.specs.declared.step_fault.StepFault.TheVariants.{Memory};
 ghost use Rattle.input_text.specs.declared.step_fault.StepWhy.TheVariants.{Loose, Changes, Looks, Cycles};
 
+use super::csv_rows::read_next;
 use super::step_fault::{StepFault, StepWhy};
 use super::step_rows::{Line, read_line};
 use change_protocol::{Act, Change, Op, Ops};
@@ -334,19 +335,15 @@ pub fn read_steps(alloc: Global, bytes: &[u8]) -> Result<Vec<Step>, StepFault>
     ensures value { MatchResult result (λ steps. steps_of bytes.now ≡ Ok steps.items)
         (λ fault. (fault ≡ Memory) ⊎ (steps_of bytes.now ≡ Err fault)) }
 {
-    let reader = ReaderBuilder::new()
+    let mut reader = ReaderBuilder::new()
         .has_headers(false)
         .flexible(true)
         .from_reader(alloc, bytes);
+    let mut row = ByteRecord::new(alloc);
     let mut tally = Tally::new();
     let mut draft = Draft::new(alloc);
     let mut number = 0u64;
-    for row in reader.into_byte_records() {
-        // Bytes in memory are read without a fault, and rows may differ in length, so this is want
-        // of memory.
-        let Ok(row) = row else {
-            return Err(StepFault::Memory);
-        };
+    while read_next(&mut reader, &mut row)? {
         number += 1;
         match read_row(&row, tally) {
             Ok((line, with_row)) => {

@@ -8,13 +8,14 @@ ghost use Rattle.toml.specs.Data.{get_member};
 ghost use Rattle.toml.specs.View.{table_view, view};
 ghost use Rattle.cycle_layout.specs.Layout.{IsLayout, needed};
 ghost use Rattle.input_text.specs.SystemFile.{IsSystem, bus_of, bus_rows, described_by, document_of, element_of};
-ghost use Rattle.input_text.specs.SystemFile.{elements_of, elements_in, faults_of, from_place, id_of, kind_at};
-ghost use Rattle.input_text.specs.SystemFile.{kind_faults, kinds_in_element, members_in, narrow_at, owner_of, plan_of};
-ghost use Rattle.input_text.specs.SystemFile.{plan_rows, policy_of, policy_row, range_at, range_faults, ranges_among};
-ghost use Rattle.input_text.specs.SystemFile.{ranges_in_element, repeated_fault, narrow_faults, system_of};
+ghost use Rattle.input_text.specs.SystemFile.{elements_of, elements_in, faults_of, from_place, greatest_horizon, id_of};
+ghost use Rattle.input_text.specs.SystemFile.{kind_at, kind_faults, kinds_in_element, least_horizon, members_in};
+ghost use Rattle.input_text.specs.SystemFile.{narrow_at, owner_of, plan_of, plan_rows, policy_named, policy_of};
+ghost use Rattle.input_text.specs.SystemFile.{policy_row, range_at, range_faults, ranges_among, ranges_in_element};
+ghost use Rattle.input_text.specs.SystemFile.{repeated_fault, narrow_faults, system_of};
 ghost use Rattle.input_text.specs.SystemFile.{table_fault, text_in, unknown_faults, unknown_in_element, value_of};
 ghost use Rattle.input_text.specs.SystemParts.{IsBus, HaveOtherIds, IsBusOf, IsFirst, IsOwner, IsPlanOf};
-ghost use Rattle.input_text.specs.SystemParts.{id_of_owner, members_at, policy_named, prefix_of};
+ghost use Rattle.input_text.specs.SystemParts.{id_of_owner, members_at, prefix_of};
 ghost use Rattle.input_text.specs.declared.system_fault.SystemFault.TheVariants.{Toml, Memory};
 ghost use Rattle.input_text.specs.declared.system_sections.Place.TheVariants as place;
 
@@ -39,6 +40,30 @@ pub struct System {
     /// The asynchronous identifiers and the nodes that send them, in the order of the file.
     pub owners: OwnerList,
 }
+
+// The least length of an elementary cycle, in bit times.
+const LEAST_CYCLE: u32 = 400;
+
+// The greatest length of an elementary cycle, in bit times.
+const MAX_CYCLE: u32 = 100_000;
+
+// The greatest turnaround, in bit times.
+const MAX_TURNAROUND: u32 = 1_000;
+
+// The least length of the largest synchronous window, in bit times.
+const LEAST_WINDOW: u32 = 55;
+
+// The greatest length of the largest synchronous window, in bit times.
+const MAX_WINDOW: u32 = 16_383;
+
+// The most nodes.
+const MAX_NODES: u32 = 30;
+
+// The least horizon, in elementary cycles.
+const LEAST_HORIZON: u32 = 1;
+
+// The greatest horizon, in elementary cycles.
+const MAX_HORIZON: u32 = 100_000;
 
 // The document that the bytes write.
 fn read_document(alloc: Global, bytes: &[u8]) -> Result<Table, SystemFault>
@@ -253,10 +278,10 @@ fn read_bus(alloc: Global, document: &Table) -> Result<Bus, SystemFault>
         (IsFirst (flat_map (range_at (codes "bus.") (bus_of (table_view document.now))) bus_rows)) }
 {
     let bus = bus_of(document);
-    let cycle = bus.number(alloc, "cycle", 400..=100_000)?;
-    let turnaround = bus.number_or(alloc, "turnaround", 0, 0..=1_000)?;
-    let window = bus.number(alloc, "window", 55..=16_383)?;
-    let nodes = bus.number(alloc, "nodes", 1..=30)?;
+    let cycle = bus.number(alloc, "cycle", LEAST_CYCLE..=MAX_CYCLE)?;
+    let turnaround = bus.number_or(alloc, "turnaround", 0, 0..=MAX_TURNAROUND)?;
+    let window = bus.number(alloc, "window", LEAST_WINDOW..=MAX_WINDOW)?;
+    let nodes = bus.number(alloc, "nodes", 1..=MAX_NODES)?;
     Ok(Bus {
         cycle,
         turnaround,
@@ -311,14 +336,14 @@ struct Plan {
 // What `plan` sets, where its values are in range.
 fn read_plan(alloc: Global, document: &Table) -> Result<Plan, SystemFault>
     ensures values { IfOk result (IsPlanOf (plan_of (table_view document.now))) }
-    ensures ranges { IfOk result (λ plan. (1 ≤ plan.horizon) × (plan.horizon ≤ 100000)) }
+    ensures ranges { IfOk result (λ plan. (least_horizon ≤ plan.horizon) × (plan.horizon ≤ greatest_horizon)) }
     ensures ok { OnOk result (flat_map (range_at (codes "plan.") (plan_of (table_view document.now))) plan_rows ≡ []) }
     ensures fault { IfErr result
         (IsFirst (flat_map (range_at (codes "plan.") (plan_of (table_view document.now))) plan_rows)) }
 {
     let plan = plan_of(document);
     let policy = read_policy(alloc, plan)?;
-    let horizon = plan.number_or(alloc, "horizon", 10_000, 1..=100_000)?;
+    let horizon = plan.number_or(alloc, "horizon", 10_000, LEAST_HORIZON..=MAX_HORIZON)?;
     Ok(Plan { policy, horizon })
 }
 

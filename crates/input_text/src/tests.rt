@@ -103,7 +103,7 @@ fn told_of_requests(alloc: Global, file: &[u8]) -> Result<String, Fail> {
     }
 }
 
-// What is told of the file of which this should be told.
+// What is told of the file of that kind of which this should be told.
 fn told(alloc: Global, want: &str, file: &[u8]) -> Result<String, Fail> {
     if want.starts_with("system") {
         told_of_system(alloc, file)

@@ -28,8 +28,8 @@ fn is_ask(step: &Step, operator: u8, from: u64, ops: &[Op]) -> bool {
     }
 }
 
-// A file of all six rows, with a byte order mark, quotes, spaces, empty rows and each end of a row.
-const ALL_ROWS: &str = "\u{feff}cycle,3\r
+// Rows of all six words, with a byte order mark, quotes, spaces, empty lines and each end of a row.
+const ALL_WORDS: &str = "\u{feff}cycle,3\r
 add,1,18446744073709551615,1,1,1,1,1,1,1
 
   and ,remove,  007 
@@ -39,7 +39,7 @@ remove,2,5,255
 cycle,19997";
 
 #[test]
-fn takes_all_six_rows(rt: HostRuntime) -> Result<(), Fail> {
+fn takes_rows_of_all_six_words(rt: HostRuntime) -> Result<(), Fail> {
     let first = [
         Op::Add { entry: entry(1) },
         Op::Remove { slot: 7 },
@@ -47,7 +47,7 @@ fn takes_all_six_rows(rt: HostRuntime) -> Result<(), Fail> {
     ];
     let second = [Op::Change { entry: entry(3) }];
     let third = [Op::Remove { slot: 255 }];
-    let steps = read_steps(rt.alloc(), ALL_ROWS.as_bytes())?;
+    let steps = read_steps(rt.alloc(), ALL_WORDS.as_bytes())?;
     assert_eq!(rt; steps.len(), 6);
     assert!(rt; matches!(&steps[0], Step::Cycle { count: 3 }));
     assert!(rt; is_ask(&steps[1], 1, u64::MAX, &first));

@@ -1,17 +1,14 @@
--- A field of digits is text, so its reading as text does not fail; and std's reading of the number is the field's.
-use Rattle.std.proofs.Common.{◌≡◌, true, sym, ◌∙◌}
-use Rattle.std.specs.Char.{is_ascii_digit}
-use Rattle.std.specs.List.{list_all}
-use Rattle.input_text.proofs.CsvFields.{decimal_utf8, parsed}
+-- A byte that is no digit, or one too many, leaves no number; and at the end the digits have written it.
+use Rattle.std.proofs.Common.{◌≡◌, ◌∙◌, None, Some, sym}
+use Rattle.input_text.proofs.CsvFields.{decimal_from, field_number, no_more_digits, stops_at_front}
 use Rattle.input_text.proofs.csv_rows.read_number.Goals as goal
 
-pub returns-in_default : goal.returns-in_default
-returns-in_default c =
-    let digits : list_all is_ascii_digit c.args.field.now ≡ true = sym c.if-not-all_digits.ensures.value in
-    absurd (c.in_default.ensures.cases.0 (decimal_utf8 c.args.field.now digits))
+pub returns-in_err-number : goal.returns-in_err-number
+returns-in_err-number c =
+    let stopped : decimal_from c.loop-left.number c.loop-left.left.now ≡ None = stops_at_front c.loop-left.number c.loop-left.left.now c.in-len1-up.len_at_least c.in_err-number.ensures.value in
+    record { value = c.from_residual.ensures ∙ sym (field_number c.args.field.now (sym c.if-is_empty.ensures) ∙ sym c.loop-left.invariant.1 ∙ stopped) }
 
 pub returns : goal.returns
 returns c =
-    let digits : list_all is_ascii_digit c.args.field.now ≡ true = sym c.if-not-all_digits.ensures.value in
-    let read = rw c.in-Ok.ensures.cases.0 at c.parse.ensures.value.0 in
-    record { value = c.ok.ensures.value ∙ parsed c.args.field.now c.parse.result (sym c.if-is_empty.ensures) digits read }
+    let read : decimal_from c.loop-left.number c.loop-left.left.now ≡ Some c.loop-left.number = no_more_digits c.loop-left.number c.loop-left.left.now c.in_default.len_below c.loop-left.invariant.0 in
+    record { value = sym (field_number c.args.field.now (sym c.if-is_empty.ensures) ∙ sym c.loop-left.invariant.1 ∙ read) }

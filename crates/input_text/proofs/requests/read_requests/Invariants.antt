@@ -1,8 +1,10 @@
 -- The requests so far are those of the rows that were read.
-use Rattle.std.proofs.Common.{◌<◌}
+use Rattle.input_text.proofs.CsvReading.{bytes_left}
 use Rattle.input_text.proofs.RequestsReading.{ReadsRequests}
 use Rattle.input_text.proofs.requests.read_requests.Given as goal
 
-abbrev pub invariant-loop-row : goal.invariant-loop-row
-invariant-loop-row l =
-    (0 < l.row-iterator.left) × ReadsRequests l.fn.owners l.fn.bytes l.row-iterator.rdr l.requests.items
+abbrev pub invariant-loop-requests : goal.invariant-loop-requests
+invariant-loop-requests l = ReadsRequests l.fn.owners l.fn.bytes l.reader l.requests.items
+
+abbrev pub decreases-loop-requests : goal.decreases-loop-requests
+decreases-loop-requests l = bytes_left l.reader

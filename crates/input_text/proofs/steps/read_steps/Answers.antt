@@ -5,7 +5,7 @@ use Rattle.csv.specs.Reading.{default_config, strip_bom, with_flexible}
 use Rattle.csv.specs.Records.{fields_of}
 use Rattle.input_text.specs.CsvRows.{rows_of, trimmed}
 use Rattle.input_text.specs.StepRow.{meaning}
-use Rattle.input_text.proofs.CsvReading.{length-strip_bom-le, reads_all, reads_row}
+use Rattle.input_text.proofs.CsvReading.{fewer_left, length-strip_bom-le, reads_all, reads_row}
 use Rattle.input_text.proofs.RowByRow.{more_items, no_items}
 use Rattle.input_text.proofs.StepsLegal.{steps_legal}
 use Rattle.input_text.proofs.StepsSaid.{fault_computed, steps_computed}
@@ -14,48 +14,50 @@ use Rattle.input_text.specs.StepsFile.{AreSteps, Say, steps_of}
 use Rattle.std.proofs.lemmas.Result.{IfErr-weaker, IfOk-weaker, MatchResult-from_both}
 use Rattle.input_text.proofs.steps.read_steps.Goals as goal
 
-pub loop-row-init : goal.loop-row-init
-loop-row-init c =
+pub loop-draft-init : goal.loop-draft-init
+loop-draft-init c =
     let reader = c.from_reader-reader.ensures in
     let builder = c.flexible.ensures ∙ ap (λ b. with_flexible b true) c.has_headers.ensures in
-    let start = c.into_iter-row-iterator.ensures.into_iter_gives ∙ refl in
-    rw (start, c.into_byte_records-row-items.ensures.rdr) (
-      c.into_byte_records-row-items.ensures.left,
-      record {
-        before = [];
-        lines = [];
-        reads = record {
-          trim = rw builder at reader.trim ∙ c.new.ensures.trim;
-          ready = inr (inr (rw builder at reader.has_headers, reader.headers));
-          config = rw builder at reader.config ∙ c.new.ensures.config;
-          between = rw reader.state refl;
-          left = strip_bom c.args.bytes.now;
-          source = reader.source;
-          rows = rw reader.state refl;
-          few = omega (arith, length-strip_bom-le c.args.bytes.now);
-        };
-        are = no_items meaning;
-        counts = c.new-tally.ensures.counts;
-        drafts = c.new-draft.ensures.drafts;
-        numbered = refl;
-      },
-    )
+    record {
+      before = [];
+      lines = [];
+      reads = record {
+        trim = rw builder at reader.trim ∙ c.new.ensures.trim;
+        ready = inr (inr (rw builder at reader.has_headers, reader.headers));
+        config = rw builder at reader.config ∙ c.new.ensures.config;
+        between = rw reader.state refl;
+        left = strip_bom c.args.bytes.now;
+        source = reader.source;
+        rows = rw reader.state refl;
+        few = omega (arith, length-strip_bom-le c.args.bytes.now);
+      };
+      are = no_items meaning;
+      counts = c.new-tally.ensures.counts;
+      drafts = c.new-draft.ensures.drafts;
+      numbered = refl;
+    }
+
+pub loop-draft-smaller : goal.loop-draft-smaller
+loop-draft-smaller c =
+    let so_far = c.loop-draft.invariant in
+    let one = rw c.if-branch.true at (c.in_ok-read_next.ensures.reads so_far.reads.trim so_far.reads.ready) in
+    fewer_left c.args.bytes.now c.loop-draft.reader c.read_next.new.reader so_far.before (fields_of c.read_next.new.row) so_far.reads one
 
 pub overflow_add-number : goal.overflow_add-number
 overflow_add-number c =
-    let (turns, so_far) = c.loop-row.invariant in
-    let fields = fields_of c.in-Ok.row in
-    let s = rw (c.in-Some.is, c.in-Ok.is) at ((c.next.ensures.steps turns so_far.reads.trim).0 so_far.reads.ready) in
-    let read = reads_row c.args.bytes.now c.loop-row.row-iterator.rdr c.next.new.self.rdr so_far.before fields so_far.reads s.0 s.1 s.0.2 s.0.3 in
-    let few : c.loop-row.number + 1 ≤ length c.args.bytes.now = omega (arith, read.after.few, so_far.numbered, length-append so_far.before (map trimmed fields ∷ [])) in
+    let so_far = c.loop-draft.invariant in
+    let fields = fields_of c.read_next.new.row in
+    let one = rw c.if-branch.true at (c.in_ok-read_next.ensures.reads so_far.reads.trim so_far.reads.ready) in
+    let read = reads_row c.args.bytes.now c.loop-draft.reader c.read_next.new.reader so_far.before fields so_far.reads one (c.in_ok-read_next.ensures.ready so_far.reads.trim) one.2 one.3 in
+    let few : c.loop-draft.number + 1 ≤ length c.args.bytes.now = omega (arith, read.after.few, so_far.numbered, length-append so_far.before (map trimmed fields ∷ [])) in
     omega (arith, few)
 
 pub returns-in-Err-clause-fault : goal.returns-in-Err-clause-fault
 returns-in-Err-clause-fault c =
-    let (turns, so_far) = c.loop-row.invariant in
-    let fields = fields_of c.in-Ok.row in
-    let s = rw (c.in-Some.is, c.in-Ok.is) at ((c.next.ensures.steps turns so_far.reads.trim).0 so_far.reads.ready) in
-    let read = reads_row c.args.bytes.now c.loop-row.row-iterator.rdr c.next.new.self.rdr so_far.before fields so_far.reads s.0 s.1 s.0.2 s.0.3 in
+    let so_far = c.loop-draft.invariant in
+    let fields = fields_of c.read_next.new.row in
+    let one = rw c.if-branch.true at (c.in_ok-read_next.ensures.reads so_far.reads.trim so_far.reads.ready) in
+    let read = reads_row c.args.bytes.now c.loop-draft.reader c.read_next.new.reader so_far.before fields so_far.reads one (c.in_ok-read_next.ensures.ready so_far.reads.trim) one.2 one.3 in
     record {
       before = so_far.before;
       row = map trimmed fields;
@@ -67,38 +69,36 @@ returns-in-Err-clause-fault c =
       faulty = c.in-Err.ensures.value so_far.lines so_far.counts;
     }
 
-pub loop-row-preserved : goal.loop-row-preserved
-loop-row-preserved c =
-    let (turns, so_far) = c.loop-row.invariant in
-    let fields = fields_of c.in-Ok.row in
-    let line = c.in-Ok-read_row.line in
-    let s = rw (c.in-Some.is, c.in-Ok.is) at ((c.next.ensures.steps turns so_far.reads.trim).0 so_far.reads.ready) in
-    let read = reads_row c.args.bytes.now c.loop-row.row-iterator.rdr c.next.new.self.rdr so_far.before fields so_far.reads s.0 s.1 s.0.2 s.0.3 in
-    let is : meaning so_far.lines (map trimmed fields) ≡ Ok line = c.in-Ok-read_row.ensures.value so_far.lines so_far.counts in (
-      s.2,
-      record {
-        before = _;
-        lines = so_far.lines ++ line ∷ [];
-        reads = read.after;
-        are = more_items meaning so_far.before so_far.lines (map trimmed fields) line so_far.are is;
-        counts = c.in-Ok-read_row.ensures.counts so_far.lines so_far.counts;
-        drafts = c.in_ok-draft-in-Ok-read_row.ensures.drafts so_far.lines so_far.drafts;
-        numbered = omega (arith, so_far.numbered, length-append so_far.before (map trimmed fields ∷ []));
-      },
-    )
+pub loop-draft-preserved : goal.loop-draft-preserved
+loop-draft-preserved c =
+    let so_far = c.loop-draft.invariant in
+    let fields = fields_of c.read_next.new.row in
+    let line = c.in-Ok.line in
+    let one = rw c.if-branch.true at (c.in_ok-read_next.ensures.reads so_far.reads.trim so_far.reads.ready) in
+    let read = reads_row c.args.bytes.now c.loop-draft.reader c.read_next.new.reader so_far.before fields so_far.reads one (c.in_ok-read_next.ensures.ready so_far.reads.trim) one.2 one.3 in
+    let is : meaning so_far.lines (map trimmed fields) ≡ Ok line = c.in-Ok.ensures.value so_far.lines so_far.counts in
+    record {
+      before = _;
+      lines = so_far.lines ++ line ∷ [];
+      reads = read.after;
+      are = more_items meaning so_far.before so_far.lines (map trimmed fields) line so_far.are is;
+      counts = c.in-Ok.ensures.counts so_far.lines so_far.counts;
+      drafts = c.in_ok-draft-in-Ok.ensures.drafts so_far.lines so_far.drafts;
+      numbered = omega (arith, so_far.numbered, length-append so_far.before (map trimmed fields ∷ []));
+    }
 
 pub returns-in-Err-clause-value : goal.returns-in-Err-clause-value
 unfolding steps_of
 returns-in-Err-clause-value c =
-    let fault : IsFirstFault meaning (rows_of c.args.bytes.now) (c.loop-row.number + 1) c.in-Err.why = returns-in-Err-clause-fault c in
-    inr (fault_computed (rows_of c.args.bytes.now) (c.loop-row.number + 1) c.in-Err.why fault)
+    let fault : IsFirstFault meaning (rows_of c.args.bytes.now) (c.loop-draft.number + 1) c.in-Err.why = returns-in-Err-clause-fault c in
+    inr (fault_computed (rows_of c.args.bytes.now) (c.loop-draft.number + 1) c.in-Err.why fault)
 
 pub returns-clause-ok : goal.returns-clause-ok
 returns-clause-ok c =
-    let (turns, so_far) = c.loop-row.invariant in
-    let a = c.loop-row.row-iterator.rdr in
-    let s = rw c.in-None.is at ((c.next.ensures.steps turns so_far.reads.trim).0 so_far.reads.ready) in
-    let ended = rows-end (λ (s : Bor (List ℕ)). Some s.now) a c.next.new.self.rdr [] default_config so_far.reads.left so_far.reads.config so_far.reads.source s in
+    let so_far = c.loop-draft.invariant in
+    let a = c.loop-draft.reader in
+    let none = rw c.if-branch.false at (c.in_ok-read_next.ensures.reads so_far.reads.trim so_far.reads.ready) in
+    let ended = rows-end (λ (s : Bor (List ℕ)). Some s.now) a c.read_next.new.reader (fields_of c.read_next.new.row) default_config so_far.reads.left so_far.reads.config so_far.reads.source none in
     let rows = reads_all c.args.bytes.now a so_far.before so_far.reads ended in
     IfOk-weaker c.into_steps.result _ _ (λ steps e. rw rows record { lines = so_far.lines; read = so_far.are; say = subst (Say so_far.lines) (sym e) so_far.drafts.say }) c.into_steps.ensures.ok
 

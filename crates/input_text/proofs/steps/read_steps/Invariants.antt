@@ -1,8 +1,10 @@
 -- The tally and the draft so far are those of the rows that were read.
-use Rattle.std.proofs.Common.{◌<◌}
+use Rattle.input_text.proofs.CsvReading.{bytes_left}
 use Rattle.input_text.proofs.StepsReading.{ReadsSteps}
 use Rattle.input_text.proofs.steps.read_steps.Given as goal
 
-abbrev pub invariant-loop-row : goal.invariant-loop-row
-invariant-loop-row l =
-    (0 < l.row-iterator.left) × ReadsSteps l.fn.bytes l.row-iterator.rdr l.number l.tally l.draft
+abbrev pub invariant-loop-draft : goal.invariant-loop-draft
+invariant-loop-draft l = ReadsSteps l.fn.bytes l.reader l.number l.tally l.draft
+
+abbrev pub decreases-loop-draft : goal.decreases-loop-draft
+decreases-loop-draft l = bytes_left l.reader
