@@ -1,15 +1,15 @@
 -- The rows of a history, event by event.
-use Rattle.std.proofs.Common.{◌≡◌, ℕ, List, [], ◌∷◌, ◌++◌, map, take, length, refl, ap, ◌∙◌, subst}
+use Rattle.std.proofs.Common.{◌≡◌, List, [], ◌∷◌, ◌++◌, map, refl, ap, ◌∙◌}
 use Rattle.std.specs.List.{flat_map}
 use Rattle.can_frame.specs.declared.data_frame.TimedFrame.{TimedFrame}
 use Rattle.master_core.specs.declared.event.Event.{Event}
 use Rattle.master_core.specs.declared.event.Event.TheVariants.{Submit, Look, Open}
 use Rattle.master_core.specs.History.{AllAfter}
-use Rattle.bus_trace.specs.EventRows.{SaysWidth, rows_of_event, told_of_event}
+use Rattle.bus_trace.specs.EventRows.{SaysWidth, opened_row, rows_of_event, told_of_event}
 use Rattle.bus_trace.specs.Log.{event_rows, events_rows, frame_row, started_in}
 use Rattle.bus_trace.specs.LogRows.{event_told, events_told}
 use Rattle.bus_trace.specs.declared.row.LogRow.TheVariants as row
-use Rattle.bus_trace.specs.Logged.{frames_of_event, opened_row}
+use Rattle.bus_trace.specs.Logged.{frames_of_event}
 
 one-event : (trace : List TimedFrame) (before : List Event) (event : Event) → SaysWidth trace before event
     → rows_of_event event (frames_of_event trace event) ≡ event_rows trace before event
@@ -36,16 +36,3 @@ all-events-told trace before [] says = refl
 all-events-told trace before (event ∷ later) says =
     ap (λ l. l ++ flat_map (λ e. told_of_event e (frames_of_event trace e)) later) (one-event-told trace before event says.0)
     ∙ ap (λ l. event_told trace before event ++ l) (all-events-told trace (before ++ event ∷ []) later says.1)
-
-front-of : (xs ys zs : List ℕ) → take (length (xs ++ ys)) zs ≡ xs ++ ys → take (length xs) zs ≡ xs
-front-of [] ys zs begins = refl
-front-of (x ∷ xs) ys [] begins = absurd (cc)
-front-of (x ∷ xs) ys (z ∷ zs) begins =
-    let first : z ≡ x = cc in
-    let rest : take (length (xs ++ ys)) zs ≡ xs ++ ys = cc in
-    let more = front-of xs ys zs rest in
-    cc
-
--- what begins with a text and more begins with the text
-pub still-begins : (old more now later : List ℕ) → now ≡ old ++ more → take (length now) later ≡ now → take (length old) later ≡ old
-still-begins old more now later is begins = front-of old more later (subst (λ l. take (length l) later ≡ l) is begins)

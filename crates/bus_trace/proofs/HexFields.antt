@@ -5,6 +5,7 @@ use Rattle.std.proofs.lemmas.Bool.{and_parts, and_from, cases_lt, cond-false, co
 use Rattle.std.proofs.lemmas.Bool.Decides.{nat_tests}
 use Rattle.std.proofs.lemmas.Int.Digits.{digits_value-lt, digits_value_push}
 use Rattle.std.proofs.lemmas.List.{append-nil, length-append}
+use Rattle.std.proofs.lemmas.List.Elements.{All-cons, All-head, All-tail}
 use Rattle.std.proofs.lemmas.List.Folds.{list_all-append}
 use Rattle.std.proofs.lemmas.Option.{same_Some}
 use Rattle.std.proofs.Math.Nat.{pow-suc}
@@ -122,7 +123,8 @@ value-hex (suc k) n small =
     let whole = ap (digits_value 16) (hex_digits-suc k n) ∙ digits_value_push 16 (hex_digits k (n / 16)) (digit_glyph false (n % 16)) in
     omega arith
 
-if-some : {A : Type 0} (b : Bool) (x : Option A) (y : A) → cond b x None ≡ Some y → (b ≡ true) × (x ≡ Some y)
+-- a choice of a value or none that gives one
+pub if-some : {A : Type 0} (b : Bool) (x : Option A) (y : A) → cond b x None ≡ Some y → (b ≡ true) × (x ≡ Some y)
 if-some true x y is = (refl, is)
 if-some false x y is = absurd (cc)
 
@@ -157,16 +159,6 @@ hex-two b small =
 abbrev AllBytes : List ℕ → Type 0
 AllBytes bytes = All (λ byte. byte < 256) bytes
 
-head-byte : (b : ℕ) (bs : List ℕ) → AllBytes (b ∷ bs) → b < 256
-head-byte b bs small = small 0 0 (omega arith)
-
-tail-bytes : (b : ℕ) (bs : List ℕ) → AllBytes (b ∷ bs) → AllBytes bs
-tail-bytes b bs small i d within = small (suc i) d (omega arith)
-
-more-bytes : (b : ℕ) (bs : List ℕ) → b < 256 → AllBytes bs → AllBytes (b ∷ bs)
-more-bytes b bs here rest zero d within = here
-more-bytes b bs here rest (suc i) d within = rest i d (omega arith)
-
 length-data : (bytes : List ℕ) → length (flat_map (hex_digits 2) bytes) ≡ 2 * length bytes
 length-data [] = refl
 length-data (b ∷ bs) =
@@ -184,13 +176,13 @@ all-data (b ∷ bs) =
 written-data : (bytes : List ℕ) → AllBytes bytes → bytes_written (flat_map (hex_digits 2) bytes) ≡ bytes
 written-data [] small = refl
 written-data (b ∷ bs) small =
-    let here = head-byte b bs small in
+    let here = All-head (λ byte. byte < 256) b bs small in
     let high = (glyph-is (b / 16) (omega arith)).1 in
     let low = (glyph-is (b % 16) (omega arith)).1 in
     let value : 16 * digit_value (digit_glyph false (b / 16)) + digit_value (digit_glyph false (b % 16)) ≡ b = omega arith in
     ap (λ l. bytes_written (l ++ flat_map (hex_digits 2) bs)) (hex-two b here)
     ∙ ap (λ v. v ∷ bytes_written (flat_map (hex_digits 2) bs)) value
-    ∙ ap (λ l. b ∷ l) (written-data bs (tail-bytes b bs small))
+    ∙ ap (λ l. b ∷ l) (written-data bs (All-tail (λ byte. byte < 256) b bs small))
 
 -- the reader finds the bytes that were written
 pub bytes_of-data : (bytes : List ℕ) → AllBytes bytes → length bytes ≤ 8 → bytes_of (flat_map (hex_digits 2) bytes) ≡ Some bytes
@@ -222,7 +214,7 @@ are-written (h ∷ l ∷ rest) even all =
     let later = are-written rest (omega arith) others in
     let size = later.size in
     record {
-      small = more-bytes (16 * a + b) (bytes_written rest) below later.small;
+      small = All-cons (λ byte. byte < 256) (16 * a + b) (bytes_written rest) below later.small;
       size = omega arith;
       digits = ap (λ l. l ++ flat_map (hex_digits 2) (bytes_written rest)) (hex-two (16 * a + b) below
           ∙ ap (λ v. digit_glyph false v ∷ digit_glyph false ((16 * a + b) % 16) ∷ []) front

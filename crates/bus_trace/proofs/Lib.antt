@@ -10,4 +10,5 @@ mod RowDigits
 mod RowForms
 mod RowLines
 mod RowsTold
+pub mod Shared
 mod Width

@@ -18,7 +18,8 @@ use Rattle.master_core.specs.declared.event.Event.{Event}
 use Rattle.master_core.specs.declared.event.Event.TheVariants.{Submit, Look, Open}
 use Rattle.master_core.specs.History.{AllAfter, IsLegal, IsRight, is_open, next_of, placed_after, placed_of}
 use Rattle.bus_trace.specs.Log.{event_rows, events_rows, frame_row}
-use Rattle.bus_trace.specs.Logged.{HasEntries, IsFormed, IsFormedIn, IsInTurn, IsLeft, IsNear, frames_of_event, opened_row, rows_with, told_with}
+use Rattle.bus_trace.specs.EventRows.{opened_row}
+use Rattle.bus_trace.specs.Logged.{HasEntries, IsFormed, IsFormedIn, IsInTurn, IsLeft, IsNear, frames_of_event, rows_with, told_with}
 use Rattle.bus_trace.specs.LogRows.{event_told, events_told}
 use Rattle.bus_trace.specs.Row.{IsLogRow}
 use Rattle.bus_trace.specs.declared.row.LogRow.TheVariants as row
@@ -51,14 +52,19 @@ told_with-event trace before (Look caller looked) next placed left entries turn 
 told_with-event trace before (Open cycle mask) next placed left entries turn =
     ap (λ w. row.Open cycle mask w ∷ map row.Frame (frames_of_event trace (Open cycle mask))) (width-left before cycle mask next placed left entries turn)
 
--- the last event's rows come last
-events_rows-push : (trace : List TimedFrame) (before events : List Event) (event : Event)
-    → events_rows trace before (events ++ event ∷ []) ≡ events_rows trace before events ++ event_rows trace (before ++ events) event
-events_rows-push trace before [] event = append-nil _ ∙ ap (λ b. event_rows trace b event) (sym (append-nil before))
-events_rows-push trace before (first ∷ events) event =
-    ap (λ l. event_rows trace before first ++ l) (events_rows-push trace (before ++ first ∷ []) events event
-    ∙ ap (λ b. events_rows trace (before ++ first ∷ []) events ++ event_rows trace b event) (append_assoc before (first ∷ []) events))
+-- the rows of later events come behind, and those of the last event last
+pub events_rows-append : (trace : List TimedFrame) (before events later : List Event)
+    → events_rows trace before (events ++ later) ≡ events_rows trace before events ++ events_rows trace (before ++ events) later
+events_rows-append trace before [] later = ap (λ b. events_rows trace b later) (sym (append-nil before))
+events_rows-append trace before (first ∷ events) later =
+    ap (λ l. event_rows trace before first ++ l) (events_rows-append trace (before ++ first ∷ []) events later
+    ∙ ap (λ b. events_rows trace (before ++ first ∷ []) events ++ events_rows trace b later) (append_assoc before (first ∷ []) events))
     ∙ sym (append_assoc (event_rows trace before first) _ _)
+
+pub events_rows-push : (trace : List TimedFrame) (before events : List Event) (event : Event)
+    → events_rows trace before (events ++ event ∷ []) ≡ events_rows trace before events ++ event_rows trace (before ++ events) event
+events_rows-push trace before events event =
+    events_rows-append trace before events (event ∷ []) ∙ ap (λ l. events_rows trace before events ++ l) (append-nil (event_rows trace (before ++ events) event))
 
 events_told-push : (trace : List TimedFrame) (before events : List Event) (event : Event)
     → events_told trace before (events ++ event ∷ []) ≡ events_told trace before events ++ event_told trace (before ++ events) event

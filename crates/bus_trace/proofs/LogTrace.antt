@@ -1,5 +1,5 @@
 -- The frames of a trace that start in a cycle, cut at the triggers.
-use Rattle.std.proofs.Common.{◌≡◌, ℕ, suc, ◌+◌, ◌-◌, ◌<◌, ◌≤◌, Bool, true, false, cond, not, eqb, List, [], ◌∷◌, ◌++◌, take, drop, length, refl, sym, ap, subst, ◌∙◌, arith, inl, inr}
+use Rattle.std.proofs.Common.{◌≡◌, ◌≢◌, ℕ, suc, ◌+◌, ◌-◌, ◌<◌, ◌≤◌, Bool, true, false, cond, not, eqb, List, [], ◌∷◌, ◌++◌, take, drop, length, refl, sym, ap, subst, ◌∙◌, arith, inl, inr}
 use Rattle.std.specs.List.{position_or_len}
 use Rattle.std.proofs.lemmas.Bool.{cases_Bool, ne_eqb, eqb-true, eq-eqb, cond-true, cond-false}
 use Rattle.std.proofs.lemmas.Grind.{common_steps}
@@ -21,8 +21,8 @@ until-other sent later other =
     let more : 1 + until later ≡ suc (until later) = omega arith in
     ap (λ b. cond (not b) (1 + until later) 0) {x = is_trigger sent} {y = false} other ∙ more
 
-triggers_with-trigger : (seen : ℕ) (sent : TimedFrame) → is_trigger sent ≡ true → triggers_with seen sent ≡ seen + 1
-triggers_with-trigger seen sent here = cond-true (is_trigger sent) (seen + 1) seen here
+pub triggers_with-trigger : (seen : ℕ) (sent : TimedFrame) → sent.frame.identifier ≡ 0 → triggers_with seen sent ≡ seen + 1
+triggers_with-trigger seen sent here = cond-true (is_trigger sent) (seen + 1) seen (eq-eqb _ _ here)
 
 triggers_with-other : (seen : ℕ) (sent : TimedFrame) → is_trigger sent ≡ false → triggers_with seen sent ≡ seen
 triggers_with-other seen sent other = cond-false (is_trigger sent) (seen + 1) seen other
@@ -60,31 +60,34 @@ begins-until (sent ∷ later) =
       | inr other ↦ subst (λ n. BeginsWithTrigger (drop n (sent ∷ later))) (sym (until-other sent later other)) (begins-until later)
     ]
 
-triggers_with-le : (seen : ℕ) (sent : TimedFrame) → seen ≤ triggers_with seen sent
+pub triggers_with-le : (seen : ℕ) (sent : TimedFrame) → seen ≤ triggers_with seen sent
 triggers_with-le seen sent =
     elim (cases_Bool (is_trigger sent)) [
-      | inl here ↦ omega (arith, triggers_with-trigger seen sent here)
+      | inl here ↦ omega (arith, triggers_with-trigger seen sent (eqb-true _ _ here))
       | inr other ↦ omega (arith, triggers_with-other seen sent other)
     ]
+
+-- where the count of triggers is not that of the cycle, the frame starts in another one
+pub starts-elsewhere : (cycle seen : ℕ) (sent : TimedFrame) (rest : List TimedFrame) → seen ≢ cycle + 1
+    → cond (eqb seen (cycle + 1)) (sent ∷ []) [] ++ rest ≡ rest
+starts-elsewhere cycle seen sent rest other = ap (λ l. l ++ rest) (cond-false (eqb seen (cycle + 1)) (sent ∷ []) [] (ne_eqb _ _ other))
 
 -- no frame starts in a cycle after the next one's trigger
 started_in-past : (cycle seen : ℕ) (frames : List TimedFrame) → cycle + 1 < seen → started_in cycle seen frames ≡ []
 started_in-past cycle seen [] past = refl
 started_in-past cycle seen (sent ∷ later) past =
     let more = triggers_with-le seen sent in
-    let now = triggers_with seen sent in
-    ap (λ l. l ++ started_in cycle now later) (cond-false (eqb now (cycle + 1)) (sent ∷ []) [] (ne_eqb now (cycle + 1) (omega arith)))
-    ∙ started_in-past cycle now later (omega arith)
+    starts-elsewhere cycle (triggers_with seen sent) sent _ (λ is. omega arith)
+    ∙ started_in-past cycle (triggers_with seen sent) later (omega arith)
 
 -- nor from the next one's trigger on
-started_in-next : (cycle : ℕ) (frames : List TimedFrame) → BeginsWithTrigger frames
-    → started_in cycle (cycle + 1) frames ≡ []
-started_in-next cycle [] begins = refl
-started_in-next cycle (sent ∷ later) begins =
-    let now = triggers_with-trigger (cycle + 1) sent (eq-eqb _ _ begins) in
-    ap (λ n. cond (eqb n (cycle + 1)) (sent ∷ []) [] ++ started_in cycle n later) now
-    ∙ ap (λ l. l ++ started_in cycle (cycle + 1 + 1) later) (cond-false (eqb (cycle + 1 + 1) (cycle + 1)) (sent ∷ []) [] (ne_eqb _ _ (omega arith)))
-    ∙ started_in-past cycle (cycle + 1 + 1) later (omega arith)
+pub started_in-later : (cycle seen : ℕ) (frames : List TimedFrame) → BeginsWithTrigger frames → cycle + 1 ≤ seen
+    → started_in cycle seen frames ≡ []
+started_in-later cycle seen [] begins past = refl
+started_in-later cycle seen (sent ∷ later) begins past =
+    let now = triggers_with-trigger seen sent begins in
+    starts-elsewhere cycle (triggers_with seen sent) sent _ (λ is. omega arith)
+    ∙ started_in-past cycle (triggers_with seen sent) later (omega arith)
 
 -- Cycle by cycle
 
@@ -115,7 +118,7 @@ started_in-trigger : (cycle seen : ℕ) (sent : TimedFrame) (later : List TimedF
     → started_in cycle seen (sent ∷ later)
     ≡ cond (eqb (seen + 1) (cycle + 1)) (sent ∷ take (until later) later) [] ++ started_in cycle (seen + 1) (drop (until later) later)
 started_in-trigger cycle seen sent later zero_id =
-    ap (λ n. cond (eqb n (cycle + 1)) (sent ∷ []) [] ++ started_in cycle n later) (triggers_with-trigger seen sent (eq-eqb _ _ zero_id))
+    ap (λ n. cond (eqb n (cycle + 1)) (sent ∷ []) [] ++ started_in cycle n later) (triggers_with-trigger seen sent zero_id)
     ∙ ap (λ l. cond (eqb (seen + 1) (cycle + 1)) (sent ∷ []) [] ++ l) (started_in-until cycle (seen + 1) later)
     ∙ cond_joined (eqb (seen + 1) (cycle + 1)) sent (take (until later) later) _
 
@@ -125,7 +128,7 @@ pub started_in-cycle : (trace : List TimedFrame) (next : ℕ) (left : List Timed
 started_in-cycle trace next [] is = sym (is.later next (omega arith))
 started_in-cycle trace next (sent ∷ later) is =
     sym (is.later next (omega arith) ∙ started_in-trigger next next sent later is.begins
-    ∙ ap (λ l. cond (eqb (next + 1) (next + 1)) (sent ∷ take (until later) later) [] ++ l) (started_in-next next (drop (until later) later) (begins-until later))
+    ∙ ap (λ l. cond (eqb (next + 1) (next + 1)) (sent ∷ take (until later) later) [] ++ l) (started_in-later next (next + 1) (drop (until later) later) (begins-until later) (omega arith))
     ∙ append-nil _
     ∙ cond-true (eqb (next + 1) (next + 1)) (sent ∷ take (until later) later) [] (eq-eqb _ _ refl))
 

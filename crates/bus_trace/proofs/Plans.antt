@@ -1,23 +1,13 @@
 -- The rows of a plan, row by row.
-use Rattle.std.proofs.Common.{◌≡◌, ℕ, ◌+◌, ◌<◌, List, [], ◌∷◌, ◌++◌, All, get_or, length, subst, sym, take, ap, ◌∙◌, arith, append_assoc}
-use Rattle.std.proofs.lemmas.List.{append-nil, take_more, length-take-le}
+use Rattle.std.proofs.Common.{◌≡◌, ℕ, ◌+◌, ◌<◌, List, [], ◌∷◌, ◌++◌, All, get_or, length, subst, sym, take, ap, ◌∙◌, arith}
+use Rattle.std.proofs.lemmas.List.{take_more, length-take-le}
 use Rattle.std.proofs.lemmas.List.Elements.{All-push}
-use Rattle.bus_trace.specs.Log.{plan_row, plan_rows}
 use Rattle.bus_trace.specs.LogRows.{plan_told}
 use Rattle.bus_trace.specs.Row.{IsLogRow}
 use Rattle.bus_trace.specs.declared.row.LogRow.TheVariants.{Plan}
 
 -- the last mask's row comes last
-pub plan_rows-push : (cycle at : ℕ) (masks : List ℕ) (mask : ℕ) → at ≡ cycle + length masks
-    → plan_rows cycle (masks ++ mask ∷ []) ≡ plan_rows cycle masks ++ plan_row at mask
-plan_rows-push cycle at [] mask is =
-    let here : at ≡ cycle = omega arith in
-    append-nil (plan_row cycle mask) ∙ ap (λ n. plan_row n mask) (sym here)
-plan_rows-push cycle at (first ∷ masks) mask is =
-    ap (λ l. plan_row cycle first ++ l) (plan_rows-push (cycle + 1) at masks mask (omega arith))
-    ∙ sym (append_assoc (plan_row cycle first) (plan_rows (cycle + 1) masks) (plan_row at mask))
-
-pub plan_told-push : (cycle at : ℕ) (masks : List ℕ) (mask : ℕ) → at ≡ cycle + length masks
+plan_told-push : (cycle at : ℕ) (masks : List ℕ) (mask : ℕ) → at ≡ cycle + length masks
     → plan_told cycle (masks ++ mask ∷ []) ≡ plan_told cycle masks ++ Plan at mask ∷ []
 plan_told-push cycle at [] mask is =
     let here : at ≡ cycle = omega arith in

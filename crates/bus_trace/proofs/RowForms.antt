@@ -11,19 +11,15 @@ use Rattle.can_frame.specs.DataFrame.{DataFrame, IsFrame}
 use Rattle.can_frame.specs.declared.data_frame.TimedFrame.{TimedFrame}
 use Rattle.bus_trace.specs.Log.{hex_digits}
 use Rattle.bus_trace.specs.Row.{IsLogRow, IsLogVerdict, fields_of_row, fields_of_verdict}
-use Rattle.bus_trace.specs.RowFields.{accepted_of, bytes_of, end_of, frame_at, frame_of, frame_with, hex_at, hex_of, horizon_of, look_of, malformed_of, miss_of, number_at, number_of, open_of, passed_of, plan_of, row_by, row_of, rule_of, submit_of, until_of, up_to, verdict_by, verdict_of}
+use Rattle.bus_trace.specs.RowFields.{accepted_of, bytes_of, end_of, frame_at, frame_of, frame_with, hex_at, hex_of, horizon_of, look_of, malformed_of, miss_of, number_at, number_of, open_of, passed_of, plan_of, row_by, row_of, rule_of, submit_of, two_numbers, until_of, up_to, verdict_by, verdict_of}
 use Rattle.bus_trace.specs.declared.row.LogRow.{LogRow}
 use Rattle.bus_trace.specs.declared.row.LogRow.TheVariants as row
 use Rattle.bus_trace.specs.declared.row.LogVerdict.{LogVerdict}
 use Rattle.bus_trace.specs.declared.row.LogVerdict.TheVariants as verdict
 use Rattle.bus_trace.proofs.FieldNumbers.{decimal-of_number, number_of-decimal}
-use Rattle.bus_trace.proofs.HexFields.{bytes_of-data, data-of_bytes, digits-of_hex, hex_of-digits}
+use Rattle.bus_trace.proofs.HexFields.{bytes_of-data, data-of_bytes, digits-of_hex, hex_of-digits, if-some}
 
 -- Choices
-
-if-some : {A : Type 0} (b : Bool) (x : Option A) (y : A) → cond b x None ≡ Some y → (b ≡ true) × (x ≡ Some y)
-if-some true x y is = (refl, is)
-if-some false x y is = absurd (cc)
 
 if-else : {A : Type 0} (P : Type 0) (b : Bool) (x y : Option A) (z : A) → cond b x y ≡ Some z → (b ≡ true → x ≡ Some z → P) → (y ≡ Some z → P) → P
 if-else P true x y z is one other = one refl is
@@ -133,41 +129,23 @@ module _ (fields : List (List ℕ)) (a b c : List ℕ)
   size-is : (count : ℕ) → (length fields == count) ≡ true → length fields ≡ count
   size-is count test = eqb-true (length fields) count test
 
-  accepted-read : (said : LogVerdict) → slice_get fields 3 ≡ Some (codes "accepted") → accepted_of fields ≡ Some said → IsSaid fields a b c said
-  accepted-read said word read =
-      let (count, rest) = if-some (length fields == 6) _ said read in
-      option_and_then_some _ (number_at fields 4 (2 ^ 64 - 1)) said rest (λ first one more.
-      option_and_then_some _ (number_at fields 5 (2 ^ 64 - 1)) said more (λ len two made.
-      let x = number-read fields 4 (2 ^ 64 - 1) first (omega arith) one in
-      let y = number-read fields 5 (2 ^ 64 - 1) len (omega arith) two in
-      subst (IsSaid fields a b c) (same_Some (verdict.Accepted first len) said made) (record {
-        legal = (omega (arith, x.1), omega (arith, y.1));
-        is = same-places fields _ (size-is 6 count) (at_a, (at_b, (at_c, (word, (x.0, (y.0, tt))))));
-      })))
-
-  passed-read : (said : LogVerdict) → slice_get fields 3 ≡ Some (codes "passed") → passed_of fields ≡ Some said → IsSaid fields a b c said
-  passed-read said word read =
-      let (count, rest) = if-some (length fields == 6) _ said read in
-      option_and_then_some _ (number_at fields 4 (2 ^ 64 - 1)) said rest (λ start one more.
-      option_and_then_some _ (number_at fields 5 (2 ^ 64 - 1)) said more (λ next two made.
-      let x = number-read fields 4 (2 ^ 64 - 1) start (omega arith) one in
-      let y = number-read fields 5 (2 ^ 64 - 1) next (omega arith) two in
-      subst (IsSaid fields a b c) (same_Some (verdict.Passed start next) said made) (record {
-        legal = (omega (arith, x.1), omega (arith, y.1));
-        is = same-places fields _ (size-is 6 count) (at_a, (at_b, (at_c, (word, (x.0, (y.0, tt))))));
-      })))
-
-  horizon-read : (said : LogVerdict) → slice_get fields 3 ≡ Some (codes "horizon") → horizon_of fields ≡ Some said → IsSaid fields a b c said
-  horizon-read said word read =
-      let (count, rest) = if-some (length fields == 6) _ said read in
-      option_and_then_some _ (number_at fields 4 (2 ^ 64 - 1)) said rest (λ from one more.
-      option_and_then_some _ (number_at fields 5 (2 ^ 64 - 1)) said more (λ walked two made.
-      let x = number-read fields 4 (2 ^ 64 - 1) from (omega arith) one in
-      let y = number-read fields 5 (2 ^ 64 - 1) walked (omega arith) two in
-      subst (IsSaid fields a b c) (same_Some (verdict.Horizon from walked) said made) (record {
-        legal = (omega (arith, x.1), omega (arith, y.1));
-        is = same-places fields _ (size-is 6 count) (at_a, (at_b, (at_c, (word, (x.0, (y.0, tt))))));
-      })))
+  -- a verdict that says two numbers behind its word
+  two-read : (say : ℕ → ℕ → LogVerdict) (word : List ℕ) (said : LogVerdict) → slice_get fields 3 ≡ Some word
+      → ((x y : ℕ) → fields_of_verdict (say x y) ≡ word ∷ decimal x ∷ decimal y ∷ [])
+      → ((x y : ℕ) → x < 2 ^ 64 → y < 2 ^ 64 → IsLogVerdict (say x y))
+      → option_and_then (λ both. Some (say both.0 both.1)) (two_numbers fields) ≡ Some said → IsSaid fields a b c said
+  two-read say word said at_word writes ranges read =
+      option_and_then_some _ (two_numbers fields) said read (λ both two made.
+      let (count, rest) = if-some (length fields == 6) _ both two in
+      option_and_then_some _ (number_at fields 4 (2 ^ 64 - 1)) both rest (λ x one more.
+      option_and_then_some _ (number_at fields 5 (2 ^ 64 - 1)) both more (λ y other pair.
+      let first = number-read fields 4 (2 ^ 64 - 1) x (omega arith) one in
+      let second = number-read fields 5 (2 ^ 64 - 1) y (omega arith) other in
+      let is = same-places fields (a ∷ b ∷ c ∷ word ∷ decimal x ∷ decimal y ∷ []) (size-is 6 count) (at_a, (at_b, (at_c, (at_word, (first.0, (second.0, tt)))))) in
+      subst (IsSaid fields a b c) (ap (λ p. say p.0 p.1) (same_Some (x, y) both pair) ∙ same_Some (say both.0 both.1) said made) (record {
+        legal = ranges x y (omega (arith, first.1)) (omega (arith, second.1));
+        is = is ∙ ap (λ l. a ∷ b ∷ c ∷ l) (sym (writes x y));
+      }))))
 
   miss-read : (said : LogVerdict) → slice_get fields 3 ≡ Some (codes "miss") → miss_of fields ≡ Some said → IsSaid fields a b c said
   miss-read said word read =
@@ -237,11 +215,11 @@ module _ (fields : List (List ℕ)) (a b c : List ℕ)
       option_and_then_some (verdict_by fields) (slice_get fields 3) said read (λ word there by.
       let at : (expected : List ℕ) → bytes_eq word expected ≡ true → slice_get fields 3 ≡ Some expected =
       λ expected test. there ∙ ap (λ w. Some w) (word-is word expected test) in
-      if-else P (bytes_eq word (codes "accepted")) (accepted_of fields) _ said by (λ test. accepted-read said (at _ test))
+      if-else P (bytes_eq word (codes "accepted")) (accepted_of fields) _ said by (λ test. two-read verdict.Accepted (codes "accepted") said (at _ test) (λ x y. refl) (λ x y first second. (first, second)))
       (λ by. if-else P (bytes_eq word (codes "malformed")) (malformed_of fields) _ said by (λ test. malformed-read said (at _ test))
-      (λ by. if-else P (bytes_eq word (codes "passed")) (passed_of fields) _ said by (λ test. passed-read said (at _ test))
+      (λ by. if-else P (bytes_eq word (codes "passed")) (passed_of fields) _ said by (λ test. two-read verdict.Passed (codes "passed") said (at _ test) (λ x y. refl) (λ x y first second. (first, second)))
       (λ by. if-else P (bytes_eq word (codes "miss")) (miss_of fields) _ said by (λ test. miss-read said (at _ test))
-      (λ by. if-else P (bytes_eq word (codes "horizon")) (horizon_of fields) None said by (λ test. horizon-read said (at _ test))
+      (λ by. if-else P (bytes_eq word (codes "horizon")) (horizon_of fields) None said by (λ test. two-read verdict.Horizon (codes "horizon") said (at _ test) (λ x y. refl) (λ x y first second. (first, second)))
       (λ by. absurd (let none : ⊥ = cc in none)))))))
 
 -- Rows

@@ -1,5 +1,6 @@
 -- The rows of one event, by the frames that follow it.
-use Rattle.std.specs.Prelude.{◌≡◌, ◌≢◌, ℕ, ◌^◌, ◌<◌, ◌≤◌, List, [], ◌∷◌, ◌++◌, All, length, map}
+use Rattle.std.specs.Prelude.{◌≡◌, ◌≢◌, ℕ, ◌^◌, ◌<◌, ◌≤◌, List, [], ◌∷◌, ◌++◌, All, codes, length, map}
+use Rattle.std.specs.Fmt.{decimal}
 use Rattle.std.specs.List.{flat_map}
 use Rattle.can_frame.specs.declared.data_frame.TimedFrame.{TimedFrame}
 use Rattle.trigger_codec.specs.Bytes.{trigger_frame, width_told}
@@ -7,9 +8,8 @@ use Rattle.requirement_table.specs.Opening.{width_of}
 use Rattle.master_core.specs.declared.event.Event.{Event}
 use Rattle.master_core.specs.declared.event.Event.TheVariants.{Submit, Look, Open}
 use Rattle.master_core.specs.History.{placed_of}
-use Rattle.bus_trace.specs.Log.{frame_row, look_row, plan_rows, started_in, submit_row}
+use Rattle.bus_trace.specs.Log.{frame_row, hex_digits, look_row, plan_rows, started_in, submit_row}
 use Rattle.bus_trace.specs.LogRows.{plan_told, verdict_told}
-use Rattle.bus_trace.specs.Logged.{opened_row}
 use Rattle.bus_trace.specs.declared.row.LogRow.{LogRow}
 use Rattle.bus_trace.specs.declared.row.LogRow.TheVariants as row
 
@@ -35,19 +35,32 @@ abbrev pub width_told_in : List TimedFrame → ℕ
 width_told_in [] = 0
 width_told_in (trigger ∷ later) = width_told trigger.frame.bytes
 
--- the rows of an event and of the frames that follow it: a change that is refused for a miss is followed by its plan up
--- to the miss
+-- the row of an opened cycle, with the length of its synchronous window
+abbrev pub opened_row : ℕ → ℕ → ℕ → List ℕ
+opened_row cycle mask width =
+    codes "open," ++ decimal cycle ++ codes "," ++ hex_digits 10 mask ++ codes "," ++ decimal width ++ codes "\n"
+
+-- the rows of an event and of these frames, where the synchronous window of the cycle that it opens has this length: a
+-- change that is refused for a miss is followed by its plan up to the miss
+abbrev pub rows_at : ℕ → Event → List TimedFrame → List ℕ
+rows_at width (Submit caller change from verdict trail) frames = submit_row caller from verdict ++ plan_rows from trail
+rows_at width (Look caller next) frames = look_row caller next
+rows_at width (Open cycle mask) frames = opened_row cycle mask width ++ flat_map frame_row frames
+
+-- the same rows as values
+abbrev pub told_at : ℕ → Event → List TimedFrame → List LogRow
+told_at width (Submit caller change from verdict trail) frames =
+    row.Submit caller from (verdict_told verdict) ∷ plan_told from trail
+told_at width (Look caller next) frames = row.Look caller next ∷ []
+told_at width (Open cycle mask) frames = row.Open cycle mask width ∷ map row.Frame frames
+
+-- the rows of an event and of the frames that follow it
 abbrev pub rows_of_event : Event → List TimedFrame → List ℕ
-rows_of_event (Submit caller change from verdict trail) frames = submit_row caller from verdict ++ plan_rows from trail
-rows_of_event (Look caller next) frames = look_row caller next
-rows_of_event (Open cycle mask) frames = opened_row cycle mask (width_told_in frames) ++ flat_map frame_row frames
+rows_of_event event frames = rows_at (width_told_in frames) event frames
 
 -- the same rows as values
 abbrev pub told_of_event : Event → List TimedFrame → List LogRow
-told_of_event (Submit caller change from verdict trail) frames =
-    row.Submit caller from (verdict_told verdict) ∷ plan_told from trail
-told_of_event (Look caller next) frames = row.Look caller next ∷ []
-told_of_event (Open cycle mask) frames = row.Open cycle mask (width_told_in frames) ∷ map row.Frame frames
+told_of_event event frames = told_at (width_told_in frames) event frames
 
 -- after the events before it, the trigger of the cycle that the event opens says the length of the cycle's synchronous
 -- window
@@ -60,12 +73,7 @@ SaysWidth trace before (Open cycle mask) =
 
 -- Words for contracts inside the crate
 
--- the first frame has the bytes that say the length of a window
+-- the first frame, where there is one, has the bytes that say the length of a window
 abbrev pub HasWidth : List TimedFrame → Type 0
-HasWidth [] = ⊥
+HasWidth [] = Unit {0}
 HasWidth (trigger ∷ later) = 3 ≤ length trigger.frame.bytes
-
-abbrev pub HasWidthIn : Event → List TimedFrame → Type 0
-HasWidthIn (Submit caller change from verdict trail) frames = Unit {0}
-HasWidthIn (Look caller next) frames = Unit {0}
-HasWidthIn (Open cycle mask) frames = HasWidth frames

@@ -1,6 +1,6 @@
 -- *Log text*: the text of a history and a trace. Each row ends with one line feed; numbers are decimal without leading
 -- zeros.
-use Rattle.std.specs.Prelude.{ℕ, ◌+◌, ◌==◌, List, [], ◌∷◌, ◌++◌, Option, Some, None, if◌then◌else◌, codes}
+use Rattle.std.specs.Prelude.{ℕ, ◌+◌, ◌==◌, List, [], ◌∷◌, ◌++◌, Option, Some, None, if◌then◌else◌, codes, fold}
 use Rattle.std.specs.List.{flat_map}
 use Rattle.std.specs.Fmt.{decimal}
 use Rattle.can_frame.specs.declared.data_frame.TimedFrame.{TimedFrame}
@@ -74,6 +74,10 @@ end_row next = codes "end," ++ decimal next ++ codes "\n"
 -- the number of triggers up to a frame, itself included, where `seen` came before it
 abbrev pub triggers_with : ℕ → TimedFrame → ℕ
 triggers_with seen sent = if sent.frame.identifier == 0 then seen + 1 else seen
+
+-- the number of triggers among frames
+abbrev pub triggers_in : List TimedFrame → ℕ
+triggers_in frames = fold triggers_with 0 frames
 
 -- the frames of a trace that start in a cycle: those up to which, themselves included, just cycle + 1 frames have the
 -- trigger's identifier 0, where `seen` such frames came before

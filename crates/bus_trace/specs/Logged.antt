@@ -1,9 +1,7 @@
 -- What is written of a log while it is made: which events are done, which frames are left, and which entries may still
 -- be sent.
 use Rattle.std.specs.Prelude.{◌≡◌, ℕ, ◌^◌, ◌<◌, ◌≤◌, ◌==◌, ◌&&◌}
-use Rattle.std.specs.Prelude.{Bool, true, is_some, if◌then◌else◌, List, [], ◌∷◌, ◌++◌, codes, map}
-use Rattle.std.specs.List.{flat_map}
-use Rattle.std.specs.Fmt.{decimal}
+use Rattle.std.specs.Prelude.{Bool, true, is_some, if◌then◌else◌, List, [], ◌∷◌}
 use Rattle.can_frame.specs.declared.data_frame.TimedFrame.{TimedFrame}
 use Rattle.requirement_table.specs.declared.entries.Placed.{Placed}
 use Rattle.requirement_table.specs.Instance.{instance_of, worst}
@@ -14,10 +12,9 @@ use Rattle.change_protocol.specs.Malformed.{IsWellFormed}
 use Rattle.admission.specs.Verdict.{is_accepted}
 use Rattle.master_core.specs.declared.event.Event.{Event}
 use Rattle.master_core.specs.declared.event.Event.TheVariants.{Submit, Look, Open}
-use Rattle.bus_trace.specs.Log.{hex_digits, submit_row, plan_rows, look_row, frame_row, started_in}
-use Rattle.bus_trace.specs.LogRows.{plan_told, verdict_told}
+use Rattle.bus_trace.specs.Log.{started_in}
+use Rattle.bus_trace.specs.EventRows.{rows_at, told_at}
 use Rattle.bus_trace.specs.declared.row.LogRow.{LogRow}
-use Rattle.bus_trace.specs.declared.row.LogRow.TheVariants as row
 
 -- The frames
 
@@ -55,27 +52,20 @@ IsNear (Submit caller change from verdict trail) = from < 2 ^ 63
 IsNear (Look caller next) = Unit {0}
 IsNear (Open cycle mask) = Unit {0}
 
--- the row of an opened cycle, with the length of its synchronous window
-abbrev pub opened_row : ℕ → ℕ → ℕ → List ℕ
-opened_row cycle mask width =
-    codes "open," ++ decimal cycle ++ codes "," ++ hex_digits 10 mask ++ codes "," ++ decimal width ++ codes "\n"
+-- the length of the synchronous window of the cycle that an event opens, by the entries whose instances may be sent in
+-- it, or 0 where it opens none
+abbrev pub width_with : List Placed → Event → ℕ
+width_with placed (Submit caller change from verdict trail) = 0
+width_with placed (Look caller next) = 0
+width_with placed (Open cycle mask) = width_in placed cycle (contains_slot mask)
 
--- the rows of an event, by the entries whose instances may be sent in the cycle that it opens, and the rows of these
--- frames
+-- the rows of an event and of these frames, by these entries
 abbrev pub rows_with : List Placed → List TimedFrame → Event → List ℕ
-rows_with placed frames (Submit caller change from verdict trail) =
-    submit_row caller from verdict ++ plan_rows from trail
-rows_with placed frames (Look caller next) = look_row caller next
-rows_with placed frames (Open cycle mask) =
-    opened_row cycle mask (width_in placed cycle (contains_slot mask)) ++ flat_map frame_row frames
+rows_with placed frames event = rows_at (width_with placed event) event frames
 
 -- the same rows as values
 abbrev pub told_with : List Placed → List TimedFrame → Event → List LogRow
-told_with placed frames (Submit caller change from verdict trail) =
-    row.Submit caller from (verdict_told verdict) ∷ plan_told from trail
-told_with placed frames (Look caller next) = row.Look caller next ∷ []
-told_with placed frames (Open cycle mask) =
-    row.Open cycle mask (width_in placed cycle (contains_slot mask)) ∷ map row.Frame frames
+told_with placed frames event = told_at (width_with placed event) event frames
 
 -- The entries
 

@@ -86,23 +86,26 @@ abbrev pub are_fields : List (List ℕ) → ℕ → Bool
 are_fields fields count = length fields == count
 
 -- two numbers in the fields from place 4 on, where there are no others
-abbrev pub accepted_of : List (List ℕ) → Option LogVerdict
-accepted_of fields = if are_fields fields 6 then (do
+abbrev pub two_numbers : List (List ℕ) → Option (ℕ × ℕ)
+two_numbers fields = if are_fields fields 6 then (do
   first ← number_at fields 4 (2 ^ 64 - 1)
-  count ← number_at fields 5 (2 ^ 64 - 1)
-  Some (verdict.Accepted first count)) else None
+  second ← number_at fields 5 (2 ^ 64 - 1)
+  Some (first, second)) else None
+
+abbrev pub accepted_of : List (List ℕ) → Option LogVerdict
+accepted_of fields = do
+  both ← two_numbers fields
+  Some (verdict.Accepted both.0 both.1)
 
 abbrev pub passed_of : List (List ℕ) → Option LogVerdict
-passed_of fields = if are_fields fields 6 then (do
-  start ← number_at fields 4 (2 ^ 64 - 1)
-  next ← number_at fields 5 (2 ^ 64 - 1)
-  Some (verdict.Passed start next)) else None
+passed_of fields = do
+  both ← two_numbers fields
+  Some (verdict.Passed both.0 both.1)
 
 abbrev pub horizon_of : List (List ℕ) → Option LogVerdict
-horizon_of fields = if are_fields fields 6 then (do
-  from ← number_at fields 4 (2 ^ 64 - 1)
-  walked ← number_at fields 5 (2 ^ 64 - 1)
-  Some (verdict.Horizon from walked)) else None
+horizon_of fields = do
+  both ← two_numbers fields
+  Some (verdict.Horizon both.0 both.1)
 
 abbrev pub miss_of : List (List ℕ) → Option LogVerdict
 miss_of fields = if are_fields fields 7 then (do

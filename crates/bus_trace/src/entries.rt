@@ -1,6 +1,6 @@
 //! The placed entries at a place of a history, and what the flagged slots of a cycle cost. All lengths are bit times.
 
-ghost use Rattle.std.specs.Prelude.{◌≡◌, ℕ, ◌≤◌, ◌^◌, ◌<◌, ◌*◌, [], IfOk, OnOk, length};
+ghost use Rattle.std.specs.Prelude.{◌≡◌, ◌≤◌, ◌<◌, [], IfOk, OnOk, length};
 ghost use Rattle.requirement_table.specs.Slots.{contains_slot};
 ghost use Rattle.requirement_table.specs.Table.{IsInRange, IsWellPlaced, width_in};
 ghost use Rattle.change_protocol.specs.Applied.{applied};

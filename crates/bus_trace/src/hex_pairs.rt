@@ -1,6 +1,6 @@
 //! The pairs of hexadecimal digits of bytes, in lower case.
 
-ghost use Rattle.std.specs.Prelude.{◌≡◌, ◌<◌};
+ghost use Rattle.std.specs.Prelude.{◌≡◌, ◌<◌, ◌∷◌, []};
 ghost use Rattle.bus_trace.specs.HexPairs.{digit_at};
 ghost use Rattle.bus_trace.specs.Log.{hex_digits};
 
@@ -35,9 +35,9 @@ fn digit_at(place: usize) -> u8
 
 /// The two hexadecimal digits of a byte.
 #[inline(always)]
-pub fn hex_pair(byte: u8) -> [u8; 2]
-    ensures digits { result ≡ hex_digits 2 byte }
+pub fn hex_pair(byte: u8) -> (u8, u8)
+    ensures digits { result.0 ∷ result.1 ∷ [] ≡ hex_digits 2 byte }
 {
     let first = 2 * usize::from(byte);
-    [digit_at(first), digit_at(first + 1)]
+    (digit_at(first), digit_at(first + 1))
 }

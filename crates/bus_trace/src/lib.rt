@@ -5,6 +5,7 @@
 
 mod entries;
 mod frames;
+mod gathering;
 mod hex_pairs;
 pub mod laws;
 mod log;

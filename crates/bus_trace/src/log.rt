@@ -1,6 +1,6 @@
 //! The log as one text.
 
-ghost use Rattle.std.specs.Prelude.{if◌then◌else◌, ◌≡◌, ℕ, ◌+◌, ◌^◌, ◌<◌, ◌≤◌, ◌++◌};
+ghost use Rattle.std.specs.Prelude.{if◌then◌else◌, ◌≡◌, ℕ, ◌+◌, ◌<◌, ◌≤◌, ◌++◌};
 ghost use Rattle.std.specs.Prelude.{All, List, IfOk, OnOk, length, take, drop};
 ghost use Rattle.can_frame.specs.declared.data_frame.TimedFrame.{TimedFrame};
 ghost use Rattle.requirement_table.specs.declared.entries.Placed.{Placed};
@@ -11,14 +11,13 @@ ghost use Rattle.master_core.specs.History.{IsLegal, is_open, placed_after};
 ghost use Rattle.bus_trace.specs.Log.{log_text};
 ghost use Rattle.bus_trace.specs.LogRows.{log_rows};
 ghost use Rattle.bus_trace.specs.Logged.{HasEntries, IsFormedIn, IsInTurn, IsLeft};
-ghost use Rattle.bus_trace.specs.Logged.{IsNear, frames_of_event, rows_with, told_with};
+ghost use Rattle.bus_trace.specs.Logged.{IsNear, frames_of_event, rows_with, told_with, width_with};
 ghost use Rattle.bus_trace.specs.Row.{IsLogRow};
 
 use crate::entries::Entries;
 use crate::frames::{cycle_len, until_trigger};
-use crate::rows::{
-    push_end_row, push_frame_rows, push_look_row, push_open_row, push_plan_rows, push_submit_row,
-};
+use crate::gathering::Gathered;
+use crate::streaming::{put_end_row, put_rows};
 use admission::Verdict;
 use can_frame::TimedFrame;
 use master_core::Event;
@@ -39,9 +38,21 @@ fn frame_count(event: &Event, left: &[TimedFrame]) -> usize
     }
 }
 
+/// The length of the synchronous window of the cycle that an event opens, in bit times, or 0 where it opens none.
+fn opened_width(entries: &Entries, event: &Event) -> u32
+    requires left { IsWellPlaced entries.now.left.items }
+    ensures width { result ≡ width_with entries.now.left.items event.now }
+{
+    match event {
+        Event::Submit { .. } => 0,
+        Event::Look { .. } => 0,
+        Event::Open { cycle, mask } => entries.width(*cycle, *mask),
+    }
+}
+
 /// Appends the rows of an event, and the rows of the frames that follow it.
 fn push_event(
-    text: &mut Vec<u8>,
+    rows: &mut Gathered,
     entries: &Entries,
     event: &Event,
     frames: &[TimedFrame],
@@ -49,25 +60,12 @@ fn push_event(
     requires near { IsNear event.now }
     requires left { IsWellPlaced entries.now.left.items }
     ensures ok { OnOk result
-        (text.new.items ≡ text.old.items ++ rows_with entries.now.left.items frames.now event.now) }
+        (rows.new.text.items ≡ rows.old.text.items ++ rows_with entries.now.left.items frames.now event.now) }
     ensures in_range { OnOk result (All IsLogRow (told_with entries.now.left.items frames.now event.now)) }
 {
-    match event {
-        Event::Submit {
-            caller,
-            from,
-            verdict,
-            trail,
-            ..
-        } => {
-            push_submit_row(text, *caller, *from, verdict)?;
-            push_plan_rows(text, *from, trail.as_slice())
-        }
-        Event::Look { caller, next } => push_look_row(text, *caller, *next),
-        Event::Open { cycle, mask } => {
-            push_open_row(text, *cycle, *mask, entries.width(*cycle, *mask))?;
-            push_frame_rows(text, frames)
-        }
+    match put_rows(rows, event, opened_width(entries, event), frames) {
+        Ok(()) => Ok(()),
+        Err(_) => Err(AllocError),
     }
 }
 
@@ -110,17 +108,19 @@ pub fn log_text(
     ensures text { IfOk result (λ text. text.items ≡ log_text history.now trace.now) }
     ensures in_range { IfOk result (λ text. All IsLogRow (log_rows history.now trace.now)) }
 {
-    let mut text = Vec::new(alloc);
+    let mut rows = Gathered::behind(Vec::new(alloc));
     let mut entries = Entries::new(alloc);
     let mut next = 0u64;
     let mut left = &trace[until_trigger(trace)..];
     for event in history {
         let (frames, later) = left.split_at(frame_count(event, left));
-        push_event(&mut text, &entries, event, frames)?;
+        push_event(&mut rows, &entries, event, frames)?;
         place_event(&mut entries, alloc, event, next)?;
         next += u64::from(event.opens_cycle());
         left = later;
     }
-    push_end_row(&mut text, next)?;
-    Ok(text)
+    match put_end_row(&mut rows, next) {
+        Ok(()) => Ok(rows.text),
+        Err(_) => Err(AllocError),
+    }
 }

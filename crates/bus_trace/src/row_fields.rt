@@ -7,8 +7,7 @@ ghost use Rattle.std.specs.Prelude.{◌≡◌, ◌-◌, ◌^◌, ◌<◌, ◌≤
 ghost use Rattle.std.specs.Prelude.{map, length, true, IfSome, IfOk, option_and_then, option_map, slice_get};
 ghost use Rattle.std.specs.Char.{digit_value, is_ascii_digit};
 ghost use Rattle.std.specs.List.{list_all};
-ghost use Rattle.can_frame.specs.DataFrame.{IsFrame};
-ghost use Rattle.bus_trace.specs.RowFields.{bytes_of, bytes_written, fields_of_line, frame_at};
+ghost use Rattle.bus_trace.specs.RowFields.{bytes_written, fields_of_line, frame_at};
 ghost use Rattle.bus_trace.specs.RowFields.{frame_with, has_leading_zero, hex_at, hex_of};
 ghost use Rattle.bus_trace.specs.RowFields.{is_hex_digit, number_at, number_of, up_to};
 

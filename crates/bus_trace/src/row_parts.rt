@@ -76,7 +76,9 @@ fn put_hex_pair(row: &mut [u8; ROOM], end: usize, byte: u8) -> usize
     ensures start { result + 2 ≡ end }
     ensures row { drop result row.new ≡ hex_digits 2 byte ++ drop end row.old }
 {
-    put_word(row, end, &hex_pair(byte))
+    let (high, low) = hex_pair(byte);
+    let start = put_byte(row, end, low);
+    put_byte(row, start, high)
 }
 
 /// Puts the ten hexadecimal digits of a mask.

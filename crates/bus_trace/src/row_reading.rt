@@ -1,9 +1,9 @@
 //! A row of a log, read from its fields.
 
-ghost use Rattle.std.specs.Prelude.{◌≡◌, ◌^◌, ◌<◌, ◌≤◌, map, option_and_then};
+ghost use Rattle.std.specs.Prelude.{◌≡◌, ◌<◌, map, option_and_then};
 ghost use Rattle.bus_trace.specs.RowFields.{accepted_of, end_of, frame_of, horizon_of, look_of};
 ghost use Rattle.bus_trace.specs.RowFields.{malformed_of, miss_of, number_at, open_of, passed_of};
-ghost use Rattle.bus_trace.specs.RowFields.{plan_of, row_of, rule_of, submit_of, until_of, verdict_of};
+ghost use Rattle.bus_trace.specs.RowFields.{plan_of, row_of, rule_of, submit_of, two_numbers, until_of, verdict_of};
 
 use crate::row::{LogRow, LogVerdict};
 use crate::row_fields::{field, frame, mask, number};
@@ -15,15 +15,23 @@ const BYTE: u64 = 255;
 /// The greatest number of 32 bits.
 const WORD: u64 = 4_294_967_295;
 
-/// `accepted,FIRST,LENGTH`
-fn read_accepted(fields: &[&[u8]]) -> Option<LogVerdict>
-    ensures value { result ≡ accepted_of (map (λ field. field.now) fields.now) }
+/// Two numbers in the fields behind the word of a verdict, where there are no others.
+fn two_numbers(fields: &[&[u8]]) -> Option<(u64, u64)>
+    ensures value { result ≡ two_numbers (map (λ field. field.now) fields.now) }
 {
     if fields.len() != 6 {
         return None;
     }
     let first = number(fields, 4, u64::MAX)?;
-    let length = number(fields, 5, u64::MAX)?;
+    let second = number(fields, 5, u64::MAX)?;
+    Some((first, second))
+}
+
+/// `accepted,FIRST,LENGTH`
+fn read_accepted(fields: &[&[u8]]) -> Option<LogVerdict>
+    ensures value { result ≡ accepted_of (map (λ field. field.now) fields.now) }
+{
+    let (first, length) = two_numbers(fields)?;
     Some(LogVerdict::Accepted { first, length })
 }
 
@@ -31,11 +39,7 @@ fn read_accepted(fields: &[&[u8]]) -> Option<LogVerdict>
 fn read_passed(fields: &[&[u8]]) -> Option<LogVerdict>
     ensures value { result ≡ passed_of (map (λ field. field.now) fields.now) }
 {
-    if fields.len() != 6 {
-        return None;
-    }
-    let start = number(fields, 4, u64::MAX)?;
-    let next = number(fields, 5, u64::MAX)?;
+    let (start, next) = two_numbers(fields)?;
     Some(LogVerdict::Passed { start, next })
 }
 
@@ -43,11 +47,7 @@ fn read_passed(fields: &[&[u8]]) -> Option<LogVerdict>
 fn read_horizon(fields: &[&[u8]]) -> Option<LogVerdict>
     ensures value { result ≡ horizon_of (map (λ field. field.now) fields.now) }
 {
-    if fields.len() != 6 {
-        return None;
-    }
-    let from = number(fields, 4, u64::MAX)?;
-    let walked = number(fields, 5, u64::MAX)?;
+    let (from, walked) = two_numbers(fields)?;
     Some(LogVerdict::Horizon { from, walked })
 }
 

@@ -1,14 +1,12 @@
 //! The rows of the log. Each is made from its end to its start, at the end of an array that is
 //! lent for it.
 
-ghost use Rattle.std.specs.Prelude.{◌≡◌, ◌+◌, ◌^◌, ◌<◌, ◌≤◌, ◌++◌};
-ghost use Rattle.std.specs.Prelude.{All, IfSome, codes, drop, length, map, take, OnOk, OnErr};
+ghost use Rattle.std.specs.Prelude.{◌≡◌, ◌+◌, ◌^◌, ◌<◌, ◌≤◌, ◌++◌, IfSome, codes, drop, length};
 ghost use Rattle.std.specs.Fmt.{decimal};
-ghost use Rattle.std.specs.List.{flat_map};
 ghost use Rattle.bus_trace.specs.Log.{end_row, frame_row, last_field, look_row, plan_row};
-ghost use Rattle.bus_trace.specs.Log.{plan_rows, submit_row, until_of, verdict_fields};
-ghost use Rattle.bus_trace.specs.LogRows.{plan_told, verdict_told};
-ghost use Rattle.bus_trace.specs.Logged.{opened_row};
+ghost use Rattle.bus_trace.specs.Log.{submit_row, until_of, verdict_fields};
+ghost use Rattle.bus_trace.specs.LogRows.{verdict_told};
+ghost use Rattle.bus_trace.specs.EventRows.{opened_row};
 ghost use Rattle.bus_trace.specs.Row.{IsLogRow, IsLogVerdict};
 ghost use Rattle.bus_trace.specs.declared.row.LogRow.TheVariants.{Submit, Plan, Look, Open, Frame, End};
 
@@ -19,7 +17,6 @@ use admission::Verdict;
 use can_frame::TimedFrame;
 use change_protocol::Why;
 use requirement_table::Mask;
-use std::alloc::AllocError;
 
 /// The cycle that the reason of a refusal names, where it names one.
 fn until_of(why: &Why) -> Option<u64>
@@ -194,80 +191,4 @@ pub fn end_row<'a>(row: &'a mut [u8; ROOM], next: u64) -> &'a [u8]
     let start = put_line_feed(row);
     let start = put_first(row, start, b"end,", next);
     row_from(row, start)
-}
-
-/// Appends the row of a change.
-pub fn push_submit_row(
-    text: &mut Vec<u8>,
-    caller: u8,
-    from: u64,
-    verdict: &Verdict,
-) -> Result<(), AllocError>
-    ensures ok { OnOk result (text.new.items ≡ text.old.items ++ submit_row caller from verdict.now) }
-    ensures err { OnErr result (text.new.items ≡ text.old.items) }
-    ensures in_range { IsLogRow (Submit caller from (verdict_told verdict.now)) }
-{
-    let mut row = [0; ROOM];
-    text.extend_from_slice(submit_row(&mut row, caller, from, verdict))
-}
-
-/// Appends the rows of a plan, one for each cycle from `from` on, below 2^63.
-pub fn push_plan_rows(text: &mut Vec<u8>, from: u64, masks: &[Mask]) -> Result<(), AllocError>
-    requires from { from < 2 ^ 63 }
-    ensures ok { OnOk result (text.new.items ≡ text.old.items ++ plan_rows from masks.now) }
-    ensures err { OnErr result (take (length text.old.items) text.new.items ≡ text.old.items) }
-    ensures in_range { OnOk result (All IsLogRow (plan_told from masks.now)) }
-{
-    let mut row = [0; ROOM];
-    for (number, mask) in masks.iter().enumerate() {
-        text.extend_from_slice(plan_row(&mut row, from + number as u64, *mask))?;
-    }
-    Ok(())
-}
-
-/// Appends the row of a look.
-pub fn push_look_row(text: &mut Vec<u8>, caller: u8, next: u64) -> Result<(), AllocError>
-    ensures ok { OnOk result (text.new.items ≡ text.old.items ++ look_row caller next) }
-    ensures err { OnErr result (text.new.items ≡ text.old.items) }
-    ensures in_range { IsLogRow (Look caller next) }
-{
-    let mut row = [0; ROOM];
-    text.extend_from_slice(look_row(&mut row, caller, next))
-}
-
-/// Appends the row of an opened cycle.
-pub fn push_open_row(
-    text: &mut Vec<u8>,
-    cycle: u64,
-    mask: Mask,
-    width: u32,
-) -> Result<(), AllocError>
-    ensures ok { OnOk result (text.new.items ≡ text.old.items ++ opened_row cycle mask width) }
-    ensures err { OnErr result (text.new.items ≡ text.old.items) }
-    ensures in_range { IsLogRow (Open cycle mask width) }
-{
-    let mut row = [0; ROOM];
-    text.extend_from_slice(open_row(&mut row, cycle, mask, width))
-}
-
-/// Appends the rows of frames.
-pub fn push_frame_rows(text: &mut Vec<u8>, frames: &[TimedFrame]) -> Result<(), AllocError>
-    ensures ok { OnOk result (text.new.items ≡ text.old.items ++ flat_map frame_row frames.now) }
-    ensures err { OnErr result (take (length text.old.items) text.new.items ≡ text.old.items) }
-    ensures in_range { OnOk result (All IsLogRow (map Frame frames.now)) }
-{
-    let mut row = [0; ROOM];
-    for sent in frames {
-        text.extend_from_slice(frame_row(&mut row, sent))?;
-    }
-    Ok(())
-}
-
-/// Appends the last row.
-pub fn push_end_row(text: &mut Vec<u8>, next: u64) -> Result<(), AllocError>
-    ensures ok { OnOk result (text.new.items ≡ text.old.items ++ end_row next) }
-    ensures in_range { IsLogRow (End next) }
-{
-    let mut row = [0; ROOM];
-    text.extend_from_slice(end_row(&mut row, next))
 }

@@ -1,29 +1,27 @@
 //! The rows of one event, for a log that is written while the run goes on.
 
-ghost use Rattle.std.specs.Prelude.{◌≡◌, ◌+◌, ◌*◌, ◌^◌, ◌<◌, ◌≤◌, ◌++◌, All, length, map, take, OnOk, OnErr};
+ghost use Rattle.std.specs.Prelude.{◌≡◌, ◌^◌, ◌<◌, ◌≤◌, ◌++◌, All, length, map, OnOk, OnErr};
 ghost use Rattle.std.specs.List.{flat_map};
 ghost use Rattle.ftt_io.specs.Counts.{Rose};
 ghost use Rattle.ftt_io.specs.Puts.{Puts, PutsPrefix};
-ghost use Rattle.can_frame.specs.DataFrame.{IsFrame};
 ghost use Rattle.trigger_codec.specs.Bytes.{width_told};
-ghost use Rattle.bus_trace.specs.EventRows.{HasItsFrames, HasWidth, HasWidthIn};
-ghost use Rattle.bus_trace.specs.EventRows.{rows_of_event, told_of_event, width_told_in};
+ghost use Rattle.bus_trace.specs.EventRows.{HasItsFrames, HasWidth, rows_at, rows_of_event, told_at, told_of_event};
+ghost use Rattle.bus_trace.specs.EventRows.{width_told_in};
 ghost use Rattle.bus_trace.specs.Log.{end_row, frame_row, plan_rows};
 ghost use Rattle.bus_trace.specs.LogRows.{plan_told};
 ghost use Rattle.bus_trace.specs.Logged.{IsNear};
 ghost use Rattle.bus_trace.specs.Row.{IsLogRow};
 ghost use Rattle.bus_trace.specs.declared.row.LogRow.TheVariants.{Frame as FrameRow, End};
 
+use crate::gathering::Gathered;
 use crate::row_parts::ROOM;
-use crate::rows::{
-    end_row, frame_row, look_row, open_row, plan_row, push_frame_rows, push_look_row,
-    push_open_row, push_plan_rows, push_submit_row, submit_row,
-};
+use crate::rows::{end_row, frame_row, look_row, open_row, plan_row, submit_row};
 use can_frame::{Frame, TimedFrame};
 use ftt_io::{Failed, Sink, write_all};
 use master_core::Event;
 use requirement_table::Mask;
 use std::alloc::{AllocError, Global};
+use std::mem;
 
 /// The length of the synchronous window that a trigger says, in bit times.
 fn width_told(trigger: &Frame) -> u32
@@ -44,33 +42,6 @@ fn width_told_in(frames: &[TimedFrame]) -> u32
     }
 }
 
-/// Appends the rows of an event and of its frames. Where memory runs out, some of them may stand behind what stood.
-fn push_rows(out: &mut Vec<u8>, event: &Event, frames: &[TimedFrame]) -> Result<(), AllocError>
-    requires near { IsNear event.now }
-    requires width { HasWidthIn event.now frames.now }
-    ensures ok { OnOk result (out.new.items ≡ out.old.items ++ rows_of_event event.now frames.now) }
-    ensures err { OnErr result (take (length out.old.items) out.new.items ≡ out.old.items) }
-    ensures in_range { OnOk result (All IsLogRow (told_of_event event.now frames.now)) }
-{
-    match event {
-        Event::Submit {
-            caller,
-            from,
-            verdict,
-            trail,
-            ..
-        } => {
-            push_submit_row(out, *caller, *from, verdict)?;
-            push_plan_rows(out, *from, trail.as_slice())
-        }
-        Event::Look { caller, next } => push_look_row(out, *caller, *next),
-        Event::Open { cycle, mask } => {
-            push_open_row(out, *cycle, *mask, width_told_in(frames))?;
-            push_frame_rows(out, frames)
-        }
-    }
-}
-
 /// Appends the rows of an event of a master's history, and those of the frames that were sent in the cycle that it
 /// opened: the trigger of the cycle first, and no other frame with identifier 0. An event that opens no cycle has no
 /// frames. The length of the cycle's synchronous window is the one that the trigger says.
@@ -81,7 +52,7 @@ fn push_rows(out: &mut Vec<u8>, event: &Event, frames: &[TimedFrame]) -> Result<
 ///
 /// Only where memory runs out. Then `out` is as before.
 pub fn event_rows(
-    _alloc: Global,
+    alloc: Global,
     event: &Event,
     frames: &[TimedFrame],
     out: &mut Vec<u8>,
@@ -93,11 +64,14 @@ pub fn event_rows(
     ensures in_range { OnOk result (All IsLogRow (told_of_event event.now frames.now)) }
 {
     let before = out.len();
-    match push_rows(out, event, frames) {
+    let mut rows = Gathered::behind(mem::replace(out, Vec::new(alloc)));
+    let put = put_event_rows(&mut rows, event, frames);
+    *out = rows.text;
+    match put {
         Ok(()) => Ok(()),
-        Err(error) => {
+        Err(_) => {
             out.truncate(before);
-            Err(error)
+            Err(AllocError)
         }
     }
 }
@@ -135,6 +109,42 @@ fn put_frame_rows<O: Sink>(out: &mut O, frames: &[TimedFrame]) -> Result<(), Fai
     Ok(())
 }
 
+/// Puts the rows of an event and of these frames, each by a call of its own. The synchronous window of the cycle that it
+/// opens has this length, in bit times.
+pub fn put_rows<O: Sink>(
+    out: &mut O,
+    event: &Event,
+    width: u32,
+    frames: &[TimedFrame],
+) -> Result<(), Failed>
+    requires near { IsNear event.now }
+    ensures faults_never_fall { O.faults out.old ≤ O.faults out.new }
+    ensures all { OnOk result (Puts (O.told_bytes out.old) (O.told_bytes out.new) (rows_at width event.now frames.now)) }
+    ensures failed { OnErr result (Rose (O.faults out.old) (O.faults out.new)) }
+    ensures prefix { OnErr result
+        (PutsPrefix (O.told_bytes out.old) (O.told_bytes out.new) (rows_at width event.now frames.now)) }
+    ensures in_range { OnOk result (All IsLogRow (told_at width event.now frames.now)) }
+{
+    let mut row = [0; ROOM];
+    match event {
+        Event::Submit {
+            caller,
+            from,
+            verdict,
+            trail,
+            ..
+        } => {
+            write_all(out, submit_row(&mut row, *caller, *from, verdict))?;
+            put_plan_rows(out, *from, trail.as_slice())
+        }
+        Event::Look { caller, next } => { write_all(out, look_row(&mut row, *caller, *next)) }
+        Event::Open { cycle, mask } => {
+            write_all(out, open_row(&mut row, *cycle, *mask, width))?;
+            put_frame_rows(out, frames)
+        }
+    }
+}
+
 /// Puts the rows that [`event_rows`] appends, each by a call of its own, and takes no memory.
 ///
 /// # Errors
@@ -155,27 +165,7 @@ pub fn put_event_rows<O: Sink>(
         (PutsPrefix (O.told_bytes out.old) (O.told_bytes out.new) (rows_of_event event.now frames.now)) }
     ensures in_range { OnOk result (All IsLogRow (told_of_event event.now frames.now)) }
 {
-    let mut row = [0; ROOM];
-    match event {
-        Event::Submit {
-            caller,
-            from,
-            verdict,
-            trail,
-            ..
-        } => {
-            write_all(out, submit_row(&mut row, *caller, *from, verdict))?;
-            put_plan_rows(out, *from, trail.as_slice())
-        }
-        Event::Look { caller, next } => { write_all(out, look_row(&mut row, *caller, *next)) }
-        Event::Open { cycle, mask } => {
-            write_all(
-                out,
-                open_row(&mut row, *cycle, *mask, width_told_in(frames)),
-            )?;
-            put_frame_rows(out, frames)
-        }
-    }
+    put_rows(out, event, width_told_in(frames), frames)
 }
 
 /// Puts the last row of a log, where `next` cycles were opened.

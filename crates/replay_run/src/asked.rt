@@ -1,6 +1,6 @@
 //! The table that steps ask for.
 
-ghost use Rattle.std.specs.Prelude.{◌≡◌, ◌+◌, ◌≤◌, ℕ, [], IfOk, OnOk};
+ghost use Rattle.std.specs.Prelude.{◌≡◌, ◌+◌, ◌≤◌, IfOk, OnOk};
 ghost use Rattle.requirement_table.specs.Table.{IsWellPlaced};
 ghost use Rattle.input_text.specs.StepsFile.{AreLegalSteps, count_of};
 ghost use Rattle.replay_run.specs.AskedTable.{after_change, after_step, table_of};

@@ -11,4 +11,4 @@ mod stepping;
 
 pub use answering::answer;
 pub use asked::asked_table;
-pub use stepping::{Run, replay};
+pub use stepping::{Run, begin, replay};

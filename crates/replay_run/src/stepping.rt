@@ -1,12 +1,12 @@
 //! A master, nodes and a bus, step by step.
 
-ghost use Rattle.std.specs.Prelude.{◌≡◌, ℕ, ◌+◌, ◌<◌, ◌≤◌, ◌++◌, ◌∷◌, [], List, OnOk, IfOk, map, replicate};
+ghost use Rattle.std.specs.Prelude.{◌≡◌, ◌+◌, ◌<◌, ◌≤◌, ◌++◌, ◌∷◌, [], OnOk, IfOk, map, replicate};
 ghost use Rattle.change_protocol.specs.declared.operations.Change.{Change};
 ghost use Rattle.input_text.specs.SystemFile.{IsSystem};
 ghost use Rattle.input_text.specs.RequestsFile.{AreLegal};
 ghost use Rattle.input_text.specs.StepsFile.{AreLegalSteps, IsStep, count_of};
 ghost use Rattle.master_core.specs.History.{next_of};
-ghost use Rattle.kept_run.specs.Progress.{IsSetting, Setting};
+ghost use Rattle.kept_run.specs.Progress.{Setting};
 ghost use Rattle.replay_run.specs.Progress.{IsGoing, setting_of};
 ghost use Rattle.replay_run.specs.Run.{AnswersSteps, IsRun, asks, call_of, calls_of, looks, opens};
 
@@ -122,14 +122,17 @@ fn run_step(run: &mut Run, alloc: Global, step: &Step) -> Result<(), AllocError>
     }
 }
 
-/// A run of no steps yet.
-fn begin(alloc: Global, system: &System, requests: &[Request]) -> Result<Run, AllocError>
-    ghost setting: { Setting }
-    requires given { setting ≡ setting_of system.now requests.now }
+/// A run of no steps yet, on the bus of a system with these requests.
+///
+/// # Errors
+///
+/// Only where memory runs out.
+pub fn begin(alloc: Global, system: &System, requests: &[Request]) -> Result<Run, AllocError>
     requires system { IsSystem system.now }
     requires requests { AreLegal system.now.owners requests.now }
-    ensures on_the_way { IfOk result (IsGoing setting) }
+    ensures on_the_way { IfOk result (IsGoing (setting_of system.now requests.now)) }
     ensures empty { IfOk result (λ run. run.master.history ≡ []) }
+    ensures no_frames { IfOk result (λ run. run.trace.items ≡ []) }
 {
     beginning();
     requests_of_owners();

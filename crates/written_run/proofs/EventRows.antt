@@ -1,7 +1,7 @@
 -- The rows of a history with one event more.
-use Rattle.std.proofs.Common.{◌≡◌, ◌≢◌, ℕ, ◌+◌, ◌<◌, ◌≤◌, false, cond, eqb, List, [], ◌∷◌, ◌++◌, fold, All, refl, sym, ap, ◌∙◌, arith, inl, inr, append_assoc}
+use Rattle.std.proofs.Common.{◌≡◌, ◌≢◌, ℕ, ◌+◌, ◌≤◌, false, cond, eqb, List, [], ◌∷◌, ◌++◌, fold, All, refl, sym, ap, ◌∙◌, arith, append_assoc}
 use Rattle.std.specs.List.{flat_map}
-use Rattle.std.proofs.lemmas.Bool.{cases_Bool, ne_eqb, eq-eqb, cond-true, cond-false}
+use Rattle.std.proofs.lemmas.Bool.{ne_eqb, eq-eqb, cond-true, cond-false}
 use Rattle.std.proofs.lemmas.List.{append-nil}
 use Rattle.std.proofs.lemmas.List.Elements.{All-head, All-tail}
 use Rattle.std.proofs.lemmas.List.Sums.{fold-append, sum_by-cons}
@@ -12,33 +12,19 @@ use Rattle.master_core.specs.declared.event.Event.{Event}
 use Rattle.master_core.specs.declared.event.Event.TheVariants.{Submit, Look, Open}
 use Rattle.master_core.specs.History.{AllAfter, IsRight, is_open, next_of, placed_of}
 use Rattle.kept_run.proofs.Shared.{next_of-push}
-use Rattle.bus_trace.specs.EventRows.{rows_of_event, width_told_in}
-use Rattle.bus_trace.specs.Log.{event_rows, events_rows, frame_row, open_row, started_in, triggers_with}
-use Rattle.bus_trace.specs.Logged.{opened_row}
-use Rattle.written_run.specs.Progress.{triggers_in}
-
-abbrev IsTrigger : TimedFrame → Type 0
-IsTrigger sent = sent.frame.identifier ≡ 0
+use Rattle.bus_trace.specs.EventRows.{opened_row, rows_of_event, width_told_in}
+use Rattle.bus_trace.specs.Log.{event_rows, events_rows, frame_row, open_row, started_in, triggers_in, triggers_with}
+use Rattle.bus_trace.proofs.Shared.{events_rows-push, started_in-later, starts-elsewhere, triggers_with-le, triggers_with-trigger}
 
 -- Counting triggers
-
-pub counted-trigger : (seen : ℕ) (sent : TimedFrame) → sent.frame.identifier ≡ 0 → triggers_with seen sent ≡ seen + 1
-counted-trigger seen sent is = cond-true (eqb sent.frame.identifier 0) (seen + 1) seen (eq-eqb _ _ is)
 
 counted-other : (seen : ℕ) (sent : TimedFrame) → sent.frame.identifier ≢ 0 → triggers_with seen sent ≡ seen
 counted-other seen sent other = cond-false (eqb sent.frame.identifier 0) (seen + 1) seen (ne_eqb _ _ other)
 
-triggers-up : (seen : ℕ) (sent : TimedFrame) → seen ≤ triggers_with seen sent
-triggers-up seen sent =
-    elim (cases_Bool (eqb sent.frame.identifier 0)) [
-      | inl is ↦ omega (arith, cond-true (eqb sent.frame.identifier 0) (seen + 1) seen is)
-      | inr other ↦ omega (arith, cond-false (eqb sent.frame.identifier 0) (seen + 1) seen other)
-    ]
-
 pub triggers-all-up : (seen : ℕ) (frames : List TimedFrame) → seen ≤ fold triggers_with seen frames
 triggers-all-up seen [] = omega arith
 triggers-all-up seen (sent ∷ later) =
-    let now = triggers-up seen sent in
+    let now = triggers_with-le seen sent in
     let more = triggers-all-up (triggers_with seen sent) later in
     omega arith
 
@@ -54,13 +40,10 @@ pub triggers-more : (trace : List TimedFrame) (sent : TimedFrame) (later : List 
     → All (λ s. s.frame.identifier ≢ 0) later → triggers_in (trace ++ sent ∷ later) ≡ triggers_in trace + 1
 triggers-more trace sent later is others =
     fold-append triggers_with 0 trace (sent ∷ later)
-    ∙ ap (λ n. fold triggers_with n later) (counted-trigger (triggers_in trace) sent is)
+    ∙ ap (λ n. fold triggers_with n later) (triggers_with-trigger (triggers_in trace) sent is)
     ∙ counted-none (triggers_in trace + 1) later others
 
 -- The frames that start in a cycle
-
-here-not : (cycle seen : ℕ) (sent : TimedFrame) (rest : List TimedFrame) → seen ≢ cycle + 1 → cond (eqb seen (cycle + 1)) (sent ∷ []) [] ++ rest ≡ rest
-here-not cycle seen sent rest other = ap (λ l. l ++ rest) (cond-false (eqb seen (cycle + 1)) (sent ∷ []) [] (ne_eqb _ _ other))
 
 here : (cycle seen : ℕ) (sent : TimedFrame) (rest : List TimedFrame) → seen ≡ cycle + 1 → cond (eqb seen (cycle + 1)) (sent ∷ []) [] ++ rest ≡ sent ∷ rest
 here cycle seen sent rest is = ap (λ l. l ++ rest) (cond-true (eqb seen (cycle + 1)) (sent ∷ []) [] (eq-eqb _ _ is))
@@ -73,26 +56,12 @@ started-append cycle seen (sent ∷ later) second =
     ap (λ l. cond (eqb now (cycle + 1)) (sent ∷ []) [] ++ l) (started-append cycle now later second)
     ∙ sym (append_assoc (cond (eqb now (cycle + 1)) (sent ∷ []) []) (started_in cycle now later) (started_in cycle (fold triggers_with now later) second))
 
--- none behind the next cycle's trigger
-started-past : (cycle seen : ℕ) (frames : List TimedFrame) → cycle + 1 < seen → started_in cycle seen frames ≡ []
-started-past cycle seen [] past = refl
-started-past cycle seen (sent ∷ later) past =
-    let up = triggers-up seen sent in
-    here-not cycle (triggers_with seen sent) sent _ (λ is. omega arith) ∙ started-past cycle (triggers_with seen sent) later (omega arith)
-
--- nor from it on
-started-later : (cycle seen : ℕ) (sent : TimedFrame) (later : List TimedFrame) → sent.frame.identifier ≡ 0 → cycle + 1 ≤ seen
-    → started_in cycle seen (sent ∷ later) ≡ []
-started-later cycle seen sent later trigger past =
-    let now = counted-trigger seen sent trigger in
-    here-not cycle (triggers_with seen sent) sent _ (λ is. omega arith) ∙ started-past cycle (triggers_with seen sent) later (omega arith)
-
 -- none before the cycle's own trigger
 started-before : (cycle seen : ℕ) (frames : List TimedFrame) → fold triggers_with seen frames ≤ cycle → started_in cycle seen frames ≡ []
 started-before cycle seen [] few = refl
 started-before cycle seen (sent ∷ later) few =
     let up = triggers-all-up (triggers_with seen sent) later in
-    here-not cycle (triggers_with seen sent) sent _ (λ is. omega arith) ∙ started-before cycle (triggers_with seen sent) later few
+    starts-elsewhere cycle (triggers_with seen sent) sent _ (λ is. omega arith) ∙ started-before cycle (triggers_with seen sent) later few
 
 -- all behind it, up to the next one
 started-rest : (cycle : ℕ) (frames : List TimedFrame) → All (λ s. s.frame.identifier ≢ 0) frames → started_in cycle (cycle + 1) frames ≡ frames
@@ -110,20 +79,11 @@ started-next trace cycle sent later so_far trigger others =
     started-append cycle 0 trace (sent ∷ later)
     ∙ ap (λ l. l ++ started_in cycle (triggers_in trace) (sent ∷ later)) (started-before cycle 0 trace (omega arith))
     ∙ ap (λ n. started_in cycle n (sent ∷ later)) so_far
-    ∙ ap (λ n. cond (eqb n (cycle + 1)) (sent ∷ []) [] ++ started_in cycle n later) (counted-trigger cycle sent trigger)
+    ∙ ap (λ n. cond (eqb n (cycle + 1)) (sent ∷ []) [] ++ started_in cycle n later) (triggers_with-trigger cycle sent trigger)
     ∙ here cycle (cycle + 1) sent _ refl
     ∙ ap (λ l. sent ∷ l) (started-rest cycle later others)
 
 -- The rows
-
-pub rows-push : (trace : List TimedFrame) (before events : List Event) (event : Event)
-    → events_rows trace before (events ++ event ∷ []) ≡ events_rows trace before events ++ event_rows trace (before ++ events) event
-rows-push trace before [] event = append-nil (event_rows trace before event) ∙ ap (λ h. event_rows trace h event) (sym (append-nil before))
-rows-push trace before (first ∷ events) event =
-    ap (λ l. event_rows trace before first ++ l)
-    (rows-push trace (before ++ first ∷ []) events event
-    ∙ ap (λ h. events_rows trace (before ++ first ∷ []) events ++ event_rows trace h event) (append_assoc before (first ∷ []) events))
-    ∙ sym (append_assoc (event_rows trace before first) (events_rows trace (before ++ first ∷ []) events) (event_rows trace (before ++ first ∷ events) event))
 
 next-cons : (event : Event) (later : List Event) → next_of (event ∷ later) ≡ cond (is_open event) 1 0 + next_of later
 next-cons event later = sum_by-cons (λ e. cond (is_open e) 1 0) event later
@@ -137,7 +97,7 @@ event-stays rules trace sent later before (Open cycle mask) trigger right few =
     let now : cycle ≡ next_of before = right.0 in
     let same : started_in cycle 0 (trace ++ sent ∷ later) ≡ started_in cycle 0 trace =
     started-append cycle 0 trace (sent ∷ later)
-    ∙ ap (λ l. started_in cycle 0 trace ++ l) (started-later cycle (triggers_in trace) sent later trigger (omega arith))
+    ∙ ap (λ l. started_in cycle 0 trace ++ l) (started_in-later cycle (triggers_in trace) (sent ∷ later) trigger (omega arith))
     ∙ append-nil (started_in cycle 0 trace) in
     ap (λ l. open_row (record { cycle = cycle; mask = mask; placed = placed_of before }) ++ flat_map frame_row l) same
 
@@ -162,7 +122,7 @@ pub opened-rows : (rules : Rules) (trace : List TimedFrame) (sent : TimedFrame) 
 opened-rows rules trace sent later history cycle mask legal so_far now trigger others width =
     let frames : List TimedFrame = sent ∷ later in
     let started = started-next trace cycle sent later (so_far ∙ sym now) trigger others in
-    rows-push (trace ++ frames) [] history (Open cycle mask)
+    events_rows-push (trace ++ frames) [] history (Open cycle mask)
     ∙ ap (λ l. l ++ event_rows (trace ++ frames) history (Open cycle mask)) (rows-stay rules trace sent later [] history trigger legal (omega arith))
     ∙ ap (λ l. events_rows trace [] history ++ (open_row (record { cycle = cycle; mask = mask; placed = placed_of history }) ++ flat_map frame_row l)) started
     ∙ ap (λ w. events_rows trace [] history ++ (opened_row cycle mask w ++ flat_map frame_row frames)) (sym width)
@@ -170,6 +130,6 @@ opened-rows rules trace sent later history cycle mask legal so_far now trigger o
 -- a change or a look adds its own
 pub called-rows : (trace : List TimedFrame) (history : List Event) (event : Event) → is_open event ≡ false
     → events_rows trace [] (history ++ event ∷ []) ≡ events_rows trace [] history ++ rows_of_event event []
-called-rows trace history (Submit caller change from verdict trail) closed = rows-push trace [] history (Submit caller change from verdict trail)
-called-rows trace history (Look caller next) closed = rows-push trace [] history (Look caller next)
+called-rows trace history (Submit caller change from verdict trail) closed = events_rows-push trace [] history (Submit caller change from verdict trail)
+called-rows trace history (Look caller next) closed = events_rows-push trace [] history (Look caller next)
 called-rows trace history (Open cycle mask) closed = absurd (cc)

@@ -1,5 +1,5 @@
 -- What keeps a run going whose rows are put.
-use Rattle.std.proofs.Common.{◌≡◌, ◌≢◌, ℕ, ◌+◌, ◌*◌, ◌/◌, ◌%◌, ◌^◌, ◌<◌, ◌≤◌, ◌⊎◌, true, false, cond, List, [], ◌∷◌, ◌++◌, map, All, refl, sym, ap, ◌∙◌, subst, arith, inl, inr, add-zero, length, get_or, zero-add}
+use Rattle.std.proofs.Common.{◌≡◌, ◌≢◌, ℕ, ◌+◌, ◌*◌, ◌^◌, ◌<◌, ◌≤◌, ◌⊎◌, false, cond, List, [], ◌∷◌, ◌++◌, map, All, sym, ap, ◌∙◌, subst, arith, inl, inr, add-zero}
 use Rattle.std.specs.List.{range_with_len}
 use Rattle.std.proofs.lemmas.List.{append-nil}
 use Rattle.std.proofs.lemmas.List.Elements.{All-cons, All-nil, All-weaker}
@@ -19,12 +19,12 @@ use Rattle.master_core.specs.declared.event.Event.TheVariants.{Open}
 use Rattle.master_core.specs.History.{IsLegal, IsPlainlyLegal, is_open, next_of, placed_of}
 use Rattle.master_core.specs.Openings.{openings_of}
 use Rattle.master_core.specs.Orders.{IsOrder}
-use Rattle.kept_run.specs.Progress.{IsOnTheWay, IsSetting, Setting, AreReady, IsUnderWay}
+use Rattle.kept_run.specs.Progress.{IsOnTheWay, IsSetting, Setting}
 use Rattle.kept_run.proofs.Shared.{CallsBetween, CyclesRun, RanOrder, next_of-push, number-below, way-called, way-run}
-use Rattle.bus_trace.specs.EventRows.{BeginsCycle, HasItsFrames, rows_of_event, width_told_in}
-use Rattle.bus_trace.specs.Log.{events_rows}
+use Rattle.bus_trace.specs.EventRows.{BeginsCycle, rows_of_event, width_told_in}
+use Rattle.bus_trace.specs.Log.{events_rows, triggers_in}
 use Rattle.written_run.specs.declared.writing.Written.{Written}
-use Rattle.written_run.specs.Progress.{CanGo, CanPutLast, IsBroughtOn, IsGoing, triggers_in}
+use Rattle.written_run.specs.Progress.{CanGo, CanPutLast, IsBroughtOn, IsGoing}
 use Rattle.written_run.specs.Written.{KeepsFrames}
 use Rattle.written_run.proofs.EventRows.{called-rows, opened-rows, triggers-more}
 

@@ -26,14 +26,14 @@ use Rattle.input_text.specs.declared.steps.Step.{Step}
 use Rattle.input_text.specs.declared.system.System.{System}
 use Rattle.kept_run.specs.Kept.{Kept}
 use Rattle.kept_run.specs.Progress.{IsUnderWay, Setting}
-use Rattle.bus_trace.specs.Log.{end_row, event_rows, events_rows, log_text, triggers_with}
+use Rattle.bus_trace.specs.Log.{end_row, events_rows, log_text, triggers_in, triggers_with}
 use Rattle.replay_run.specs.Begun.{IsBegun}
 use Rattle.replay_run.specs.Progress.{setting_of}
 use Rattle.replay_run.specs.Run.{IsRun}
 use Rattle.kept_run.proofs.Shared.{Contains-filter}
 use Rattle.replay_run.proofs.Shared.{cut-at, started-all, started-early, started-within}
-use Rattle.written_run.specs.Progress.{triggers_in}
-use Rattle.written_run.proofs.EventRows.{counted-trigger, rows-stay, triggers-all-up}
+use Rattle.bus_trace.proofs.Shared.{events_rows-append, triggers_with-trigger}
+use Rattle.written_run.proofs.EventRows.{rows-stay, triggers-all-up}
 
 -- legal histories open the cycles from 0 on, in their order
 pub record OpensCycles : Type 0 where
@@ -97,7 +97,7 @@ counted-among : (seen : ℕ) (frames : List TimedFrame) (sent : TimedFrame) → 
     → seen + 1 ≤ fold triggers_with seen frames
 counted-among seen [] sent (k, within, is) trigger = absurd (omega arith)
 counted-among seen (x ∷ later) sent (zero, within, is) trigger =
-    let now = counted-trigger seen x (ap (λ s. s.frame.identifier) is ∙ trigger) in
+    let now = triggers_with-trigger seen x (ap (λ s. s.frame.identifier) is ∙ trigger) in
     let more = triggers-all-up (triggers_with seen x) later in
     omega arith
 counted-among seen (x ∷ later) sent (suc k, within, is) trigger =
@@ -190,15 +190,6 @@ first-behind opens positive setting whole frames trace sent later n way all earl
 
 -- Rows
 
-rows-append : (trace : List TimedFrame) (before events later : List Event)
-    → events_rows trace before (events ++ later) ≡ events_rows trace before events ++ events_rows trace (before ++ events) later
-rows-append trace before [] later = ap (λ h. events_rows trace h later) (sym (append-nil before))
-rows-append trace before (event ∷ events) later =
-    ap (λ l. event_rows trace before event ++ l)
-    (rows-append trace (before ++ event ∷ []) events later
-    ∙ ap (λ h. events_rows trace (before ++ event ∷ []) events ++ events_rows trace h later) (append_assoc before (event ∷ []) events))
-    ∙ sym (append_assoc (event_rows trace before event) (events_rows trace (before ++ event ∷ []) events) (events_rows trace (before ++ event ∷ events) later))
-
 -- frames behind the cycles that a history opens change none of its rows
 rows-kept : OpensCycles → TakesTime
     → (setting : Setting) (history whole : List Event) (trace frames later : List TimedFrame) → 0 < setting.layout.cycle
@@ -242,7 +233,7 @@ rows-begin laws system steps requests history whole trace frames is are begun ru
     let some : 0 < system.layout.cycle = omega (arith, is.layout.cycle_range.above) in
     let same = rows-kept laws.opens laws.positive setting history whole trace frames later some way all_way all_frames after in
     let rows : events_rows frames [] whole ≡ events_rows trace [] history ++ events_rows frames history events =
-    ap (events_rows frames []) all ∙ rows-append frames [] history events ∙ ap (λ l. l ++ events_rows frames history events) same in (
+    ap (events_rows frames []) all ∙ events_rows-append frames [] history events ∙ ap (λ l. l ++ events_rows frames history events) same in (
       events_rows frames history events ++ end_row (next_of whole),
       ap (λ l. l ++ end_row (next_of whole)) rows ∙ append_assoc (events_rows trace [] history) (events_rows frames history events) (end_row (next_of whole)),
     )

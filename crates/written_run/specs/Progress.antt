@@ -1,22 +1,16 @@
 -- A run between two of its steps, whose rows so far were put.
-use Rattle.std.specs.Prelude.{◌≡◌, ℕ, List, [], ◌∷◌, ◌++◌, Option, map, fold}
+use Rattle.std.specs.Prelude.{◌≡◌, ℕ, List, [], ◌∷◌, ◌++◌, Option, map}
 use Rattle.can_frame.specs.declared.data_frame.TimedFrame.{TimedFrame}
 use Rattle.master_core.specs.declared.event.Event.{Event}
-use Rattle.master_core.specs.History.{IsPlainlyLegal, next_of, placed_of}
-use Rattle.master_core.specs.Keeping.{MasterView}
-use Rattle.cycle_engine.specs.Nodes.{NodesView}
-use Rattle.kept_run.specs.Progress.{IsOnTheWay, IsSetting, IsUnderWay, Setting, AreReady}
+use Rattle.master_core.specs.History.{IsPlainlyLegal, next_of}
+use Rattle.kept_run.specs.Progress.{IsOnTheWay, IsSetting, IsUnderWay, Setting}
 use Rattle.ftt_io.specs.Puts.{Puts, PutsPrefix}
 use Rattle.bus_trace.specs.EventRows.{HasItsFrames, rows_of_event}
-use Rattle.bus_trace.specs.Log.{events_rows, triggers_with}
+use Rattle.bus_trace.specs.Log.{events_rows, triggers_in}
 use Rattle.bus_trace.specs.Logged.{IsNear}
 use Rattle.replay_run.specs.Run.{Call, call_of}
 use Rattle.written_run.specs.Written.{KeepsFrames}
 use Rattle.written_run.specs.declared.writing.Written.{Written}
-
--- the number of triggers among frames
-abbrev pub triggers_in : List TimedFrame → ℕ
-triggers_in frames = fold triggers_with 0 frames
 
 -- what a run stands on, and what the sink told when it began
 pub record Start : Type 0 where

@@ -1,6 +1,6 @@
 //! A master, nodes and a bus, step by step, and the rows of each event behind it.
 
-ghost use Rattle.std.specs.Prelude.{◌≡◌, ℕ, ◌+◌, ◌<◌, ◌≤◌, ◌++◌, ◌∷◌, []};
+ghost use Rattle.std.specs.Prelude.{◌≡◌, ◌+◌, ◌<◌, ◌≤◌, ◌++◌, ◌∷◌, []};
 ghost use Rattle.std.specs.Prelude.{List, OnOk, OnErr, IfOk, IsErrOf, is_some, map, replicate};
 ghost use Rattle.std.specs.List.{flat_map};
 ghost use Rattle.can_frame.specs.declared.data_frame.TimedFrame.{TimedFrame};
@@ -10,13 +10,11 @@ ghost use Rattle.input_text.specs.RequestsFile.{AreLegal};
 ghost use Rattle.input_text.specs.StepsFile.{AreLegalSteps, IsStep, count_of};
 ghost use Rattle.kept_run.specs.Progress.{IsSetting};
 ghost use Rattle.master_core.specs.declared.event.Event.{Event};
-ghost use Rattle.master_core.specs.declared.event.Event.TheVariants.{Open};
 ghost use Rattle.master_core.specs.History.{next_of};
-ghost use Rattle.bus_trace.specs.EventRows.{HasItsFrames};
 ghost use Rattle.replay_run.specs.Progress.{setting_of};
 ghost use Rattle.replay_run.specs.Run.{AnswersSteps, asks, call_of, calls_of, looks, opens};
-ghost use Rattle.written_run.specs.Progress.{BringsOn, CanGo, CanPutLast, CanWrite, IsCutBehind, IsCutIn};
-ghost use Rattle.written_run.specs.Progress.{IsGoing, IsWriting, KeepsWriting, PutsFrontOfLast, PutsLast, Start};
+ghost use Rattle.written_run.specs.Progress.{BringsOn, CanGo, CanPutLast, CanWrite, IsCutBehind};
+ghost use Rattle.written_run.specs.Progress.{IsGoing, KeepsWriting, PutsFrontOfLast, PutsLast};
 ghost use Rattle.written_run.specs.Written.{IsCut, IsWritten, KeepsFrames};
 
 use async_window::Request;
@@ -77,12 +75,12 @@ pub struct Written {
     pub nodes: Nodes,
 }
 
-/// No frames yet, where they are to be kept.
-fn kept_frames(alloc: Global, keeps: bool) -> Option<Vec<TimedFrame>>
-    ensures empty { KeepsFrames result [] }
+/// These frames, where they are to be kept.
+fn kept_frames(frames: Vec<TimedFrame>, keeps: bool) -> Option<Vec<TimedFrame>>
+    ensures frames { KeepsFrames result frames.items }
     ensures kept { is_some result ≡ keeps }
 {
-    if keeps { Some(Vec::new(alloc)) } else { None }
+    if keeps { Some(frames) } else { None }
 }
 
 /// Appends frames, where they are kept.
@@ -291,18 +289,11 @@ fn begin(
     ensures empty { IfOk result (λ run. run.master.history ≡ []) }
     ensures kept { IfOk result (λ run. is_some run.trace ≡ keeps) }
 {
-    beginning();
-    requests_of_owners();
-    let System {
-        layout,
-        rules,
-        owners,
-    } = system;
-    let nodes = Nodes::new(alloc, *layout, rules.nodes, owners.as_slice(), requests)?;
+    let run = replay_run::begin(alloc, system, requests)?;
     Ok(Written {
-        master: Master::new(alloc, *rules)?,
-        trace: kept_frames(alloc, keeps),
-        nodes,
+        master: run.master,
+        trace: kept_frames(run.trace, keeps),
+        nodes: run.nodes,
     })
 }
 

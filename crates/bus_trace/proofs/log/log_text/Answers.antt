@@ -11,7 +11,7 @@ use Rattle.bus_trace.proofs.log.log_text.Goals as goal
 pub loop-event-init : goal.loop-event-init
 loop-event-init c = (
   record {
-    text_is = c.new-text.ensures.items;
+    text_is = c.behind-rows.ensures.text ∙ c.new.ensures.items;
     in_range = All-nil IsLogRow;
     entries = c.new-entries.ensures.entries;
     next_is = refl;

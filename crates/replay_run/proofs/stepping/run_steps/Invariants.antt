@@ -7,9 +7,6 @@ use Rattle.replay_run.specs.Progress.{IsGoing}
 use Rattle.replay_run.specs.Run.{call_of, calls_of}
 use Rattle.replay_run.proofs.stepping.run_steps.Given as goal
 
-abbrev pub ghost-begin : goal.ghost-begin
-ghost-begin g a = g.setting
-
 abbrev pub ghost-run_step : goal.ghost-run_step
 ghost-run_step g a = g.setting
 

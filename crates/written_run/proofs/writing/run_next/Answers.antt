@@ -1,4 +1,4 @@
-use Rattle.std.proofs.Common.{sym, ap, ◌∙◌, subst, ◌++◌, ◌≡◌}
+use Rattle.std.proofs.Common.{subst, ◌++◌}
 use Rattle.written_run.proofs.Going.{its-frames, ran}
 use Rattle.written_run.specs.Written.{KeepsFrames}
 use Rattle.written_run.proofs.writing.run_next.Goals as goal
