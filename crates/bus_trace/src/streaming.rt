@@ -1,4 +1,4 @@
-//! The rows of one event, for a log that is written while the run goes on.
+//! The rows of one event: put to a sink, as of a log that is written while the run goes on, or appended to a text.
 
 ghost use Rattle.std.specs.Prelude.{◌≡◌, ◌^◌, ◌<◌, ◌≤◌, ◌++◌, All, length, map, OnOk, OnErr};
 ghost use Rattle.std.specs.List.{flat_map};
@@ -109,8 +109,8 @@ fn put_frame_rows<O: Sink>(out: &mut O, frames: &[TimedFrame]) -> Result<(), Fai
     Ok(())
 }
 
-/// Puts the rows of an event and of these frames, each by a call of its own. The synchronous window of the cycle that it
-/// opens has this length, in bit times.
+/// Puts the rows of an event and of these frames, each by a call of its own. Where the event opens a cycle, the cycle's
+/// synchronous window has this length, in bit times.
 pub fn put_rows<O: Sink>(
     out: &mut O,
     event: &Event,
@@ -119,7 +119,8 @@ pub fn put_rows<O: Sink>(
 ) -> Result<(), Failed>
     requires near { IsNear event.now }
     ensures faults_never_fall { O.faults out.old ≤ O.faults out.new }
-    ensures all { OnOk result (Puts (O.told_bytes out.old) (O.told_bytes out.new) (rows_at width event.now frames.now)) }
+    ensures all { OnOk result
+        (Puts (O.told_bytes out.old) (O.told_bytes out.new) (rows_at width event.now frames.now)) }
     ensures failed { OnErr result (Rose (O.faults out.old) (O.faults out.new)) }
     ensures prefix { OnErr result
         (PutsPrefix (O.told_bytes out.old) (O.told_bytes out.new) (rows_at width event.now frames.now)) }
