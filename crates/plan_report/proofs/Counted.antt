@@ -16,11 +16,12 @@ use Rattle.requirement_table.specs.Slots.{slots}
 use Rattle.requirement_table.specs.Table.{IsInRange, IsWellPlaced}
 use Rattle.requirement_table.proofs.Shared.{MaySend-from_instance, latest-of_sent}
 use Rattle.node_model.specs.Opening.{first_identifier}
-use Rattle.bus_trace.specs.Log.{triggers_with}
+use Rattle.bus_trace.specs.Log.{triggers_in, triggers_with}
+use Rattle.bus_trace.proofs.Shared.{triggers_with-le}
 use Rattle.plan_report.specs.Report.{Sending, delay_of, first_sendings, greatest_of, is_sent, least_of, sendings, sending_at, sent_by, sent_of}
 use Rattle.plan_report.specs.Current.{IsCurrent, IsTheOne}
 use Rattle.plan_report.specs.declared.current.Current.{Current}
-use Rattle.plan_report.specs.Tally.{AreTallies, IsLast, IsTally, is_last, tally_with, triggers_in}
+use Rattle.plan_report.specs.Tally.{AreTallies, IsLast, IsTally, is_last, tally_with}
 use Rattle.plan_report.specs.declared.tally.Tally.{Tally}
 
 -- Lists with one element more
@@ -48,13 +49,6 @@ first_sendings-push before (x ∷ xs) s =
 
 triggers-push : (frames : List TimedFrame) (sent : TimedFrame) → triggers_in (frames ++ sent ∷ []) ≡ triggers_with (triggers_in frames) sent
 triggers-push frames sent = fold-append triggers_with 0 frames (sent ∷ [])
-
-triggers-more : (seen : ℕ) (sent : TimedFrame) → seen ≤ triggers_with seen sent
-triggers-more seen sent = by (eqb sent.frame.identifier 0)
-  where
-    by : (b : Bool) → seen ≤ cond b (seen + 1) seen
-    by true = omega arith
-    by false = omega arith
 
 -- An entry
 
@@ -117,7 +111,7 @@ tally-same frames p sent tally nothing is =
       greatest = is.greatest ∙ ap (λ l. greatest_of (map (delay_of p) (first_sendings [] l))) (sym same);
       last = subst (λ l. IsLast p (triggers_in (frames ++ sent ∷ [])) l tally.last) (sym same)
           (subst (λ n. IsLast p n (sendings p 0 frames) tally.last) (sym (triggers-push frames sent))
-          (last-later p (triggers_in frames) (triggers_with (triggers_in frames) sent) (sendings p 0 frames) tally.last (triggers-more _ sent) is.last));
+          (last-later p (triggers_in frames) (triggers_with (triggers_in frames) sent) (sendings p 0 frames) tally.last (triggers_with-le _ sent) is.last));
       few = omega arith;
     }
 
@@ -140,7 +134,7 @@ module _ (frames : List TimedFrame) (p : Placed) (sent : TimedFrame) (tally : Ta
   xs = sendings p 0 frames
 
   on : triggers_in frames ≤ cycle + 1
-  on = let more = triggers-more (triggers_in frames) sent in omega arith
+  on = let more = triggers_with-le (triggers_in frames) sent in omega arith
 
   all : sendings p 0 (frames ++ sent ∷ []) ≡ xs ++ this ∷ []
   all = sendings-push p 0 frames sent ∙ ap (λ n. xs ++ sent_by p n sent) now ∙ ap (λ l. xs ++ l) sends

@@ -95,7 +95,3 @@ loaded-next placed history load more next step i event within here count adds is
           ∙ ap (λ l. is.widths ++ opened_widths placed next l) (sym rest)
           ∙ is.all;
     }
-
-pub one_or_none : (b : Bool) → cond b 1 0 ≤ 1
-one_or_none true = omega arith
-one_or_none false = omega arith

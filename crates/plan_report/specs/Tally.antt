@@ -1,17 +1,13 @@
 -- What is counted of the entries while the frames of a trace are walked: words for contracts inside the crate.
 use Rattle.std.specs.Prelude.{◌≡◌, ℕ, ◌+◌, ◌≤◌, ◌==◌, Bool, false, if◌then◌else◌, List}
-use Rattle.std.specs.Prelude.{length, map, min, max, fold, Option, Some, None, slice_get}
+use Rattle.std.specs.Prelude.{length, map, min, max, Option, Some, None, slice_get}
 use Rattle.std.specs.Option.{option_map_or}
 use Rattle.can_frame.specs.declared.data_frame.TimedFrame.{TimedFrame}
 use Rattle.requirement_table.specs.declared.entries.Placed.{Placed}
 use Rattle.requirement_table.specs.Instance.{latest}
-use Rattle.bus_trace.specs.Log.{triggers_with}
+use Rattle.bus_trace.specs.Log.{triggers_in}
 use Rattle.plan_report.specs.Report.{Sending, delay_of, greatest_of, is_sent, least_of, sendings, sent_of}
 use Rattle.plan_report.specs.declared.tally.Tally.{Tally}
-
--- the number of triggers among frames
-abbrev pub triggers_in : List TimedFrame → ℕ
-triggers_in frames = fold triggers_with 0 frames
 
 -- whether this is the last one
 abbrev pub is_last : Option ℕ → ℕ → Bool

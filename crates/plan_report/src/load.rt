@@ -4,7 +4,6 @@
 ghost use Rattle.std.specs.Prelude.{◌≡◌, ℕ, ◌+◌, ◌*◌, ◌^◌, ◌<◌, ◌≤◌, ◌++◌, ◌∷◌, [], List, if◌then◌else◌};
 ghost use Rattle.requirement_table.specs.Slots.{contains_slot, slots};
 ghost use Rattle.requirement_table.specs.Table.{IsWellPlaced, width_in, worst_in};
-ghost use Rattle.master_core.specs.History.{is_open};
 ghost use Rattle.plan_report.specs.Current.{ArePassed};
 ghost use Rattle.plan_report.specs.Opened.{load_of, opened_width, opened_widths};
 

@@ -7,9 +7,9 @@ ghost use Rattle.requirement_table.specs.Slots.{slots};
 ghost use Rattle.requirement_table.specs.Table.{IsWellPlaced};
 ghost use Rattle.requirement_table.specs.Instance.{release_of};
 ghost use Rattle.node_model.specs.Opening.{first_identifier};
-ghost use Rattle.bus_trace.specs.Log.{triggers_with};
+ghost use Rattle.bus_trace.specs.Log.{triggers_in, triggers_with};
 ghost use Rattle.plan_report.specs.Current.{ArePassed};
-ghost use Rattle.plan_report.specs.Tally.{AreTallies, triggers_in};
+ghost use Rattle.plan_report.specs.Tally.{AreTallies};
 
 use crate::current::Places;
 use crate::tally::{NOTHING, Tally};

@@ -1,7 +1,6 @@
 //! Reports that were worked out by hand, or by a program of its own.
 
-ghost use Rattle.std.specs.Prelude.{◌≡◌, ◌≤◌, ◌<◌, IfOk};
-ghost use Rattle.requirement_table.specs.Slots.{slots};
+ghost use Rattle.std.specs.Prelude.{◌≤◌, ◌<◌};
 
 use crate::report;
 use admission::Rules;

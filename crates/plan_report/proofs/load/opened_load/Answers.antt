@@ -1,6 +1,7 @@
 use Rattle.std.proofs.Common.{◌≡◌, cond, arith, rules}
 use Rattle.master_core.specs.History.{is_open}
-use Rattle.plan_report.proofs.Widths.{loaded-next, one_or_none, passed-later}
+use Rattle.bus_trace.proofs.Shared.{one_or_none}
+use Rattle.plan_report.proofs.Widths.{loaded-next, passed-later}
 use Rattle.plan_report.proofs.load.opened_load.Goals as goal
 
 pub loop-event-preserved : goal.loop-event-preserved

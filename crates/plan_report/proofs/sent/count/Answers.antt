@@ -1,6 +1,5 @@
 use Rattle.std.proofs.Common.{◌≡◌, suc, ◌-◌, sym, ◌∙◌, arith}
-use Rattle.bus_trace.specs.Log.{triggers_with}
-use Rattle.plan_report.specs.Tally.{triggers_in}
+use Rattle.bus_trace.specs.Log.{triggers_in, triggers_with}
 use Rattle.plan_report.proofs.Counted.{tallies-before, tallies-strange, tallies-none, tallies-one}
 use Rattle.plan_report.proofs.sent.count.Goals as goal
 

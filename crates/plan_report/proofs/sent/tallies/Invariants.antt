@@ -1,6 +1,7 @@
 use Rattle.std.proofs.Common.{◌≡◌, ◌≤◌, ◌-◌, take}
+use Rattle.bus_trace.specs.Log.{triggers_in}
 use Rattle.plan_report.specs.Current.{ArePassed}
-use Rattle.plan_report.specs.Tally.{AreTallies, triggers_in}
+use Rattle.plan_report.specs.Tally.{AreTallies}
 use Rattle.plan_report.proofs.sent.tallies.Given as goal
 
 abbrev pub invariant-loop-sent : goal.invariant-loop-sent
