@@ -5,8 +5,8 @@
 //! hexadecimal digits for each of 0 to 8 bytes. There are at most 50,000 rows.
 
 ghost use Rattle.std.specs.Prelude.{◌≡◌, ◌≢◌, ◌⊎◌, ◌%◌, ℕ, ◌<◌, ◌≤◌, ◌&&◌, IfOk, IfErr, IfSome};
-ghost use Rattle.std.specs.Prelude.{Err, Ok, map, nat_eq, nat_le, length, get_or, false, true};
-ghost use Rattle.std.specs.Prelude.{List, option_and_then, option_map, MatchResult};
+ghost use Rattle.std.specs.Prelude.{Err, Ok, Some, None, map, nat_eq, nat_le, length, get_or, false, true};
+ghost use Rattle.std.specs.Prelude.{◌+◌, ◌*◌, if◌then◌else◌, List, option_and_then, option_map, MatchResult};
 ghost use Rattle.std.specs.Char.{digit_value, is_ascii_hexdigit};
 ghost use Rattle.std.specs.List.{list_all, list_any};
 ghost use Rattle.csv.specs.Records.{fields_of};
@@ -90,38 +90,56 @@ fn identifier(row: &ByteRecord) -> Option<u16>
     read_identifier(field)
 }
 
-// The value of a hexadecimal digit.
-fn digit(byte: u8) -> u8
-    requires hexadecimal { is_ascii_hexdigit byte ≡ true }
-    ensures value { result ≡ digit_value byte }
-    ensures small { result < 16 }
+// The value of a byte, where it is a hexadecimal digit.
+fn digit(byte: u8) -> Option<u8>
+    ensures value { result ≡ (if is_ascii_hexdigit byte then Some (digit_value byte) else None) }
+    ensures small { IfSome result (λ value. value < 16) }
 {
     match byte {
-        b'0'..=b'9' => byte - b'0',
-        b'a'..=b'f' => byte - b'a' + 10,
-        _ => byte - b'A' + 10,
+        b'0'..=b'9' => Some(byte - b'0'),
+        b'a'..=b'f' => Some(byte - b'a' + 10),
+        b'A'..=b'F' => Some(byte - b'A' + 10),
+        _ => None,
     }
 }
 
-// The frame of an identifier and of the bytes that two hexadecimal digits each write.
-fn frame_of(id: u16, field: &[u8]) -> Frame
+// The byte that two digits write, where they are hexadecimal ones.
+fn byte_of(high: u8, low: u8) -> Option<u8>
+    ensures value { result ≡ (if is_ascii_hexdigit high && is_ascii_hexdigit low
+        then Some (16 * digit_value high + digit_value low) else None) }
+{
+    let Some(high) = digit(high) else {
+        return None;
+    };
+    let Some(low) = digit(low) else {
+        return None;
+    };
+    Some(16 * high + low)
+}
+
+// The frame of an identifier and of the bytes that two digits each write, where all are hexadecimal
+// ones.
+fn frame_of(id: u16, field: &[u8]) -> Option<Frame>
     requires identifier { id ≤ 0x7EF }
     requires few { length field.now ≤ 16 }
     requires even { length field.now % 2 ≡ 0 }
-    requires hexadecimal { list_all is_ascii_hexdigit field.now ≡ true }
-    ensures value { result ≡ frame_with id (bytes_written field.now) }
-    ensures legal { IsFrame result }
+    ensures value { result ≡ option_map (frame_with id)
+        (if list_all is_ascii_hexdigit field.now then Some (bytes_written field.now) else None) }
+    ensures legal { IfSome result IsFrame }
 {
     let mut bytes = [0; MAX_BYTES];
     let mut count = 0;
     let mut left = field;
     while let [high, low, rest @ ..] = left {
-        bytes[count] = 16 * digit(*high) + digit(*low);
+        let Some(byte) = byte_of(*high, *low) else {
+            return None;
+        };
+        bytes[count] = byte;
         count += 1;
         left = rest;
     }
     match Frame::new(id, &bytes[..count]) {
-        Ok(frame) => frame,
+        Ok(frame) => Some(frame),
         Err(_) => unreachable!(),
     }
 }
@@ -133,10 +151,10 @@ fn read_frame(row: &ByteRecord, id: u16) -> Option<Frame>
     ensures legal { IfSome result IsFrame }
 {
     let field = field_of(row, 2)?;
-    if field.len() > 16 || field.len() % 2 != 0 || !all_hexadecimal(field) {
+    if field.len() > 16 || field.len() % 2 != 0 {
         return None;
     }
-    Some(frame_of(id, field))
+    frame_of(id, field)
 }
 
 // A table of so many places in which nothing stands.
