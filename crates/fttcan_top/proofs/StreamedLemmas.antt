@@ -1,5 +1,5 @@
 -- What is told of a log that was written while its run went on.
-use Rattle.std.proofs.Common.{◌≡◌, ℕ, Bool, List, [], ◌++◌, ◌⊎◌, Option, None, refl, sym, ap, ◌∙◌, subst, inl, inr}
+use Rattle.std.proofs.Common.{◌≡◌, ℕ, Bool, List, [], ◌++◌, ◌⊎◌, Option, None, refl, sym, subst, inl, inr}
 use Rattle.can_frame.specs.declared.TimedFrame.{TimedFrame}
 use Rattle.async_window.specs.declared.request.Owner.{Owner}
 use Rattle.async_window.specs.declared.request.Request.{Request}
@@ -14,10 +14,10 @@ use Rattle.master_core.specs.declared.event.Event.{Event}
 use Rattle.bus_trace.specs.Log.{events_rows, log_text}
 use Rattle.replay_run.specs.Begun.{IsBegun}
 use Rattle.replay_run.specs.Run.{IsRun}
-use Rattle.written_run.specs.Written.{IsCut, IsCutInLog, IsCutShort, IsWritten}
+use Rattle.written_run.specs.Written.{IsCut, IsWritten}
 use Rattle.written_run.specs.declared.writing.Written.{Written}
 use Rattle.fttcan_top.specs.declared.status.Status.{Status}
-use Rattle.fttcan_top.specs.Output.{IsLog, IsOutput, Job, Tells, TellsBegun, TellsFront, log_of, report_if, status_of}
+use Rattle.fttcan_top.specs.Output.{IsLog, Job, Tells, TellsBegun, TellsFront, log_of, report_if, status_of}
 use Rattle.fttcan_top.specs.Streamed.{PutsReport, PutsReportFront}
 
 -- the rows of a run of the first calls begin the log of every run of all calls

@@ -1,8 +1,7 @@
 -- What clap's getters read, by the rows of its matches.
-use Rattle.std.proofs.Common.{◌≡◌, ◌∙◌, ◌<◌, ◌^◌, ◌&&◌, ℕ, Bool, true, false, refl, sym, ap, arith, List, [], ◌∷◌, length, codes, Option, Some, None, Result, Ok, Err, nat_lt, lt-ltb, ltb-true, inl, inr, unwrap_or}
+use Rattle.std.proofs.Common.{◌≡◌, ◌<◌, ◌^◌, ℕ, Bool, true, false, refl, sym, ap, List, [], ◌∷◌, length, codes, Option, Some, None, Result, Ok, Err, nat_lt, lt-ltb, ltb-true, unwrap_or}
 use Rattle.std.specs.Option.{option_map_or}
 use Rattle.std.specs.Prelude.{option_and_then}
-use Rattle.std.specs.Prelude.{if◌then◌else◌}
 use Rattle.std.specs.List.{list_all}
 use Rattle.std.specs.Char.{digit_value}
 use Rattle.std.specs.Str.{bytes_eq}

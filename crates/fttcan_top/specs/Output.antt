@@ -56,7 +56,7 @@ pub record Job : Type 0 where
   pub requests : List Request
 
 -- what is asked for: the log of a run or so many of its last rows, and the report behind it or not; the plan of the
--- table behind a run; the check of a plan; the summary of the run of the input that a number makes; or the log of a run
+-- table behind the steps; the check of a plan; the summary of the run of the input that a number makes; or the log of a run
 -- by threads, and the report behind it or not
 pub data Asked : Type 0 where
   log_of : Job → Option ℕ → Bool → Asked

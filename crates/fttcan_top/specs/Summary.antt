@@ -1,6 +1,6 @@
 -- *Summary*: the counts of a run, as the text that `gen` writes. Each row ends with one line feed; numbers are decimal
 -- without leading zeros.
-use Rattle.std.specs.Prelude.{ℕ, ◌-◌, ◌&&◌, Bool, false, not, List, ◌++◌, length, codes, count_by, nat_le, nat_lt}
+use Rattle.std.specs.Prelude.{ℕ, ◌-◌, ◌&&◌, Bool, false, not, List, ◌++◌, codes, count_by, nat_le, nat_lt}
 use Rattle.std.specs.List.{sum_by}
 use Rattle.std.specs.Fmt.{decimal}
 use Rattle.can_frame.specs.declared.data_frame.TimedFrame.{TimedFrame}

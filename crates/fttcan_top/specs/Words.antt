@@ -9,7 +9,6 @@ use Rattle.clap.specs.ValueTests.{is_numeral}
 use Rattle.clap.specs.Walk.{is_empty, one_of, first_of}
 use Rattle.clap.specs.Words.{App, Row, Rule, Text, fault_of, matches_of, new_app, new_rule, with_rule}
 use Rattle.clap.specs.declared.builder.action.ArgAction.TheVariants.{SetTrue}
-use Rattle.clap.specs.declared.builder.value_parser.ValueParser.{ValueParser}
 use Rattle.clap.specs.declared.builder.value_parser.ValueParser.TheVariants.{Signed}
 
 -- What is asked

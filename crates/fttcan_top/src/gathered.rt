@@ -11,15 +11,15 @@ use crate::stop::say;
 use ftt_io::{Sink, StdSink};
 use std::io::{BufWriter, Write};
 
-/// Writes the rest of a gathered log, behind [`plain`](crate::plain), and answers how the call ends: with the status of
-/// `plain`, or with [`Status::Write`] where a run was done and its log could not be written to the end. That is told to
-/// `err`.
+/// Writes the rest of a gathered output, behind [`plain`](crate::plain) or [`live`](crate::live), and answers how the
+/// call ends: with the status that it had there, or with [`Status::Write`] where something was done and its output
+/// could not be written to the end. That is told to `err`.
 pub fn flushed<W: Write + Drop, R: Sink>(
     status: Status,
     out: &mut StdSink<BufWriter<W>>,
     err: &mut R,
 ) -> Status
-    // How it ended; where a run was done nothing of its log is held back.
+    // How it ended; where something was done nothing of its output is held back.
     ensures status { (result ≡ status)
         ⊎ (IsDone status × (result ≡ Status.Write) × Rose out.old.faults out.new.faults) }
     ensures written { IsDone result → writer_buffer out.new.writer ≡ [] }

@@ -1,6 +1,6 @@
 //! What is asked for, from the bytes of the files that the words name.
 
-ghost use Rattle.std.specs.Prelude.{◌≡◌, ◌+◌, ◌≤◌, ◌⊎◌, IfOk, IfErr, IsErrOf, IsSome, Ok, Err, Some, None, option_map};
+ghost use Rattle.std.specs.Prelude.{◌≡◌, ◌+◌, ◌≤◌, ◌⊎◌, IfOk, IfErr, IsSome, Ok, Err, Some, None, option_map};
 ghost use Rattle.std.specs.Option.{ForSome};
 ghost use Rattle.ftt_io.specs.Counts.{next_count, Rose};
 ghost use Rattle.input_text.specs.SystemFile.{IsSystem};

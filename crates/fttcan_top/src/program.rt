@@ -86,8 +86,8 @@ fn call<S: Shelf, O: Sink>(
 /// - `replay SYSTEM STEPS` runs the steps of a file in the system of another and writes the log to `out`, and `replay
 ///   SYSTEM STEPS REQUESTS` with the requests of a third; with `--tail N`, from 1 to 10,000, only the last N rows of
 ///   the log, and with `--report` the report behind it.
-/// - `admit SYSTEM STEPS` runs them without requests, and writes the plan of the table that stands then, from cycle 0
-///   on.
+/// - `admit SYSTEM STEPS` has a master answer the steps, with no bus, and writes the plan of the table that stands
+///   then, from cycle 0 on.
 /// - `check SYSTEM STEPS PLAN` checks such a plan against the changes of the steps, and writes `yes` or the first
 ///   breach.
 /// - `gen NUMBER` makes an input from a number of 0 to 4,294,967,295, runs it and writes a summary; it reads no file.

@@ -1,6 +1,6 @@
 //! The log of a run, written while the run goes on, and the report behind it.
 
-ghost use Rattle.std.specs.Prelude.{◌≡◌, ◌≤◌, ◌⊎◌, None, IfOk, IsErrOf, OnErr, OnOk, is_some};
+ghost use Rattle.std.specs.Prelude.{◌≤◌, ◌⊎◌, None, IfOk, IsErrOf, OnErr, OnOk};
 ghost use Rattle.ftt_io.specs.Counts.{Rose};
 ghost use Rattle.fttcan_top.specs.Loads.{IsJob, job_of};
 ghost use Rattle.fttcan_top.specs.Output.{IsDone, Tells, TellsBegun, TellsFront, log_of};

@@ -1,7 +1,7 @@
 //! The words of a call, which say what is asked.
 
 ghost use Rattle.std.specs.Prelude.{◌≡◌, ◌⊎◌, codes, unwrap_or, [], Some, true, IfOk, IfErr, map, option_map, string_bytes};
-ghost use Rattle.clap.specs.Words.{fault_of, app_of, first_of, found_of, is_simple_and_free, matches_of, rows_of, App, Row};
+ghost use Rattle.clap.specs.Words.{fault_of, app_of, first_of, found_of, is_simple_and_free, matches_of, rows_of};
 ghost use Rattle.fttcan_top.specs.Loads.{ExplainsWords};
 ghost use Rattle.fttcan_top.specs.Words.{admit_app, admit_meant, check_app, check_meant, command_of, generate_app, generate_meant, is_set, live_app, live_of, number_of, replay_app, replay_meant, run_meant, taken_by, word_of};
 ghost use Rattle.fttcan_top.specs.WordsRead.{run_read, command_read};

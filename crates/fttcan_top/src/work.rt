@@ -52,7 +52,8 @@ pub fn status_of(history: &[Event]) -> Status
     Status::Done
 }
 
-/// The text, or so many of its last rows.
+/// The text, or so many of its last rows. No command asks here for the whole log, which is written while the run goes
+/// on.
 fn tail_of(alloc: Global, text: Vec<u8>, tail: Option<u16>) -> Result<Vec<u8>, AllocError>
     ensures rows { IfOk result (λ kept. kept.items ≡ last_rows tail text.items) }
 {

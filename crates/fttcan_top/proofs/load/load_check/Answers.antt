@@ -1,4 +1,4 @@
-use Rattle.std.proofs.Common.{sym, ◌∙◌, subst, None, Some, Ok, refl}
+use Rattle.std.proofs.Common.{sym, ◌∙◌, subst, Ok, refl}
 use Rattle.fttcan_top.specs.Loads.{job_of}
 use Rattle.fttcan_top.specs.Output.{IsCheckOf, check_of}
 use Rattle.fttcan_top.proofs.load.load_check.Goals as goal
