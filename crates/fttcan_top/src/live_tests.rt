@@ -35,8 +35,8 @@ const LATE_CHANGE: &str = "look,1\nadd,1,100,0,0,0,0,1,1,0\ncycle,4\n";
 const LOG_AND_REPORT: &str = "\
 open,0,0000000000,0
 frame,0,127,000,0000000000000000
-frame,200,51,200,
-frame,251,50,201,
+frame,170,51,200,
+frame,221,50,201,
 end,1
 async,200,1,0
 async,201,1,0
@@ -161,7 +161,7 @@ fn change_while_cycle_open(rt: HostRuntime) -> Result<(), Fail> {
 /// Where no operator has a row there is one log.
 #[test]
 fn the_log_and_the_report_are_written(rt: HostRuntime) -> Result<(), Fail> {
-    let requests = "200,513,\n200,512,\n";
+    let requests = "170,513,\n170,512,\n";
     let texts = [TWO_OWNERS, "cycle,1\n", requests];
     let words = "live system steps requests --report";
     let answer = call(&rt, rt.alloc(), words, texts, &OpenGate)?;

@@ -169,9 +169,9 @@ fn each_command_writes_its_answer(rt: HostRuntime) -> Result<(), Fail> {
     let alloc = rt.alloc();
     let refused = "add,1,0,0,0,8,0,1,1,0\nadd,1,0,1,0,0,0,1,1,0\n";
     let refused_log = "submit,1,0,accepted,0,1\nsubmit,1,0,miss,1,0,0\nplan,0,0000000001\nend,0\n";
-    let requests = "200,513,\n200,512,\n";
+    let requests = "170,513,\n170,512,\n";
     let requests_log =
-        "open,0,0000000000,0\nframe,0,127,000,0000000000000000\nframe,200,51,200,\nframe,251,50,201,\nend,1\n";
+        "open,0,0000000000,0\nframe,0,127,000,0000000000000000\nframe,170,51,200,\nframe,221,50,201,\nend,1\n";
     let broken = "fttcan plan 1\nfrom 0\npending 0000000000\nfirst 0\nlength 1\n0000000003\nend\n";
     for (words, texts, status, answered) in [
         (
@@ -196,7 +196,7 @@ fn each_command_writes_its_answer(rt: HostRuntime) -> Result<(), Fail> {
             "replay --tail 2 system steps requests",
             [TWO_OWNERS, "cycle,1\n", requests],
             Status::Done,
-            "frame,251,50,201,\nend,1\n",
+            "frame,221,50,201,\nend,1\n",
         ),
         (
             "replay system steps --tail=10000",
@@ -368,7 +368,7 @@ fn plans_outside_their_format_are_refused(rt: HostRuntime) -> Result<(), Fail> {
 }
 
 #[test]
-fn files_that_are_not_read_are_named(rt: HostRuntime) -> Result<(), Fail> {
+fn a_file_that_is_not_read_is_a_read_fault(rt: HostRuntime) -> Result<(), Fail> {
     let alloc = rt.alloc();
     for name in ["absent", "-"] {
         let shelf = shelf(alloc, TWO_NODES, "cycle,1\n", Vec::new(alloc))?;
