@@ -65,7 +65,7 @@ impl Window {
         self.closed <= at + u64::from(bound(0))
     }
 
-    /// The last time at which a frame of so many data bytes may start, where it ends before the synchronous window at all.
+    /// The last time at which a frame of so many data bytes may start, where it ends before the synchronous window.
     pub fn last(&self, bytes: u8) -> u64
         requires bytes { bytes ≤ 8 }
         ensures last { result ≡ self.now.closed - worst bytes }

@@ -167,7 +167,7 @@ fn changes_ahead(rt: HostRuntime) -> Result<(), Fail> {
 
 const CYCLES: &str = "open,0,0000000000,0
 frame,0,127,000,0000000000000000
-frame,200,51,200,
+frame,170,51,200,
 submit,1,1,passed,0,1
 submit,1,1,accepted,1,1
 look,2,1
@@ -188,7 +188,7 @@ fn opened_cycles(rt: HostRuntime) -> Result<(), Fail> {
     open(alloc, &mut master)?;
     let trace = [
         sent(0, 127, 0, &[0; 8])?,
-        sent(200, 51, 0x200, &[])?,
+        sent(170, 51, 0x200, &[])?,
         sent(1000, 126, 0, &[1, 0, 0x37, 1, 0, 0, 0, 0])?,
         sent(1945, 51, 0x100, &[])?,
     ];
@@ -245,7 +245,7 @@ fn faulty_row(alloc: Global, text: &str) -> Result<u64, AllocError> {
     }
 }
 
-// Texts behind a first row that has a form, each up to a bar: the second row has none.
+/// Texts behind a first row that has a form, each up to a bar: the second row has none.
 const FAULTY: &str =
     "look,1,|look,1,2|\n|look,1,2,\n|look,1,2,3\n|look,01,2\n|look,1,18446744073709551616\n|look,+1,2\n|\
 \"look\",1,2\n| look,1,2\n|look,1,2 \n|look,1,2\r\n|look,256,2\n|look,,2\n|Look,1,2\n|look\n|\

@@ -17,7 +17,7 @@ use crate::slots::Table;
 use requirement_table::{Entry, Mask, Placed};
 use std::alloc::Global;
 
-// The slots whose live entries the operations end.
+/// The slots whose live entries the operations end.
 fn ended_slots(ops: &[Op]) -> Mask
     requires { All (λ op. slot_of op < slots) ops.now }
     ensures { (slot : ℕ) → contains_slot result slot ≡ list_any (ends slot) ops.now }
@@ -29,7 +29,7 @@ fn ended_slots(ops: &[Op]) -> Mask
     ended
 }
 
-// The set with the slot in it whose live entry the operation ends.
+/// The set with the slot in it whose live entry the operation ends.
 fn with_ended(ended: Mask, op: &Op) -> Mask
     requires { slot_of op.now < slots }
     ensures { (slot : ℕ) → contains_slot result slot ≡ (ends slot op.now || contains_slot ended slot) }
@@ -41,7 +41,7 @@ fn with_ended(ended: Mask, op: &Op) -> Mask
     }
 }
 
-// A placed entry after operations at `start` that end the live entries of these slots.
+/// A placed entry after operations at `start` that end the live entries of these slots.
 fn after(p: &Placed, ended: Mask, start: u64) -> Placed
     requires { p.now.entry.slot < slots }
     ensures { result ≡ (if is_none p.now.end && contains_slot ended p.now.entry.slot
@@ -57,7 +57,7 @@ fn after(p: &Placed, ended: Mask, start: u64) -> Placed
     }
 }
 
-// The placed entries with the ends that the operations set.
+/// The placed entries with the ends that the operations set.
 fn with_ends(
     alloc: Global,
     placed: &[Placed],
@@ -77,7 +77,7 @@ fn with_ends(
     Ok(list)
 }
 
-// The entry with this origin and no end.
+/// The entry with this origin and no end.
 fn live(entry: Entry, origin: u64) -> Placed
     ensures placed { result ≡ record { entry = entry; origin = origin; end = None } }
     ensures types { IsTyped entry }
@@ -89,7 +89,7 @@ fn live(entry: Entry, origin: u64) -> Placed
     }
 }
 
-// The origin of the entry that follows the live entry of the slot, which ends at `start`.
+/// The origin of the entry that follows the live entry of the slot, which ends at `start`.
 fn origin_behind(table: &Table, start: u64, slot: u8) -> u64
     requires slot { slot < slots }
     requires start { start < 2 ^ 40 }
@@ -104,7 +104,7 @@ fn origin_behind(table: &Table, start: u64, slot: u8) -> u64
     }
 }
 
-// The entry that an operation places.
+/// The entry that an operation places.
 fn placed_by(table: &Table, start: u64, op: &Op) -> Option<Placed>
     requires slot { slot_of op.now < slots }
     requires start { start < 2 ^ 40 }
@@ -118,7 +118,7 @@ fn placed_by(table: &Table, start: u64, op: &Op) -> Option<Placed>
     }
 }
 
-// Puts the placed entry behind the list, where there is one.
+/// Puts the placed entry behind the list, where there is one.
 fn put(list: &mut Vec<Placed>, p: Option<Placed>) -> Result<(), ApplyFault>
     ensures list { OnOk result (list.new.items ≡ list.old.items ++ cons_option p []) }
     ensures fault { IfErr result (λ fault. fault ≡ Memory) }
@@ -129,7 +129,7 @@ fn put(list: &mut Vec<Placed>, p: Option<Placed>) -> Result<(), ApplyFault>
     Ok(())
 }
 
-// Puts the entries behind the list that the operations place.
+/// Puts the entries behind the list that the operations place.
 fn place(list: &mut Vec<Placed>, table: &Table, start: u64, ops: &[Op]) -> Result<(), ApplyFault>
     requires slots { All (λ op. slot_of op < slots) ops.now }
     requires start { start < 2 ^ 40 }

@@ -25,7 +25,7 @@ const STARTS: u64 = 1 << 40;
 /// The greatest number of data bytes of a frame.
 const LONGEST: u8 = 8;
 
-// That the rule is not broken.
+/// That the rule is not broken.
 fn unless(broken: bool, why: Why) -> Result<(), Why>
     ensures ok { OnOk result (where_holds broken why ≡ []) }
     ensures fault { IfErr result (IsFirst (where_holds broken why)) }
@@ -33,7 +33,7 @@ fn unless(broken: bool, why: Why) -> Result<(), Why>
     if broken { Err(why) } else { Ok(()) }
 }
 
-// There is an operation.
+/// There is an operation.
 fn no_ops(ops: &[Op]) -> Result<(), Why>
     ensures ok { OnOk result (no_ops ops.now ≡ []) }
     ensures fault { IfErr result (IsFirst (no_ops ops.now)) }
@@ -41,7 +41,7 @@ fn no_ops(ops: &[Op]) -> Result<(), Why>
     unless(ops.is_empty(), Why::NoOps)
 }
 
-// There are at most 16 operations.
+/// There are at most 16 operations.
 fn too_many_ops(ops: &[Op]) -> Result<(), Why>
     ensures ok { OnOk result (too_many_ops ops.now ≡ []) }
     ensures fault { IfErr result (IsFirst (too_many_ops ops.now)) }
@@ -49,7 +49,7 @@ fn too_many_ops(ops: &[Op]) -> Result<(), Why>
     unless(ops.len() > MOST_OPS, Why::TooManyOps)
 }
 
-// The start is below 2^40.
+/// The start is below 2^40.
 fn start_range(start: u64) -> Result<(), Why>
     ensures ok { OnOk result (start_range start ≡ []) }
     ensures fault { IfErr result (IsFirst (start_range start)) }
@@ -57,7 +57,7 @@ fn start_range(start: u64) -> Result<(), Why>
     unless(start >= STARTS, Why::StartRange)
 }
 
-// The same answer as the fault of a change at this operation.
+/// The same answer as the fault of a change at this operation.
 fn at(place: u8, kept: Result<(), Why>) -> Result<(), ApplyFault>
     ensures ok { (whys : List Why) → OnOk kept (whys ≡ []) → OnOk result (map (broken place) whys ≡ []) }
     ensures fault { (whys : List Why) → IfErr kept (IsFirst whys)
@@ -69,7 +69,7 @@ fn at(place: u8, kept: Result<(), Why>) -> Result<(), ApplyFault>
     }
 }
 
-// The rules of the whole change.
+/// The rules of the whole change.
 pub fn check_change(start: u64, ops: &[Op]) -> Result<(), ApplyFault>
     ensures ok { OnOk result (change_faults start ops.now ≡ []) }
     ensures few { OnOk result (length ops.now < 17) }
@@ -80,7 +80,7 @@ pub fn check_change(start: u64, ops: &[Op]) -> Result<(), ApplyFault>
     at(0, start_range(start))
 }
 
-// The slot is at most 39.
+/// The slot is at most 39.
 fn slot_range(op: &Op) -> Result<(), Why>
     ensures ok { OnOk result (slot_range op.now ≡ []) }
     ensures fault { IfErr result (IsFirst (slot_range op.now)) }
@@ -88,7 +88,7 @@ fn slot_range(op: &Op) -> Result<(), Why>
     unless(op.slot() >= SLOTS, Why::SlotRange)
 }
 
-// No earlier operation has the slot.
+/// No earlier operation has the slot.
 fn slot_twice(earlier: &[Op], op: &Op) -> Result<(), Why>
     ensures ok { OnOk result (slot_twice earlier.now op.now ≡ []) }
     ensures fault { IfErr result (IsFirst (slot_twice earlier.now op.now)) }
@@ -96,14 +96,14 @@ fn slot_twice(earlier: &[Op], op: &Op) -> Result<(), Why>
     unless(has_slot(earlier, op.slot()), Why::SlotTwice)
 }
 
-// Whether one of the operations has the slot.
+/// Whether one of the operations has the slot.
 fn has_slot(ops: &[Op], slot: u8) -> bool
     ensures { result ≡ list_any (λ other. nat_eq (slot_of other) slot) ops.now }
 {
     ops.iter().any(|other| other.slot() == slot)
 }
 
-// The node is below the number of nodes.
+/// The node is below the number of nodes.
 fn node_unknown(nodes: u8, op: &Op) -> Result<(), Why>
     ensures ok { OnOk result (node_unknown nodes op.now ≡ []) }
     ensures fault { IfErr result (IsFirst (node_unknown nodes op.now)) }
@@ -114,7 +114,7 @@ fn node_unknown(nodes: u8, op: &Op) -> Result<(), Why>
     }
 }
 
-// The length is at most 8.
+/// The length is at most 8.
 fn length_range(op: &Op) -> Result<(), Why>
     ensures ok { OnOk result (length_range op.now ≡ []) }
     ensures fault { IfErr result (IsFirst (length_range op.now)) }
@@ -125,7 +125,7 @@ fn length_range(op: &Op) -> Result<(), Why>
     }
 }
 
-// The period is not 0.
+/// The period is not 0.
 fn period_zero(op: &Op) -> Result<(), Why>
     ensures ok { OnOk result (period_zero op.now ≡ []) }
     ensures fault { IfErr result (IsFirst (period_zero op.now)) }
@@ -136,7 +136,7 @@ fn period_zero(op: &Op) -> Result<(), Why>
     }
 }
 
-// The deadline is 1 to the period.
+/// The deadline is 1 to the period.
 fn deadline_range(op: &Op) -> Result<(), Why>
     ensures ok { OnOk result (deadline_range op.now ≡ []) }
     ensures fault { IfErr result (IsFirst (deadline_range op.now)) }
@@ -150,7 +150,7 @@ fn deadline_range(op: &Op) -> Result<(), Why>
     }
 }
 
-// For an added entry: no entry of the slot is live, and all are free at the start.
+/// For an added entry: no entry of the slot is live, and all are free at the start.
 fn add_busy(table: &Table, start: u64, slot: u8) -> Result<(), Why>
     requires { slot < slots }
     ensures ok { OnOk result (add_busy table.now.placed.now start slot ≡ []) }
@@ -168,7 +168,7 @@ fn add_busy(table: &Table, start: u64, slot: u8) -> Result<(), Why>
     }
 }
 
-// For a removal or a change: the slot's live entry begins at or before the start, where there is one.
+/// For a removal or a change: the slot's live entry begins at or before the start, where there is one.
 fn end_busy(table: &Table, start: u64, slot: u8) -> Result<(), Why>
     requires { slot < slots }
     ensures ok { OnOk result (end_busy table.now.placed.now start slot ≡ []) }
@@ -185,7 +185,7 @@ fn end_busy(table: &Table, start: u64, slot: u8) -> Result<(), Why>
     }
 }
 
-// The slot is not in use at the start.
+/// The slot is not in use at the start.
 fn slot_busy(table: &Table, start: u64, op: &Op) -> Result<(), Why>
     requires { slot_of op.now < slots }
     ensures ok { OnOk result (slot_busy table.now.placed.now start op.now ≡ []) }
@@ -198,7 +198,7 @@ fn slot_busy(table: &Table, start: u64, op: &Op) -> Result<(), Why>
     }
 }
 
-// The slot has a live entry that can be ended.
+/// The slot has a live entry that can be ended.
 fn slot_empty(table: &Table, op: &Op) -> Result<(), Why>
     requires { slot_of op.now < slots }
     ensures ok { OnOk result (slot_empty table.now.placed.now op.now ≡ []) }
@@ -211,7 +211,7 @@ fn slot_empty(table: &Table, op: &Op) -> Result<(), Why>
     }
 }
 
-// The rules of one operation; `earlier` are the operations of the change before it.
+/// The rules of one operation; `earlier` are the operations of the change before it.
 fn check_operation(table: &Table, nodes: u8, start: u64, earlier: &[Op], op: &Op) -> Result<(), Why>
     ensures ok { OnOk result (whys table.now.placed.now nodes start earlier.now op.now ≡ []) }
     ensures fault { IfErr result (IsFirst (whys table.now.placed.now nodes start earlier.now op.now)) }
@@ -226,7 +226,7 @@ fn check_operation(table: &Table, nodes: u8, start: u64, earlier: &[Op], op: &Op
     slot_empty(table, op)
 }
 
-// The rules of all operations.
+/// The rules of all operations.
 pub fn check_operations(table: &Table, nodes: u8, start: u64, ops: &[Op]) -> Result<(), ApplyFault>
     requires { length ops.now < 17 }
     ensures ok { OnOk result (op_faults table.now.placed.now nodes start [] ops.now ≡ []) }

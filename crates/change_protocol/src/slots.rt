@@ -8,7 +8,7 @@ ghost use Rattle.change_protocol.specs.Slots.{AreUses, use_after, use_of};
 
 use requirement_table::{Placed, SLOTS};
 
-// What the placed entries make of a slot.
+/// What the placed entries make of a slot.
 #[derive(Clone, Copy)]
 pub struct SlotUse {
     // The slot's live entry.
@@ -19,7 +19,7 @@ pub struct SlotUse {
 }
 
 impl SlotUse {
-    // The slot after one entry of it more.
+    /// The slot after one entry of it more.
     fn after(self, p: &Placed) -> SlotUse
         requires { IsInRange p.now }
         ensures { result ≡ use_after p.now self }
@@ -37,7 +37,7 @@ impl SlotUse {
     }
 }
 
-// The placed entries, and what they make of each slot.
+/// The placed entries, and what they make of each slot.
 #[derive(Drop)]
 pub struct Table<'a> {
     pub placed: &'a [Placed],
@@ -47,7 +47,7 @@ pub struct Table<'a> {
 }
 
 impl<'a> Table<'a> {
-    // The table of these placed entries.
+    /// The table of these placed entries.
     pub fn of(placed: &'a [Placed]) -> Table<'a>
         requires { IsWellPlaced placed.now }
         ensures { result.placed.now ≡ placed.now }
@@ -64,7 +64,7 @@ impl<'a> Table<'a> {
         Table { placed, uses }
     }
 
-    // What the placed entries make of this slot.
+    /// What the placed entries make of this slot.
     pub fn slot(&self, slot: u8) -> SlotUse
         requires { slot < slots }
         ensures held { result ≡ use_of self.now.placed.now slot }

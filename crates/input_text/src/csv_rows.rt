@@ -30,7 +30,7 @@ pub fn read_next(reader: &mut Reader<&[u8]>, row: &mut ByteRecord) -> Result<boo
     }
 }
 
-// The field without the spaces at its start.
+/// The field without the spaces at its start.
 fn drop_leading_spaces(mut field: &[u8]) -> &[u8]
     ensures value { result.now ≡ without_leading_spaces field.now }
 {
@@ -40,7 +40,7 @@ fn drop_leading_spaces(mut field: &[u8]) -> &[u8]
     field
 }
 
-// The field without the spaces at its end.
+/// The field without the spaces at its end.
 fn drop_trailing_spaces(mut field: &[u8]) -> &[u8]
     ensures value { result.now ≡ reverse (without_leading_spaces (reverse field.now)) }
 {
@@ -50,15 +50,15 @@ fn drop_trailing_spaces(mut field: &[u8]) -> &[u8]
     field
 }
 
-// The field without the spaces at both ends.
+/// The field without the spaces at both ends.
 fn trim(field: &[u8]) -> &[u8]
     ensures value { result.now ≡ trimmed field.now }
 {
     drop_trailing_spaces(drop_leading_spaces(field))
 }
 
-// The number with one more decimal digit behind it, where the byte is one and the number fits its
-// type.
+/// The number with one more decimal digit behind it, where the byte is one and the number fits its
+/// type.
 fn with_digit(number: u64, byte: u8) -> Option<u64>
     ensures value { result
         ≡ (if is_ascii_digit byte then within 0 (2 ^ 64 - 1) (number * 10 + digit_value byte) else None) }

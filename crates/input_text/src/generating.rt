@@ -37,44 +37,44 @@ pub struct Generated {
     pub requests: RequestList,
 }
 
-// The multiplier of the generator.
+/// The multiplier of the generator.
 const MULTIPLIER: u64 = 6_364_136_223_846_793_005;
 
-// What the generator adds.
+/// What the generator adds.
 const INCREMENT: u64 = 1_442_695_040_888_963_407;
 
-// The lowest bits of a state, which no draw shows.
+/// The lowest bits of a state, which no draw shows.
 const HIDDEN_BITS: u32 = 33;
 
-// How many nodes there are.
+/// How many nodes there are.
 const NODES: u8 = 8;
 
-// The largest synchronous window, in bit times.
+/// The largest synchronous window, in bit times.
 const WINDOW: u32 = 810;
 
-// How many asynchronous identifiers have owners, from the least one on.
+/// How many asynchronous identifiers have owners, from the least one on.
 const IDS: u8 = 32;
 
-// How many slots are asked for, from 0 on.
+/// How many slots are asked for, from 0 on.
 const SLOTS: u8 = 40;
 
-// The periods from which one is drawn, in elementary cycles.
+/// The periods from which one is drawn, in elementary cycles.
 const PERIODS: [u16; 8] = [2, 3, 4, 5, 6, 8, 10, 12];
 
-// How many elementary cycles run.
+/// How many elementary cycles run.
 const CYCLES: u64 = 5_000;
 
-// How many requests there are.
+/// How many requests there are.
 const REQUESTS: usize = 20_000;
 
-// The generator, by its state.
+/// The generator, by its state.
 #[derive(Clone, Copy)]
 struct Draws {
     state: u64,
 }
 
 impl Draws {
-    // One that starts at this number.
+    /// One that starts at this number.
     fn new(number: u32) -> Draws
         ensures state { result.state ≡ number }
     {
@@ -83,7 +83,7 @@ impl Draws {
         }
     }
 
-    // The next draw.
+    /// The next draw.
     #[tactic(auto, using(crate::proofs::GeneratorDraws::one_after, crate::proofs::GeneratorDraws::one_drawn))]
     fn next(&mut self) -> u64
         ensures value { result ≡ draw self.old.state 1 }
@@ -93,7 +93,7 @@ impl Draws {
         self.state >> HIDDEN_BITS
     }
 
-    // The next draw modulo this.
+    /// The next draw modulo this.
     fn below(&mut self, end: u64) -> u64
         requires some { 1 ≤ end }
         ensures value { result ≡ draw self.old.state 1 % end }
@@ -103,7 +103,7 @@ impl Draws {
         self.next() % end
     }
 
-    // An entry of this slot, of six draws.
+    /// An entry of this slot, of six draws.
     #[tactic(auto, unfolding(crate::specs::Generator::entry_made), using(crate::proofs::GeneratorDraws::draw_again, crate::proofs::GeneratorDraws::after_again))]
     fn entry(&mut self, slot: u8) -> Entry
         ensures value { result ≡ entry_made self.old.state 0 slot }
@@ -126,7 +126,7 @@ impl Draws {
         }
     }
 
-    // A frame of this identifier, of a draw for the number of its bytes and one for each of them.
+    /// A frame of this identifier, of a draw for the number of its bytes and one for each of them.
     fn frame(&mut self, id: u16) -> Frame
         requires identifier { id ≤ 0x7EF }
         ensures value { result ≡ record {
@@ -146,7 +146,7 @@ impl Draws {
         }
     }
 
-    // The request behind one that arrives at this time, of three draws and one for each byte.
+    /// The request behind one that arrives at this time, of three draws and one for each byte.
     fn request(&mut self, last: u64) -> Request
         requires early { last < 2 ^ 40 }
         ensures early { result.at < last + 1000 }
@@ -162,7 +162,7 @@ impl Draws {
     }
 }
 
-// The policy that is picked by the number.
+/// The policy that is picked by the number.
 fn policy(number: u32) -> Policy
     ensures value { result ≡ policy_made number }
 {
@@ -173,7 +173,7 @@ fn policy(number: u32) -> Policy
     }
 }
 
-// The owners, each of one identifier, and the nodes in turn.
+/// The owners, each of one identifier, and the nodes in turn.
 fn owners(alloc: Global) -> Result<OwnerList, AllocError>
     ensures value { IfOk result (λ owners. owners ≡ each_below 32 owner_made) }
 {
@@ -186,7 +186,7 @@ fn owners(alloc: Global) -> Result<OwnerList, AllocError>
     Ok(OwnerList::of(owners))
 }
 
-// The layout.
+/// The layout.
 fn layout() -> Layout
     ensures value { result ≡ record { cycle = 2000; turnaround = 10; window = 810 } }
 {
@@ -196,7 +196,7 @@ fn layout() -> Layout
     }
 }
 
-// The system.
+/// The system.
 fn system(alloc: Global, number: u32) -> Result<System, AllocError>
     ensures value { IfOk result (λ system. system ≡ system_made number) }
 {
@@ -214,7 +214,7 @@ fn system(alloc: Global, number: u32) -> Result<System, AllocError>
     })
 }
 
-// The change by which operator 1 asks for one entry more.
+/// The change by which operator 1 asks for one entry more.
 fn change(alloc: Global, entry: Entry) -> Result<Step, AllocError>
     ensures value { IfOk result (λ step. step ≡ asking 1 0 (Add entry ∷ [])) }
 {
@@ -229,7 +229,7 @@ fn change(alloc: Global, entry: Entry) -> Result<Step, AllocError>
     })
 }
 
-// The steps.
+/// The steps.
 fn steps(alloc: Global, draws: &mut Draws) -> Result<StepList, AllocError>
     ensures value { IfOk result (λ steps. steps ≡ steps_made draws.old.state) }
     ensures state { OnOk result (draws.new.state ≡ state_after draws.old.state (6 * 40)) }
@@ -243,7 +243,7 @@ fn steps(alloc: Global, draws: &mut Draws) -> Result<StepList, AllocError>
     Ok(StepList::of(steps))
 }
 
-// The requests, where the draws of the steps were taken.
+/// The requests, where the draws of the steps were taken.
 fn requests(alloc: Global, mut draws: Draws) -> Result<RequestList, AllocError>
     ensures value { (number : ℕ) → draws.state ≡ state_after number (6 * 40)
         → IfOk result (λ requests. requests ≡ requests_made number) }

@@ -72,7 +72,7 @@ impl RequestFault {
     }
 }
 
-// The line of a row that is none.
+/// The line of a row that is none.
 fn row_text(alloc: Global, number: u64, why: RequestWhy) -> Result<String, AllocError>
     ensures text { IfOk result (λ text. string_bytes text ≡ text_of (Row number why)) }
 {

@@ -27,26 +27,26 @@ use csv::{ByteRecord, ReaderBuilder};
 use std::alloc::{AllocError, Global};
 use std::str;
 
-// The greatest arrival, in bit times.
+/// The greatest arrival, in bit times.
 const MAX_ARRIVAL: u64 = (1 << 40) - 1;
 
-// The most rows.
+/// The most rows.
 const MAX_REQUESTS: usize = 50_000;
 
-// The most hexadecimal digits of an identifier.
+/// The most hexadecimal digits of an identifier.
 const MAX_DIGITS: usize = 3;
 
-// How many numbers an identifier's type has.
+/// How many numbers an identifier's type has.
 const NUMBERS: usize = 65_536;
 
-// Whether every byte is a hexadecimal digit.
+/// Whether every byte is a hexadecimal digit.
 fn all_hexadecimal(field: &[u8]) -> bool
     ensures value { result ≡ list_all is_ascii_hexdigit field.now }
 {
     field.iter().all(|byte| byte.is_ascii_hexdigit())
 }
 
-// The number that one to three hexadecimal digits write.
+/// The number that one to three hexadecimal digits write.
 fn read_hexadecimal(digits: &[u8]) -> Option<u16>
     ensures value { result ≡ hexadecimal_of digits.now }
 {
@@ -59,7 +59,7 @@ fn read_hexadecimal(digits: &[u8]) -> Option<u16>
     u16::from_str_radix(text, 16).ok()
 }
 
-// The decimal number that the field writes, up to 65,535.
+/// The decimal number that the field writes, up to 65,535.
 fn read_decimal(field: &[u8]) -> Option<u16>
     ensures value { result ≡ option_and_then (within 0 65535) (number_of field.now) }
 {
@@ -71,7 +71,7 @@ fn read_decimal(field: &[u8]) -> Option<u16>
     }
 }
 
-// The identifier that the field writes.
+/// The identifier that the field writes.
 fn read_identifier(field: &[u8]) -> Option<u16>
     ensures value { result ≡ identifier_of field.now }
 {
@@ -82,7 +82,7 @@ fn read_identifier(field: &[u8]) -> Option<u16>
     }
 }
 
-// The identifier in the second field of a row.
+/// The identifier in the second field of a row.
 fn identifier(row: &ByteRecord) -> Option<u16>
     ensures value { result ≡ identifier_in (map trimmed (fields_of row.now)) }
 {
@@ -90,7 +90,7 @@ fn identifier(row: &ByteRecord) -> Option<u16>
     read_identifier(field)
 }
 
-// The value of a byte, where it is a hexadecimal digit.
+/// The value of a byte, where it is a hexadecimal digit.
 fn digit(byte: u8) -> Option<u8>
     ensures value { result ≡ (if is_ascii_hexdigit byte then Some (digit_value byte) else None) }
     ensures small { IfSome result (λ value. value < 16) }
@@ -103,7 +103,7 @@ fn digit(byte: u8) -> Option<u8>
     }
 }
 
-// The byte that two digits write, where they are hexadecimal ones.
+/// The byte that two digits write, where they are hexadecimal ones.
 fn byte_of(high: u8, low: u8) -> Option<u8>
     ensures value { result ≡ (if is_ascii_hexdigit high && is_ascii_hexdigit low
         then Some (16 * digit_value high + digit_value low) else None) }
@@ -117,8 +117,8 @@ fn byte_of(high: u8, low: u8) -> Option<u8>
     Some(16 * high + low)
 }
 
-// The frame of an identifier and of the bytes that two digits each write, where all are hexadecimal
-// ones.
+/// The frame of an identifier and of the bytes that two digits each write, where all are hexadecimal
+/// ones.
 fn frame_of(id: u16, field: &[u8]) -> Option<Frame>
     requires identifier { id ≤ 0x7EF }
     requires few { length field.now ≤ 16 }
@@ -144,7 +144,7 @@ fn frame_of(id: u16, field: &[u8]) -> Option<Frame>
     }
 }
 
-// The frame of an identifier and of the bytes in the third field of a row.
+/// The frame of an identifier and of the bytes in the third field of a row.
 fn read_frame(row: &ByteRecord, id: u16) -> Option<Frame>
     requires identifier { id ≤ 0x7EF }
     ensures value { result ≡ option_map (frame_with id) (bytes_in (map trimmed (fields_of row.now))) }
@@ -157,7 +157,7 @@ fn read_frame(row: &ByteRecord, id: u16) -> Option<Frame>
     frame_of(id, field)
 }
 
-// A table of so many places in which nothing stands.
+/// A table of so many places in which nothing stands.
 fn nothing_owned(alloc: Global, count: usize) -> Result<Vec<bool>, AllocError>
     ensures whole { IfOk result (λ owned. length owned.items ≡ count) }
     ensures none { IfOk result (λ owned. (place : ℕ) → get_or owned.items place false ≡ false) }
@@ -165,7 +165,7 @@ fn nothing_owned(alloc: Global, count: usize) -> Result<Vec<bool>, AllocError>
     vec![in alloc; false; count]
 }
 
-// Which numbers are identifiers of owners.
+/// Which numbers are identifiers of owners.
 fn owned_numbers(alloc: Global, owners: &[Owner]) -> Result<Vec<bool>, RequestFault>
     ensures ok { IfOk result (λ owned. IsOwnedTable owners.now owned.items) }
     ensures fault { IfErr result (λ fault. fault ≡ Memory) }
@@ -177,7 +177,7 @@ fn owned_numbers(alloc: Global, owners: &[Owner]) -> Result<Vec<bool>, RequestFa
     Ok(owned)
 }
 
-// Whether the number is an asynchronous identifier that has an owner.
+/// Whether the number is an asynchronous identifier that has an owner.
 fn is_owned(owned: &[bool], id: u16) -> bool
     requires whole { length owned.now ≡ 65536 }
     ensures value { (owners : List Owner) → IsOwnedTable owners owned.now → result ≡ is_owned owners id }
@@ -186,7 +186,7 @@ fn is_owned(owned: &[bool], id: u16) -> bool
     LEAST_ASYNCHRONOUS <= id && id <= MAX_IDENTIFIER && owned[usize::from(id)]
 }
 
-// The arrival in the last row, and 0 where there is none.
+/// The arrival in the last row, and 0 where there is none.
 fn last_arrival(above: &[Request]) -> u64
     ensures value { result ≡ arrival_above above.now }
 {
@@ -196,7 +196,7 @@ fn last_arrival(above: &[Request]) -> u64
     }
 }
 
-// The request of a row below these requests.
+/// The request of a row below these requests.
 fn read_row(row: &ByteRecord, owned: &[bool], above: &[Request]) -> Result<Request, RequestWhy>
     requires whole { length owned.now ≡ 65536 }
     ensures value { (owners : List Owner) → IsOwnedTable owners owned.now

@@ -78,7 +78,7 @@ impl StepFault {
     }
 }
 
-// The line of a row that is none.
+/// The line of a row that is none.
 fn row_text(alloc: Global, number: u64, why: StepWhy) -> Result<String, AllocError>
     ensures text { IfOk result (λ text. string_bytes text ≡ text_of (Row number why)) }
 {

@@ -77,7 +77,7 @@ pub enum Line {
     },
 }
 
-// What an operation does, by its word.
+/// What an operation does, by its word.
 fn read_verb(word: &[u8]) -> Option<Verb>
     ensures value { result ≡ verb_of word.now }
 {
@@ -92,7 +92,7 @@ fn read_verb(word: &[u8]) -> Option<Verb>
     }
 }
 
-// The form of an `and` row, by its second field.
+/// The form of an `and` row, by its second field.
 fn read_joins(word: Option<&[u8]>) -> Option<Form>
     ensures value { result ≡ joins_of (option_map (λ field. field.now) word.entry) }
 {
@@ -103,7 +103,7 @@ fn read_joins(word: Option<&[u8]>) -> Option<Form>
     Some(Form::Joins(Some(verb)))
 }
 
-// The form of a row.
+/// The form of a row.
 #[tactic(auto, unfolding(crate::specs::StepForm::form_of))]
 fn read_form(row: &ByteRecord) -> Option<Form>
     ensures value { result ≡ form_of (map trimmed (fields_of row.now)) }
@@ -121,7 +121,7 @@ fn read_form(row: &ByteRecord) -> Option<Form>
     }
 }
 
-// How many fields an operation has.
+/// How many fields an operation has.
 fn fields_of_verb(verb: Verb) -> usize
     ensures value { result ≡ fields_of_verb verb }
     ensures few { result ≤ 7 }
@@ -132,7 +132,7 @@ fn fields_of_verb(verb: Verb) -> usize
     }
 }
 
-// Whether a row of this form has so many fields.
+/// Whether a row of this form has so many fields.
 fn has_fields(form: Form, fields: usize) -> bool
     ensures value { result ≡ has_fields form fields }
 {
@@ -144,7 +144,7 @@ fn has_fields(form: Form, fields: usize) -> bool
     }
 }
 
-// The entry that the fields from this place on describe.
+/// The entry that the fields from this place on describe.
 fn read_entry(row: &ByteRecord, place: usize) -> Option<Entry>
     requires near { place ≤ 3 }
     ensures value { result ≡ entry_at (map trimmed (fields_of row.now)) place }
@@ -167,7 +167,7 @@ fn read_entry(row: &ByteRecord, place: usize) -> Option<Entry>
     })
 }
 
-// The operation that the fields from this place on describe.
+/// The operation that the fields from this place on describe.
 fn read_operation(verb: Verb, row: &ByteRecord, place: usize) -> Option<Op>
     requires near { place ≤ 3 }
     ensures value { result ≡ operation_at verb (map trimmed (fields_of row.now)) place }
@@ -188,7 +188,7 @@ fn read_operation(verb: Verb, row: &ByteRecord, place: usize) -> Option<Op>
     }
 }
 
-// What a row says that begins a change with this operation.
+/// What a row says that begins a change with this operation.
 fn read_beginning(verb: Verb, row: &ByteRecord) -> Option<Line>
     ensures value { result ≡ beginning verb (map trimmed (fields_of row.now)) }
 {
@@ -202,7 +202,7 @@ fn read_beginning(verb: Verb, row: &ByteRecord) -> Option<Line>
     })
 }
 
-// What a row of this form says, where each field is a number in its range.
+/// What a row of this form says, where each field is a number in its range.
 #[tactic(auto, unfolding(crate::specs::StepFields::said_as))]
 fn read_said(form: Form, row: &ByteRecord) -> Option<Line>
     ensures value { result ≡ said_as form (map trimmed (fields_of row.now)) }
@@ -227,14 +227,14 @@ fn read_said(form: Form, row: &ByteRecord) -> Option<Line>
     }
 }
 
-// Whether the number is that of an operator.
+/// Whether the number is that of an operator.
 fn is_operator(caller: u8) -> bool
     ensures value { result ≡ is_operator caller }
 {
     1 <= caller && caller <= 8
 }
 
-// Whether the operator of a line, where it has one, is one.
+/// Whether the operator of a line, where it has one, is one.
 fn has_operator(line: Line) -> bool
     ensures value { result ≡ has_operator line }
 {

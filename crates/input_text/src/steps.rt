@@ -40,30 +40,30 @@ pub enum Step {
     },
 }
 
-// The most changes of a file.
+/// The most changes of a file.
 const MAX_CHANGES: u32 = 1_000;
 
-// The most looks of a file.
+/// The most looks of a file.
 const MAX_LOOKS: u32 = 1_000;
 
-// The most cycles that the rows of a file run together.
+/// The most cycles that the rows of a file run together.
 const MAX_CYCLES: u64 = 20_000;
 
-// What matters of the rows above a row.
+/// What matters of the rows above a row.
 #[derive(Clone, Copy)]
 struct Tally {
-    // Whether the row directly above is of a change.
+    /// Whether the row directly above is of a change.
     in_change: bool,
-    // How many changes were begun.
+    /// How many changes were begun.
     changes: u32,
-    // How many looks there were.
+    /// How many looks there were.
     looks: u32,
-    // How many cycles were run.
+    /// How many cycles were run.
     cycles: u64,
 }
 
 impl Tally {
-    // That of no rows.
+    /// That of no rows.
     fn new() -> Tally
         ensures counts { Counts [] result }
     {
@@ -75,7 +75,7 @@ impl Tally {
         }
     }
 
-    // That of the rows and one more, which says this line.
+    /// That of the rows and one more, which says this line.
     fn with(self, line: Line) -> Result<Tally, StepWhy>
         ensures counts { (lines : List Line) → Counts lines self → IfOk result (Counts (lines ++ line ∷ [])) }
         ensures value { (lines : List Line) → Counts lines self
@@ -90,7 +90,7 @@ impl Tally {
         }
     }
 
-    // That of one more row, of so many cycles.
+    /// That of one more row, of so many cycles.
     fn with_cycles(self, count: u64) -> Result<Tally, StepWhy>
         ensures ok { IfOk result (λ tally. tally
             ≡ record { in_change = false; changes = self.changes; looks = self.looks; cycles = self.cycles + count }) }
@@ -108,7 +108,7 @@ impl Tally {
         })
     }
 
-    // That of one more row, of a look.
+    /// That of one more row, of a look.
     fn with_look(self) -> Result<Tally, StepWhy>
         ensures ok { IfOk result (λ tally. tally
             ≡ record { in_change = false; changes = self.changes; looks = self.looks + 1; cycles = self.cycles }) }
@@ -125,7 +125,7 @@ impl Tally {
         })
     }
 
-    // That of one more row, which begins a change.
+    /// That of one more row, which begins a change.
     fn with_change(self) -> Result<Tally, StepWhy>
         ensures ok { IfOk result (λ tally. tally
             ≡ record { in_change = true; changes = self.changes + 1; looks = self.looks; cycles = self.cycles }) }
@@ -142,7 +142,7 @@ impl Tally {
         })
     }
 
-    // That of one more row, which joins an operation to a change.
+    /// That of one more row, which joins an operation to a change.
     fn with_operation(self) -> Result<Tally, StepWhy>
         ensures ok { IfOk result (λ tally. tally
             ≡ record { in_change = true; changes = self.changes; looks = self.looks; cycles = self.cycles }) }
@@ -156,7 +156,7 @@ impl Tally {
     }
 }
 
-// What a row says below these rows, and the tally with it.
+/// What a row says below these rows, and the tally with it.
 #[tactic(auto, unfolding(crate::specs::StepRow::meaning))]
 fn read_row(row: &ByteRecord, above: Tally) -> Result<(Line, Tally), StepWhy>
     ensures counts { (lines : List Line) → Counts lines above
@@ -171,19 +171,19 @@ fn read_row(row: &ByteRecord, above: Tally) -> Result<(Line, Tally), StepWhy>
     Ok((line, tally))
 }
 
-// A change to which further rows may add operations.
+/// A change to which further rows may add operations.
 #[derive(Drop)]
 struct Asked {
-    // The operator.
+    /// The operator.
     caller: u8,
-    // The change's start.
+    /// The change's start.
     start: u64,
-    // Its operations so far.
+    /// Its operations so far.
     ops: Vec<Op>,
 }
 
 impl Asked {
-    // A change of one operation.
+    /// A change of one operation.
     fn new(alloc: Global, caller: u8, start: u64, op: Op) -> Result<Asked, StepFault>
         ensures ok { IfOk result (λ asked. step_of_asked asked ≡ asking caller start (op ∷ [])) }
         ensures fault { IfErr result (λ fault. fault ≡ Memory) }
@@ -192,7 +192,7 @@ impl Asked {
         Ok(Asked { caller, start, ops })
     }
 
-    // The change with one operation more.
+    /// The change with one operation more.
     fn with(self, op: Op) -> Result<Asked, StepFault>
         ensures ok { IfOk result (GrowsBy op self) }
         ensures fault { IfErr result (λ fault. fault ≡ Memory) }
@@ -206,7 +206,7 @@ impl Asked {
         Ok(Asked { caller, start, ops })
     }
 
-    // The step that asks for the change.
+    /// The step that asks for the change.
     fn into_step(self) -> Step
         ensures value { result ≡ step_of_asked self }
     {
@@ -222,17 +222,17 @@ impl Asked {
     }
 }
 
-// The steps of the rows so far.
+/// The steps of the rows so far.
 #[derive(Drop)]
 struct Draft {
-    // The steps that stay as they are.
+    /// The steps that stay as they are.
     steps: Vec<Step>,
-    // The change behind them, where the last row is of one.
+    /// The change behind them, where the last row is of one.
     asked: Option<Asked>,
 }
 
 impl Draft {
-    // Those of no rows.
+    /// Those of no rows.
     fn new(alloc: Global) -> Draft
         ensures drafts { Drafts [] result }
     {
@@ -242,7 +242,7 @@ impl Draft {
         }
     }
 
-    // All steps.
+    /// All steps.
     fn into_steps(self) -> Result<Vec<Step>, StepFault>
         ensures ok { IfOk result (λ steps. steps.items ≡ self.steps.items ++ last_steps self.asked) }
         ensures fault { IfErr result (λ fault. fault ≡ Memory) }
@@ -257,7 +257,7 @@ impl Draft {
         }
     }
 
-    // With a step more, which stays as it is.
+    /// With a step more, which stays as it is.
     fn with_step(self, step: Step) -> Result<Draft, StepFault>
         ensures steps { IfOk result
             (λ draft. draft.steps.items ≡ (self.steps.items ++ last_steps self.asked) ++ step ∷ []) }
@@ -269,7 +269,7 @@ impl Draft {
         Ok(Draft { steps, asked: None })
     }
 
-    // With a change more, to which further rows may add operations.
+    /// With a change more, to which further rows may add operations.
     fn with_change(self, asked: Asked) -> Result<Draft, StepFault>
         ensures steps { IfOk result (λ draft. draft.steps.items ≡ self.steps.items ++ last_steps self.asked) }
         ensures asked { IfOk result (λ draft. draft.asked ≡ Some asked) }
@@ -282,7 +282,7 @@ impl Draft {
         })
     }
 
-    // With an operation more of the last change.
+    /// With an operation more of the last change.
     fn with_operation(self, op: Op) -> Result<Draft, StepFault>
         requires in_change { is_some self.asked ≡ true }
         ensures steps { IfOk result (λ draft. draft.steps ≡ self.steps) }
@@ -302,7 +302,7 @@ impl Draft {
         }
     }
 
-    // Those of the rows and one more, which says this line.
+    /// Those of the rows and one more, which says this line.
     fn with(self, alloc: Global, line: Line) -> Result<Draft, StepFault>
         requires in_change { joins line ≡ true → is_some self.asked ≡ true }
         ensures drafts { (lines : List Line) → Drafts lines self → IfOk result (Drafts (lines ++ line ∷ [])) }

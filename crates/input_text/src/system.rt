@@ -41,31 +41,31 @@ pub struct System {
     pub owners: OwnerList,
 }
 
-// The least length of an elementary cycle, in bit times.
+/// The least length of an elementary cycle, in bit times.
 const LEAST_CYCLE: u32 = 400;
 
-// The greatest length of an elementary cycle, in bit times.
+/// The greatest length of an elementary cycle, in bit times.
 const MAX_CYCLE: u32 = 100_000;
 
-// The greatest turnaround, in bit times.
+/// The greatest turnaround, in bit times.
 const MAX_TURNAROUND: u32 = 1_000;
 
-// The least length of the largest synchronous window, in bit times.
+/// The least length of the largest synchronous window, in bit times.
 const LEAST_WINDOW: u32 = 55;
 
-// The greatest length of the largest synchronous window, in bit times.
+/// The greatest length of the largest synchronous window, in bit times.
 const MAX_WINDOW: u32 = 16_383;
 
-// The most nodes.
+/// The most nodes.
 const MAX_NODES: u32 = 30;
 
-// The least horizon, in elementary cycles.
+/// The least horizon, in elementary cycles.
 const LEAST_HORIZON: u32 = 1;
 
-// The greatest horizon, in elementary cycles.
+/// The greatest horizon, in elementary cycles.
 const MAX_HORIZON: u32 = 100_000;
 
-// The document that the bytes write.
+/// The document that the bytes write.
 fn read_document(alloc: Global, bytes: &[u8]) -> Result<Table, SystemFault>
     ensures ok { IfOk result (λ document. document_of bytes.now ≡ Some (table_view document)) }
     ensures refused { result ≡ Err Toml → document_of bytes.now ≡ None }
@@ -83,7 +83,7 @@ fn read_document(alloc: Global, bytes: &[u8]) -> Result<Table, SystemFault>
     }
 }
 
-// The document as a table whose keys have nothing before them.
+/// The document as a table whose keys have nothing before them.
 fn top_of(document: &Table) -> Section<'_>
     ensures place { result.place ≡ place.Top }
     ensures members { members_at result.table ≡ table_view document.now }
@@ -94,7 +94,7 @@ fn top_of(document: &Table) -> Section<'_>
     }
 }
 
-// The table at a key of the document.
+/// The table at a key of the document.
 fn table_at<'a>(document: &'a Table, key: &str) -> Option<&'a Table>
     ensures members { members_at result ≡ members_in (get_member key.now (table_view document.now)) }
 {
@@ -102,7 +102,7 @@ fn table_at<'a>(document: &'a Table, key: &str) -> Option<&'a Table>
     value.as_table()
 }
 
-// The table `bus`.
+/// The table `bus`.
 fn bus_of(document: &Table) -> Section<'_>
     ensures place { result.place ≡ place.Bus }
     ensures members { members_at result.table ≡ bus_of (table_view document.now) }
@@ -113,7 +113,7 @@ fn bus_of(document: &Table) -> Section<'_>
     }
 }
 
-// The table `plan`.
+/// The table `plan`.
 fn plan_of(document: &Table) -> Section<'_>
     ensures place { result.place ≡ place.Plan }
     ensures members { members_at result.table ≡ plan_of (table_view document.now) }
@@ -124,7 +124,7 @@ fn plan_of(document: &Table) -> Section<'_>
     }
 }
 
-// The elements of a value, where it is an array.
+/// The elements of a value, where it is an array.
 fn items_of(value: &Value) -> &[Value]
     ensures items { map view result.now ≡ elements_in (Some (view value.now)) }
 {
@@ -134,7 +134,7 @@ fn items_of(value: &Value) -> &[Value]
     }
 }
 
-// The elements of the array `async`.
+/// The elements of the array `async`.
 fn elements_of(document: &Table) -> &[Value]
     ensures elements { map view result.now ≡ elements_of (table_view document.now) }
 {
@@ -144,7 +144,7 @@ fn elements_of(document: &Table) -> &[Value]
     }
 }
 
-// An element of `async`.
+/// An element of `async`.
 fn element_of(index: usize, element: &Value) -> Section<'_>
     ensures place { result.place ≡ place.Element index }
     ensures members { members_at result.table ≡ element_of (view element.now) }
@@ -155,7 +155,7 @@ fn element_of(index: usize, element: &Value) -> Section<'_>
     }
 }
 
-// Tests that all keys of an element of `async` are known.
+/// Tests that all keys of an element of `async` are known.
 fn check_element_keys(alloc: Global, index: usize, element: &Value) -> Result<(), SystemFault>
     ensures ok { OnOk result (unknown_in_element index (view element.now) ≡ []) }
     ensures fault { IfErr result (IsFirst (unknown_in_element index (view element.now))) }
@@ -163,7 +163,7 @@ fn check_element_keys(alloc: Global, index: usize, element: &Value) -> Result<()
     element_of(index, element).check_keys(alloc, &["id", "node"])
 }
 
-// Tests that all keys of the elements of `async` are known.
+/// Tests that all keys of the elements of `async` are known.
 fn check_elements_keys(alloc: Global, elements: &[Value]) -> Result<(), SystemFault>
     ensures ok { OnOk result (from_place unknown_in_element 0 (map view elements.now) ≡ []) }
     ensures fault { IfErr result (IsFirst (from_place unknown_in_element 0 (map view elements.now))) }
@@ -174,7 +174,7 @@ fn check_elements_keys(alloc: Global, elements: &[Value]) -> Result<(), SystemFa
     Ok(())
 }
 
-// Tests that all keys are known.
+/// Tests that all keys are known.
 fn check_keys(alloc: Global, document: &Table) -> Result<(), SystemFault>
     ensures ok { OnOk result (unknown_faults (table_view document.now) ≡ []) }
     ensures fault { IfErr result (IsFirst (unknown_faults (table_view document.now))) }
@@ -185,7 +185,7 @@ fn check_keys(alloc: Global, document: &Table) -> Result<(), SystemFault>
     check_elements_keys(alloc, elements_of(document))
 }
 
-// Tests that the keys of `bus` are there and hold integers.
+/// Tests that the keys of `bus` are there and hold integers.
 fn check_bus(alloc: Global, document: &Table) -> Result<(), SystemFault>
     ensures ok { OnOk result (flat_map (kind_at (codes "bus.") (bus_of (table_view document.now))) bus_rows ≡ []) }
     ensures fault { IfErr result
@@ -198,7 +198,7 @@ fn check_bus(alloc: Global, document: &Table) -> Result<(), SystemFault>
     bus.check_kind(alloc, "nodes", Kind::Integer, true)
 }
 
-// Tests that the keys of `plan` hold what they should, where they are there.
+/// Tests that the keys of `plan` hold what they should, where they are there.
 fn check_plan(alloc: Global, document: &Table) -> Result<(), SystemFault>
     ensures ok { OnOk result (flat_map (kind_at (codes "plan.") (plan_of (table_view document.now))) plan_rows ≡ []) }
     ensures fault { IfErr result
@@ -209,7 +209,7 @@ fn check_plan(alloc: Global, document: &Table) -> Result<(), SystemFault>
     plan.check_kind(alloc, "horizon", Kind::Integer, false)
 }
 
-// Tests that an element of `async` is a table.
+/// Tests that an element of `async` is a table.
 fn check_is_table(alloc: Global, index: usize, element: &Value) -> Result<(), SystemFault>
     ensures ok { OnOk result (table_fault index (view element.now) ≡ []) }
     ensures fault { IfErr result (IsFirst (table_fault index (view element.now))) }
@@ -223,7 +223,7 @@ fn check_is_table(alloc: Global, index: usize, element: &Value) -> Result<(), Sy
     })
 }
 
-// Tests that an element of `async` is a table whose keys are there and hold integers.
+/// Tests that an element of `async` is a table whose keys are there and hold integers.
 fn check_element(alloc: Global, index: usize, element: &Value) -> Result<(), SystemFault>
     ensures ok { OnOk result (kinds_in_element index (view element.now) ≡ []) }
     ensures fault { IfErr result (IsFirst (kinds_in_element index (view element.now))) }
@@ -234,7 +234,7 @@ fn check_element(alloc: Global, index: usize, element: &Value) -> Result<(), Sys
     section.check_kind(alloc, "node", Kind::Integer, true)
 }
 
-// Tests each element of `async`.
+/// Tests each element of `async`.
 fn check_elements(alloc: Global, elements: &[Value]) -> Result<(), SystemFault>
     ensures ok { OnOk result (from_place kinds_in_element 0 (map view elements.now) ≡ []) }
     ensures fault { IfErr result (IsFirst (from_place kinds_in_element 0 (map view elements.now))) }
@@ -245,7 +245,7 @@ fn check_elements(alloc: Global, elements: &[Value]) -> Result<(), SystemFault>
     Ok(())
 }
 
-// Tests that no key is missing, and that each holds its kind.
+/// Tests that no key is missing, and that each holds its kind.
 fn check_kinds(alloc: Global, document: &Table) -> Result<(), SystemFault>
     ensures ok { OnOk result (kind_faults (table_view document.now) ≡ []) }
     ensures fault { IfErr result (IsFirst (kind_faults (table_view document.now))) }
@@ -259,8 +259,8 @@ fn check_kinds(alloc: Global, document: &Table) -> Result<(), SystemFault>
     check_elements(alloc, elements_of(document))
 }
 
-// The numbers of `bus`: the lengths of the elementary cycle, of the turnaround and of the largest
-// synchronous window in bit times, and how many nodes there are.
+/// The numbers of `bus`: the lengths of the elementary cycle, of the turnaround and of the largest
+/// synchronous window in bit times, and how many nodes there are.
 #[derive(Clone, Copy)]
 struct Bus {
     cycle: u32,
@@ -269,7 +269,7 @@ struct Bus {
     nodes: u8,
 }
 
-// The numbers of `bus`, where they are in range.
+/// The numbers of `bus`, where they are in range.
 fn read_bus(alloc: Global, document: &Table) -> Result<Bus, SystemFault>
     ensures numbers { IfOk result (IsBusOf (bus_of (table_view document.now))) }
     ensures ranges { IfOk result IsBus }
@@ -290,7 +290,7 @@ fn read_bus(alloc: Global, document: &Table) -> Result<Bus, SystemFault>
     })
 }
 
-// The policy of this name.
+/// The policy of this name.
 fn policy_named(name: &str) -> Option<Policy>
     ensures policy { result ≡ policy_named name.now }
 {
@@ -305,7 +305,7 @@ fn policy_named(name: &str) -> Option<Policy>
     }
 }
 
-// The policy of `plan`, where it is one.
+/// The policy of `plan`, where it is one.
 fn read_policy(alloc: Global, plan: Section) -> Result<Policy, SystemFault>
     ensures policy { IfOk result
         (λ policy. policy ≡ policy_of (text_in (value_of policy_row (members_at plan.entry.table)))) }
@@ -325,15 +325,15 @@ fn read_policy(alloc: Global, plan: Section) -> Result<Policy, SystemFault>
     }
 }
 
-// What `plan` sets: the policy, and the number of cycles within which a repeat of the plan has to
-// be found.
+/// What `plan` sets: the policy, and the number of cycles within which a repeat of the plan has to
+/// be found.
 #[derive(Clone, Copy)]
 struct Plan {
     policy: Policy,
     horizon: u32,
 }
 
-// What `plan` sets, where its values are in range.
+/// What `plan` sets, where its values are in range.
 fn read_plan(alloc: Global, document: &Table) -> Result<Plan, SystemFault>
     ensures values { IfOk result (IsPlanOf (plan_of (table_view document.now))) }
     ensures ranges { IfOk result (λ plan. (least_horizon ≤ plan.horizon) × (plan.horizon ≤ greatest_horizon)) }
@@ -347,14 +347,14 @@ fn read_plan(alloc: Global, document: &Table) -> Result<Plan, SystemFault>
     Ok(Plan { policy, horizon })
 }
 
-// Whether one of the owners has the identifier.
+/// Whether one of the owners has the identifier.
 fn has_owner(owners: &[Owner], id: u16) -> bool
     ensures among { result ≡ list_any (nat_eq id) (map id_of_owner owners.now) }
 {
     owners.iter().any(|owner| id == owner.id)
 }
 
-// Tests that no earlier owner has the identifier of an element of `async`.
+/// Tests that no earlier owner has the identifier of an element of `async`.
 fn check_new(alloc: Global, section: Section, id: u16, earlier: &[Owner]) -> Result<(), SystemFault>
     ensures ok { OnOk result (repeated_fault (prefix_of section.entry.place) (map id_of_owner earlier.now) id ≡ []) }
     ensures new { OnOk result (All (λ other. other.id ≢ id) earlier.now) }
@@ -368,8 +368,8 @@ fn check_new(alloc: Global, section: Section, id: u16, earlier: &[Owner]) -> Res
     }
 }
 
-// The owner that an element of `async` describes, where its values are in range and no earlier
-// owner has its identifier.
+/// The owner that an element of `async` describes, where its values are in range and no earlier
+/// owner has its identifier.
 fn read_owner(
     alloc: Global,
     index: usize,
@@ -393,7 +393,7 @@ fn read_owner(
     Ok(Owner { id, node })
 }
 
-// The owners that the elements of `async` describe.
+/// The owners that the elements of `async` describe.
 fn read_owners(alloc: Global, elements: &[Value], nodes: u8) -> Result<Vec<Owner>, SystemFault>
     requires nodes { 1 ≤ nodes }
     ensures owners { IfOk result (λ owners. owners.items ≡ map owner_of (map view elements.now)) }
@@ -412,7 +412,7 @@ fn read_owners(alloc: Global, elements: &[Value], nodes: u8) -> Result<Vec<Owner
     Ok(owners)
 }
 
-// The layout of an elementary cycle, where it has room for what it needs.
+/// The layout of an elementary cycle, where it has room for what it needs.
 fn layout_of(bus: Bus) -> Result<Layout, SystemFault>
     requires ranges { IsBus bus }
     ensures layout { IfOk result
@@ -428,7 +428,7 @@ fn layout_of(bus: Bus) -> Result<Layout, SystemFault>
     }
 }
 
-// The system that a document describes, whose keys are known and hold their kinds.
+/// The system that a document describes, whose keys are known and hold their kinds.
 #[tactic(auto, using(crate::proofs::SystemFirst::first_in_front))]
 fn read_values(alloc: Global, document: &Table) -> Result<System, SystemFault>
     ensures system { IfOk result (λ system. system ≡ described_by (table_view document.now)) }
@@ -454,7 +454,7 @@ fn read_values(alloc: Global, document: &Table) -> Result<System, SystemFault>
     })
 }
 
-// The system that a document describes.
+/// The system that a document describes.
 #[tactic(auto, using(crate::proofs::SystemFirst::first_in_front))]
 fn read_tables(alloc: Global, document: &Table) -> Result<System, SystemFault>
     ensures system { IfOk result (λ system. system ≡ described_by (table_view document.now)) }

@@ -41,7 +41,7 @@ impl PathText {
     }
 }
 
-// A character as a path shows it.
+/// A character as a path shows it.
 fn shown(character: char) -> char
     ensures shown { result ≡ shown_character character }
 {

@@ -17,7 +17,7 @@ use std::alloc::{AllocError, Global};
 use std::ops::RangeInclusive;
 use toml::{Table, Value};
 
-// Where a key stands.
+/// Where a key stands.
 #[derive(Clone, Copy)]
 pub(crate) enum Place {
     Top,
@@ -27,7 +27,7 @@ pub(crate) enum Place {
 }
 
 impl Place {
-    // The path of a key of this place.
+    /// The path of a key of this place.
     fn path(self, alloc: Global, key: &str) -> Result<PathText, AllocError>
         ensures path { IfOk result (λ path. path ≡ prefix_of self ++ key.now) }
     {
@@ -41,7 +41,7 @@ impl Place {
     }
 }
 
-// What a key is to hold.
+/// What a key is to hold.
 #[derive(Clone, Copy)]
 pub(crate) enum Kind {
     Integer,
@@ -51,7 +51,7 @@ pub(crate) enum Kind {
 }
 
 impl Kind {
-    // Whether a value is of this kind.
+    /// Whether a value is of this kind.
     fn is(self, value: &Value) -> bool
         ensures kind { result ≡ is_kind self (view value.now) }
     {
@@ -64,7 +64,7 @@ impl Kind {
     }
 }
 
-// The number that a value is, where it is an integer in the range.
+/// The number that a value is, where it is an integer in the range.
 fn number_within(value: &Value, range: RangeInclusive<u32>) -> Option<u32>
     ensures number { result ≡ whole_in (range_inclusive_start range) (range_inclusive_end range) (view value.now) }
 {
@@ -77,7 +77,7 @@ fn number_within(value: &Value, range: RangeInclusive<u32>) -> Option<u32>
     }
 }
 
-// A table of the file, where there is one at its place.
+/// A table of the file, where there is one at its place.
 #[derive(Clone, Copy)]
 pub(crate) struct Section<'a> {
     pub(crate) place: Place,
@@ -85,7 +85,7 @@ pub(crate) struct Section<'a> {
 }
 
 impl<'a> Section<'a> {
-    // The value at a key.
+    /// The value at a key.
     #[tactic(auto, using(crate::proofs::SystemKeys::value_at))]
     pub(crate) fn value(self, key: &str) -> Option<&'a Value>
         ensures value { option_map (λ value. view value.now) result ≡ get_member key.now (members_at self.entry.table) }
@@ -94,7 +94,7 @@ impl<'a> Section<'a> {
         table.get(key)
     }
 
-    // The fault that a key is unknown or missing, or that it holds another kind.
+    /// The fault that a key is unknown or missing, or that it holds another kind.
     fn key_fault(self, alloc: Global, key: &str) -> SystemFault
         ensures first { (rest : List SystemFault)
             → IsFirst (Key (prefix_of self.entry.place ++ key.now) ∷ rest) result }
@@ -105,7 +105,7 @@ impl<'a> Section<'a> {
         }
     }
 
-    // The fault that the value of a key is out of range.
+    /// The fault that the value of a key is out of range.
     pub(crate) fn range_fault(self, alloc: Global, key: &str) -> SystemFault
         ensures first { (rest : List SystemFault)
             → IsFirst (Range (prefix_of self.entry.place ++ key.now) ∷ rest) result }
@@ -116,7 +116,7 @@ impl<'a> Section<'a> {
         }
     }
 
-    // The first key, in byte order, that is none of these.
+    /// The first key, in byte order, that is none of these.
     fn unknown_key(self, known: &[&str]) -> Option<&'a str>
         ensures key { option_map (λ key. key.now) result
             ≡ first_key (unknown_keys (map (λ known. known.now) known.now) (members_at self.entry.table)) }
@@ -126,7 +126,7 @@ impl<'a> Section<'a> {
         Some(key.as_str())
     }
 
-    // Tests that every key is one of these.
+    /// Tests that every key is one of these.
     #[tactic(auto, using(crate::proofs::SystemFirst::none_unknown, crate::proofs::SystemFirst::first_unknown))]
     pub(crate) fn check_keys(self, alloc: Global, known: &[&str]) -> Result<(), SystemFault>
         ensures ok { OnOk result
@@ -142,7 +142,7 @@ impl<'a> Section<'a> {
         }
     }
 
-    // Tests that a key holds this kind; where it is not needed it may be absent.
+    /// Tests that a key holds this kind; where it is not needed it may be absent.
     pub(crate) fn check_kind(
         self,
         alloc: Global,
@@ -175,7 +175,7 @@ impl<'a> Section<'a> {
         }
     }
 
-    // The integer at a key, where it is there and in the range.
+    /// The integer at a key, where it is there and in the range.
     pub(crate) fn number(
         self,
         alloc: Global,
@@ -204,7 +204,7 @@ impl<'a> Section<'a> {
         }
     }
 
-    // The same, where the key may be absent and then stands for a number of the range.
+    /// The same, where the key may be absent and then stands for a number of the range.
     pub(crate) fn number_or(
         self,
         alloc: Global,
@@ -238,7 +238,7 @@ impl<'a> Section<'a> {
     }
 }
 
-// The first key of a table, in byte order, that is none of these.
+/// The first key of a table, in byte order, that is none of these.
 fn first_unknown<'a>(table: &'a Table, known: &[&str]) -> Option<&'a String>
     ensures key { option_map (λ key. string_bytes key.now) result
         ≡ first_key (unknown_keys (map (λ known. known.now) known.now) (table_view table.now)) }
@@ -246,7 +246,7 @@ fn first_unknown<'a>(table: &'a Table, known: &[&str]) -> Option<&'a String>
     table.keys().find(|key| !is_among(key.as_str(), known))
 }
 
-// Whether a key is one of these.
+/// Whether a key is one of these.
 fn is_among(key: &str, keys: &[&str]) -> bool
     ensures among { result ≡ is_among (map (λ known. known.now) keys.now) key.now }
 {

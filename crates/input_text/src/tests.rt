@@ -5,7 +5,7 @@ use async_window::Owner;
 use std::alloc::Global;
 use std::test::Fail;
 
-// How often the rows of a file stand in it, what is told of it, and the rows.
+/// How often the rows of a file stand in it, what is told of it, and the rows.
 const REFUSED: &str = r#"1 system: narrow 435 400
 bus = { cycle = 400, turnaround = 0, window = 300, nodes = 1 }
 ---
@@ -69,7 +69,7 @@ cycle,1
 0,512,
 "#;
 
-// The rows, so many times.
+/// The rows, so many times.
 fn repeated(alloc: Global, rows: &str, times: usize) -> Result<Vec<u8>, Fail> {
     let mut file = Vec::new(alloc);
     for _ in 0..times {
@@ -78,7 +78,7 @@ fn repeated(alloc: Global, rows: &str, times: usize) -> Result<Vec<u8>, Fail> {
     Ok(file)
 }
 
-// What is told of a system file.
+/// What is told of a system file.
 fn told_of_system(alloc: Global, file: &[u8]) -> Result<String, Fail> {
     match read_system(alloc, file) {
         Ok(_) => Ok(String::new(alloc)),
@@ -86,7 +86,7 @@ fn told_of_system(alloc: Global, file: &[u8]) -> Result<String, Fail> {
     }
 }
 
-// What is told of a steps file.
+/// What is told of a steps file.
 fn told_of_steps(alloc: Global, file: &[u8]) -> Result<String, Fail> {
     match read_steps(alloc, file) {
         Ok(_) => Ok(String::new(alloc)),
@@ -94,7 +94,7 @@ fn told_of_steps(alloc: Global, file: &[u8]) -> Result<String, Fail> {
     }
 }
 
-// What is told of a requests file, where 0x200 alone has an owner.
+/// What is told of a requests file, where 0x200 alone has an owner.
 fn told_of_requests(alloc: Global, file: &[u8]) -> Result<String, Fail> {
     let owners = [Owner { id: 0x200, node: 0 }];
     match read_requests(alloc, file, &owners) {
@@ -103,7 +103,7 @@ fn told_of_requests(alloc: Global, file: &[u8]) -> Result<String, Fail> {
     }
 }
 
-// What is told of the file of that kind of which this should be told.
+/// What is told of the file of that kind of which this should be told.
 fn told(alloc: Global, want: &str, file: &[u8]) -> Result<String, Fail> {
     if want.starts_with("system") {
         told_of_system(alloc, file)

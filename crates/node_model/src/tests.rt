@@ -174,6 +174,35 @@ fn offers_by_what_is_heard(rt: HostRuntime) -> Result<(), Fail> {
 }
 
 #[test]
+fn takes_its_own_requests(rt: HostRuntime) -> Result<(), Fail> {
+    let mut node = node_in_cycle_1(rt.alloc())?;
+    // The identifier of a frame, whether the node takes a request of it away, and what is offered at 1,300 behind it.
+    let steps = [
+        (0x208, false, Some(0x205)),
+        (0x205, true, Some(0x210)),
+        (0x205, false, Some(0x210)),
+        (0x103, false, Some(0x210)),
+        (0x210, true, None),
+    ];
+    for (id, own, first) in steps {
+        let frame = Frame::new(id, &[])?;
+        let len = wire_len(&frame);
+        let heard = TimedFrame {
+            start: 1_165,
+            len,
+            frame,
+        };
+        assert_eq!(rt; node.take_own(&heard), own, "by {id}");
+        assert_eq!(rt; node.offer(1_300), first, "behind {id}");
+    }
+    assert_eq!(rt; node.heard(), 2);
+    node.count();
+    assert_eq!(rt; node.heard(), 3);
+    assert_eq!(rt; node.offer(1_900), Some(0x103));
+    Ok(())
+}
+
+#[test]
 fn broken_triggers(rt: HostRuntime) -> Result<(), Fail> {
     let flags = Mask::empty().with(3);
     let cases = [

@@ -3,12 +3,12 @@
 use super::*;
 use std::test::Fail;
 
-// A number and one digit more, to base 31.
+/// A number and one digit more, to base 31.
 fn with(total: u64, digit: u64) -> u64 {
     total.wrapping_mul(31).wrapping_add(digit)
 }
 
-// A number with the fields of an entry as further digits.
+/// A number with the fields of an entry as further digits.
 fn with_entry(total: u64, entry: Entry) -> u64 {
     let total = with(with(total, u64::from(entry.slot)), u64::from(entry.node));
     let total = with(with(total, u64::from(entry.length)), u64::from(entry.phase));
@@ -19,7 +19,7 @@ fn with_entry(total: u64, entry: Entry) -> u64 {
     with(total, u64::from(entry.priority))
 }
 
-// A number with the fields of a step as further digits.
+/// A number with the fields of a step as further digits.
 fn with_step(total: u64, step: &Step) -> u64 {
     match step {
         Step::Cycle { count } => with(total, *count),
@@ -41,7 +41,7 @@ fn with_step(total: u64, step: &Step) -> u64 {
     }
 }
 
-// A number with arrival, identifier, number of bytes and bytes of a request as further digits.
+/// A number with arrival, identifier, number of bytes and bytes of a request as further digits.
 fn with_request(total: u64, request: &Request) -> u64 {
     let frame = request.frame;
     let mut total = with(with(total, request.at), u64::from(frame.id()));

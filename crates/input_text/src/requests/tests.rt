@@ -5,12 +5,12 @@ use std::test::Fail;
 
 const OWNERS: [Owner; 2] = [Owner { id: 0x7EF, node: 3 }, Owner { id: 0x200, node: 0 }];
 
-// Rows with a byte order mark, quotes, spaces, digits of either case, empty lines and each end of a
-// row.
+/// Rows with a byte order mark, quotes, spaces, digits of either case, empty lines and each end of a
+/// row.
 const ROWS: &[u8] =
     b"\xEF\xBB\xBF\"0\",512,\r\n 0007 , 0x7eF , 0a  \n\n\r\n7,00512,0123456789aBcDeF\r1099511627775,2031,\"00\"";
 
-// Whether the request has this arrival, this identifier and these bytes.
+/// Whether the request has this arrival, this identifier and these bytes.
 fn is_request(request: &Request, at: u64, id: u16, bytes: &[u8]) -> bool {
     Frame::new(id, bytes) == Ok(request.frame) && request.at == at
 }

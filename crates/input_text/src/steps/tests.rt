@@ -4,7 +4,7 @@ use super::*;
 use requirement_table::Entry;
 use std::test::Fail;
 
-// An entry whose numbers are all this one.
+/// An entry whose numbers are all this one.
 fn entry(number: u8) -> Entry {
     Entry {
         slot: number,
@@ -17,7 +17,7 @@ fn entry(number: u8) -> Entry {
     }
 }
 
-// Whether the step asks for this change.
+/// Whether the step asks for this change.
 fn is_ask(step: &Step, operator: u8, from: u64, ops: &[Op]) -> bool {
     match step {
         Step::Act {
@@ -28,7 +28,7 @@ fn is_ask(step: &Step, operator: u8, from: u64, ops: &[Op]) -> bool {
     }
 }
 
-// Rows of all six words, with a byte order mark, quotes, spaces, empty lines and each end of a row.
+/// Rows of all six words, with a byte order mark, quotes, spaces, empty lines and each end of a row.
 const ALL_WORDS: &str = "\u{feff}cycle,3\r
 add,1,18446744073709551615,1,1,1,1,1,1,1
 
