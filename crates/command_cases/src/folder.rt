@@ -4,7 +4,7 @@ use crate::answer::Answer;
 use crate::fault::CaseFault;
 use std::alloc::{AllocError, Global};
 use std::fs;
-use std::io::{self, ErrorKind};
+use std::io::ErrorKind;
 
 /// The folder of a case.
 #[derive(Drop)]
@@ -62,11 +62,12 @@ impl Folder<'_> {
         Ok(numbers)
     }
 
-    /// The number of a file; this one where there is no such file.
+    /// The one number of a file; this one where there is no such file.
     pub fn number(&self, name: &'static str, absent: u64) -> Result<u64, CaseFault> {
-        match self.numbers(name)?.first() {
-            Some(number) => Ok(*number),
-            None => Ok(absent),
+        match self.numbers(name)?.as_slice() {
+            [] => Ok(absent),
+            [number] => Ok(*number),
+            _ => Err(CaseFault::Number { name }),
         }
     }
 
@@ -80,7 +81,7 @@ impl Folder<'_> {
         })
     }
 
-    /// The words of each call: those of the file `calls`, else the one of the file `words`, else the usual one.
+    /// The words of each call. They stand in the file `calls`, else in the file `words`, else they are the usual ones.
     pub fn calls(&self) -> Result<Vec<Vec<String>>, CaseFault> {
         let alloc = self.rt.alloc();
         if let Some(text) = self.text("calls")? {
@@ -114,7 +115,7 @@ impl Folder<'_> {
         Ok(files)
     }
 
-    /// The files that the lines of the file `repeat` make, each of a name, a count and the line that stands so often.
+    /// The files that the file `repeat` makes: a line of it has a name, a count and the row that stands so often.
     fn repeated(&self) -> Result<Vec<(String, Vec<u8>)>, CaseFault> {
         let alloc = self.rt.alloc();
         let mut files = Vec::new(alloc);
