@@ -22,5 +22,3 @@ pub use status::Status;
 
 #[cfg(test)]
 mod live_tests;
-#[cfg(test)]
-mod tests;

@@ -14,6 +14,3 @@ mod tally;
 mod text;
 
 pub use text::report;
-
-#[cfg(test)]
-mod tests;
