@@ -21,6 +21,4 @@ pub use program::plain;
 pub use status::Status;
 
 #[cfg(test)]
-mod live_tests;
-#[cfg(test)]
 mod tests;
