@@ -25,6 +25,3 @@ pub use log_reading::read_log;
 pub use recent::Recent;
 pub use row::{LogRow, LogVerdict};
 pub use streaming::{event_rows, put_end_row, put_event_rows};
-
-#[cfg(test)]
-mod tests;

@@ -23,6 +23,3 @@ pub use mem_shelf::MemShelf;
 pub use mem_sink::MemSink;
 pub use put::{Failed, Sink, write_all};
 pub use std_sink::StdSink;
-
-#[cfg(test)]
-mod tests;

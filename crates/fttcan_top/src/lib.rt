@@ -19,6 +19,3 @@ pub use gathered::flushed;
 pub use live_run::{Gate, OpenGate, Point};
 pub use program::plain;
 pub use status::Status;
-
-#[cfg(test)]
-mod live_tests;

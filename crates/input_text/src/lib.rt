@@ -26,6 +26,3 @@ pub use step_fault::{StepFault, StepWhy};
 pub use steps::{Step, read_steps};
 pub use system::{System, read_system};
 pub use system_fault::{PathText, SystemFault};
-
-#[cfg(test)]
-mod tests;

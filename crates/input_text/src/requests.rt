@@ -263,6 +263,3 @@ pub fn read_requests(
     }
     Ok(requests)
 }
-
-#[cfg(test)]
-mod tests;

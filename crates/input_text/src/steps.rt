@@ -355,6 +355,3 @@ pub fn read_steps(alloc: Global, bytes: &[u8]) -> Result<Vec<Step>, StepFault>
     }
     draft.into_steps()
 }
-
-#[cfg(test)]
-mod tests;

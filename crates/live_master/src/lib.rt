@@ -19,6 +19,3 @@ mod waits;
 pub use fault::TryFault;
 pub use live::LiveMaster;
 pub use passes::{DispatcherPass, OperatorPass};
-
-#[cfg(test)]
-mod tests;

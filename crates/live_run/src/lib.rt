@@ -13,8 +13,6 @@ mod points;
 mod running;
 mod script;
 mod sharing;
-#[cfg(test)]
-mod tests;
 
 pub use closing::{Ended, run_whole};
 pub use frames::{FrameList, Run};

@@ -14,6 +14,3 @@ pub use pass::Pass;
 pub use stands::Stands;
 pub use turn::Turn;
 pub use view::View;
-
-#[cfg(test)]
-mod tests;
