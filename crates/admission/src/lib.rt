@@ -19,6 +19,3 @@ pub use certifying::certify;
 pub use deciding::decide;
 pub use decision::{Decision, Trail};
 pub use verdict::Verdict;
-
-#[cfg(test)]
-mod tests;

@@ -14,6 +14,3 @@ mod slots;
 pub use applying::apply;
 pub use malformed::{ApplyFault, Why};
 pub use operations::{Act, Change, Op, Ops};
-
-#[cfg(test)]
-mod tests;

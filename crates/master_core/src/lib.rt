@@ -14,6 +14,3 @@ mod table;
 
 pub use event::Event;
 pub use master::Master;
-
-#[cfg(test)]
-mod tests;

@@ -16,9 +16,6 @@ pub use planning::{Planned, cycle_mask, plan_cycle, plan_with_width, valid};
 pub use ranking::{Ranked, rank};
 pub use state::{Miss, PlanState};
 
-#[cfg(test)]
-mod tests;
-
 /// The order in which pending instances are taken. The least key goes first; keys are compared from left to right.
 #[derive(Clone, Copy, PartialEq, Eq, Debug)]
 pub enum Policy {

@@ -12,6 +12,3 @@ pub use by_keys::lasso_keyed;
 pub use compared::lasso;
 pub use walk::{Keyed, Walk};
 pub use walk_end::{Repeat, WalkEnd};
-
-#[cfg(test)]
-mod tests;

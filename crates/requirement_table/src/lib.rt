@@ -14,6 +14,3 @@ pub use entries::{Entry, Order, Placed, PlacedList};
 pub use instances::{Payload, Sendable, cost, current, current_instance, due, releases};
 pub use lists::{drop_over, first_over, is_over, not_over, released_in, well_placed};
 pub use slots::{Mask, SLOTS};
-
-#[cfg(test)]
-mod tests;

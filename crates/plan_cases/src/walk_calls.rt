@@ -1,12 +1,11 @@
-//! Both searches over walks that are worked by hand.
+//! Calls of both searches for the first repeat of a walk.
 
 ghost use Rattle.std.specs.Prelude.{◌≡◌, ◌+◌, ◌<◌, ◌≤◌, Some, None, nat_lt, nat_eq, if◌then◌else◌};
 
-use crate::by_keys::lasso_keyed;
-use crate::compared::lasso;
-use crate::walk::{Keyed, Walk};
-use crate::walk_end::{Repeat, WalkEnd};
-use std::test::Fail;
+use crate::unanswered::Unanswered;
+use crate::words;
+use recurrence_check::{Keyed, Repeat, Walk, WalkEnd, lasso, lasso_keyed};
+use std::alloc::{AllocError, Global};
 
 /// The values 0, 1, 2 and so on up to `top`, and then again those from `back` to `top`. The walk
 /// does not go on from the value `stop`. States with the same value are the same.
@@ -47,8 +46,8 @@ impl Walk for Values {
     ghost use Rattle.std.specs.Option.{option_map};
     ghost use Rattle.std.proofs.Common.{refl, subst, sym, ◌∙◌, ℕ};
     ghost use Rattle.recurrence_check.specs.Course.{GoOnAlike};
-    ghost use Rattle.recurrence_check.specs.declared.tests.Place.{Place};
-    ghost use Rattle.recurrence_check.specs.declared.tests.Values.{Values};
+    ghost use Rattle.plan_cases.specs.declared.walk_calls.Place.{Place};
+    ghost use Rattle.plan_cases.specs.declared.walk_calls.Values.{Values};
 
     ghost course = { λ walk. record {
       start = record { value = 0; steps = 0 };
@@ -111,63 +110,61 @@ impl Keyed for Values {
     ) };
 }
 
-#[test]
-fn first_repeats(rt: HostRuntime) -> Result<(), Fail> {
-    let twos = Values {
-        back: 1,
-        top: 2,
-        stop: 3,
-    };
-    let breaks = Values {
-        back: 0,
-        top: 9,
-        stop: 3,
-    };
-    let thousand = Values {
-        back: 7,
-        top: 1_006,
-        stop: 2_000,
-    };
-    let rows = [
-        (
-            twos,
-            3,
-            Ok(Repeat {
-                first: 1,
-                length: 2,
-            }),
-        ),
-        (twos, 2, Err(WalkEnd::NoRepeat { walked: 2 })),
-        (twos, 0, Err(WalkEnd::NoRepeat { walked: 0 })),
-        (breaks, 9, Err(WalkEnd::Broken { at: 3 })),
-        (breaks, 4, Err(WalkEnd::Broken { at: 3 })),
-        (breaks, 3, Err(WalkEnd::NoRepeat { walked: 3 })),
-        (
-            thousand,
-            2_000,
-            Ok(Repeat {
-                first: 7,
-                length: 1_000,
-            }),
-        ),
-        (thousand, 1_006, Err(WalkEnd::NoRepeat { walked: 1_006 })),
-    ];
-    for (walk, horizon, answer) in rows {
-        assert_eq!(rt; lasso(rt.alloc(), &walk, horizon), answer);
-        assert_eq!(rt; lasso_keyed(rt.alloc(), &walk, horizon), answer);
+/// The answer to a call with these words.
+pub fn answer(alloc: Global, word: &str, rest: &str) -> Result<String, Unanswered> {
+    match word {
+        "lasso" => {
+            let (walk, horizon) = walk(alloc, rest)?;
+            compared(alloc, &walk, horizon)
+        }
+        "lasso_keyed" => {
+            let (walk, horizon) = walk(alloc, rest)?;
+            keyed(alloc, &walk, horizon)
+        }
+        "no_memory" => Ok(end(alloc, WalkEnd::Memory)?),
+        _ => Err(Unanswered::Words),
     }
-    Ok(())
 }
 
-#[test]
-fn ends_in_words(rt: HostRuntime) -> Result<(), Fail> {
-    let rows = [
-        (WalkEnd::Broken { at: 3 }, "the walk breaks after 3 steps"),
-        (WalkEnd::NoRepeat { walked: 2 }, "no repeat in 2 steps"),
-        (WalkEnd::Memory, "out of memory"),
-    ];
-    for (end, text) in rows {
-        assert_eq!(rt; format!(in rt.alloc(); "{end}")?.as_str(), text);
+/// A walk and a horizon as `BACK TOP STOP HORIZON`.
+fn walk(alloc: Global, rest: &str) -> Result<(Values, u64), Unanswered> {
+    let words = words::parts(alloc, rest, ' ')?;
+    let [back, top, stop, horizon] = *words.as_slice() else {
+        return Err(Unanswered::Words);
+    };
+    let walk = Values {
+        back: words::number(back)?,
+        top: words::number(top)?,
+        stop: words::number(stop)?,
+    };
+    Ok((walk, words::number(horizon)?))
+}
+
+/// What is found by comparing states.
+fn compared(alloc: Global, walk: &Values, horizon: u64) -> Result<String, Unanswered> {
+    if horizon > 100_000 {
+        return Err(Unanswered::Forbidden);
     }
-    Ok(())
+    Ok(found(alloc, lasso(alloc, walk, horizon))?)
+}
+
+/// What is found by keys.
+fn keyed(alloc: Global, walk: &Values, horizon: u64) -> Result<String, Unanswered> {
+    if horizon > 100_000 {
+        return Err(Unanswered::Forbidden);
+    }
+    Ok(found(alloc, lasso_keyed(alloc, walk, horizon))?)
+}
+
+/// A repeat as `FIRST LENGTH`, or why there is none.
+fn found(alloc: Global, found: Result<Repeat, WalkEnd>) -> Result<String, AllocError> {
+    match found {
+        Ok(Repeat { first, length }) => format!(in alloc; "{first} {length}"),
+        Err(why) => end(alloc, why),
+    }
+}
+
+/// Why there is no repeat.
+fn end(alloc: Global, end: WalkEnd) -> Result<String, AllocError> {
+    format!(in alloc; "{end}")
 }
