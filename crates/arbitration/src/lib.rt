@@ -43,21 +43,3 @@ fn lesser(ids: &[u16], one: usize, other: usize) -> usize
 {
     if ids[other] < ids[one] { other } else { one }
 }
-
-#[cfg(test)]
-mod tests {
-    use super::*;
-
-    #[test]
-    fn arbitration_by_hand(rt: HostRuntime) {
-        let mut contenders = Contenders::new();
-        assert_eq!(rt; arbitrate(contenders.ids()), None);
-        contenders.push(0x201);
-        contenders.push(0x200);
-        assert_eq!(rt; contenders.ids(), [0x201, 0x200].as_slice());
-        assert_eq!(rt; arbitrate(contenders.ids()), Some(1));
-        contenders.clear();
-        contenders.push(0x7EF);
-        assert_eq!(rt; arbitrate(contenders.ids()), Some(0));
-    }
-}

@@ -1,6 +1,5 @@
 mod Kept
 mod Levels
-mod Literals
 mod Offered
 mod Order
 pub mod Shared

@@ -8,8 +8,6 @@ mod mailbox;
 mod mailboxes;
 mod places;
 mod request;
-#[cfg(test)]
-mod tests;
 mod tournament;
 mod window;
 

@@ -9,6 +9,3 @@ mod stations;
 
 pub use line::run_until;
 pub use stations::Stations;
-
-#[cfg(test)]
-mod tests;

@@ -9,8 +9,6 @@ mod reader;
 mod sending;
 mod sequence;
 mod shares;
-#[cfg(test)]
-mod tests;
 mod wire_bits;
 mod wire_fault;
 

@@ -16,6 +16,3 @@ mod sync_window;
 pub use cycle::run_cycle;
 pub use nodes::Nodes;
 pub use segment::Segment;
-
-#[cfg(test)]
-mod tests;

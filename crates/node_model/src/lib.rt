@@ -13,6 +13,3 @@ mod slots_due;
 
 pub use cycle::{FIRST_IDENTIFIER, least_slot};
 pub use node::Node;
-
-#[cfg(test)]
-mod tests;

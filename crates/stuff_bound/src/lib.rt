@@ -14,6 +14,3 @@ mod stuffing;
 pub use run::Run;
 pub use sender::Sender;
 pub use stuffing::{StuffFault, bound, stuff, stuffed_len, stuffed_len_bytes, unstuff};
-
-#[cfg(test)]
-mod tests;

@@ -12,6 +12,3 @@ mod trigger_fault;
 
 pub use message::{MAX_WINDOW, TRIGGER_IDENTIFIER, Trigger, decode, encode};
 pub use trigger_fault::TriggerFault;
-
-#[cfg(test)]
-mod tests;

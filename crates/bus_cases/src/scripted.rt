@@ -1,26 +1,24 @@
-//! The run over three scripted stations, against a trace written down by hand.
+//! Three scripted stations on a bus line.
 
-ghost use Rattle.std.specs.Prelude.{◌≡◌, ◌==◌, ◌&&◌, ◌++◌, ◌∷◌, ◌^◌, ◌<◌, ◌≤◌, ℕ, List, []};
+ghost use Rattle.std.specs.Prelude.{◌≡◌, ◌==◌, ◌&&◌, ◌++◌, ◌∷◌, ◌^◌, ◌<◌, ◌≤◌, ℕ, []};
 ghost use Rattle.std.specs.Prelude.{Contains, length, nat_le, nat_lt, if◌then◌else◌};
 ghost use Rattle.can_frame.specs.declared.data_frame.TimedFrame.{TimedFrame};
 ghost use Rattle.bus_line.specs.Stations.{IsWake, sooner};
 
-use crate::laws::sooner_wake;
-use crate::line::run_until;
-use crate::stations::Stations;
 use arbitration::Contenders;
+use bus_line::Stations;
+use bus_line::laws::sooner_wake;
 use can_frame::{Frame, TimedFrame};
-use std::test::Fail;
 
 /// A station that offers an empty frame from one time to below another, and once that is sent, from
 /// `again` to below `again_until`.
 #[derive(Clone, Copy)]
-struct Station {
-    id: u16,
-    from: u64,
-    until: u64,
-    again: u64,
-    again_until: u64,
+pub struct Station {
+    pub id: u16,
+    pub from: u64,
+    pub until: u64,
+    pub again: u64,
+    pub again_until: u64,
 }
 
 impl Station {
@@ -69,7 +67,7 @@ impl Station {
 
 /// Three stations with identifiers of their own.
 #[derive(Drop)]
-struct Scripted {
+pub struct Scripted {
     low: Station,
     middle: Station,
     high: Station,
@@ -77,9 +75,20 @@ struct Scripted {
     ghost range: { high.id ≤ 0x7EF },
 }
 
+impl Scripted {
+    /// The three stations, where their identifiers rise and are those of frames.
+    pub fn of(low: Station, middle: Station, high: Station) -> Option<Scripted> {
+        if low.id < middle.id && middle.id < high.id && high.id <= 0x7EF {
+            Some(Scripted { low, middle, high })
+        } else {
+            None
+        }
+    }
+}
+
 impl Stations for Scripted {
-    ghost use Rattle.bus_line.specs.declared.tests.Station.{Station};
-    ghost use Rattle.bus_line.specs.declared.tests.Scripted.{Scripted};
+    ghost use Rattle.bus_cases.specs.declared.scripted.Station.{Station};
+    ghost use Rattle.bus_cases.specs.declared.scripted.Scripted.{Scripted};
 
     ghost State = { Station × Station × Station };
 
@@ -137,54 +146,4 @@ fn sooner(one: Option<u64>, other: Option<u64>) -> Option<u64>
         (one, None) => one,
         (None, other) => other,
     }
-}
-
-/// Later than all times of the test.
-const NEVER: u64 = 1_000;
-
-#[test]
-fn three_scripted_stations(rt: HostRuntime) -> Result<(), Fail> {
-    let mut stations = Scripted {
-        low: Station {
-            id: 0x100,
-            from: 61,
-            until: NEVER,
-            again: 130,
-            again_until: NEVER,
-        },
-        middle: Station {
-            id: 0x200,
-            from: 10,
-            until: NEVER,
-            again: 70,
-            again_until: 100,
-        },
-        high: Station {
-            id: 0x201,
-            from: 10,
-            until: NEVER,
-            again: 400,
-            again_until: NEVER,
-        },
-    };
-    let mut trace = Vec::with_capacity(rt.alloc(), 20)?;
-    // The two that begin together, the one that comes at the end of the first frame, the one that
-    // waits, and the one that comes while the bus is busy. The offer from 70 to 100 goes while the
-    // bus is busy.
-    let by_hand = [
-        (10, 51, 0x200),
-        (61, 51, 0x100),
-        (112, 50, 0x201),
-        (162, 51, 0x100),
-        (400, 50, 0x201),
-    ];
-    assert_eq!(rt; run_until(&mut stations, 0, 400, &mut trace), 213);
-    assert_eq!(rt; trace.len(), 4);
-    assert_eq!(rt; run_until(&mut stations, 400, 401, &mut trace), 450);
-    assert_eq!(rt; trace.len(), 5);
-    for (sent, (start, len, id)) in trace.iter().zip(by_hand) {
-        assert_eq!(rt; (sent.start, sent.len), (start, len));
-        assert_eq!(rt; (sent.frame.id(), sent.frame.dlc()), (id, 0));
-    }
-    Ok(())
 }

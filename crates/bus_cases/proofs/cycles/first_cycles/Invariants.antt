@@ -1,6 +1,6 @@
 use Rattle.std.proofs.Common.{◌≡◌, All}
 use Rattle.cycle_engine.specs.Nodes.{states_of}
-use Rattle.cycle_engine.proofs.tests.first_cycles.Given as goal
+use Rattle.bus_cases.proofs.cycles.first_cycles.Given as goal
 
 -- the nodes have run the cycles before this one
 abbrev pub invariant-loop-cycle : goal.invariant-loop-cycle

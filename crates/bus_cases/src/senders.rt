@@ -1,0 +1,81 @@
+//! Calls of `arbitration`.
+
+ghost use Rattle.std.specs.Prelude.{◌<◌, All};
+
+use crate::compared::Table;
+use crate::fields::{Fault, hexadecimal, push_behind};
+use arbitration::{Contenders, arbitrate};
+use std::alloc::Global;
+
+/// Senders that begin together. They are the same list for all lines, which is cleared for each.
+#[derive(Drop)]
+pub struct Senders {
+    contenders: Contenders,
+}
+
+impl Senders {
+    /// No senders.
+    pub fn new() -> Senders {
+        Senders {
+            contenders: Contenders::new(),
+        }
+    }
+}
+
+impl Table for Senders {
+    ghost use Rattle.std.specs.Prelude.{⊤};
+
+    ghost IsReady = { λ _. ⊤ };
+
+    fn answer(&mut self, alloc: Global, fields: &[&str]) -> Result<String, Fault> {
+        match fields {
+            ["arbitrate", ids @ ..] => {
+                self.contenders.clear();
+                contend(&mut self.contenders, ids)?;
+                let mut text = winner(alloc, &self.contenders)?;
+                for id in self.contenders.ids() {
+                    let one = format!(in alloc; "{id:03x}")?;
+                    push_behind(&mut text, ' ', one.as_str())?;
+                }
+                Ok(text)
+            }
+            _ => Err(Fault::Unread),
+        }
+    }
+}
+
+/// Adds the senders of these identifiers to none.
+fn contend(contenders: &mut Contenders, ids: &[&str]) -> Result<(), Fault>
+    requires eleven_bits { All (λ id. id < 0x800) contenders.old }
+    ensures eleven_bits { All (λ id. id < 0x800) contenders.new }
+{
+    for id in ids {
+        push(contenders, hexadecimal(id)?)?;
+    }
+    Ok(())
+}
+
+/// Adds a sender.
+fn push(contenders: &mut Contenders, id: u16) -> Result<(), Fault>
+    requires eleven_bits { All (λ id. id < 0x800) contenders.old }
+    ensures eleven_bits { All (λ id. id < 0x800) contenders.new }
+{
+    let has_room = contenders.ids().len() < 32;
+    let is_other = !contenders.ids().contains(&id);
+    if has_room && is_other && id < 0x800 {
+        contenders.push(id);
+        Ok(())
+    } else {
+        Err(Fault::Unread)
+    }
+}
+
+/// The place of the sender that is left.
+fn winner(alloc: Global, contenders: &Contenders) -> Result<String, Fault>
+    requires eleven_bits { All (λ id. id < 0x800) contenders.now }
+{
+    match arbitrate(contenders.ids()) {
+        Some(place) => Ok(format!(in alloc; "place {place} of")?),
+        None => Ok(String::from_str(alloc, "none")?),
+    }
+}

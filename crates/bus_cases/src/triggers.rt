@@ -1,0 +1,47 @@
+//! Calls of `trigger_codec`.
+
+use crate::compared::Table;
+use crate::fields::{Fault, frame, length, mask, text_of_frame, text_of_mask, time};
+use can_frame::Frame;
+use requirement_table::Mask;
+use std::alloc::Global;
+use trigger_codec::{MAX_WINDOW, decode, encode};
+
+/// Trigger messages, in both directions.
+#[derive(Drop)]
+pub struct Triggers;
+
+impl Table for Triggers {
+    ghost use Rattle.std.specs.Prelude.{⊤};
+
+    ghost IsReady = { λ _. ⊤ };
+
+    fn answer(&mut self, alloc: Global, fields: &[&str]) -> Result<String, Fault> {
+        match fields {
+            ["encode", cycle, l, slots] => {
+                text_of_frame(alloc, &trigger(time(cycle)?, length(l)?, mask(slots)?)?)
+            }
+            ["decode", heard] => decoded(alloc, &frame(alloc, heard)?),
+            _ => Err(Fault::Unread),
+        }
+    }
+}
+
+/// The trigger message of a cycle.
+pub fn trigger(cycle: u64, l: u32, mask: Mask) -> Result<Frame, Fault> {
+    if l > MAX_WINDOW {
+        return Err(Fault::Unread);
+    }
+    Ok(encode(cycle, l, mask))
+}
+
+/// What a trigger message says, or the fault.
+fn decoded(alloc: Global, heard: &Frame) -> Result<String, Fault> {
+    match decode(heard) {
+        Ok(trigger) => {
+            let slots = text_of_mask(alloc, trigger.mask)?;
+            Ok(format!(in alloc; "{} {} {slots}", trigger.low, trigger.l)?)
+        }
+        Err(fault) => Ok(format!(in alloc; "{fault}")?),
+    }
+}
