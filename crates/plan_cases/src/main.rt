@@ -1,8 +1,8 @@
 //! The cases of the crates that plan: what their public functions answer, beside answers that were worked out by hand.
 //!
 //! For each of these crates a file of `data/` has the cases, one in a line: a call, ` = `, and the wanted answer. Any
-//! other line is a remark. Lines that begin with `table` or `master` set what later lines ask about. The program prints a
-//! line for each case whose answer differs, and then how many cases the file has.
+//! other line is a remark. Lines that begin with `table` or `master` set what later lines ask about. For each file the
+//! program prints how many cases it has, or a line for each case whose answer differs.
 //!
 //! Cycles are elementary cycles, and lengths are bit times.
 #![tactic(auto)]

@@ -16,7 +16,7 @@ struct Session {
     master: Option<Master>,
 }
 
-/// A line for each case of a file whose answer differs, and a last one with the number of the cases.
+/// A line for each case of a file whose answer differs; where there is none, one with the number of the cases.
 pub fn compared(alloc: Global, name: &str, text: &str) -> Result<String, AllocError> {
     let mut session = Session {
         placed: Vec::new(alloc),
@@ -27,19 +27,32 @@ pub fn compared(alloc: Global, name: &str, text: &str) -> Result<String, AllocEr
     for line in text.split('\n') {
         if let Some((call, wanted)) = line.split_once(" = ") {
             cases = cases.saturating_add(1);
-            let answer = answer(alloc, &mut session, name, call)?;
-            if answer.as_str() != wanted {
-                writeln!(
-                    differing,
-                    "FAILED {name}: {call} = {answer}, and not {wanted}"
-                )?;
-            }
+            compare(alloc, &mut session, &mut differing, name, call, wanted)?;
         }
     }
     if differing.is_empty() {
         writeln!(differing, "ok {name}: {cases} cases")?;
     }
     Ok(differing)
+}
+
+/// Puts a line behind the others where the answer to a call is not the wanted one.
+fn compare(
+    alloc: Global,
+    session: &mut Session,
+    differing: &mut String,
+    name: &str,
+    call: &str,
+    wanted: &str,
+) -> Result<(), AllocError> {
+    let answer = answer(alloc, session, name, call)?;
+    if answer.as_str() == wanted {
+        return Ok(());
+    }
+    writeln!(
+        differing,
+        "FAILED {name}: {call} = {answer}, and not {wanted}"
+    )
 }
 
 /// The answer to a call, or why it has none.

@@ -3,7 +3,7 @@
 use std::alloc::{AllocError, AllocFailed, Global};
 
 /// Why a line has no answer. No case wants that.
-#[derive(Clone, Copy, Debug)]
+#[derive(Clone, Copy)]
 pub enum Unanswered {
     /// Its words are those of no call.
     Words,
