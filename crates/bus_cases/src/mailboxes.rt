@@ -76,8 +76,7 @@ impl Waiting {
         }
     }
 
-    /// The identifier that is offered at a time, and when something is offered behind it. Where the calls that are told
-    /// the cycle answer otherwise, this is told.
+    /// The identifier that is offered at a time, and when something is offered behind it.
     fn offer_and_wake(&self, alloc: Global, at: u64, l: u32) -> Result<String, Fault>
         requires time { at < 2 ^ 40 }
     {

@@ -2,8 +2,8 @@
 //! table one line is printed.
 //!
 //! The frames of `frames.csv` that stand there without their wires are from outside: `canframelen` of can-utils computed
-//! their wire lengths, with the three bits of intermission, and their CRC sequences. All other values were worked out by
-//! hand.
+//! their wire lengths, with the three bits of intermission, and their CRC sequences. The last run of `cycles.txt` is that
+//! of a plain program, not in this repository, that walks bit time by bit time. All other values were worked out by hand.
 #![tactic(auto)]
 
 mod compared;
