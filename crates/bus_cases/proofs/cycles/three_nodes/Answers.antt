@@ -1,5 +1,5 @@
 use Rattle.std.proofs.Common.{inl, inr, refl, sym, arith}
-use Rattle.bus_cases.proofs.cycles.sent_in.Goals as goal
+use Rattle.bus_cases.proofs.cycles.three_nodes.Goals as goal
 
 pub new-requires-clause-owned : goal.new-requires-clause-owned
 new-requires-clause-owned c = λ k d within. elim (c.requires.owned k d within) [
