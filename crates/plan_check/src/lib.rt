@@ -19,6 +19,3 @@ pub use certificate::Certificate;
 pub use checking::check;
 pub use plan_text::{read_plan, write_plan};
 pub use text_fault::PlanTextFault;
-
-#[cfg(test)]
-mod tests;

@@ -1,0 +1,11 @@
+mod CsvFields
+mod CsvReading
+mod DecimalDigits
+mod HexDigits
+mod HexNumbers
+mod HexText
+mod ByteDigits
+mod LineFeeds
+mod Ranges
+mod RowDigits
+pub mod Shared
