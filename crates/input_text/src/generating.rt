@@ -279,6 +279,3 @@ pub fn generate(alloc: Global, number: u32) -> Result<Generated, AllocError>
         requests,
     })
 }
-
-#[cfg(test)]
-mod tests;

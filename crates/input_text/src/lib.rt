@@ -2,7 +2,6 @@
 //! refused.
 #![tactic(auto)]
 
-mod csv_rows;
 mod generating;
 mod lists;
 mod owners;
@@ -26,6 +25,3 @@ pub use step_fault::{StepFault, StepWhy};
 pub use steps::{Step, read_steps};
 pub use system::{System, read_system};
 pub use system_fault::{PathText, SystemFault};
-
-#[cfg(test)]
-mod tests;

@@ -485,6 +485,3 @@ pub fn read_system(alloc: Global, bytes: &[u8]) -> Result<System, SystemFault>
     let document = read_document(alloc, bytes)?;
     read_tables(alloc, &document)
 }
-
-#[cfg(test)]
-mod tests;

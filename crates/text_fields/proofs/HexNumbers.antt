@@ -16,12 +16,12 @@ use Rattle.text_fields.specs.Hexadecimal.{hex_digits, hex_of, is_hex_digit}
 use Rattle.text_fields.proofs.Ranges.{if-some}
 use Rattle.text_fields.proofs.HexDigits.{all-hex, digit-is, digits-small, glyph-is, hex_digits-suc, hex_digits-zero, length-hex, lower-digits}
 
--- up to 31 digits leave room for one more
-pub pow-small : (i n : ℕ) → n < 16 ^ i → i ≤ 31 → n < 16 ^ 31
-pow-small i n small few = grow (31 - i) i n small (omega arith)
+-- what fewer digits write is small enough for more of them
+pub pow-small : (k i n : ℕ) → n < 16 ^ i → i ≤ k → n < 16 ^ k
+pow-small k i n small few = grow (k - i) i n small (omega arith)
   where
-    grow : (more i n : ℕ) → n < 16 ^ i → i + more ≡ 31 → n < 16 ^ 31
-    grow zero i n small is = let same : i ≡ 31 = omega arith in rw same at small
+    grow : (more i n : ℕ) → n < 16 ^ i → i + more ≡ k → n < 16 ^ k
+    grow zero i n small is = let same : i ≡ k = omega arith in rw same at small
     grow (suc more) i n small is = let next = pow-suc 16 i in grow more (suc i) n (omega (arith, next)) (omega arith)
 
 hex-next : (k v d : ℕ) → d < 16 → hex_digits (suc k) (v * 16 + d) ≡ hex_digits k v ++ digit_glyph false d ∷ []

@@ -9,3 +9,4 @@ mod LineFeeds
 mod Ranges
 mod RowDigits
 pub mod Shared
+mod TrimmedRows

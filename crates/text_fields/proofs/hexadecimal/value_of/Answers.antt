@@ -8,12 +8,12 @@ use Rattle.text_fields.proofs.hexadecimal.value_of.Goals as goal
 
 pub overflow_mul-number : goal.overflow_mul-number
 overflow_mul-number c =
-    let small = pow-small c.loop-byte.byte-index c.loop-byte.number c.loop-byte.invariant.small (omega (arith, c.loop-byte-test.true, c.requires.few)) in
+    let small = pow-small 31 c.loop-byte.byte-index c.loop-byte.number c.loop-byte.invariant.small (omega (arith, c.loop-byte-test.true, c.requires.few)) in
     omega arith
 
 pub overflow_add-number : goal.overflow_add-number
 overflow_add-number c =
-    let small = pow-small c.loop-byte.byte-index c.loop-byte.number c.loop-byte.invariant.small (omega (arith, c.loop-byte-test.true, c.requires.few)) in
+    let small = pow-small 31 c.loop-byte.byte-index c.loop-byte.number c.loop-byte.invariant.small (omega (arith, c.loop-byte-test.true, c.requires.few)) in
     omega (arith, c.from.ensures, c.digit.ensures.small)
 
 pub loop-byte-preserved : goal.loop-byte-preserved
