@@ -5,32 +5,12 @@ use Rattle.std.proofs.lemmas.List.{append-nil, length-append}
 use Rattle.std.proofs.lemmas.List.Concat.{flat_map-append}
 use Rattle.std.proofs.lemmas.List.Elements.{All-head, All-push, All-tail}
 use Rattle.std.proofs.lemmas.Option.{same_Some}
-use Rattle.plan_check.specs.PlanText.{HasNoFeed}
+use Rattle.text_fields.specs.Lines.{HasNoFeed}
+use Rattle.text_fields.proofs.Shared.{no_line, same_line}
 use Rattle.bus_trace.specs.Row.{IsFirstFaultyRow, IsLogRow, row_line, row_text, text_of_rows}
 use Rattle.bus_trace.specs.RowFields.{fields_of_line, row_of}
 use Rattle.bus_trace.specs.declared.row.LogRow.{LogRow}
 use Rattle.bus_trace.proofs.RowLines.{line-found, line-no_feed, line-read}
-
--- A line is known by its line feed
-
-feed-rest : (x : ℕ) (xs : List ℕ) → HasNoFeed (x ∷ xs) → HasNoFeed xs
-feed-rest x xs none i within = none (suc i) (omega arith)
-
-same_line : (xs ys r s : List ℕ) → HasNoFeed xs → HasNoFeed ys → xs ++ 10 ∷ r ≡ ys ++ 10 ∷ s → (xs ≡ ys) × (r ≡ s)
-same_line [] [] r s one other same = (refl, cc)
-same_line [] (y ∷ ys) r s one other same = let first : y ≡ 10 = cc in absurd (other 0 (omega arith) first)
-same_line (x ∷ xs) [] r s one other same = let first : x ≡ 10 = cc in absurd (one 0 (omega arith) first)
-same_line (x ∷ xs) (y ∷ ys) r s one other same =
-    let first : x ≡ y = cc in
-    let rest : xs ++ 10 ∷ r ≡ ys ++ 10 ∷ s = cc in
-    let more = same_line xs ys r s (feed-rest x xs one) (feed-rest y ys other) rest in
-    let tails = more.0 in
-    (cc, more.1)
-
-no_line : (xs line r : List ℕ) → HasNoFeed xs → xs ≡ line ++ 10 ∷ r → ⊥
-no_line xs [] r none is = rw is at none 0 (omega arith) refl
-no_line [] (y ∷ line) r none is = cc
-no_line (x ∷ xs) (y ∷ line) r none is = let rest : xs ≡ line ++ 10 ∷ r = cc in no_line xs line r (feed-rest x xs none) rest
 
 text-before : (read : LogRow) (after : List ℕ) → row_text read ++ after ≡ row_line read ++ 10 ∷ after
 text-before read after = append_assoc (row_line read) (10 ∷ []) after

@@ -11,13 +11,15 @@ use Rattle.can_frame.specs.DataFrame.{DataFrame, IsFrame}
 use Rattle.can_frame.specs.declared.data_frame.TimedFrame.{TimedFrame}
 use Rattle.bus_trace.specs.Log.{hex_digits}
 use Rattle.bus_trace.specs.Row.{IsLogRow, IsLogVerdict, fields_of_row, fields_of_verdict}
-use Rattle.bus_trace.specs.RowFields.{accepted_of, bytes_of, end_of, frame_at, frame_of, frame_with, hex_at, hex_of, horizon_of, look_of, malformed_of, miss_of, number_at, number_of, open_of, passed_of, plan_of, row_by, row_of, rule_of, submit_of, two_numbers, until_of, up_to, verdict_by, verdict_of}
+use Rattle.bus_trace.specs.RowFields.{accepted_of, end_of, frame_at, frame_of, frame_with, hex_at, horizon_of, look_of, malformed_of, miss_of, number_at, open_of, passed_of, plan_of, row_by, row_of, rule_of, submit_of, two_numbers, until_of, verdict_by, verdict_of}
 use Rattle.bus_trace.specs.declared.row.LogRow.{LogRow}
 use Rattle.bus_trace.specs.declared.row.LogRow.TheVariants as row
 use Rattle.bus_trace.specs.declared.row.LogVerdict.{LogVerdict}
 use Rattle.bus_trace.specs.declared.row.LogVerdict.TheVariants as verdict
-use Rattle.bus_trace.proofs.FieldNumbers.{decimal-of_number, number_of-decimal}
-use Rattle.bus_trace.proofs.HexFields.{bytes_of-data, data-of_bytes, digits-of_hex, hex_of-digits, if-some}
+use Rattle.text_fields.specs.ByteText.{data_of}
+use Rattle.text_fields.specs.Decimal.{decimal_of, within}
+use Rattle.text_fields.specs.Hexadecimal.{hex_of}
+use Rattle.text_fields.proofs.Shared.{data-read, data_of-data, decimal-read, decimal_of-decimal, digits-of_hex, hex_of-digits, if-some, within-found, within-is}
 
 -- Choices
 
@@ -50,30 +52,25 @@ same-places (x ∷ xs) (y ∷ ys) size at =
 
 -- Fields
 
-up_to-is : (most v n : ℕ) → up_to most v ≡ Some n → (v ≡ n) × (n ≤ most)
-up_to-is most v n read =
-    let parts = if-some (nat_le v most) (Some v) n read in
-    let is : v ≡ n = same_Some v n parts.1 in
-    let test = parts.0 in
-    let fits : v ≤ most = grind (arith, nat_tests) in
-    (is, omega arith)
+up_to-is : (most v n : ℕ) → within 0 most v ≡ Some n → (v ≡ n) × (n ≤ most)
+up_to-is most v n read = let parts = within-is 0 most v n read in (parts.0, parts.2)
 
-up_to-found : (most n : ℕ) → n ≤ most → up_to most n ≡ Some n
-up_to-found most n fits = let test : nat_le n most ≡ true = grind (arith, nat_tests) in rw test
+up_to-found : (most n : ℕ) → n ≤ most → within 0 most n ≡ Some n
+up_to-found most n fits = within-found 0 most n (omega arith) fits
 
 number-read : (fields : List (List ℕ)) (place most n : ℕ) → most < 2 ^ 64 → number_at fields place most ≡ Some n
     → (slice_get fields place ≡ Some (decimal n)) × (n ≤ most)
 number-read fields place most n wide read =
-    option_and_then_some (up_to most) (option_and_then number_of (slice_get fields place)) n read (λ v found fits.
+    option_and_then_some (within 0 most) (option_and_then decimal_of (slice_get fields place)) n read (λ v found fits.
     let (same, below) = up_to-is most v n fits in
-    option_and_then_some number_of (slice_get fields place) v found (λ field there writes.
-    (there ∙ ap (λ f. Some f) (decimal-of_number field v writes (omega arith) ∙ ap decimal same), below)))
+    option_and_then_some decimal_of (slice_get fields place) v found (λ field there writes.
+    (there ∙ ap (λ f. Some f) (decimal-read field v writes (omega arith) ∙ ap decimal same), below)))
 
 number-found : (fields : List (List ℕ)) (place most n : ℕ) → most < 2 ^ 64 → n ≤ most → slice_get fields place ≡ Some (decimal n)
     → number_at fields place most ≡ Some n
 number-found fields place most n wide below there =
-    ap (λ f. option_and_then (up_to most) (option_and_then number_of f)) there
-    ∙ ap (option_and_then (up_to most)) (number_of-decimal n (omega arith))
+    ap (λ f. option_and_then (within 0 most) (option_and_then decimal_of f)) there
+    ∙ ap (option_and_then (within 0 most)) (decimal_of-decimal n (omega arith))
     ∙ up_to-found most n below
 
 hex-read : (fields : List (List ℕ)) (place count n : ℕ) → hex_at fields place count ≡ Some n
@@ -95,13 +92,13 @@ record IsFrameAt (fields : List (List ℕ)) (frame : DataFrame) : Type 0 where
 
 frame-read : (fields : List (List ℕ)) (frame : DataFrame) → frame_at fields ≡ Some frame → IsFrameAt fields frame
 frame-read fields frame read =
-    option_and_then_some _ (option_and_then (up_to 0x7EF) (hex_at fields 3 3)) frame read (λ id found rest.
-    option_and_then_some _ (option_and_then bytes_of (slice_get fields 4)) frame rest (λ bytes second made.
-    option_and_then_some (up_to 0x7EF) (hex_at fields 3 3) id found (λ v digits fits.
-    option_and_then_some bytes_of (slice_get fields 4) bytes second (λ field there writes.
+    option_and_then_some _ (option_and_then (within 0 0x7EF) (hex_at fields 3 3)) frame read (λ id found rest.
+    option_and_then_some _ (option_and_then data_of (slice_get fields 4)) frame rest (λ bytes second made.
+    option_and_then_some (within 0 0x7EF) (hex_at fields 3 3) id found (λ v digits fits.
+    option_and_then_some data_of (slice_get fields 4) bytes second (λ field there writes.
     let (same, below) = up_to-is 0x7EF v id fits in
     let (first, small) = hex-read fields 3 3 v digits in
-    let (digits_are, few, all) = data-of_bytes field bytes writes in
+    let (digits_are, few, all) = data-read field bytes writes in
     subst (IsFrameAt fields) (same_Some (frame_with id bytes) frame made) (record {
       legal = record { identifier = below; few = few; bytes = all };
       identifier = first ∙ ap (λ n. Some (hex_digits 3 n)) same;
@@ -111,10 +108,10 @@ frame-read fields frame read =
 frame-found : (fields : List (List ℕ)) (frame : DataFrame) → IsFrameAt fields frame → frame_at fields ≡ Some frame
 frame-found fields frame is =
     let below = is.legal.identifier in
-    let id : option_and_then (up_to 0x7EF) (hex_at fields 3 3) ≡ Some frame.identifier =
-    ap (option_and_then (up_to 0x7EF)) (hex-found fields 3 3 frame.identifier (omega arith) is.identifier) ∙ up_to-found 0x7EF frame.identifier below in
-    let written : option_and_then bytes_of (slice_get fields 4) ≡ Some frame.bytes =
-    ap (option_and_then bytes_of) is.bytes ∙ bytes_of-data frame.bytes is.legal.bytes is.legal.few in
+    let id : option_and_then (within 0 0x7EF) (hex_at fields 3 3) ≡ Some frame.identifier =
+    ap (option_and_then (within 0 0x7EF)) (hex-found fields 3 3 frame.identifier (omega arith) is.identifier) ∙ up_to-found 0x7EF frame.identifier below in
+    let written : option_and_then data_of (slice_get fields 4) ≡ Some frame.bytes =
+    ap (option_and_then data_of) is.bytes ∙ data_of-data frame.bytes is.legal.bytes is.legal.few in
     rw (id, written)
 
 -- Verdicts

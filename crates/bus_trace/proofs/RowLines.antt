@@ -6,16 +6,16 @@ use Rattle.std.proofs.lemmas.List.Splits.{join_with_byte-slice_split, slice_spli
 use Rattle.std.specs.Char.{is_ascii_digit}
 use Rattle.std.specs.Fmt.{decimal}
 use Rattle.std.specs.List.{flat_map, join_with_byte, list_all}
-use Rattle.plan_check.specs.PlanText.{HasNoFeed}
+use Rattle.text_fields.specs.Hexadecimal.{is_hex_digit}
+use Rattle.text_fields.specs.Lines.{HasNoFeed}
+use Rattle.text_fields.proofs.Shared.{all-data, all-decimal, all-hex}
 use Rattle.bus_trace.specs.Log.{hex_digits}
 use Rattle.bus_trace.specs.Row.{IsLogRow, IsLogVerdict, fields_of_row, fields_of_verdict, row_line}
-use Rattle.bus_trace.specs.RowFields.{fields_of_line, is_comma, is_hex_digit, row_of}
+use Rattle.bus_trace.specs.RowFields.{fields_of_line, is_comma, row_of}
 use Rattle.bus_trace.specs.declared.row.LogRow.{LogRow}
 use Rattle.bus_trace.specs.declared.row.LogRow.TheVariants as row
 use Rattle.bus_trace.specs.declared.row.LogVerdict.{LogVerdict}
 use Rattle.bus_trace.specs.declared.row.LogVerdict.TheVariants as verdict
-use Rattle.bus_trace.proofs.FieldNumbers.{all-decimal}
-use Rattle.bus_trace.proofs.HexFields.{all-data, all-hex}
 use Rattle.bus_trace.proofs.RowForms.{row-found, row-read}
 
 -- neither a comma nor a line feed

@@ -4,8 +4,7 @@
 //! the one form that the writer gives it: no blanks, no quotes, no carriage return, no leading zeros, hexadecimal
 //! digits in lower case. Each row is tested by itself: whether rows follow each other rightly is not asked.
 
-ghost use Rattle.std.specs.Prelude.{◌≡◌, ◌⊎◌, ℕ, ◌++◌, ◌∷◌, List, All, IfOk, IfErr, IfSome, IfNone, MatchResult};
-ghost use Rattle.plan_check.specs.PlanText.{HasNoFeed};
+ghost use Rattle.std.specs.Prelude.{◌≡◌, ◌⊎◌, ℕ, List, All, IfOk, IfErr, MatchResult};
 ghost use Rattle.bus_trace.specs.Row.{IsFirstFaultyRow, IsLogFault, IsLogRow, text_of_rows};
 ghost use Rattle.bus_trace.specs.RowFields.{fields_of_line, row_of};
 ghost use Rattle.bus_trace.specs.declared.log_fault.LogFault.TheVariants.{Memory, Row};
@@ -16,20 +15,7 @@ use crate::row::LogRow;
 use crate::row_fields::split_fields;
 use crate::row_reading::read_row;
 use std::alloc::{AllocError, Global};
-
-/// The first line of a text, without its line feed, and what follows it; nothing where there is no line feed.
-fn split_line(text: &[u8]) -> Option<(&[u8], &[u8])>
-    ensures split { IfSome result (λ r. text.now ≡ r.0.now ++ 10 ∷ r.1.now) }
-    ensures line { IfSome result (λ r. HasNoFeed r.0.now) }
-    ensures none { IfNone result (HasNoFeed text.now) }
-{
-    for (end, byte) in text.iter().enumerate() {
-        if *byte == b'\n' {
-            return Some((&text[..end], &text[end + 1..]));
-        }
-    }
-    None
-}
+use text_fields::split_line;
 
 /// The row of a line, where the line has one of the forms.
 fn read_line(alloc: Global, line: &[u8]) -> Result<Option<LogRow>, AllocError>
