@@ -11,7 +11,7 @@ use Rattle.can_frame.specs.DataFrame.{DataFrame, IsFrame}
 use Rattle.can_frame.specs.declared.data_frame.TimedFrame.{TimedFrame}
 use Rattle.bus_trace.specs.Log.{hex_digits}
 use Rattle.bus_trace.specs.Row.{IsLogRow, IsLogVerdict, fields_of_row, fields_of_verdict}
-use Rattle.bus_trace.specs.RowFields.{accepted_of, end_of, frame_at, frame_of, frame_with, hex_at, horizon_of, look_of, malformed_of, miss_of, number_at, open_of, passed_of, plan_of, row_by, row_of, rule_of, submit_of, two_numbers, until_of, verdict_by, verdict_of}
+use Rattle.bus_trace.specs.RowFields.{accepted_of, end_of, frame_at, frame_of, frame_with, hex_at, horizon_of, look_of, malformed_of, miss_of, number_at, open_of, passed_of, plan_of, row_by, row_of, submit_of, two_numbers, until_of, verdict_by, verdict_of}
 use Rattle.bus_trace.specs.declared.row.LogRow.{LogRow}
 use Rattle.bus_trace.specs.declared.row.LogRow.TheVariants as row
 use Rattle.bus_trace.specs.declared.row.LogVerdict.{LogVerdict}
@@ -173,37 +173,25 @@ module _ (fields : List (List ℕ)) (a b c : List ℕ)
       by false true false o s e t r is = absurd (cc)
       by false false ten o s e t r is = absurd (cc)
 
-  rule-is : (v why : ℕ) → rule_of v ≡ Some why → (v ≡ why) × (1 ≤ why) × (why ≤ 11)
-  rule-is v why read =
-      let parts = if-some (nat_le 1 v && nat_le v 11) (Some v) why read in
-      let is : v ≡ why = same_Some v why parts.1 in
-      let (low, high) = and_parts (nat_le 1 v) (nat_le v 11) parts.0 in
-      let least : 1 ≤ v = grind (arith, nat_tests) in
-      let most : v ≤ 11 = grind (arith, nat_tests) in
-      (is, omega arith, omega arith)
-
   malformed-read : (said : LogVerdict) → slice_get fields 3 ≡ Some (codes "malformed") → malformed_of fields ≡ Some said → IsSaid fields a b c said
   malformed-read said word read =
       option_and_then_some _ (number_at fields 4 255) said read (λ op one more.
-      option_and_then_some _ (option_and_then rule_of (number_at fields 5 255)) said more (λ why two others.
+      option_and_then_some _ (number_at fields 5 255) said more (λ why two others.
       option_and_then_some _ (until_of fields why) said others (λ until three made.
-      option_and_then_some rule_of (number_at fields 5 255) why two (λ v four rule.
-      let (same, least, most) = rule-is v why rule in
       let x = number-read fields 4 255 op (omega arith) one in
-      let y = number-read fields 5 255 v (omega arith) four in
-      let at_why : slice_get fields 5 ≡ Some (decimal why) = y.0 ∙ ap (λ n. Some (decimal n)) same in
+      let y = number-read fields 5 255 why (omega arith) two in
       subst (IsSaid fields a b c) (same_Some (verdict.Malformed op why until) said made)
       (until-read (IsSaid fields a b c (verdict.Malformed op why until)) why until three
       (λ count none. subst (λ u. IsSaid fields a b c (verdict.Malformed op why u)) none (record {
-        legal = (omega (arith, x.1), least, most, tt);
-        is = same-places fields _ count (at_a, (at_b, (at_c, (word, (x.0, (at_why, tt))))));
+        legal = (omega (arith, x.1), omega (arith, y.1), tt);
+        is = same-places fields _ count (at_a, (at_b, (at_c, (word, (x.0, (y.0, tt))))));
       }))
       (λ n count ten some found.
       let z = number-read fields 6 (2 ^ 64 - 1) n (omega arith) found in
       subst (λ u. IsSaid fields a b c (verdict.Malformed op why u)) some (record {
-        legal = (omega (arith, x.1), least, most, (omega (arith, z.1), ten));
-        is = same-places fields _ count (at_a, (at_b, (at_c, (word, (x.0, (at_why, (z.0, tt)))))));
-      })))))))
+        legal = (omega (arith, x.1), omega (arith, y.1), (omega (arith, z.1), ten));
+        is = same-places fields _ count (at_a, (at_b, (at_c, (word, (x.0, (y.0, (z.0, tt)))))));
+      }))))))
 
   verdict-read : (said : LogVerdict) → verdict_of fields ≡ Some said → IsSaid fields a b c said
   unfolding verdict_of
@@ -343,7 +331,7 @@ module _ (fields : List (List ℕ)) where
   miss-said slot release cycle word count one two three = rw (word, count, one, two, three)
 
   malformed-said : (op why : ℕ) (until : Option ℕ) → slice_get fields 3 ≡ Some (codes "malformed")
-      → number_at fields 4 255 ≡ Some op → option_and_then rule_of (number_at fields 5 255) ≡ Some why → until_of fields why ≡ Some until
+      → number_at fields 4 255 ≡ Some op → number_at fields 5 255 ≡ Some why → until_of fields why ≡ Some until
       → verdict_of fields ≡ Some (verdict.Malformed op why until)
   unfolding verdict_of
   malformed-said op why until word one two three = rw (word, one, two, three)
@@ -405,25 +393,19 @@ verdict-found a b c (verdict.Miss slot release cycle) legal =
     (number-found fields 5 (2 ^ 64 - 1) release (omega arith) (omega (arith, legal.1)) refl)
     (number-found fields 6 (2 ^ 64 - 1) cycle (omega arith) (omega (arith, legal.2)) refl)
 verdict-found a b c (verdict.Malformed op why None) legal =
-    let low : nat_le 1 why ≡ true = grind (arith, nat_tests, legal.1) in
-    let high : nat_le why 11 ≡ true = grind (arith, nat_tests, legal.2) in
     let fields = a ∷ b ∷ c ∷ fields_of_verdict (verdict.Malformed op why None) in
-    let rule : rule_of why ≡ Some why = rw (low, high) in
     malformed-said fields op why None refl
     (number-found fields 4 255 op (omega arith) (omega (arith, legal.0)) refl)
-    (ap (option_and_then rule_of) (number-found fields 5 255 why (omega arith) (omega (arith, legal.2)) refl) ∙ rule)
+    (number-found fields 5 255 why (omega arith) (omega (arith, legal.1)) refl)
     refl
 verdict-found a b c (verdict.Malformed op why (Some until)) legal =
-    let ten : why ≡ 10 = legal.3.1 in
+    let ten : why ≡ 10 = legal.2.1 in
     let is : (why == 10) ≡ true = rw ten refl in
-    let low : nat_le 1 why ≡ true = grind (arith, nat_tests, legal.1) in
-    let high : nat_le why 11 ≡ true = grind (arith, nat_tests, legal.2) in
     let fields = a ∷ b ∷ c ∷ fields_of_verdict (verdict.Malformed op why (Some until)) in
-    let rule : rule_of why ≡ Some why = rw (low, high) in
-    let number : number_at fields 6 (2 ^ 64 - 1) ≡ Some until = number-found fields 6 (2 ^ 64 - 1) until (omega arith) (omega (arith, legal.3.0)) refl in
+    let number : number_at fields 6 (2 ^ 64 - 1) ≡ Some until = number-found fields 6 (2 ^ 64 - 1) until (omega arith) (omega (arith, legal.2.0)) refl in
     malformed-said fields op why (Some until) refl
     (number-found fields 4 255 op (omega arith) (omega (arith, legal.0)) refl)
-    (ap (option_and_then rule_of) (number-found fields 5 255 why (omega arith) (omega (arith, legal.2)) refl) ∙ rule)
+    (number-found fields 5 255 why (omega arith) (omega (arith, legal.1)) refl)
     (ap (λ ten. cond ten (option_map (λ n. Some n) (number_at fields 6 (2 ^ 64 - 1))) None) is ∙ ap (option_map (λ n. Some n)) number)
 
 -- the reader finds the row that the fields are written of

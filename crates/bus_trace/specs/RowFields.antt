@@ -1,7 +1,6 @@
 -- What the fields of a row say: words for contracts inside the crate.
 use Rattle.std.specs.Prelude.{ℕ, ◌-◌, ◌^◌, ◌==◌, ◌&&◌, Bool, if◌then◌else◌, nat_le, List, length, slice_get}
 use Rattle.std.specs.Prelude.{codes, Option, Some, None, option_map, option_and_then}
-use Rattle.std.specs.List.{slice_split}
 use Rattle.std.specs.Str.{bytes_eq}
 use Rattle.can_frame.specs.DataFrame.{DataFrame}
 use Rattle.text_fields.specs.ByteText.{data_of}
@@ -16,13 +15,6 @@ infixl 10 ◌>>=◌
 -- what the second gives for the value of the first, where both are there
 abbrev pub ◌>>=◌ : {A B : Type 0} → Option A → (A → Option B) → Option B
 value >>= next = option_and_then next value
-
--- the fields of a line: what stands between its commas
-abbrev pub is_comma : ℕ → Bool
-is_comma byte = byte == 44
-
-abbrev pub fields_of_line : List ℕ → List (List ℕ)
-fields_of_line line = slice_split is_comma line
 
 -- Fields
 
@@ -80,10 +72,6 @@ miss_of fields = if are_fields fields 7 then (do
   cycle ← number_at fields 6 (2 ^ 64 - 1)
   Some (verdict.Miss slot release cycle)) else None
 
--- the number of a rule
-abbrev pub rule_of : ℕ → Option ℕ
-rule_of why = if nat_le 1 why && nat_le why 11 then Some why else None
-
 -- the cycle behind the number of a rule, where there is one
 abbrev pub until_of : List (List ℕ) → ℕ → Option (Option ℕ)
 until_of fields why =
@@ -94,7 +82,7 @@ until_of fields why =
 abbrev pub malformed_of : List (List ℕ) → Option LogVerdict
 malformed_of fields = do
   op ← number_at fields 4 255
-  why ← number_at fields 5 255 >>= rule_of
+  why ← number_at fields 5 255
   until ← until_of fields why
   Some (verdict.Malformed op why until)
 

@@ -1,5 +1,5 @@
 -- The fields of a row and the numbers that they write.
-use Rattle.std.proofs.Common.{◌≡◌, ℕ, ◌+◌, ◌*◌, ◌-◌, ◌^◌, ◌<◌, ◌≤◌, ◌==◌, if◌then◌else◌, true, false, List, [], ◌∷◌, length, map, get_or, Option, Some, None, option_map, option_and_then, nat_le, zero, suc, refl, inl, inr, arith}
+use Rattle.std.proofs.Common.{◌≡◌, ℕ, ◌+◌, ◌*◌, ◌-◌, ◌^◌, ◌<◌, ◌≤◌, ◌==◌, if◌then◌else◌, true, false, List, [], ◌∷◌, length, map, get_or, slice_get, Option, Some, None, option_map, option_and_then, nat_le, zero, suc, refl, inl, inr, arith}
 use Rattle.std.proofs.lemmas.Bool.{cases_Bool}
 use Rattle.std.proofs.lemmas.Bool.Decides.{nat_tests}
 use Rattle.std.proofs.lemmas.Option.{none-some}
@@ -15,6 +15,14 @@ unfolding field_at
 field_at-map change [] place = refl
 field_at-map change (field ∷ rest) zero = refl
 field_at-map change (field ∷ rest) (suc place) = field_at-map change rest place
+
+-- the field at a place, as the list's item there
+pub field_at-item : (row : List (List ℕ)) (place : ℕ) → field_at row place ≡ slice_get row place
+unfolding field_at
+field_at-item [] zero = refl
+field_at-item [] (suc place) = refl
+field_at-item (field ∷ rest) zero = refl
+field_at-item (field ∷ rest) (suc place) = field_at-item rest place
 
 -- the number that digits write behind a number, where they are digits and it fits its type
 abbrev pub decimal_from : ℕ → List ℕ → Option ℕ

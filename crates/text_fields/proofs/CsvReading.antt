@@ -73,7 +73,7 @@ advances (c ∷ rest) s fields field r h =
     ]
 
 -- between two records the end of the text is no record
-none_at_end : (s : State) → Between s → next_record default_config s [] [] [] ≡ None
+pub none_at_end : (s : State) → Between s → next_record default_config s [] [] [] ≡ None
 unfolding next_record
 none_at_end s between = rw between
 

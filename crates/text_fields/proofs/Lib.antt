@@ -6,6 +6,7 @@ mod HexNumbers
 mod HexText
 mod ByteDigits
 mod LineFeeds
+mod PlainRecords
 mod Ranges
 mod RowDigits
 pub mod Shared

@@ -4,7 +4,7 @@
 //! and leading zeros are allowed.
 
 ghost use Rattle.std.specs.Prelude.{◌≡◌, ℕ, ◌≤◌, List, [], map, IfOk, IfSome, OnOk};
-ghost use Rattle.std.specs.Prelude.{Some, option_map, reverse, true, false};
+ghost use Rattle.std.specs.Prelude.{Some, option_map, reverse, slice_get, true, false};
 ghost use Rattle.std.specs.Range.{range_inclusive_start, range_inclusive_end};
 ghost use Rattle.csv.specs.Reading.{ReadRecord, Ready, reader_trim, took_first};
 ghost use Rattle.csv.specs.declared.reader.Trim.TheVariants as csv_trim;
@@ -81,6 +81,13 @@ fn trim(field: &[u8]) -> &[u8]
     ensures value { result.now ≡ trimmed field.now }
 {
     drop_trailing_spaces(drop_leading_spaces(field))
+}
+
+/// The field at this place of a record, from 0, as it stands.
+pub fn field_in(row: &ByteRecord, place: usize) -> Option<&[u8]>
+    ensures value { option_map (λ field. field.now) result ≡ slice_get (fields_of row.now) place }
+{
+    row.get(place)
 }
 
 /// The field at this place of a row, from 0, without the spaces at both ends.

@@ -10,7 +10,7 @@ mod hexadecimal;
 mod lines;
 mod row_parts;
 
-pub use csv_rows::{field_of, number, read_next, records_in};
+pub use csv_rows::{field_in, field_of, number, read_next, records_in};
 pub use data_bytes::{DataBytes, read_bytes, read_data};
 pub use decimals::{read_decimal, read_number};
 pub use hexadecimal::{push_hex, read_hex, read_hexadecimal};
