@@ -1,20 +1,17 @@
 -- The bytes that pairs of hexadecimal digits write, as the reader finds them and as the writer writes them.
-use Rattle.std.proofs.Common.{◌≡◌, ℕ, zero, suc, ◌+◌, ◌-◌, ◌*◌, ◌/◌, ◌%◌, ◌^◌, ◌<◌, ◌≤◌, ◌&&◌, true, false, cond, ◌==◌, nat_le, nat_lt, Bool, List, get_or, [], ◌∷◌, ◌++◌, All, length, Option, Some, None, refl, sym, ap, ◌∙◌, subst, arith, append_assoc, ⊎_elim}
-use Rattle.std.proofs.lemmas.Bool.{and_parts, and_from, cases_lt, cond-false, cond-true, eqb-true, eq-eqb}
+use Rattle.std.proofs.Common.{◌≡◌, ℕ, ◌+◌, ◌*◌, ◌/◌, ◌%◌, ◌<◌, ◌≤◌, ◌&&◌, true, false, ◌==◌, nat_le, List, [], ◌∷◌, ◌++◌, All, length, Some, refl, sym, ap, ◌∙◌, subst, arith}
+use Rattle.std.proofs.lemmas.Bool.{and_parts, and_from, eqb-true, eq-eqb}
 use Rattle.std.proofs.lemmas.Bool.Decides.{nat_tests}
-use Rattle.std.proofs.lemmas.Int.Digits.{digits_value-lt, digits_value_push}
-use Rattle.std.proofs.lemmas.List.{append-nil, length-append}
+use Rattle.std.proofs.lemmas.List.{length-append}
 use Rattle.std.proofs.lemmas.List.Elements.{All-cons, All-head, All-tail}
 use Rattle.std.proofs.lemmas.List.Folds.{list_all-append}
 use Rattle.std.proofs.lemmas.Option.{same_Some}
-use Rattle.std.proofs.Math.Nat.{pow-suc}
-use Rattle.std.specs.Char.{digit_value, is_ascii_hexdigit}
+use Rattle.std.specs.Char.{digit_value}
 use Rattle.std.specs.Fmt.{digit_glyph}
 use Rattle.std.specs.List.{flat_map, list_all}
-use Rattle.std.specs.Str.Parse.{AllDigits, digits_value, digits_value_after}
-use Rattle.text_fields.specs.Hexadecimal.{hex_digits, hex_of, is_hex_digit}
-use Rattle.text_fields.specs.ByteText.{bytes_of, bytes_written, data_of}
-use Rattle.text_fields.proofs.HexDigits.{all-hex, digit-is, glyph-is, hex-two, length-hex, lower-digits}
+use Rattle.text_fields.specs.Hexadecimal.{hex_digits, is_hex_digit}
+use Rattle.text_fields.specs.ByteText.{bytes_written, data_of}
+use Rattle.text_fields.proofs.HexDigits.{all-hex, digit-is, glyph-is, hex-two, length-hex}
 use Rattle.text_fields.proofs.Ranges.{if-some}
 
 abbrev AllBytes : List ℕ → Type 0

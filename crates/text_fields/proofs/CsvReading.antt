@@ -1,17 +1,16 @@
 -- The records of a text, one after the other, as a reader gives them.
-use Rattle.std.proofs.Common.{Bor, ◌≡◌, ℕ, ◌+◌, ◌<◌, ◌≤◌, Bool, true, false, ◌==◌, cond, List, [], ◌∷◌, ◌++◌, length, length-append, map, Option, Some, None, unwrap_or, zero, suc, refl, sym, ap, ◌∙◌, arith, append_assoc, inl, inr, ◌⊎◌, ◌-◌, lit≤, add-one}
+use Rattle.std.proofs.Common.{Bor, ◌≡◌, ℕ, ◌+◌, ◌<◌, ◌≤◌, Bool, true, false, ◌==◌, cond, List, [], ◌∷◌, ◌++◌, length, length-append, Option, Some, None, zero, suc, refl, sym, ap, ◌∙◌, arith, append_assoc, inl, inr, ◌⊎◌, ◌-◌, lit≤, add-one}
 use Rattle.std.proofs.lemmas.Bool.{cases_Bool, false≢true}
 use Rattle.std.proofs.lemmas.Option.{none-some, same_Some}
 use Rattle.std.proofs.lemmas.List.{append-nil}
 use Rattle.csv.specs.Machine.{Read, after_end, ends_at_end, ends_with, in_field, is_end, next_record, start_field, start_record, step}
 use Rattle.csv.proofs.ReadFacts.{rows-more}
-use Rattle.csv.specs.Reading.{Reached, ReadRecord, Ready, default_config, is_bom, records_from, records_next, source_of, strip_bom}
+use Rattle.csv.specs.Reading.{Reached, ReadRecord, default_config, is_bom, records_from, records_next, source_of, strip_bom}
 use Rattle.csv.specs.declared.reader.Reader.{Reader}
-use Rattle.csv.specs.declared.reader.Trim.TheVariants as trim
 use Rattle.csv.specs.declared.parser.Action.{Action}
 use Rattle.csv.specs.declared.parser.State.{State}
 use Rattle.csv.specs.declared.parser.State.TheVariants as st
-use Rattle.text_fields.specs.CsvReading.{Between, Reads, ReadsOne, bytes_left, records_left}
+use Rattle.text_fields.specs.CsvReading.{Between, Reads, ReadsOne, records_left}
 use Rattle.text_fields.specs.CsvRows.{records_of}
 
 -- where a byte ends a record, the reader stands between two records

@@ -1,5 +1,5 @@
 -- The numbers that decimal digits without leading zeros write, as the reader finds them and as the writer writes them.
-use Rattle.std.proofs.Common.{◌≡◌, ℕ, ◌-◌, ◌^◌, ◌<◌, ◌≤◌, ◌&&◌, not, true, false, cond, ◌==◌, List, get_or, length, Option, Some, None, option_and_then, nat_le, nat_lt, zero, suc, Bool, IfSome, IfNone, refl, sym, ap, ◌∙◌, rules, arith}
+use Rattle.std.proofs.Common.{◌≡◌, ℕ, ◌-◌, ◌^◌, ◌<◌, ◌&&◌, not, true, false, cond, ◌==◌, List, get_or, length, Option, Some, None, option_and_then, nat_lt, zero, suc, Bool, IfSome, IfNone, refl, sym, ap, ◌∙◌, rules, arith}
 use Rattle.std.proofs.lemmas.Bool.Decides.{nat_tests}
 use Rattle.std.proofs.lemmas.Fmt.{decimal-digits_value, digits_value-decimal, decimal_digit, decimal_nonempty, digits_decimal, first_decimal}
 use Rattle.std.proofs.lemmas.Option.{option_and_then_some, same_Some}

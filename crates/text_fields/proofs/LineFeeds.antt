@@ -1,10 +1,9 @@
 -- A line is known by its line feed.
-use Rattle.std.proofs.Common.{◌≡◌, ◌≢◌, ℕ, zero, suc, Bool, List, [], ◌∷◌, ◌++◌, true, ◌^◌, ◌<◌, not, ◌==◌, refl, sym, ap, ◌∙◌, arith}
+use Rattle.std.proofs.Common.{◌≡◌, ◌≢◌, ℕ, zero, suc, Bool, List, [], ◌∷◌, ◌++◌, true, ◌^◌, ◌<◌, refl, sym, ap, ◌∙◌, arith}
 use Rattle.std.specs.Char.{is_ascii_digit}
 use Rattle.std.specs.List.{list_all}
 use Rattle.std.proofs.lemmas.Bool.{and_parts}
 use Rattle.std.specs.Fmt.{decimal}
-use Rattle.std.proofs.lemmas.Bool.Decides.{nat_tests}
 use Rattle.text_fields.specs.Hexadecimal.{hex_digits, is_hex_digit}
 use Rattle.text_fields.specs.Lines.{HasNoFeed}
 use Rattle.text_fields.proofs.DecimalDigits.{all-decimal}

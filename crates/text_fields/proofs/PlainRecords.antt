@@ -1,10 +1,10 @@
 -- Plain fields that are written with a comma between each two of them, and a line feed behind them, are read as one record.
-use Rattle.std.proofs.Common.{◌≡◌, ℕ, ◌&&◌, not, true, false, ◌==◌, Bool, cond, List, [], ◌∷◌, ◌++◌, Some, None, refl, sym, ap, ◌∙◌, append_assoc}
+use Rattle.std.proofs.Common.{◌≡◌, ℕ, ◌&&◌, not, true, false, ◌==◌, Bool, cond, List, [], ◌∷◌, ◌++◌, Some, refl, sym, ap, ◌∙◌, append_assoc}
 use Rattle.std.proofs.lemmas.Bool.{and_parts}
 use Rattle.std.proofs.lemmas.List.{append-nil}
 use Rattle.std.specs.List.{join_with_byte, list_all}
 use Rattle.csv.specs.Machine.{field_after, fields_after, is_end, next_record, step}
-use Rattle.csv.specs.Reading.{default_config, is_bom, strip_bom}
+use Rattle.csv.specs.Reading.{default_config, strip_bom}
 use Rattle.csv.specs.declared.parser.Action.{Action}
 use Rattle.csv.specs.declared.parser.Action.TheVariants as act
 use Rattle.csv.specs.declared.parser.State.{State}

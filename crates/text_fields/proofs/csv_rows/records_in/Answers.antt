@@ -1,4 +1,4 @@
-use Rattle.std.proofs.Common.{[], ap, inr, refl, true, ◌∙◌, arith}
+use Rattle.std.proofs.Common.{ap, inr, refl, true, ◌∙◌, arith}
 use Rattle.csv.specs.Reading.{strip_bom, with_flexible}
 use Rattle.text_fields.proofs.CsvReading.{length-strip_bom-le}
 use Rattle.text_fields.proofs.csv_rows.records_in.Goals as goal

@@ -1,4 +1,4 @@
-use Rattle.std.proofs.Common.{◌≡◌, true, length, sym, ap, ◌∙◌, ℕ}
+use Rattle.std.proofs.Common.{length, sym, ap, ◌∙◌}
 use Rattle.std.specs.List.{list_all}
 use Rattle.text_fields.specs.Hexadecimal.{is_hex_digit}
 use Rattle.text_fields.proofs.HexDigits.{all-hex, length-hex, lower-digits}
