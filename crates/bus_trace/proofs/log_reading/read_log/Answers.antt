@@ -1,6 +1,5 @@
-use Rattle.std.proofs.Common.{◌≡◌, ℕ, ◌+◌, List, ap, map, subst, sym, inl, arith}
+use Rattle.std.proofs.Common.{◌≡◌, ◌+◌, ap, map, subst, sym, inl, arith}
 use Rattle.csv.specs.Records.{fields_of}
-use Rattle.text_fields.specs.CsvRows.{records_of}
 use Rattle.bus_trace.specs.Row.{fields_of_row}
 use Rattle.bus_trace.specs.declared.log_fault.LogFault.TheVariants.{Row}
 use Rattle.bus_trace.proofs.Readings.{AreRead, NoRow, faulty-row, none-faulty, none-formed, not-back, one-fault, read-more, whole-back}
