@@ -6,7 +6,7 @@ use Rattle.std.specs.List.{list_all}
 use Rattle.std.proofs.lemmas.Bool.{and_parts}
 use Rattle.std.proofs.lemmas.List.{take-append-drop}
 use Rattle.plan_check.specs.Certificate.{CertificateView}
-use Rattle.plan_check.specs.PlanText.{HasNoFeed, head_lines, mask_digits, mask_lines, plan_text, text_of}
+use Rattle.plan_check.specs.PlanText.{head_lines, mask_digits, mask_lines, plan_text, text_of}
 
 pub text_of-append : (xs ys : List (List ℕ)) → text_of (xs ++ ys) ≡ text_of xs ++ text_of ys
 text_of-append [] ys = refl

@@ -4,8 +4,7 @@ use Rattle.std.specs.Prelude.{◌≡◌, ℕ, ◌+◌, ◌^◌, ◌<◌, ◌≤�
 use Rattle.std.specs.Prelude.{List, [], ◌∷◌, ◌++◌, All, codes, length, map, take}
 use Rattle.std.specs.Fmt.{decimal}
 use Rattle.requirement_table.specs.Slots.{slots}
-unfoldable pub use Rattle.text_fields.specs.Hexadecimal.{hex_digits}
-pub use Rattle.text_fields.specs.Lines.{HasNoFeed}
+use Rattle.text_fields.specs.Hexadecimal.{hex_digits}
 use Rattle.plan_check.specs.declared.text_fault.PlanTextFault.{PlanTextFault}
 use Rattle.plan_check.specs.declared.text_fault.PlanTextFault.TheVariants.{Line, Memory}
 use Rattle.plan_check.specs.Certificate.{CertificateView, length_of}
