@@ -6,7 +6,7 @@ use Rattle.std.specs.Option.{ForSome}
 use Rattle.ftt_io.specs.Files.{NamedFiles}
 use Rattle.asked_files.specs.declared.stopping.Stop.{Stop}
 use Rattle.asked_files.specs.declared.stopping.Stop.TheVariants.{Words, Input, Read, Write, Memory}
-use Rattle.asked_files.specs.Asked.{Asked, IsCheckOf, IsPlanIn, JobView}
+use Rattle.asked_files.specs.Asked.{IsCheckOf, IsPlanIn, JobView}
 use Rattle.asked_files.specs.Loads.{IsBarred}
 
 -- what a `?` hands on

@@ -1,5 +1,5 @@
 -- How a call ended, by cases.
-use Rattle.std.proofs.Common.{◌≡◌, List, ℕ, Option, Result, Ok, Err, refl, sym, ap, ◌∙◌, subst, inl, inr}
+use Rattle.std.proofs.Common.{◌≡◌, List, ℕ, Option, Result, Ok, Err, sym, ap, ◌∙◌, subst, inl, inr}
 use Rattle.std.specs.Prelude.{◌⊎◌, IfOk, IsErrOf, IsSome}
 use Rattle.std.specs.Result.{IsErrAnd}
 use Rattle.std.specs.Option.{ForSome}
@@ -11,7 +11,7 @@ use Rattle.asked_files.specs.declared.stopping.Stop.{Stop}
 use Rattle.asked_files.specs.declared.stopping.Stop.TheVariants.{Words, Input, Read, Write, Memory}
 use Rattle.fttcan_top.specs.declared.status.Status.{Status}
 use Rattle.fttcan_top.specs.declared.status.Status.TheVariants.{Done, Refused, No}
-use Rattle.fttcan_top.specs.Ends.{IsCarried, IsEnd, IsStatusOf, IsWorked, PutsPart, end_status, refusal_of}
+use Rattle.fttcan_top.specs.Ends.{IsCarried, IsEnd, IsStatusOf, PutsPart, end_status, refusal_of}
 use Rattle.fttcan_top.specs.Output.{IsAnswer, IsCut, IsDone, IsStopped, Tells, TellsFront}
 
 front-part : (asked_for : Asked) (old new : Option (List ℕ)) → (new ≡ old) ⊎ TellsFront asked_for old new
