@@ -44,7 +44,8 @@ pub fn known(rules: &Rules) -> bool
         && (1..=100_000).contains(&rules.horizon)
 }
 
-/// The first cycle and the length of what the certificate of the table repeats, or why it has none. No cycle was opened.
+/// The first cycle and the length of what the certificate of the table repeats, or why it has none. No cycle was
+/// opened.
 fn certified(alloc: Global, rules: &Rules, placed: &[Placed]) -> Result<String, AllocError> {
     if !known(rules) || !well_placed(placed) {
         return Ok(String::new(alloc));

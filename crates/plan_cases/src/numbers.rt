@@ -15,8 +15,8 @@ pub fn numbers(alloc: Global, text: &str) -> Result<Vec<u64>, AllocError> {
     Ok(numbers)
 }
 
-/// The entry in its place with these numbers: slot, node, length, phase, period, deadline, priority, origin and end. All
-/// but the last two are taken as numbers of 8 or 16 bits.
+/// The entry in its place with these numbers: slot, node, length, phase, period, deadline, priority, origin and end.
+/// All but the last two are taken as numbers of 8 or 16 bits.
 pub fn placed(numbers: &[u64]) -> Option<Placed> {
     let [
         slot,
