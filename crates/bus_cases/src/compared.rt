@@ -47,15 +47,26 @@ fn difference<T: Table>(
     ensures ready { T.IsReady table.new }
 {
     let Some((call, want)) = parts(line) else {
-        return Ok(Some(format!(in alloc; "no call: {line}")?));
+        return differs(alloc, line, Err(Fault::Unread), line);
     };
     let fields = fields(alloc, call)?;
-    match table.answer(alloc, fields.as_slice()) {
+    let told = table.answer(alloc, fields.as_slice());
+    differs(alloc, line, told, want)
+}
+
+/// How what was told differs from what is wanted, where it does.
+fn differs(
+    alloc: Global,
+    line: &str,
+    told: Result<String, Fault>,
+    want: &str,
+) -> Result<Option<String>, AllocError> {
+    match told {
         Ok(told) => {
             if is_wanted(told.as_str(), want) {
                 Ok(None)
             } else {
-                Ok(Some(format!(in alloc; "{call} gives {told} and not {want}")?))
+                Ok(Some(format!(in alloc; "{line}, and not {told}")?))
             }
         }
         Err(Fault::Unread) => Ok(Some(format!(in alloc; "not read: {line}")?)),

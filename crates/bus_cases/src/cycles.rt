@@ -1,6 +1,6 @@
 //! Calls of `cycle_engine`.
 
-ghost use Rattle.std.specs.Prelude.{◌≡◌, ◌⊎◌, ◌<◌, ◌≤◌, true, All, AllPairs, IfOk, IfSome};
+ghost use Rattle.std.specs.Prelude.{◌≡◌, ◌⊎◌, ◌+◌, ◌<◌, ◌≤◌, true, All, AllPairs, IfOk, IfSome, OnOk};
 ghost use Rattle.requirement_table.specs.Table.{IsWellPlaced};
 ghost use Rattle.cycle_engine.specs.Nodes.{states_of};
 
@@ -11,7 +11,7 @@ use crate::layouts::layout;
 use crate::requests::{are_in_order, requests};
 use async_window::{Owner, Request};
 use can_frame::TimedFrame;
-use cycle_engine::{Nodes, run_cycle};
+use cycle_engine::{Nodes, Segment, run_cycle};
 use cycle_layout::Layout;
 use requirement_table::{Order, Placed, PlacedList, released_in, well_placed};
 use std::alloc::Global;
@@ -77,7 +77,9 @@ impl Cycles {
         if l > layout.window() || count > 10 {
             return Err(Fault::Unread);
         }
-        sent_in(alloc, layout, requests, placed, l, u64::from(count))
+        let mut nodes = three_nodes(alloc, layout, requests)?;
+        let trace = first_cycles(alloc, &mut nodes, placed, l, u64::from(count))?;
+        told(alloc, trace.as_slice(), nodes.left())
     }
 }
 
@@ -107,8 +109,32 @@ fn list_if(alloc: Global, placed: &[Placed], wanted: bool) -> Result<Option<Plac
     }
 }
 
-/// The frames of the first cycles, in which the list is learnt at first, and each of its entries is flagged. Their
-/// worst lengths are `l` together.
+/// Runs one cycle, in which the list is learnt where it is the first one, and each of its entries is flagged. Their worst
+/// lengths are `l` together.
+fn one_cycle(
+    alloc: Global,
+    nodes: &mut Nodes,
+    placed: &[Placed],
+    l: u32,
+    cycle: u64,
+) -> Result<Segment, Fault>
+    requires well_placed { IsWellPlaced placed.now }
+    requires window { l ≤ nodes.old.layout.window }
+    requires next { All (λ node. node.next ≡ cycle) (states_of nodes.old.nodes) }
+    requires few { cycle < 10 }
+    ensures layout { nodes.new.layout ≡ nodes.old.layout }
+    ensures next { OnOk result (All (λ node. node.next ≡ cycle + 1) (states_of nodes.new.nodes)) }
+{
+    let order = Order {
+        cycle,
+        mask: released_in(placed, cycle),
+        l,
+        learned: list_if(alloc, placed, cycle == 0)?,
+    };
+    Ok(run_cycle(alloc, &order, nodes)?)
+}
+
+/// The frames of the first cycles.
 fn first_cycles(
     alloc: Global,
     nodes: &mut Nodes,
@@ -123,44 +149,33 @@ fn first_cycles(
 {
     let mut trace = Vec::new(alloc);
     for cycle in 0..count {
-        let order = Order {
-            cycle,
-            mask: released_in(placed, cycle),
-            l,
-            learned: list_if(alloc, placed, cycle == 0)?,
-        };
-        let segment = run_cycle(alloc, &order, nodes)?;
+        let segment = one_cycle(alloc, nodes, placed, l, cycle)?;
         trace.extend_from_slice(segment.frames())?;
     }
     Ok(trace)
 }
 
-/// The frames of the first cycles of three nodes with these requests, and how many requests are left.
-fn sent_in(
-    alloc: Global,
-    layout: Layout,
-    requests: &[Request],
-    placed: &[Placed],
-    l: u32,
-    count: u64,
-) -> Result<String, Fault>
+/// The three nodes with these requests.
+fn three_nodes(alloc: Global, layout: Layout, requests: &[Request]) -> Result<Nodes, Fault>
     requires owned { All (λ request. (request.frame.identifier ≡ 0x210)
         ⊎ ((request.frame.identifier ≡ 0x200) ⊎ (request.frame.identifier ≡ 0x201))) requests.now }
     requires arrivals { AllPairs (λ one other. one.at ≤ other.at) requests.now }
     requires early { All (λ request. request.at < 10000) requests.now }
-    requires well_placed { IsWellPlaced placed.now }
-    requires window { l ≤ layout.window }
-    requires few { count ≤ 10 }
+    ensures layout { IfOk result (λ nodes. nodes.layout ≡ layout) }
+    ensures next { IfOk result (λ nodes. All (λ node. node.next ≡ 0) (states_of nodes.nodes)) }
 {
     let owners = [
         Owner { id: 0x210, node: 0 },
         Owner { id: 0x200, node: 1 },
         Owner { id: 0x201, node: 2 },
     ];
-    let mut nodes = Nodes::new(alloc, layout, 3, &owners, requests)?;
-    let trace = first_cycles(alloc, &mut nodes, placed, l, count)?;
-    let mut text = text_of_trace(alloc, trace.as_slice())?;
-    let left = format!(in alloc; "left {}", nodes.left())?;
+    Ok(Nodes::new(alloc, layout, 3, &owners, requests)?)
+}
+
+/// The text of a trace, and how many requests are left behind it.
+fn told(alloc: Global, trace: &[TimedFrame], left: usize) -> Result<String, Fault> {
+    let mut text = text_of_trace(alloc, trace)?;
+    let left = format!(in alloc; "left {left}")?;
     push_behind(&mut text, ' ', left.as_str())?;
     Ok(text)
 }

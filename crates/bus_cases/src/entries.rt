@@ -1,6 +1,6 @@
 //! Placed entries that are read from fields.
 
-use crate::fields::{Fault, length, small};
+use crate::fields::{Fault, parts, small};
 use requirement_table::{Entry, Placed};
 use std::alloc::Global;
 
@@ -16,7 +16,7 @@ pub fn entries(alloc: Global, fields: &[&str]) -> Result<Vec<Placed>, Fault> {
 
 /// The entry of a field.
 fn placed(alloc: Global, field: &str) -> Result<Placed, Fault> {
-    let fields: Vec<&str> = field.split(':').collect(alloc)?;
+    let fields = parts(alloc, field)?;
     let entry = match fields.as_slice() {
         [slot, node, bytes, phase] => entry(
             small(slot)?,

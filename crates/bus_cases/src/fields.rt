@@ -98,6 +98,11 @@ pub fn bits(alloc: Global, field: &str) -> Result<Vec<bool>, Fault> {
     Ok(bits)
 }
 
+/// The parts of a field with colons between them.
+pub fn parts(alloc: Global, field: &str) -> Result<Vec<&str>, Fault> {
+    Ok(field.split(':').collect(alloc)?)
+}
+
 /// The frame that a field writes: its identifier, a hash sign and its bytes.
 pub fn frame(alloc: Global, field: &str) -> Result<Frame, Fault> {
     let Some((id, data)) = field.split_once('#') else {
@@ -140,9 +145,9 @@ pub fn text_of_bits(alloc: Global, bits: &[bool]) -> Result<String, Fault> {
 /// The text of a frame: its identifier, a hash sign and its bytes.
 pub fn text_of_frame(alloc: Global, frame: &Frame) -> Result<String, Fault> {
     let mut text = format!(in alloc; "{:03x}#", frame.id())?;
-    for place in 0..frame.dlc() {
-        let byte = format!(in alloc; "{:02x}", frame.byte(place))?;
-        text.push_str(byte.as_str())?;
+    for byte in frame.bytes() {
+        let digits = format!(in alloc; "{byte:02x}")?;
+        text.push_str(digits.as_str())?;
     }
     Ok(text)
 }
@@ -176,6 +181,13 @@ pub fn text_of_time(alloc: Global, at: Option<u64>) -> Result<String, Fault> {
         Some(at) => Ok(format!(in alloc; "{at}")?),
         None => Ok(String::from_str(alloc, "-")?),
     }
+}
+
+/// The text of what is offered, and of when something is next.
+pub fn text_of_offer(alloc: Global, id: Option<u16>, next: Option<u64>) -> Result<String, Fault> {
+    let id = text_of_identifier(alloc, id)?;
+    let next = text_of_time(alloc, next)?;
+    Ok(format!(in alloc; "{id} {next}")?)
 }
 
 /// The text of frames on the bus: the start, the length and the identifier of each.

@@ -3,7 +3,7 @@
 ghost use Rattle.std.specs.Prelude.{◌<◌, ◌^◌};
 
 use crate::compared::Table;
-use crate::fields::{Fault, hexadecimal, push_behind, text_of_trace, time};
+use crate::fields::{Fault, hexadecimal, parts, push_behind, text_of_trace, time};
 use crate::scripted::{Scripted, Station};
 use bus_line::run_until;
 use std::alloc::Global;
@@ -47,7 +47,7 @@ impl Table for Line {
 
 /// The station of five numbers with colons between them.
 fn station(alloc: Global, field: &str) -> Result<Station, Fault> {
-    let fields: Vec<&str> = field.split(':').collect(alloc)?;
+    let fields = parts(alloc, field)?;
     match fields.as_slice() {
         [id, from, until, again, again_until] => Ok(Station {
             id: hexadecimal(id)?,

@@ -4,7 +4,7 @@ ghost use Rattle.std.specs.Prelude.{◌<◌, ◌^◌};
 
 use crate::compared::Table;
 use crate::fields::{
-    Fault, hexadecimal, length, text_of_frame, text_of_identifier, text_of_time, time,
+    Fault, hexadecimal, length, push_behind, text_of_frame, text_of_offer, text_of_time, time,
 };
 use crate::layouts::layout;
 use crate::requests::{are_in_order, requests};
@@ -84,10 +84,7 @@ impl Waiting {
             return Err(Fault::Unread);
         }
         let offer = self.boxes.offer(&self.layout, at, l);
-        let wake = self.boxes.wake(&self.layout, at, l);
-        let offer = text_of_identifier(alloc, offer)?;
-        let wake = text_of_time(alloc, wake)?;
-        Ok(format!(in alloc; "{offer} {wake}")?)
+        text_of_offer(alloc, offer, self.boxes.wake(&self.layout, at, l))
     }
 
     /// The same by the calls that are told the cycle, and how long it is offered.
@@ -99,14 +96,15 @@ impl Waiting {
         }
         let layout = &self.layout;
         let cycle = at / u64::from(layout.cycle());
-        let offer = text_of_identifier(alloc, self.boxes.offer_in(layout, cycle, at, l))?;
-        let wake = text_of_time(alloc, self.boxes.wake_in(layout, cycle, at, l))?;
+        let offer = self.boxes.offer_in(layout, cycle, at, l);
+        let wake = self.boxes.wake_in(layout, cycle, at, l);
         let until = match self.boxes.offer_until(layout, cycle, at, l) {
             Some(offer) => Some(offer.until),
             None => None,
         };
-        let until = text_of_time(alloc, until)?;
-        Ok(format!(in alloc; "{offer} {wake} {until}")?)
+        let mut text = text_of_offer(alloc, offer, wake)?;
+        push_behind(&mut text, ' ', text_of_time(alloc, until)?.as_str())?;
+        Ok(text)
     }
 
     /// The first frame of an identifier.

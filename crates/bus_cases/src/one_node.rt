@@ -6,8 +6,8 @@ ghost use Rattle.bus_cases.specs.Ready.{CountsCycles};
 use crate::compared::Table;
 use crate::entries::entries;
 use crate::fields::{
-    Fault, frame, length, mask, small, text_of_frame, text_of_identifier, text_of_mask,
-    text_of_time, time,
+    Fault, frame, length, mask, small, text_of_frame, text_of_mask, text_of_offer, text_of_time,
+    time,
 };
 use crate::layouts::layout;
 use crate::requests::{are_in_order, requests};
@@ -172,9 +172,7 @@ fn told(alloc: Global, node: &Node, fields: &[&str]) -> Result<String, Fault> {
 fn offer_and_wake(alloc: Global, node: &Node, at: u64) -> Result<String, Fault>
     requires time { at < 2 ^ 40 }
 {
-    let offer = text_of_identifier(alloc, node.offer(at))?;
-    let wake = text_of_time(alloc, node.wake(at))?;
-    Ok(format!(in alloc; "{offer} {wake}")?)
+    text_of_offer(alloc, node.offer(at), node.wake(at))
 }
 
 /// The frame that the node offers at a time, by both calls that tell it.

@@ -1,142 +1,102 @@
--- A text is that of rows in one way only, also where it goes on with what begins with no row.
-use Rattle.std.proofs.Common.{◌≡◌, ◌≢◌, ℕ, suc, ◌+◌, ◌≤◌, true, false, nat_eq, List, [], ◌∷◌, ◌++◌, All, length, Some, None, refl, sym, ap, ◌∙◌, arith, append_assoc}
-use Rattle.std.proofs.lemmas.Bool.{eqb-true}
-use Rattle.std.proofs.lemmas.List.{append-nil, length-append}
-use Rattle.std.proofs.lemmas.List.Concat.{flat_map-append}
+-- Records are the fields of rows in one way only, also where they go on with fields of no row.
+use Rattle.std.proofs.Common.{Bor, ◌≡◌, ℕ, ◌+◌, List, [], ◌∷◌, ◌++◌, All, length, map, Some, None, refl, sym, ap, ◌∙◌, subst, arith}
+use Rattle.std.proofs.lemmas.List.{append-nil, map-append}
 use Rattle.std.proofs.lemmas.List.Elements.{All-head, All-push, All-tail}
 use Rattle.std.proofs.lemmas.Option.{same_Some}
-use Rattle.plan_check.specs.PlanText.{HasNoFeed}
-use Rattle.bus_trace.specs.Row.{IsFirstFaultyRow, IsLogRow, row_line, row_text, text_of_rows}
-use Rattle.bus_trace.specs.RowFields.{fields_of_line, row_of}
+use Rattle.csv.specs.declared.reader.Reader.{Reader}
+use Rattle.text_fields.specs.CsvReading.{Reads, ReadsOne}
+use Rattle.text_fields.specs.CsvRows.{records_of}
+use Rattle.bus_trace.specs.Row.{IsFirstFaultyRow, IsLogRow, fields_of_row}
+use Rattle.bus_trace.specs.RowFields.{row_of}
 use Rattle.bus_trace.specs.declared.row.LogRow.{LogRow}
-use Rattle.bus_trace.proofs.RowLines.{line-found, line-no_feed, line-read}
+use Rattle.bus_trace.proofs.RowForms.{row-found, row-read}
 
--- A line is known by its line feed
+-- these fields are those of no row
+abbrev pub NoRow : List (List ℕ) → Type 0
+NoRow fields = (read : LogRow) → IsLogRow read → fields ≡ fields_of_row read → ⊥
 
-feed-rest : (x : ℕ) (xs : List ℕ) → HasNoFeed (x ∷ xs) → HasNoFeed xs
-feed-rest x xs none i within = none (suc i) (omega arith)
+-- there are no records, or the first one is that of no row
+abbrev pub BeginsWithNone : List (List (List ℕ)) → Type 0
+BeginsWithNone [] = Unit {0}
+BeginsWithNone (fields ∷ below) = NoRow fields
 
-same_line : (xs ys r s : List ℕ) → HasNoFeed xs → HasNoFeed ys → xs ++ 10 ∷ r ≡ ys ++ 10 ∷ s → (xs ≡ ys) × (r ≡ s)
-same_line [] [] r s one other same = (refl, cc)
-same_line [] (y ∷ ys) r s one other same = let first : y ≡ 10 = cc in absurd (other 0 (omega arith) first)
-same_line (x ∷ xs) [] r s one other same = let first : x ≡ 10 = cc in absurd (one 0 (omega arith) first)
-same_line (x ∷ xs) (y ∷ ys) r s one other same =
-    let first : x ≡ y = cc in
-    let rest : xs ++ 10 ∷ r ≡ ys ++ 10 ∷ s = cc in
-    let more = same_line xs ys r s (feed-rest x xs one) (feed-rest y ys other) rest in
-    let tails = more.0 in
-    (cc, more.1)
-
-no_line : (xs line r : List ℕ) → HasNoFeed xs → xs ≡ line ++ 10 ∷ r → ⊥
-no_line xs [] r none is = rw is at none 0 (omega arith) refl
-no_line [] (y ∷ line) r none is = cc
-no_line (x ∷ xs) (y ∷ line) r none is = let rest : xs ≡ line ++ 10 ∷ r = cc in no_line xs line r (feed-rest x xs none) rest
-
-text-before : (read : LogRow) (after : List ℕ) → row_text read ++ after ≡ row_line read ++ 10 ∷ after
-text-before read after = append_assoc (row_line read) (10 ∷ []) after
-
--- the text begins with that of no row
-abbrev pub NoRow : List ℕ → Type 0
-NoRow text = (read : LogRow) (later : List ℕ) → IsLogRow read → text ≡ row_text read ++ later → ⊥
-
-line-begins : (line later : List ℕ) (read : LogRow) (after : List ℕ) → HasNoFeed line → IsLogRow read
-    → line ++ 10 ∷ later ≡ row_text read ++ after → (line ≡ row_line read) × (later ≡ after)
-line-begins line later read after none legal is =
-    same_line line (row_line read) later after none (line-no_feed read legal) (is ∙ text-before read after)
-
-pub none-empty : NoRow []
-none-empty read later legal is = by (row_line read) later (is ∙ text-before read later)
-  where
-    by : (line later : List ℕ) → [] ≡ line ++ 10 ∷ later → ⊥
-    by [] later is = cc
-    by (x ∷ line) later is = cc
-
--- a text without a line feed
-pub none-unended : (text : List ℕ) → HasNoFeed text → NoRow text
-none-unended text none read later legal is = no_line text (row_line read) later none (is ∙ text-before read later)
-
--- a line that has none of the forms
-pub none-formed : (text line later : List ℕ) → text ≡ line ++ 10 ∷ later → HasNoFeed line → None ≡ row_of (fields_of_line line) → NoRow text
-none-formed text line later split none found read after legal is =
-    let begins = line-begins line later read after none legal (sym split ∙ is) in
-    let other : Some read ≡ None = sym (line-found read legal) ∙ ap (λ l. row_of (fields_of_line l)) (sym begins.0) ∙ sym found in
+-- fields that have none of the forms
+pub none-formed : (fields : List (List ℕ)) → None ≡ row_of fields → NoRow fields
+none-formed fields found read legal is =
+    let other : Some read ≡ None = sym (row-found read legal) ∙ ap row_of (sym is) ∙ sym found in
     absurd (let wrong : ⊥ = cc in wrong)
 
-one_row : (a b : LogRow) (x y : List ℕ) → IsLogRow a → IsLogRow b → row_text a ++ x ≡ row_text b ++ y → (a ≡ b) × (x ≡ y)
-one_row a b x y one other is =
-    let begins = line-begins (row_line a) x b y (line-no_feed a one) other (sym (text-before a x) ∙ is) in
-    (same_Some a b (sym (line-found a one) ∙ ap (λ l. row_of (fields_of_line l)) begins.0 ∙ line-found b other), begins.1)
+one_row : (a b : LogRow) → IsLogRow a → IsLogRow b → fields_of_row a ≡ fields_of_row b → a ≡ b
+one_row a b one other is = same_Some a b (sym (row-found a one) ∙ ap row_of is ∙ row-found b other)
 
-pub one_reading : (xs ys : List LogRow) (x y : List ℕ) → All IsLogRow xs → All IsLogRow ys → NoRow x → NoRow y
-    → text_of_rows xs ++ x ≡ text_of_rows ys ++ y → (xs ≡ ys) × (x ≡ y)
+pub one_reading : (xs ys : List LogRow) (x y : List (List (List ℕ))) → All IsLogRow xs → All IsLogRow ys → BeginsWithNone x → BeginsWithNone y
+    → map fields_of_row xs ++ x ≡ map fields_of_row ys ++ y → (xs ≡ ys) × (x ≡ y)
 one_reading [] [] x y one other none nor is = (refl, is)
-one_reading [] (b ∷ ys) x y one other none nor is =
-    absurd (none b (text_of_rows ys ++ y) (All-head IsLogRow b ys other) (is ∙ append_assoc (row_text b) (text_of_rows ys) y))
-one_reading (a ∷ xs) [] x y one other none nor is =
-    absurd (nor a (text_of_rows xs ++ x) (All-head IsLogRow a xs one) (sym is ∙ append_assoc (row_text a) (text_of_rows xs) x))
+one_reading [] (b ∷ ys) [] y one other none nor is = absurd (cc)
+one_reading [] (b ∷ ys) (fields ∷ x) y one other none nor is =
+    let first : fields ≡ fields_of_row b = cc in
+    absurd (none b (All-head IsLogRow b ys other) first)
+one_reading (a ∷ xs) [] x [] one other none nor is = absurd (cc)
+one_reading (a ∷ xs) [] x (fields ∷ y) one other none nor is =
+    let first : fields ≡ fields_of_row a = cc in
+    absurd (nor a (All-head IsLogRow a xs one) first)
 one_reading (a ∷ xs) (b ∷ ys) x y one other none nor is =
-    let first = one_row a b (text_of_rows xs ++ x) (text_of_rows ys ++ y) (All-head IsLogRow a xs one) (All-head IsLogRow b ys other)
-    (sym (append_assoc (row_text a) (text_of_rows xs) x) ∙ is ∙ append_assoc (row_text b) (text_of_rows ys) y) in
-    let rest = one_reading xs ys x y (All-tail IsLogRow a xs one) (All-tail IsLogRow b ys other) none nor first.1 in
-    let head = first.0 in
-    let tails = rest.0 in
+    let first : fields_of_row a ≡ fields_of_row b = cc in
+    let tails : map fields_of_row xs ++ x ≡ map fields_of_row ys ++ y = cc in
+    let head : a ≡ b = one_row a b (All-head IsLogRow a xs one) (All-head IsLogRow b ys other) first in
+    let rest = one_reading xs ys x y (All-tail IsLogRow a xs one) (All-tail IsLogRow b ys other) none nor tails in
+    let same = rest.0 in
     (cc, rest.1)
 
 -- Row by row
 
--- these rows are read, and this is what follows them
-pub record AreRead (bytes : List ℕ) (read : List LogRow) (rest : List ℕ) : Type 0 where
+-- these rows are read
+pub record AreRead (bytes : List ℕ) (reader : Reader (Bor (List ℕ))) (read : List LogRow) : Type 0 where
   pub rows : All IsLogRow read
-  pub split : bytes ≡ text_of_rows read ++ rest
-  pub few : length read + length rest ≤ length bytes
+  pub reads : Reads bytes reader (map fields_of_row read)
 
-some-text : (line later : List ℕ) → 1 + length later ≤ length (line ++ 10 ∷ later)
-some-text line later = let whole = length-append line (10 ∷ later) in omega arith
-
-pub read-more : (bytes rest line later : List ℕ) (read : List LogRow) (row : LogRow) → AreRead bytes read rest
-    → rest ≡ line ++ 10 ∷ later → Some row ≡ row_of (fields_of_line line) → AreRead bytes (read ++ row ∷ []) later
-read-more bytes rest line later read row is split found =
-    let (legal, written) = line-read line row (sym found) in
-    let here : rest ≡ row_text row ++ later = split ∙ ap (λ l. l ++ 10 ∷ later) written ∙ sym (text-before row later) in
-    let last : text_of_rows (row ∷ []) ≡ row_text row = append-nil (row_text row) in
-    let size = length-append read (row ∷ []) in
-    let some = some-text line later in
-    let all = ap length split in
-    let before = is.few in
+pub read-more : (bytes : List ℕ) (before after : Reader (Bor (List ℕ))) (read : List LogRow) (fields : List (List ℕ)) (row : LogRow)
+    → AreRead bytes before read → ReadsOne bytes before after (map fields_of_row read) fields → row_of fields ≡ Some row
+    → AreRead bytes after (read ++ row ∷ [])
+read-more bytes before after read fields row is one found =
+    let form = row-read fields row found in
+    let more : map fields_of_row (read ++ row ∷ []) ≡ map fields_of_row read ++ fields ∷ []
+    = map-append fields_of_row read (row ∷ []) ∙ ap (λ (f : List (List ℕ)). map fields_of_row read ++ f ∷ []) (sym form.is) in
     record {
-      rows = All-push IsLogRow read row is.rows legal;
-      split = is.split ∙ ap (λ l. text_of_rows read ++ l) (here ∙ ap (λ l. l ++ later) (sym last))
-          ∙ sym (append_assoc (text_of_rows read) (text_of_rows (row ∷ [])) later)
-          ∙ ap (λ l. l ++ later) (sym (flat_map-append row_text read (row ∷ [])));
-      few = omega arith;
+      rows = All-push IsLogRow read row is.rows form.legal;
+      reads = subst (Reads bytes after) (sym more) one.reads;
     }
 
--- where nothing is left
-module _ (bytes rest : List ℕ) (read : List LogRow) (is : AreRead bytes read rest) where
-  pub whole-text : rest ≡ [] → bytes ≡ text_of_rows read
-  whole-text none = is.split ∙ ap (λ l. text_of_rows read ++ l) none ∙ append-nil (text_of_rows read)
+-- where all records are read
+module _ (bytes : List ℕ) (read : List LogRow) (legal : All IsLogRow read) (all : records_of bytes ≡ map fields_of_row read) where
+  pub whole-back : (rows : List LogRow) → All IsLogRow rows → records_of bytes ≡ map fields_of_row rows → read ≡ rows
+  whole-back rows other are =
+      (one_reading read rows [] [] legal other tt tt
+      (append-nil (map fields_of_row read) ∙ sym all ∙ are ∙ sym (append-nil (map fields_of_row rows)))).0
 
-  pub whole-back : (rows : List LogRow) → NoRow rest → All IsLogRow rows → bytes ≡ text_of_rows rows → (read ≡ rows) × (rest ≡ [])
-  whole-back rows none legal text =
-      one_reading read rows rest [] is.rows legal none none-empty (sym is.split ∙ text ∙ sym (append-nil (text_of_rows rows)))
+  pub none-faulty : (number : ℕ) → IsFirstFaultyRow bytes number → ⊥
+  none-faulty number fault =
+      let one = one_reading read fault.before [] (fault.fields ∷ fault.below) legal fault.rows tt fault.none
+      (append-nil (map fields_of_row read) ∙ sym all ∙ fault.split) in
+      let none : [] ≡ fault.fields ∷ fault.below = one.1 in
+      cc
 
-  pub faulty-row : (number : ℕ) → number ≡ length read + 1 → rest ≢ [] → NoRow rest → IsFirstFaultyRow bytes number
-  faulty-row number at some none =
-      record { before = read; rows = is.rows; rest = rest; split = is.split; number_is = at; some = some; none = none }
+-- where a record has none of the forms
+module _ (bytes : List ℕ) (read : List LogRow) (legal : All IsLogRow read) (fields : List (List ℕ)) (below : List (List (List ℕ)))
+    (split : records_of bytes ≡ map fields_of_row read ++ fields ∷ below) (none : NoRow fields) where
+  pub faulty-row : (number : ℕ) → number ≡ length read + 1 → IsFirstFaultyRow bytes number
+  faulty-row number at =
+      record { before = read; rows = legal; fields = fields; below = below; split = split; number_is = at; none = none }
 
-  pub one-fault : (number : ℕ) → NoRow rest → IsFirstFaultyRow bytes number → (number ≡ length read + 1) × (rest ≢ [])
-  one-fault number none fault =
-      let one = one_reading read fault.before rest fault.rest is.rows fault.rows none fault.none (sym is.split ∙ fault.split) in
+  pub not-back : (rows : List LogRow) → All IsLogRow rows → records_of bytes ≡ map fields_of_row rows → ⊥
+  not-back rows other are =
+      let one = one_reading read rows (fields ∷ below) [] legal other none tt (sym split ∙ are ∙ sym (append-nil (map fields_of_row rows))) in
+      let wrong : fields ∷ below ≡ [] = one.1 in
+      cc
+
+  pub one-fault : (number : ℕ) → IsFirstFaultyRow bytes number → number ≡ length read + 1
+  one-fault number fault =
+      let one = one_reading read fault.before (fields ∷ below) (fault.fields ∷ fault.below) legal fault.rows none fault.none (sym split ∙ fault.split) in
       let same : length fault.before ≡ length read = ap length (sym one.0) in
       let at = fault.number_is in
-      (omega arith, λ empty. fault.some (sym one.1 ∙ empty))
-
--- Empty texts
-
-pub some-list : (text : List ℕ) → false ≡ nat_eq (length text) 0 → text ≢ []
-some-list [] test is = absurd (cc)
-some-list (x ∷ text) test is = absurd (cc)
-
-pub empty-list : (text : List ℕ) → true ≡ nat_eq (length text) 0 → text ≡ []
-empty-list [] test = refl
-empty-list (x ∷ text) test = let none : length (x ∷ text) ≡ 0 = eqb-true (length (x ∷ text)) 0 (sym test) in absurd (omega arith)
+      omega arith

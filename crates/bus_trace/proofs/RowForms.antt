@@ -1,7 +1,6 @@
 -- The row that fields have the form of: the reader finds it exactly where they are the fields that the writer gives it.
-use Rattle.std.proofs.Common.{◌≡◌, ℕ, suc, ◌-◌, ◌^◌, ◌<◌, ◌≤◌, ◌&&◌, true, false, cond, ◌==◌, nat_le, Bool, List, [], ◌∷◌, codes, length, slice_get, Option, Some, None, option_map, option_and_then, refl, sym, ap, ◌∙◌, subst, arith}
-use Rattle.std.proofs.lemmas.Bool.{and_parts, eqb-true}
-use Rattle.std.proofs.lemmas.Bool.Decides.{nat_tests}
+use Rattle.std.proofs.Common.{◌≡◌, ℕ, suc, ◌-◌, ◌^◌, ◌<◌, ◌≤◌, ◌&&◌, true, false, cond, ◌==◌, Bool, List, [], ◌∷◌, codes, length, slice_get, Option, Some, None, option_map, option_and_then, refl, sym, ap, ◌∙◌, subst, arith}
+use Rattle.std.proofs.lemmas.Bool.{eqb-true}
 use Rattle.std.proofs.lemmas.Option.{option_and_then_some, same_Some}
 use Rattle.std.specs.Cmp.Lexicographic.{same_text}
 use Rattle.std.specs.Fmt.{decimal}
@@ -11,13 +10,15 @@ use Rattle.can_frame.specs.DataFrame.{DataFrame, IsFrame}
 use Rattle.can_frame.specs.declared.data_frame.TimedFrame.{TimedFrame}
 use Rattle.bus_trace.specs.Log.{hex_digits}
 use Rattle.bus_trace.specs.Row.{IsLogRow, IsLogVerdict, fields_of_row, fields_of_verdict}
-use Rattle.bus_trace.specs.RowFields.{accepted_of, bytes_of, end_of, frame_at, frame_of, frame_with, hex_at, hex_of, horizon_of, look_of, malformed_of, miss_of, number_at, number_of, open_of, passed_of, plan_of, row_by, row_of, rule_of, submit_of, two_numbers, until_of, up_to, verdict_by, verdict_of}
+use Rattle.bus_trace.specs.RowFields.{accepted_of, end_of, frame_at, frame_of, frame_with, hex_at, horizon_of, look_of, malformed_of, miss_of, number_at, open_of, passed_of, plan_of, row_by, row_of, submit_of, two_numbers, until_of, verdict_by, verdict_of}
 use Rattle.bus_trace.specs.declared.row.LogRow.{LogRow}
 use Rattle.bus_trace.specs.declared.row.LogRow.TheVariants as row
 use Rattle.bus_trace.specs.declared.row.LogVerdict.{LogVerdict}
 use Rattle.bus_trace.specs.declared.row.LogVerdict.TheVariants as verdict
-use Rattle.bus_trace.proofs.FieldNumbers.{decimal-of_number, number_of-decimal}
-use Rattle.bus_trace.proofs.HexFields.{bytes_of-data, data-of_bytes, digits-of_hex, hex_of-digits, if-some}
+use Rattle.text_fields.specs.ByteText.{data_of}
+use Rattle.text_fields.specs.Decimal.{decimal_of, within}
+use Rattle.text_fields.specs.Hexadecimal.{hex_of}
+use Rattle.text_fields.proofs.Shared.{data-read, data_of-data, decimal-read, decimal_of-decimal, digits-of_hex, hex_of-digits, if-some, within-found, within-is}
 
 -- Choices
 
@@ -50,30 +51,25 @@ same-places (x ∷ xs) (y ∷ ys) size at =
 
 -- Fields
 
-up_to-is : (most v n : ℕ) → up_to most v ≡ Some n → (v ≡ n) × (n ≤ most)
-up_to-is most v n read =
-    let parts = if-some (nat_le v most) (Some v) n read in
-    let is : v ≡ n = same_Some v n parts.1 in
-    let test = parts.0 in
-    let fits : v ≤ most = grind (arith, nat_tests) in
-    (is, omega arith)
+up_to-is : (most v n : ℕ) → within 0 most v ≡ Some n → (v ≡ n) × (n ≤ most)
+up_to-is most v n read = let parts = within-is 0 most v n read in (parts.0, parts.2)
 
-up_to-found : (most n : ℕ) → n ≤ most → up_to most n ≡ Some n
-up_to-found most n fits = let test : nat_le n most ≡ true = grind (arith, nat_tests) in rw test
+up_to-found : (most n : ℕ) → n ≤ most → within 0 most n ≡ Some n
+up_to-found most n fits = within-found 0 most n (omega arith) fits
 
 number-read : (fields : List (List ℕ)) (place most n : ℕ) → most < 2 ^ 64 → number_at fields place most ≡ Some n
     → (slice_get fields place ≡ Some (decimal n)) × (n ≤ most)
 number-read fields place most n wide read =
-    option_and_then_some (up_to most) (option_and_then number_of (slice_get fields place)) n read (λ v found fits.
+    option_and_then_some (within 0 most) (option_and_then decimal_of (slice_get fields place)) n read (λ v found fits.
     let (same, below) = up_to-is most v n fits in
-    option_and_then_some number_of (slice_get fields place) v found (λ field there writes.
-    (there ∙ ap (λ f. Some f) (decimal-of_number field v writes (omega arith) ∙ ap decimal same), below)))
+    option_and_then_some decimal_of (slice_get fields place) v found (λ field there writes.
+    (there ∙ ap (λ f. Some f) (decimal-read field v writes (omega arith) ∙ ap decimal same), below)))
 
 number-found : (fields : List (List ℕ)) (place most n : ℕ) → most < 2 ^ 64 → n ≤ most → slice_get fields place ≡ Some (decimal n)
     → number_at fields place most ≡ Some n
 number-found fields place most n wide below there =
-    ap (λ f. option_and_then (up_to most) (option_and_then number_of f)) there
-    ∙ ap (option_and_then (up_to most)) (number_of-decimal n (omega arith))
+    ap (λ f. option_and_then (within 0 most) (option_and_then decimal_of f)) there
+    ∙ ap (option_and_then (within 0 most)) (decimal_of-decimal n (omega arith))
     ∙ up_to-found most n below
 
 hex-read : (fields : List (List ℕ)) (place count n : ℕ) → hex_at fields place count ≡ Some n
@@ -95,13 +91,13 @@ record IsFrameAt (fields : List (List ℕ)) (frame : DataFrame) : Type 0 where
 
 frame-read : (fields : List (List ℕ)) (frame : DataFrame) → frame_at fields ≡ Some frame → IsFrameAt fields frame
 frame-read fields frame read =
-    option_and_then_some _ (option_and_then (up_to 0x7EF) (hex_at fields 3 3)) frame read (λ id found rest.
-    option_and_then_some _ (option_and_then bytes_of (slice_get fields 4)) frame rest (λ bytes second made.
-    option_and_then_some (up_to 0x7EF) (hex_at fields 3 3) id found (λ v digits fits.
-    option_and_then_some bytes_of (slice_get fields 4) bytes second (λ field there writes.
+    option_and_then_some _ (option_and_then (within 0 0x7EF) (hex_at fields 3 3)) frame read (λ id found rest.
+    option_and_then_some _ (option_and_then data_of (slice_get fields 4)) frame rest (λ bytes second made.
+    option_and_then_some (within 0 0x7EF) (hex_at fields 3 3) id found (λ v digits fits.
+    option_and_then_some data_of (slice_get fields 4) bytes second (λ field there writes.
     let (same, below) = up_to-is 0x7EF v id fits in
     let (first, small) = hex-read fields 3 3 v digits in
-    let (digits_are, few, all) = data-of_bytes field bytes writes in
+    let (digits_are, few, all) = data-read field bytes writes in
     subst (IsFrameAt fields) (same_Some (frame_with id bytes) frame made) (record {
       legal = record { identifier = below; few = few; bytes = all };
       identifier = first ∙ ap (λ n. Some (hex_digits 3 n)) same;
@@ -111,10 +107,10 @@ frame-read fields frame read =
 frame-found : (fields : List (List ℕ)) (frame : DataFrame) → IsFrameAt fields frame → frame_at fields ≡ Some frame
 frame-found fields frame is =
     let below = is.legal.identifier in
-    let id : option_and_then (up_to 0x7EF) (hex_at fields 3 3) ≡ Some frame.identifier =
-    ap (option_and_then (up_to 0x7EF)) (hex-found fields 3 3 frame.identifier (omega arith) is.identifier) ∙ up_to-found 0x7EF frame.identifier below in
-    let written : option_and_then bytes_of (slice_get fields 4) ≡ Some frame.bytes =
-    ap (option_and_then bytes_of) is.bytes ∙ bytes_of-data frame.bytes is.legal.bytes is.legal.few in
+    let id : option_and_then (within 0 0x7EF) (hex_at fields 3 3) ≡ Some frame.identifier =
+    ap (option_and_then (within 0 0x7EF)) (hex-found fields 3 3 frame.identifier (omega arith) is.identifier) ∙ up_to-found 0x7EF frame.identifier below in
+    let written : option_and_then data_of (slice_get fields 4) ≡ Some frame.bytes =
+    ap (option_and_then data_of) is.bytes ∙ data_of-data frame.bytes is.legal.bytes is.legal.few in
     rw (id, written)
 
 -- Verdicts
@@ -176,37 +172,25 @@ module _ (fields : List (List ℕ)) (a b c : List ℕ)
       by false true false o s e t r is = absurd (cc)
       by false false ten o s e t r is = absurd (cc)
 
-  rule-is : (v why : ℕ) → rule_of v ≡ Some why → (v ≡ why) × (1 ≤ why) × (why ≤ 11)
-  rule-is v why read =
-      let parts = if-some (nat_le 1 v && nat_le v 11) (Some v) why read in
-      let is : v ≡ why = same_Some v why parts.1 in
-      let (low, high) = and_parts (nat_le 1 v) (nat_le v 11) parts.0 in
-      let least : 1 ≤ v = grind (arith, nat_tests) in
-      let most : v ≤ 11 = grind (arith, nat_tests) in
-      (is, omega arith, omega arith)
-
   malformed-read : (said : LogVerdict) → slice_get fields 3 ≡ Some (codes "malformed") → malformed_of fields ≡ Some said → IsSaid fields a b c said
   malformed-read said word read =
       option_and_then_some _ (number_at fields 4 255) said read (λ op one more.
-      option_and_then_some _ (option_and_then rule_of (number_at fields 5 255)) said more (λ why two others.
+      option_and_then_some _ (number_at fields 5 255) said more (λ why two others.
       option_and_then_some _ (until_of fields why) said others (λ until three made.
-      option_and_then_some rule_of (number_at fields 5 255) why two (λ v four rule.
-      let (same, least, most) = rule-is v why rule in
       let x = number-read fields 4 255 op (omega arith) one in
-      let y = number-read fields 5 255 v (omega arith) four in
-      let at_why : slice_get fields 5 ≡ Some (decimal why) = y.0 ∙ ap (λ n. Some (decimal n)) same in
+      let y = number-read fields 5 255 why (omega arith) two in
       subst (IsSaid fields a b c) (same_Some (verdict.Malformed op why until) said made)
       (until-read (IsSaid fields a b c (verdict.Malformed op why until)) why until three
       (λ count none. subst (λ u. IsSaid fields a b c (verdict.Malformed op why u)) none (record {
-        legal = (omega (arith, x.1), least, most, tt);
-        is = same-places fields _ count (at_a, (at_b, (at_c, (word, (x.0, (at_why, tt))))));
+        legal = (omega (arith, x.1), omega (arith, y.1), tt);
+        is = same-places fields _ count (at_a, (at_b, (at_c, (word, (x.0, (y.0, tt))))));
       }))
       (λ n count ten some found.
       let z = number-read fields 6 (2 ^ 64 - 1) n (omega arith) found in
       subst (λ u. IsSaid fields a b c (verdict.Malformed op why u)) some (record {
-        legal = (omega (arith, x.1), least, most, (omega (arith, z.1), ten));
-        is = same-places fields _ count (at_a, (at_b, (at_c, (word, (x.0, (at_why, (z.0, tt)))))));
-      })))))))
+        legal = (omega (arith, x.1), omega (arith, y.1), (omega (arith, z.1), ten));
+        is = same-places fields _ count (at_a, (at_b, (at_c, (word, (x.0, (y.0, (z.0, tt)))))));
+      }))))))
 
   verdict-read : (said : LogVerdict) → verdict_of fields ≡ Some said → IsSaid fields a b c said
   unfolding verdict_of
@@ -346,7 +330,7 @@ module _ (fields : List (List ℕ)) where
   miss-said slot release cycle word count one two three = rw (word, count, one, two, three)
 
   malformed-said : (op why : ℕ) (until : Option ℕ) → slice_get fields 3 ≡ Some (codes "malformed")
-      → number_at fields 4 255 ≡ Some op → option_and_then rule_of (number_at fields 5 255) ≡ Some why → until_of fields why ≡ Some until
+      → number_at fields 4 255 ≡ Some op → number_at fields 5 255 ≡ Some why → until_of fields why ≡ Some until
       → verdict_of fields ≡ Some (verdict.Malformed op why until)
   unfolding verdict_of
   malformed-said op why until word one two three = rw (word, one, two, three)
@@ -408,25 +392,19 @@ verdict-found a b c (verdict.Miss slot release cycle) legal =
     (number-found fields 5 (2 ^ 64 - 1) release (omega arith) (omega (arith, legal.1)) refl)
     (number-found fields 6 (2 ^ 64 - 1) cycle (omega arith) (omega (arith, legal.2)) refl)
 verdict-found a b c (verdict.Malformed op why None) legal =
-    let low : nat_le 1 why ≡ true = grind (arith, nat_tests, legal.1) in
-    let high : nat_le why 11 ≡ true = grind (arith, nat_tests, legal.2) in
     let fields = a ∷ b ∷ c ∷ fields_of_verdict (verdict.Malformed op why None) in
-    let rule : rule_of why ≡ Some why = rw (low, high) in
     malformed-said fields op why None refl
     (number-found fields 4 255 op (omega arith) (omega (arith, legal.0)) refl)
-    (ap (option_and_then rule_of) (number-found fields 5 255 why (omega arith) (omega (arith, legal.2)) refl) ∙ rule)
+    (number-found fields 5 255 why (omega arith) (omega (arith, legal.1)) refl)
     refl
 verdict-found a b c (verdict.Malformed op why (Some until)) legal =
-    let ten : why ≡ 10 = legal.3.1 in
+    let ten : why ≡ 10 = legal.2.1 in
     let is : (why == 10) ≡ true = rw ten refl in
-    let low : nat_le 1 why ≡ true = grind (arith, nat_tests, legal.1) in
-    let high : nat_le why 11 ≡ true = grind (arith, nat_tests, legal.2) in
     let fields = a ∷ b ∷ c ∷ fields_of_verdict (verdict.Malformed op why (Some until)) in
-    let rule : rule_of why ≡ Some why = rw (low, high) in
-    let number : number_at fields 6 (2 ^ 64 - 1) ≡ Some until = number-found fields 6 (2 ^ 64 - 1) until (omega arith) (omega (arith, legal.3.0)) refl in
+    let number : number_at fields 6 (2 ^ 64 - 1) ≡ Some until = number-found fields 6 (2 ^ 64 - 1) until (omega arith) (omega (arith, legal.2.0)) refl in
     malformed-said fields op why (Some until) refl
     (number-found fields 4 255 op (omega arith) (omega (arith, legal.0)) refl)
-    (ap (option_and_then rule_of) (number-found fields 5 255 why (omega arith) (omega (arith, legal.2)) refl) ∙ rule)
+    (number-found fields 5 255 why (omega arith) (omega (arith, legal.1)) refl)
     (ap (λ ten. cond ten (option_map (λ n. Some n) (number_at fields 6 (2 ^ 64 - 1))) None) is ∙ ap (option_map (λ n. Some n)) number)
 
 -- the reader finds the row that the fields are written of

@@ -1,5 +1,4 @@
 pub mod EventRows
-pub mod HexPairs
 pub mod Log
 pub mod LogRows
 pub mod Logged

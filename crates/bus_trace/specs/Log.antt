@@ -13,7 +13,7 @@ use Rattle.master_core.specs.declared.event.Event.{Event}
 use Rattle.master_core.specs.declared.event.Event.TheVariants.{Submit, Look, Open}
 use Rattle.master_core.specs.History.{next_of, placed_of}
 use Rattle.requirement_table.specs.Opening.{Opening, width_of}
-unfoldable pub use Rattle.plan_check.specs.PlanText.{hex_digits}
+unfoldable pub use Rattle.text_fields.specs.Hexadecimal.{hex_digits}
 
 -- the cycle up to which a slot is in use, or in which its entry begins, where the reason of a refusal names one
 abbrev pub until_of : Why → Option ℕ

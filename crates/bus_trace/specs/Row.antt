@@ -1,11 +1,12 @@
 -- *Rows of a log* as values, and the text of each: its fields with a comma between each two of them, and one line feed.
-use Rattle.std.specs.Prelude.{◌≡◌, ◌≢◌, ℕ, ◌+◌, ◌^◌, ◌<◌, ◌≤◌, List, [], ◌∷◌, ◌++◌}
-use Rattle.std.specs.Prelude.{All, length, Option, Some, None, IfSome, codes}
+use Rattle.std.specs.Prelude.{◌≡◌, ℕ, ◌+◌, ◌^◌, ◌<◌, List, [], ◌∷◌, ◌++◌}
+use Rattle.std.specs.Prelude.{All, length, map, Option, Some, None, IfSome, codes}
 use Rattle.std.specs.List.{flat_map, join_with_byte}
 use Rattle.std.specs.Fmt.{decimal}
 use Rattle.can_frame.specs.DataFrame.{IsFrame}
 use Rattle.can_frame.specs.declared.data_frame.TimedFrame.{TimedFrame}
 use Rattle.requirement_table.specs.Slots.{slots}
+use Rattle.text_fields.specs.CsvRows.{records_of}
 use Rattle.bus_trace.specs.Log.{hex_digits}
 use Rattle.bus_trace.specs.declared.log_fault.LogFault.{LogFault}
 use Rattle.bus_trace.specs.declared.log_fault.LogFault.TheVariants.{Row, Memory}
@@ -53,12 +54,12 @@ row_text row = row_line row ++ 10 ∷ []
 abbrev pub text_of_rows : List LogRow → List ℕ
 text_of_rows rows = flat_map row_text rows
 
--- the numbers of a verdict are in the ranges of their types, the rules are 1 to 11, and a cycle up to which a slot is
--- in use stands behind rule 10 alone
+-- the numbers of a verdict are in the ranges of their types, and a cycle up to which a slot is in use stands behind
+-- rule 10 alone
 abbrev pub IsLogVerdict : LogVerdict → Type 0
 IsLogVerdict (Accepted first length) = (first < 2 ^ 64) × (length < 2 ^ 64)
 IsLogVerdict (Malformed op why until) =
-    (op < 2 ^ 8) × (1 ≤ why) × (why ≤ 11) × IfSome until (λ cycle. (cycle < 2 ^ 64) × (why ≡ 10))
+    (op < 2 ^ 8) × (why < 2 ^ 8) × IfSome until (λ cycle. (cycle < 2 ^ 64) × (why ≡ 10))
 IsLogVerdict (Passed start next) = (start < 2 ^ 64) × (next < 2 ^ 64)
 IsLogVerdict (Miss slot release cycle) = (slot < 2 ^ 8) × (release < 2 ^ 64) × (cycle < 2 ^ 64)
 IsLogVerdict (Horizon from walked) = (from < 2 ^ 64) × (walked < 2 ^ 64)
@@ -72,16 +73,16 @@ IsLogRow (Open cycle mask l) = (cycle < 2 ^ 64) × (mask < 2 ^ slots) × (l < 2 
 IsLogRow (Frame timed) = (timed.start < 2 ^ 64) × (timed.len < 2 ^ 32) × IsFrame timed.frame
 IsLogRow (End next) = next < 2 ^ 64
 
--- the text is not that of rows, and the row of this number, counted from 1, is the first one that has none of the
--- forms: before it stands the text of rows, and what follows that is not empty and begins with the text of no row
+-- the record of this number, counted from 1, is the first one whose fields are those of no row: before it stand the
+-- fields of rows
 pub record IsFirstFaultyRow (bytes : List ℕ) (number : ℕ) : Type 0 where
   pub before : List LogRow
   pub rows : All IsLogRow before
-  pub rest : List ℕ
-  pub split : bytes ≡ text_of_rows before ++ rest
+  pub fields : List (List ℕ)
+  pub below : List (List (List ℕ))
+  pub split : records_of bytes ≡ map fields_of_row before ++ fields ∷ below
   pub number_is : number ≡ length before + 1
-  pub some : rest ≢ []
-  pub none : (row : LogRow) (later : List ℕ) → IsLogRow row → rest ≡ row_text row ++ later → ⊥
+  pub none : (row : LogRow) → IsLogRow row → fields ≡ fields_of_row row → ⊥
 
 -- what a fault of the reader says
 abbrev pub IsLogFault : List ℕ → LogFault → Type 0

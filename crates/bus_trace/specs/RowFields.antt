@@ -1,12 +1,11 @@
 -- What the fields of a row say: words for contracts inside the crate.
-use Rattle.std.specs.Prelude.{ℕ, ◌+◌, ◌*◌, ◌-◌, ◌^◌, ◌%◌, ◌==◌, ◌&&◌, ◌||◌, Bool, not}
-use Rattle.std.specs.Prelude.{if◌then◌else◌, nat_lt, nat_le, List, [], ◌∷◌, length, slice_get}
-use Rattle.std.specs.Prelude.{slice_index, codes, Option, Some, None, option_map, option_and_then}
-use Rattle.std.specs.Char.{digit_value, is_ascii_digit}
-use Rattle.std.specs.List.{list_all, slice_split}
+use Rattle.std.specs.Prelude.{ℕ, ◌-◌, ◌^◌, ◌==◌, ◌&&◌, Bool, if◌then◌else◌, List, length, slice_get}
+use Rattle.std.specs.Prelude.{codes, Option, Some, None, option_map, option_and_then}
 use Rattle.std.specs.Str.{bytes_eq}
-use Rattle.std.specs.Str.Parse.{digits_value}
 use Rattle.can_frame.specs.DataFrame.{DataFrame}
+use Rattle.text_fields.specs.ByteText.{data_of}
+use Rattle.text_fields.specs.Decimal.{decimal_of, within}
+use Rattle.text_fields.specs.Hexadecimal.{hex_of}
 use Rattle.bus_trace.specs.declared.row.LogRow.{LogRow}
 use Rattle.bus_trace.specs.declared.row.LogRow.TheVariants as row
 use Rattle.bus_trace.specs.declared.row.LogVerdict.{LogVerdict}
@@ -17,56 +16,15 @@ infixl 10 ◌>>=◌
 abbrev pub ◌>>=◌ : {A B : Type 0} → Option A → (A → Option B) → Option B
 value >>= next = option_and_then next value
 
--- the fields of a line: what stands between its commas
-abbrev pub is_comma : ℕ → Bool
-is_comma byte = byte == 44
-
-abbrev pub fields_of_line : List ℕ → List (List ℕ)
-fields_of_line line = slice_split is_comma line
-
 -- Fields
-
--- whether the first of several digits is a zero
-abbrev pub has_leading_zero : List ℕ → Bool
-has_leading_zero digits = nat_lt 1 (length digits) && (slice_index digits 0 == 48)
-
--- the number that decimal digits without leading zeros write
-abbrev pub number_of : List ℕ → Option ℕ
-number_of field =
-    if not (length field == 0) && list_all is_ascii_digit field && not (has_leading_zero field)
-    then Some (digits_value 10 field) else None
-
--- a number, where it is not above the greatest one
-abbrev pub up_to : ℕ → ℕ → Option ℕ
-up_to most number = if nat_le number most then Some number else None
 
 -- the number in the field at a place, where it is not above the greatest one
 abbrev pub number_at : List (List ℕ) → ℕ → ℕ → Option ℕ
-number_at fields place most = slice_get fields place >>= number_of >>= up_to most
+number_at fields place most = slice_get fields place >>= decimal_of >>= within 0 most
 
--- whether a byte is a hexadecimal digit in lower case
-abbrev pub is_hex_digit : ℕ → Bool
-is_hex_digit byte = (nat_le 48 byte && nat_le byte 57) || (nat_le 97 byte && nat_le byte 102)
-
--- the number that so many hexadecimal digits in lower case write
-abbrev pub hex_of : ℕ → List ℕ → Option ℕ
-hex_of count field =
-    if (length field == count) && list_all is_hex_digit field then Some (digits_value 16 field) else None
-
+-- the number that so many hexadecimal digits in lower case write in the field at a place
 abbrev pub hex_at : List (List ℕ) → ℕ → ℕ → Option ℕ
 hex_at fields place count = slice_get fields place >>= hex_of count
-
--- the bytes that two hexadecimal digits each write
-abbrev pub bytes_written : List ℕ → List ℕ
-bytes_written [] = []
-bytes_written (high ∷ []) = []
-bytes_written (high ∷ low ∷ rest) = (16 * digit_value high + digit_value low) ∷ bytes_written rest
-
--- the bytes that a field writes: an even number of 0 to 16 hexadecimal digits in lower case
-abbrev pub bytes_of : List ℕ → Option (List ℕ)
-bytes_of field =
-    if nat_le (length field) 16 && (length field % 2 == 0) && list_all is_hex_digit field
-    then Some (bytes_written field) else None
 
 -- the frame of an identifier and its bytes
 abbrev pub frame_with : ℕ → List ℕ → DataFrame
@@ -75,8 +33,8 @@ frame_with identifier bytes = record { identifier = identifier; bytes = bytes }
 -- the frame of the identifier and the bytes in the fields at two places
 abbrev pub frame_at : List (List ℕ) → Option DataFrame
 frame_at fields = do
-  identifier ← hex_at fields 3 3 >>= up_to 0x7EF
-  bytes ← slice_get fields 4 >>= bytes_of
+  identifier ← hex_at fields 3 3 >>= within 0 0x7EF
+  bytes ← slice_get fields 4 >>= data_of
   Some (frame_with identifier bytes)
 
 -- Verdicts
@@ -114,10 +72,6 @@ miss_of fields = if are_fields fields 7 then (do
   cycle ← number_at fields 6 (2 ^ 64 - 1)
   Some (verdict.Miss slot release cycle)) else None
 
--- the number of a rule
-abbrev pub rule_of : ℕ → Option ℕ
-rule_of why = if nat_le 1 why && nat_le why 11 then Some why else None
-
 -- the cycle behind the number of a rule, where there is one
 abbrev pub until_of : List (List ℕ) → ℕ → Option (Option ℕ)
 until_of fields why =
@@ -128,7 +82,7 @@ until_of fields why =
 abbrev pub malformed_of : List (List ℕ) → Option LogVerdict
 malformed_of fields = do
   op ← number_at fields 4 255
-  why ← number_at fields 5 255 >>= rule_of
+  why ← number_at fields 5 255
   until ← until_of fields why
   Some (verdict.Malformed op why until)
 

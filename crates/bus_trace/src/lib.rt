@@ -6,7 +6,6 @@
 mod entries;
 mod frames;
 mod gathering;
-mod hex_pairs;
 pub mod laws;
 mod log;
 mod log_fault;
@@ -14,7 +13,6 @@ mod log_reading;
 mod recent;
 mod row;
 mod row_fields;
-mod row_parts;
 mod row_reading;
 mod rows;
 mod streaming;

@@ -1,13 +1,16 @@
 //! A row of a log, read from its fields.
 
-ghost use Rattle.std.specs.Prelude.{◌≡◌, ◌<◌, map, option_and_then};
+ghost use Rattle.std.specs.Prelude.{◌≡◌, ◌<◌};
+ghost use Rattle.csv.specs.Records.{fields_of};
 ghost use Rattle.bus_trace.specs.RowFields.{accepted_of, end_of, frame_of, horizon_of, look_of};
 ghost use Rattle.bus_trace.specs.RowFields.{malformed_of, miss_of, number_at, open_of, passed_of};
-ghost use Rattle.bus_trace.specs.RowFields.{plan_of, row_of, rule_of, submit_of, two_numbers, until_of, verdict_of};
+ghost use Rattle.bus_trace.specs.RowFields.{plan_of, row_of, submit_of, two_numbers, until_of, verdict_of};
 
 use crate::row::{LogRow, LogVerdict};
-use crate::row_fields::{field, frame, mask, number};
+use crate::row_fields::{frame, mask, number};
 use can_frame::TimedFrame;
+use csv::ByteRecord;
+use text_fields::field_in;
 
 /// The greatest number of 8 bits.
 const BYTE: u64 = 255;
@@ -16,8 +19,8 @@ const BYTE: u64 = 255;
 const WORD: u64 = 4_294_967_295;
 
 /// Two numbers in the fields behind the word of a verdict, where there are no others.
-fn two_numbers(fields: &[&[u8]]) -> Option<(u64, u64)>
-    ensures value { result ≡ two_numbers (map (λ field. field.now) fields.now) }
+fn two_numbers(fields: &ByteRecord) -> Option<(u64, u64)>
+    ensures value { result ≡ two_numbers (fields_of fields.now) }
 {
     if fields.len() != 6 {
         return None;
@@ -28,32 +31,32 @@ fn two_numbers(fields: &[&[u8]]) -> Option<(u64, u64)>
 }
 
 /// `accepted,FIRST,LENGTH`
-fn read_accepted(fields: &[&[u8]]) -> Option<LogVerdict>
-    ensures value { result ≡ accepted_of (map (λ field. field.now) fields.now) }
+fn read_accepted(fields: &ByteRecord) -> Option<LogVerdict>
+    ensures value { result ≡ accepted_of (fields_of fields.now) }
 {
     let (first, length) = two_numbers(fields)?;
     Some(LogVerdict::Accepted { first, length })
 }
 
 /// `passed,START,NEXT`
-fn read_passed(fields: &[&[u8]]) -> Option<LogVerdict>
-    ensures value { result ≡ passed_of (map (λ field. field.now) fields.now) }
+fn read_passed(fields: &ByteRecord) -> Option<LogVerdict>
+    ensures value { result ≡ passed_of (fields_of fields.now) }
 {
     let (start, next) = two_numbers(fields)?;
     Some(LogVerdict::Passed { start, next })
 }
 
 /// `horizon,FROM,WALKED`
-fn read_horizon(fields: &[&[u8]]) -> Option<LogVerdict>
-    ensures value { result ≡ horizon_of (map (λ field. field.now) fields.now) }
+fn read_horizon(fields: &ByteRecord) -> Option<LogVerdict>
+    ensures value { result ≡ horizon_of (fields_of fields.now) }
 {
     let (from, walked) = two_numbers(fields)?;
     Some(LogVerdict::Horizon { from, walked })
 }
 
 /// `miss,SLOT,RELEASE,CYCLE`
-fn read_miss(fields: &[&[u8]]) -> Option<LogVerdict>
-    ensures value { result ≡ miss_of (map (λ field. field.now) fields.now) }
+fn read_miss(fields: &ByteRecord) -> Option<LogVerdict>
+    ensures value { result ≡ miss_of (fields_of fields.now) }
 {
     if fields.len() != 7 {
         return None;
@@ -68,21 +71,9 @@ fn read_miss(fields: &[&[u8]]) -> Option<LogVerdict>
     })
 }
 
-/// The number of a rule, 1 to 11.
-fn read_rule(fields: &[&[u8]]) -> Option<u8>
-    ensures value { result ≡ option_and_then rule_of (number_at (map (λ field. field.now) fields.now) 5 255) }
-{
-    let why = number(fields, 5, BYTE)?;
-    if 1 <= why && why <= 11 {
-        Some(why as u8)
-    } else {
-        None
-    }
-}
-
 /// The cycle behind the number of a rule, where there is one: it may stand behind rule 10 alone.
-fn read_until(fields: &[&[u8]], why: u8) -> Option<Option<u64>>
-    ensures value { result ≡ until_of (map (λ field. field.now) fields.now) why }
+fn read_until(fields: &ByteRecord, why: u8) -> Option<Option<u64>>
+    ensures value { result ≡ until_of (fields_of fields.now) why }
 {
     if fields.len() == 6 {
         return Some(None);
@@ -95,11 +86,11 @@ fn read_until(fields: &[&[u8]], why: u8) -> Option<Option<u64>>
 }
 
 /// `malformed,OP,WHY`, and `,UNTIL` behind it where WHY is 10 and it is known
-fn read_malformed(fields: &[&[u8]]) -> Option<LogVerdict>
-    ensures value { result ≡ malformed_of (map (λ field. field.now) fields.now) }
+fn read_malformed(fields: &ByteRecord) -> Option<LogVerdict>
+    ensures value { result ≡ malformed_of (fields_of fields.now) }
 {
     let op = number(fields, 4, BYTE)?;
-    let why = read_rule(fields)?;
+    let why = number(fields, 5, BYTE)? as u8;
     let until = read_until(fields, why)?;
     Some(LogVerdict::Malformed {
         op: op as u8,
@@ -110,10 +101,10 @@ fn read_malformed(fields: &[&[u8]]) -> Option<LogVerdict>
 
 /// The verdict in the fields from the fourth one on.
 #[tactic(auto, unfolding(crate::specs::RowFields::verdict_of))]
-fn read_verdict(fields: &[&[u8]]) -> Option<LogVerdict>
-    ensures value { result ≡ verdict_of (map (λ field. field.now) fields.now) }
+fn read_verdict(fields: &ByteRecord) -> Option<LogVerdict>
+    ensures value { result ≡ verdict_of (fields_of fields.now) }
 {
-    let word = field(fields, 3)?;
+    let word = field_in(fields, 3)?;
     if word == b"accepted".as_slice() {
         read_accepted(fields)
     } else if word == b"malformed".as_slice() {
@@ -130,8 +121,8 @@ fn read_verdict(fields: &[&[u8]]) -> Option<LogVerdict>
 }
 
 /// `submit,CALLER,FROM,` and a verdict
-fn read_submit(fields: &[&[u8]]) -> Option<LogRow>
-    ensures value { result ≡ submit_of (map (λ field. field.now) fields.now) }
+fn read_submit(fields: &ByteRecord) -> Option<LogRow>
+    ensures value { result ≡ submit_of (fields_of fields.now) }
 {
     let caller = number(fields, 1, BYTE)?;
     let from = number(fields, 2, u64::MAX)?;
@@ -144,8 +135,8 @@ fn read_submit(fields: &[&[u8]]) -> Option<LogRow>
 }
 
 /// `plan,CYCLE,MASK`
-fn read_plan(fields: &[&[u8]]) -> Option<LogRow>
-    ensures value { result ≡ plan_of (map (λ field. field.now) fields.now) }
+fn read_plan(fields: &ByteRecord) -> Option<LogRow>
+    ensures value { result ≡ plan_of (fields_of fields.now) }
 {
     if fields.len() != 3 {
         return None;
@@ -156,8 +147,8 @@ fn read_plan(fields: &[&[u8]]) -> Option<LogRow>
 }
 
 /// `look,CALLER,NEXT`
-fn read_look(fields: &[&[u8]]) -> Option<LogRow>
-    ensures value { result ≡ look_of (map (λ field. field.now) fields.now) }
+fn read_look(fields: &ByteRecord) -> Option<LogRow>
+    ensures value { result ≡ look_of (fields_of fields.now) }
 {
     if fields.len() != 3 {
         return None;
@@ -171,8 +162,8 @@ fn read_look(fields: &[&[u8]]) -> Option<LogRow>
 }
 
 /// `open,CYCLE,MASK,WIDTH`
-fn read_open(fields: &[&[u8]]) -> Option<LogRow>
-    ensures value { result ≡ open_of (map (λ field. field.now) fields.now) }
+fn read_open(fields: &ByteRecord) -> Option<LogRow>
+    ensures value { result ≡ open_of (fields_of fields.now) }
 {
     if fields.len() != 4 {
         return None;
@@ -188,8 +179,8 @@ fn read_open(fields: &[&[u8]]) -> Option<LogRow>
 }
 
 /// `frame,START,LEN,ID,DATA`
-fn read_frame(fields: &[&[u8]]) -> Option<LogRow>
-    ensures value { result ≡ frame_of (map (λ field. field.now) fields.now) }
+fn read_frame(fields: &ByteRecord) -> Option<LogRow>
+    ensures value { result ≡ frame_of (fields_of fields.now) }
 {
     if fields.len() != 5 {
         return None;
@@ -204,8 +195,8 @@ fn read_frame(fields: &[&[u8]]) -> Option<LogRow>
 }
 
 /// `end,NEXT`
-fn read_end(fields: &[&[u8]]) -> Option<LogRow>
-    ensures value { result ≡ end_of (map (λ field. field.now) fields.now) }
+fn read_end(fields: &ByteRecord) -> Option<LogRow>
+    ensures value { result ≡ end_of (fields_of fields.now) }
 {
     if fields.len() != 2 {
         return None;
@@ -216,10 +207,10 @@ fn read_end(fields: &[&[u8]]) -> Option<LogRow>
 
 /// The row that these fields have the form of.
 #[tactic(auto, unfolding(crate::specs::RowFields::row_of))]
-pub fn read_row(fields: &[&[u8]]) -> Option<LogRow>
-    ensures value { result ≡ row_of (map (λ field. field.now) fields.now) }
+pub fn read_row(fields: &ByteRecord) -> Option<LogRow>
+    ensures value { result ≡ row_of (fields_of fields.now) }
 {
-    let word = field(fields, 0)?;
+    let word = field_in(fields, 0)?;
     if word == b"submit".as_slice() {
         read_submit(fields)
     } else if word == b"plan".as_slice() {

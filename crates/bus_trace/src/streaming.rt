@@ -14,7 +14,6 @@ ghost use Rattle.bus_trace.specs.Row.{IsLogRow};
 ghost use Rattle.bus_trace.specs.declared.row.LogRow.TheVariants.{Frame as FrameRow, End};
 
 use crate::gathering::Gathered;
-use crate::row_parts::ROOM;
 use crate::rows::{end_row, frame_row, look_row, open_row, plan_row, submit_row};
 use can_frame::{Frame, TimedFrame};
 use ftt_io::{Failed, Sink, write_all};
@@ -22,6 +21,7 @@ use master_core::Event;
 use requirement_table::Mask;
 use std::alloc::{AllocError, Global};
 use std::mem;
+use text_fields::ROOM;
 
 /// The length of the synchronous window that a trigger says, in bit times.
 fn width_told(trigger: &Frame) -> u32

@@ -4,71 +4,60 @@ use Rattle.std.specs.Prelude.{◌⊎◌, IfOk, IsErrOf, IsSome}
 use Rattle.std.specs.Result.{IsErrAnd}
 use Rattle.std.specs.Option.{ForSome}
 use Rattle.ftt_io.specs.Files.{NamedFiles}
-use Rattle.written_run.specs.declared.writing.Cut.{Cut}
-use Rattle.written_run.specs.declared.writing.Cut.TheVariants as cut
+use Rattle.asked_files.specs.Asked.{Asked}
+use Rattle.asked_files.specs.Loads.{IsBarred}
+use Rattle.asked_files.specs.declared.stopping.Refusal.{Refusal}
+use Rattle.asked_files.specs.declared.stopping.Stop.{Stop}
+use Rattle.asked_files.specs.declared.stopping.Stop.TheVariants.{Words, Input, Read, Write, Memory}
 use Rattle.fttcan_top.specs.declared.status.Status.{Status}
 use Rattle.fttcan_top.specs.declared.status.Status.TheVariants.{Done, Refused, No}
-use Rattle.fttcan_top.specs.declared.stop.Refusal.{Refusal}
-use Rattle.fttcan_top.specs.declared.stop.Stop.{Stop}
-use Rattle.fttcan_top.specs.declared.stop.Stop.TheVariants.{Words, Input, Read, Write, Memory}
-use Rattle.fttcan_top.specs.Ends.{IsBroken, IsDoneWith, IsEnd, IsStatusOf, IsStoppedBy, end_status, refusal_of, stop_of, stop_status}
-use Rattle.fttcan_top.specs.Loads.{Explains, IsOfFiles}
-use Rattle.fttcan_top.specs.Output.{Asked, IsAnswer, IsCut, IsDone, IsStopped, Stopped, Tells, no_command, refused}
+use Rattle.fttcan_top.specs.Ends.{IsCarried, IsEnd, IsStatusOf, IsWorked, PutsPart, end_status, refusal_of}
+use Rattle.fttcan_top.specs.Output.{IsAnswer, IsCut, IsDone, IsStopped, Tells, TellsFront}
 
-module _ (none : Type 0) (told : Option NamedFiles) (IsFor : NamedFiles → Result Asked Stopped → Type 0)
+front-part : (asked_for : Asked) (old new : Option (List ℕ)) → (new ≡ old) ⊎ TellsFront asked_for old new
+    → (new ≡ old) ⊎ PutsPart asked_for old new
+front-part asked_for old new (inl same) = inl same
+front-part asked_for old new (inr front) = inr (inl front)
+
+-- an answer that was worked out first is put as one that may be put while it is worked out
+pub front-carried : (asked_for : Asked) (rose : Type 0) (old new : Option (List ℕ)) (ended : Result Status Stop)
+    → IsCarried asked_for TellsFront rose old new ended → IsCarried asked_for PutsPart rose old new ended
+front-carried asked_for rose old new (Ok status) is = is
+front-carried asked_for rose old new (Err Words) is = is
+front-carried asked_for rose old new (Err (Input refusal)) is = is
+front-carried asked_for rose old new (Err Read) is = is
+front-carried asked_for rose old new (Err Write) (faults, part) = (faults, front-part asked_for old new part)
+front-carried asked_for rose old new (Err Memory) part = front-part asked_for old new part
+
+answer-done : (IsFor : Result Asked Stop → Type 0) (shelf_rose out_rose : Type 0) (status : Status) → IsDone status
+    → (asked_for : Asked) × IsFor (Ok asked_for) → IsAnswer IsFor shelf_rose out_rose status
+answer-done IsFor shelf_rose out_rose Done done asks = asks
+answer-done IsFor shelf_rose out_rose Refused done asks = asks
+answer-done IsFor shelf_rose out_rose No done asks = asks
+answer-done IsFor shelf_rose out_rose _ done asks = absurd done
+
+not-cut : (status : Status) → IsDone status → IsCut status → ⊥
+not-cut Done done cut = cut
+not-cut Refused done cut = cut
+not-cut No done cut = cut
+not-cut _ done cut = done
+
+not-stopped : (status : Status) → IsDone status → IsStopped status → ⊥
+not-stopped Done done stopped = stopped
+not-stopped Refused done stopped = stopped
+not-stopped No done stopped = stopped
+not-stopped _ done stopped = done
+
+module _ (none : Type 0) (told : Option NamedFiles) (IsFor : NamedFiles → Result Asked Stop → Type 0)
     (IsPart : Asked → Option (List ℕ) → Option (List ℕ) → Type 0) (shelf_rose out_rose : Type 0)
     (old new : Option (List ℕ)) where
-  -- a call whose `?` answered this reason
-  ended-by : (ended : Result Status Stop) (why : Stop) → IsErrAnd ended (λ now. now ≡ why)
-      → IsStoppedBy none told IsFor IsPart shelf_rose out_rose old new why
+  -- a call whose `?` handed on why it has nothing to do
+  pub end-barred : (ended : Result Status Stop) (why : Stop) → IsErrAnd ended (λ now. now ≡ why)
+      → IsBarred none shelf_rose told IsFor why → new ≡ old
       → IsEnd none told IsFor IsPart shelf_rose out_rose old new ended
-  ended-by (Ok status) why is stopped = absurd is
-  ended-by (Err now) why is stopped =
-      subst (IsStoppedBy none told IsFor IsPart shelf_rose out_rose old new) (sym is) stopped
-
-  -- where its words ask for nothing
-  stop-words : (why : Stop) → (why ≡ Memory) ⊎ ((why ≡ Words) × none) → new ≡ old
-      → IsStoppedBy none told IsFor IsPart shelf_rose out_rose old new why
-  stop-words why (inl is) same =
-      subst (IsStoppedBy none told IsFor IsPart shelf_rose out_rose old new) (sym is) (inl same)
-  stop-words why (inr (is, words)) same =
-      subst (IsStoppedBy none told IsFor IsPart shelf_rose out_rose old new) (sym is) (words, same)
-
-  pub end-words : (ended : Result Status Stop) (why : Stop) → IsErrAnd ended (λ now. now ≡ why)
-      → (why ≡ Memory) ⊎ ((why ≡ Words) × none) → new ≡ old
-      → IsEnd none told IsFor IsPart shelf_rose out_rose old new ended
-  end-words ended why is words same = ended-by ended why is (stop-words why words same)
-
-  -- where its files give nothing
-  stop-files : (why : Stop) → ForSome told (λ files. Explains (IsFor files) shelf_rose why)
-      → IsOfFiles (shelf_rose ⊎ IsSome told) why → new ≡ old
-      → IsStoppedBy none told IsFor IsPart shelf_rose out_rose old new why
-  stop-files Words explains is same = absurd is
-  stop-files (Input refusal) explains is same = (explains, same)
-  stop-files Read explains is same = (is, explains, same)
-  stop-files Write explains is same = absurd is
-  stop-files Memory explains is same = inl same
-
-  pub end-files : (ended : Result Status Stop) (why : Stop) → IsErrAnd ended (λ now. now ≡ why)
-      → ForSome told (λ files. Explains (IsFor files) shelf_rose why)
-      → IsOfFiles (shelf_rose ⊎ IsSome told) why → new ≡ old
-      → IsEnd none told IsFor IsPart shelf_rose out_rose old new ended
-  end-files ended why is explains files same = ended-by ended why is (stop-files why explains files same)
-
-  -- where its output was cut short
-  stop-cut : (why : Cut) (asked_for : Asked) → ForSome told (λ files. IsFor files (Ok asked_for))
-      → (new ≡ old) ⊎ IsPart asked_for old new → (why ≡ cut.Write → out_rose)
-      → IsStoppedBy none told IsFor IsPart shelf_rose out_rose old new (stop_of why)
-  stop-cut cut.Memory asked_for asks part write = inr (record { asked_for = asked_for; asks = asks; part = part })
-  stop-cut cut.Write asked_for asks part write =
-      (write refl, record { asked_for = asked_for; asks = asks; part = part })
-
-  pub end-cut : (ended : Result Status Stop) (why : Cut) → IsErrAnd ended (λ now. now ≡ stop_of why)
-      → (asked_for : Asked) → ForSome told (λ files. IsFor files (Ok asked_for))
-      → (new ≡ old) ⊎ IsPart asked_for old new → (why ≡ cut.Write → out_rose)
-      → IsEnd none told IsFor IsPart shelf_rose out_rose old new ended
-  end-cut ended why is asked_for asks part write =
-      ended-by ended (stop_of why) is (stop-cut why asked_for asks part write)
+  end-barred (Ok status) why is barred same = absurd is
+  end-barred (Err now) why is barred same =
+      inl (subst (λ stop. IsBarred none shelf_rose told IsFor stop) (sym is) barred, same)
 
   -- what a top call says that answers this status, and of a refused file tells this refusal
   pub record IsSaid (status : Status) (refusal : Refusal) : Type 0 where
@@ -81,41 +70,20 @@ module _ (none : Type 0) (told : Option NamedFiles) (IsFor : NamedFiles → Resu
     pub cut : IsCut status → (new ≡ old) ⊎ ((asked_for : Asked)
         × ForSome told (λ files. IsFor files (Ok asked_for)) × IsPart asked_for old new)
     pub nothing : IsStopped status → new ≡ old
-    pub input : status ≡ Status.Input → ForSome told (λ files. IsFor files (Err (refused refusal)))
+    pub input : status ≡ Status.Input → ForSome told (λ files. IsFor files (Err (Input refusal)))
 
-  said-done : (status : Status) (refusal : Refusal) → IsDone status
-      → IsDoneWith none told IsFor IsPart shelf_rose out_rose old new status → IsSaid status refusal
-  said-done Done refusal done is = record {
-    answer = λ files t. (is.asked_for, is.asks files t);
-    words = λ e. absurd (cc);
-    read = λ e. absurd (cc);
-    write = λ e. absurd (cc);
-    done = λ d. (is.asked_for, is.asks, is.tells);
-    cut = λ d. absurd d;
-    nothing = λ d. absurd d;
-    input = λ e. absurd (cc);
+  said-done : (status : Status) → IsDone status → (asked_for : Asked) → ForSome told (λ files. IsFor files (Ok asked_for))
+      → Tells asked_for status old new → IsSaid status Refusal.LaterPlan
+  said-done status done asked_for asks tells = record {
+    answer = λ files t. answer-done (IsFor files) shelf_rose out_rose status done (asked_for, asks files t);
+    words = λ e. absurd (subst IsDone e done);
+    read = λ e. absurd (subst IsDone e done);
+    write = λ e. absurd (subst IsDone e done);
+    done = λ d. (asked_for, asks, tells);
+    cut = λ d. absurd (not-cut status done d);
+    nothing = λ d. absurd (not-stopped status done d);
+    input = λ e. absurd (subst IsDone e done);
   }
-  said-done Refused refusal done is = record {
-    answer = λ files t. (is.asked_for, is.asks files t);
-    words = λ e. absurd (cc);
-    read = λ e. absurd (cc);
-    write = λ e. absurd (cc);
-    done = λ d. (is.asked_for, is.asks, is.tells);
-    cut = λ d. absurd d;
-    nothing = λ d. absurd d;
-    input = λ e. absurd (cc);
-  }
-  said-done No refusal done is = record {
-    answer = λ files t. (is.asked_for, is.asks files t);
-    words = λ e. absurd (cc);
-    read = λ e. absurd (cc);
-    write = λ e. absurd (cc);
-    done = λ d. (is.asked_for, is.asks, is.tells);
-    cut = λ d. absurd d;
-    nothing = λ d. absurd d;
-    input = λ e. absurd (cc);
-  }
-  said-done _ refusal done is = absurd done
 
   cut-of : (asked_for : Asked) → ForSome told (λ files. IsFor files (Ok asked_for))
       → (new ≡ old) ⊎ IsPart asked_for old new
@@ -123,12 +91,7 @@ module _ (none : Type 0) (told : Option NamedFiles) (IsFor : NamedFiles → Resu
   cut-of asked_for asks (inl same) = inl same
   cut-of asked_for asks (inr part) = inr (asked_for, asks, part)
 
-  broken : (new ≡ old) ⊎ IsBroken none told IsFor IsPart shelf_rose out_rose old new
-      → (new ≡ old) ⊎ ((asked : Asked) × ForSome told (λ files. IsFor files (Ok asked)) × IsPart asked old new)
-  broken (inl same) = inl same
-  broken (inr is) = cut-of is.asked_for is.asks is.part
-
-  said-memory : (refusal : Refusal) → (new ≡ old) ⊎ IsBroken none told IsFor IsPart shelf_rose out_rose old new
+  said-memory : (refusal : Refusal) → (new ≡ old) ⊎ ((asked : Asked) × ForSome told (λ files. IsFor files (Ok asked)) × IsPart asked old new)
       → IsSaid Status.Memory refusal
   said-memory refusal is = record {
     answer = λ files t. tt;
@@ -136,14 +99,27 @@ module _ (none : Type 0) (told : Option NamedFiles) (IsFor : NamedFiles → Resu
     read = λ e. absurd (cc);
     write = λ e. absurd (cc);
     done = λ d. absurd d;
-    cut = λ d. broken is;
+    cut = λ d. is;
     nothing = λ d. absurd d;
     input = λ e. absurd (cc);
   }
 
-  said-stop : (why : Stop) → IsStoppedBy none told IsFor IsPart shelf_rose out_rose old new why
-      → (none → (files : NamedFiles) → IsFor files (Err no_command)) → IsSaid (stop_status why) (refusal_of (Err why))
-  said-stop Words (is, same) named = record {
+  said-write : out_rose → (asked_for : Asked) → ForSome told (λ files. IsFor files (Ok asked_for))
+      → (new ≡ old) ⊎ IsPart asked_for old new → IsSaid Status.Write Refusal.LaterPlan
+  said-write rose asked_for asks part = record {
+    answer = λ files t. (rose, (asked_for, asks files t));
+    words = λ e. absurd (cc);
+    read = λ e. absurd (cc);
+    write = λ e. rose;
+    done = λ d. absurd d;
+    cut = λ d. cut-of asked_for asks part;
+    nothing = λ d. absurd d;
+    input = λ e. absurd (cc);
+  }
+
+  said-nothing : (why : Stop) → IsBarred none shelf_rose told IsFor why → new ≡ old
+      → (none → (files : NamedFiles) → IsFor files (Err Words)) → IsSaid (end_status (Err why)) (refusal_of (Err why))
+  said-nothing Words is same named = record {
     answer = λ files t. named is files;
     words = λ e. is;
     read = λ e. absurd (cc);
@@ -153,7 +129,7 @@ module _ (none : Type 0) (told : Option NamedFiles) (IsFor : NamedFiles → Resu
     nothing = λ d. same;
     input = λ e. absurd (cc);
   }
-  said-stop (Input refusal) (asks, same) named = record {
+  said-nothing (Input refusal) asks same named = record {
     answer = λ files t. (refusal, asks files t);
     words = λ e. absurd (cc);
     read = λ e. absurd (cc);
@@ -163,7 +139,7 @@ module _ (none : Type 0) (told : Option NamedFiles) (IsFor : NamedFiles → Resu
     nothing = λ d. same;
     input = λ e. asks;
   }
-  said-stop Read (cause, asks, same) named = record {
+  said-nothing Read (cause, asks) same named = record {
     answer = λ files t. asks files t;
     words = λ e. absurd (cc);
     read = λ e. cause;
@@ -173,32 +149,43 @@ module _ (none : Type 0) (told : Option NamedFiles) (IsFor : NamedFiles → Resu
     nothing = λ d. same;
     input = λ e. absurd (cc);
   }
-  said-stop Write (rose, is) named = record {
-    answer = λ files t. (rose, (is.asked_for, is.asks files t));
-    words = λ e. absurd (cc);
-    read = λ e. absurd (cc);
-    write = λ e. rose;
-    done = λ d. absurd d;
-    cut = λ d. cut-of is.asked_for is.asks is.part;
-    nothing = λ d. absurd d;
-    input = λ e. absurd (cc);
-  }
-  said-stop Memory is named = said-memory Refusal.LaterPlan is
+  said-nothing Write is same named = absurd is
+  said-nothing Memory is same named = said-memory Refusal.LaterPlan (inl same)
+
+  said-carried : (ended : Result Status Stop) → IfOk ended IsDone → (asked_for : Asked)
+      → ForSome told (λ files. IsFor files (Ok asked_for)) → IsCarried asked_for IsPart out_rose old new ended
+      → IsSaid (end_status ended) (refusal_of ended)
+  said-carried (Ok status) done asked_for asks tells = said-done status done asked_for asks tells
+  said-carried (Err Words) done asked_for asks is = absurd is
+  said-carried (Err (Input refusal)) done asked_for asks is = absurd is
+  said-carried (Err Read) done asked_for asks is = absurd is
+  said-carried (Err Write) done asked_for asks (rose, part) = said-write rose asked_for asks part
+  said-carried (Err Memory) done asked_for asks part = said-memory Refusal.LaterPlan (cut-of asked_for asks part)
+
+  said-end : (ended : Result Status Stop) → IfOk ended IsDone → IsEnd none told IsFor IsPart shelf_rose out_rose old new ended
+      → (none → (files : NamedFiles) → IsFor files (Err Words)) → IsSaid (end_status ended) (refusal_of ended)
+  said-end (Ok status) done (inl is) named = absurd is
+  said-end (Ok status) done (inr worked) named = said-carried (Ok status) done worked.asked_for worked.asks worked.carried
+  said-end (Err why) done (inl (is, same)) named = said-nothing why is same named
+  said-end (Err why) done (inr worked) named = said-carried (Err why) done worked.asked_for worked.asks worked.carried
+
+  unput : (refusal : Refusal) → IsEnd none told IsFor IsPart shelf_rose out_rose old new (Err (Input refusal)) → new ≡ old
+  unput refusal (inl (is, same)) = same
+  unput refusal (inr worked) = absurd worked.carried
 
   -- what a call did that ended so, as its status says it
   pub said : (ended : Result Status Stop) (status : Status) → IsStatusOf ended status → IfOk ended IsDone
       → IsEnd none told IsFor IsPart shelf_rose out_rose old new ended
-      → (none → (files : NamedFiles) → IsFor files (Err no_command)) → IsSaid status (refusal_of ended)
-  said (Ok answered) status (inl same) ok is named =
-      subst (λ s. IsSaid s Refusal.LaterPlan) (sym same) (said-done answered Refusal.LaterPlan ok is)
-  said (Ok answered) status (inr (input, same)) ok is named = absurd (subst IsDone input ok)
-  said (Err why) status (inl same) ok is named = subst (λ s. IsSaid s (refusal_of (Err why))) (sym same) (said-stop why is named)
-  said (Err (Input refusal)) status (inr (input, same)) ok (asks, nothing) named =
-      subst (λ s. IsSaid s refusal) (sym same) (said-memory refusal (inl nothing))
-  said (Err Words) status (inr (input, same)) ok is named = absurd (cc)
-  said (Err Read) status (inr (input, same)) ok is named = absurd (cc)
-  said (Err Write) status (inr (input, same)) ok is named = absurd (cc)
-  said (Err Memory) status (inr (input, same)) ok is named = absurd (cc)
+      → (none → (files : NamedFiles) → IsFor files (Err Words)) → IsSaid status (refusal_of ended)
+  said ended status (inl same) done is named =
+      subst (λ s. IsSaid s (refusal_of ended)) (sym same) (said-end ended done is named)
+  said (Ok answered) status (inr (input, same)) done is named = absurd (subst IsDone input done)
+  said (Err (Input refusal)) status (inr (input, same)) done is named =
+      subst (λ s. IsSaid s refusal) (sym same) (said-memory refusal (inl (unput refusal is)))
+  said (Err Words) status (inr (input, same)) done is named = absurd (cc)
+  said (Err Read) status (inr (input, same)) done is named = absurd (cc)
+  said (Err Write) status (inr (input, same)) done is named = absurd (cc)
+  said (Err Memory) status (inr (input, same)) done is named = absurd (cc)
 
 -- words of no command end so, or for want of memory
 pub command-status : (ended : Result Status Stop) (status : Status) → IsStatusOf ended status

@@ -1,4 +1,3 @@
 mod EndLemmas
 mod StreamedLemmas
-mod WordLemmas
 mod RowLemmas

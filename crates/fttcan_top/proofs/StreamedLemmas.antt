@@ -1,5 +1,5 @@
 -- What is told of a log that was written while its run went on.
-use Rattle.std.proofs.Common.{◌≡◌, ℕ, Bool, List, [], ◌++◌, ◌⊎◌, Option, None, refl, sym, subst, inl, inr}
+use Rattle.std.proofs.Common.{◌≡◌, ℕ, Bool, List, [], ◌++◌, ◌⊎◌, Option, None, refl, sym, ap, ◌∙◌, subst, inl, inr}
 use Rattle.can_frame.specs.declared.TimedFrame.{TimedFrame}
 use Rattle.async_window.specs.declared.request.Owner.{Owner}
 use Rattle.async_window.specs.declared.request.Request.{Request}
@@ -17,7 +17,8 @@ use Rattle.replay_run.specs.Run.{IsRun}
 use Rattle.written_run.specs.Written.{IsCut, IsWritten}
 use Rattle.written_run.specs.declared.writing.Written.{Written}
 use Rattle.fttcan_top.specs.declared.status.Status.{Status}
-use Rattle.fttcan_top.specs.Output.{IsLog, Job, Tells, TellsBegun, TellsFront, log_of, report_if, status_of}
+use Rattle.asked_files.specs.Asked.{JobView, log_of}
+use Rattle.fttcan_top.specs.Output.{IsLog, Tells, TellsBegun, TellsFront, report_if, status_of}
 use Rattle.fttcan_top.specs.Streamed.{PutsReport, PutsReportFront}
 
 -- the rows of a run of the first calls begin the log of every run of all calls
@@ -27,7 +28,7 @@ pub record RowsSoFar : Type 0 where
       → (rest : List ℕ) × (log_text whole frames ≡ events_rows trace [] history ++ rest)
 
 -- a log that was written whole, and its report behind it
-tells-log : (job : Job) (report : Bool) (run : Written) (status : Status) (old middle new : Option (List ℕ))
+tells-log : (job : JobView) (report : Bool) (run : Written) (status : Status) (old middle new : Option (List ℕ))
     → IsWritten job.system job.steps job.requests run.master.history run.trace old middle → is_some run.trace ≡ report
     → PutsReport run job.system.owners job.requests middle new → status ≡ status_of run.master.history → Tells (log_of job None report) status old new
 tells-log job report run status old middle new written kept puts ended =
@@ -40,7 +41,7 @@ tells-log job report run status old middle new written kept puts ended =
     }
 
 -- and one whose report was put in part
-tells-front : (job : Job) (report : Bool) (run : Written) (old middle new : Option (List ℕ))
+tells-front : (job : JobView) (report : Bool) (run : Written) (old middle new : Option (List ℕ))
     → IsWritten job.system job.steps job.requests run.master.history run.trace old middle → is_some run.trace ≡ report
     → PutsReportFront run job.system.owners job.requests middle new → TellsFront (log_of job None report) old new
 tells-front job report run old middle new written kept puts =
@@ -54,7 +55,7 @@ tells-front job report run old middle new written kept puts =
     }
 
 -- the first bytes of the rows of a begun run are those of the output of each whole one
-begun-front : RowsSoFar → (job : Job) (report : Bool) (old new : Option (List ℕ)) (history : List Event) (trace : List TimedFrame)
+begun-front : RowsSoFar → (job : JobView) (report : Bool) (old new : Option (List ℕ)) (history : List Event) (trace : List TimedFrame)
     → IsSystem job.system → AreLegal job.system.owners job.requests → IsBegun job.system job.steps job.requests history trace
     → PutsPrefix old new (events_rows trace [] history)
     → (status : Status) (text : List ℕ) → IsLog job None report status text → PutsPrefix old new text
@@ -66,7 +67,7 @@ begun-front laws job report old new history trace known legal begun puts status 
     subst (PutsPrefix old new) (sym log.written) (PutsPrefix-longer behind whole)
 
 -- a run that was cut short, or its last row
-tells-cut : RowsSoFar → (job : Job) (report : Bool) (old new : Option (List ℕ)) → IsSystem job.system → AreLegal job.system.owners job.requests
+tells-cut : RowsSoFar → (job : JobView) (report : Bool) (old new : Option (List ℕ)) → IsSystem job.system → AreLegal job.system.owners job.requests
     → IsCut job.system job.steps job.requests old new → TellsFront (log_of job None report) old new ⊎ TellsBegun job report old new
 tells-cut laws job report old new known legal (inl cut) = inr (record {
   history = cut.history;
@@ -82,31 +83,37 @@ tells-cut laws job report old new known legal (inr cut) = inl (record {
   puts = PutsPrefix-longer (report_if report cut.history cut.trace job.system.owners job.requests) cut.puts;
 })
 
--- The same with lists that are those of the job
+-- The same with parts that are those of the job
 
-module _ (job : Job) (report : Bool) (steps : List Step) (owners : List Owner) (requests : List Request)
-    (same_steps : steps ≡ job.steps) (same_owners : owners ≡ job.system.owners) (same_requests : requests ≡ job.requests) where
-  as-written : (run : Written) (old middle : Option (List ℕ)) → IsWritten job.system steps requests run.master.history run.trace old middle
+module _ (job : JobView) (report : Bool) (system : System) (steps : List Step) (owners : List Owner) (requests : List Request)
+    (same_system : system ≡ job.system) (same_steps : steps ≡ job.steps) (same_owners : owners ≡ system.owners)
+    (same_requests : requests ≡ job.requests) where
+  own : owners ≡ job.system.owners
+  own = same_owners ∙ ap (λ s. s.owners) same_system
+
+  as-written : (run : Written) (old middle : Option (List ℕ)) → IsWritten system steps requests run.master.history run.trace old middle
       → IsWritten job.system job.steps job.requests run.master.history run.trace old middle
   as-written run old middle is =
-      subst (λ s. IsWritten job.system s job.requests run.master.history run.trace old middle) same_steps
-      (subst (λ r. IsWritten job.system steps r run.master.history run.trace old middle) same_requests is)
+      subst (λ s. IsWritten s job.steps job.requests run.master.history run.trace old middle) same_system
+      (subst (λ s. IsWritten system s job.requests run.master.history run.trace old middle) same_steps
+      (subst (λ r. IsWritten system steps r run.master.history run.trace old middle) same_requests is))
 
-  pub log-told : (run : Written) (status : Status) (old middle new : Option (List ℕ)) → IsWritten job.system steps requests run.master.history run.trace old middle
+  pub log-told : (run : Written) (status : Status) (old middle new : Option (List ℕ)) → IsWritten system steps requests run.master.history run.trace old middle
       → is_some run.trace ≡ report → PutsReport run owners requests middle new → status ≡ status_of run.master.history
       → Tells (log_of job None report) status old new
   log-told run status old middle new written kept puts ended =
       tells-log job report run status old middle new (as-written run old middle written) kept
-      (subst (λ o. PutsReport run o job.requests middle new) same_owners (subst (λ r. PutsReport run owners r middle new) same_requests puts)) ended
+      (subst (λ o. PutsReport run o job.requests middle new) own (subst (λ r. PutsReport run owners r middle new) same_requests puts)) ended
 
-  pub report-cut : (run : Written) (old middle new : Option (List ℕ)) → IsWritten job.system steps requests run.master.history run.trace old middle
+  pub report-cut : (run : Written) (old middle new : Option (List ℕ)) → IsWritten system steps requests run.master.history run.trace old middle
       → is_some run.trace ≡ report → PutsReportFront run owners requests middle new → TellsFront (log_of job None report) old new
   report-cut run old middle new written kept puts =
       tells-front job report run old middle new (as-written run old middle written) kept
-      (subst (λ o. PutsReportFront run o job.requests middle new) same_owners (subst (λ r. PutsReportFront run owners r middle new) same_requests puts))
+      (subst (λ o. PutsReportFront run o job.requests middle new) own (subst (λ r. PutsReportFront run owners r middle new) same_requests puts))
 
   pub run-cut : RowsSoFar → (old new : Option (List ℕ)) → IsSystem job.system → AreLegal job.system.owners job.requests
-      → IsCut job.system steps requests old new → TellsFront (log_of job None report) old new ⊎ TellsBegun job report old new
+      → IsCut system steps requests old new → TellsFront (log_of job None report) old new ⊎ TellsBegun job report old new
   run-cut laws old new known legal cut =
       tells-cut laws job report old new known legal
-      (subst (λ s. IsCut job.system s job.requests old new) same_steps (subst (λ r. IsCut job.system steps r old new) same_requests cut))
+      (subst (λ s. IsCut s job.steps job.requests old new) same_system
+      (subst (λ s. IsCut system s job.requests old new) same_steps (subst (λ r. IsCut system steps r old new) same_requests cut)))

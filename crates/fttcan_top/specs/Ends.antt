@@ -1,32 +1,23 @@
 -- How a call ended, done with a status or stopped for a reason: its status for the caller, and what it did.
-use Rattle.std.specs.Prelude.{◌≡◌, ◌⊎◌, ℕ, List, Option, Result, Ok, Err, IsSome}
+use Rattle.std.specs.Prelude.{◌≡◌, ◌⊎◌, ℕ, List, Option, Result, Ok, Err}
 use Rattle.std.specs.Option.{ForSome}
 use Rattle.ftt_io.specs.Files.{NamedFiles}
-use Rattle.written_run.specs.declared.writing.Cut.{Cut}
-use Rattle.written_run.specs.declared.writing.Cut.TheVariants as cut
+use Rattle.asked_files.specs.Asked.{Asked}
+use Rattle.asked_files.specs.Loads.{IsBarred}
+use Rattle.asked_files.specs.declared.stopping.Refusal.{Refusal}
+use Rattle.asked_files.specs.declared.stopping.Stop.{Stop}
+use Rattle.asked_files.specs.declared.stopping.Stop.TheVariants.{Words, Input, Read, Write, Memory}
 use Rattle.fttcan_top.specs.declared.status.Status.{Status}
-use Rattle.fttcan_top.specs.declared.stop.Refusal.{Refusal}
-use Rattle.fttcan_top.specs.declared.stop.Stop.{Stop}
-use Rattle.fttcan_top.specs.declared.stop.Stop.TheVariants.{Words, Input, Read, Write, Memory}
-use Rattle.fttcan_top.specs.Output.{Asked, IsCutWhileRun, Stopped, Tells, TellsFront, absent, refused}
-
--- why a call stopped whose output was cut short
-abbrev pub stop_of : Cut → Stop
-stop_of cut.Memory = Memory
-stop_of cut.Write = Write
-
--- the status of a call that stopped for this reason
-abbrev pub stop_status : Stop → Status
-stop_status Words = Status.Words
-stop_status (Input refusal) = Status.Input
-stop_status Read = Status.Read
-stop_status Write = Status.Write
-stop_status Memory = Status.Memory
+use Rattle.fttcan_top.specs.Output.{IsCutWhileRun, Tells, TellsFront}
 
 -- the status of a call that ended so
 abbrev pub end_status : Result Status Stop → Status
 end_status (Ok status) = status
-end_status (Err why) = stop_status why
+end_status (Err Words) = Status.Words
+end_status (Err (Input refusal)) = Status.Input
+end_status (Err Read) = Status.Read
+end_status (Err Write) = Status.Write
+end_status (Err Memory) = Status.Memory
 
 -- the call tells this status; memory may run out for the line of a refused file
 abbrev pub IsStatusOf : Result Status Stop → Status → Type 0
@@ -42,34 +33,32 @@ refusal_of _ = Refusal.LaterPlan
 abbrev pub PutsPart : Asked → Option (List ℕ) → Option (List ℕ) → Type 0
 PutsPart asked_for old new = TellsFront asked_for old new ⊎ IsCutWhileRun asked_for old new
 
+-- this was asked for, and carried out so: its answer was put, or nothing, or what `IsPart` says of it
+module _ (asked_for : Asked) (IsPart : Asked → Option (List ℕ) → Option (List ℕ) → Type 0) (out_rose : Type 0)
+    (old new : Option (List ℕ)) where
+  abbrev pub IsCarried : Result Status Stop → Type 0
+  IsCarried (Ok status) = Tells asked_for status old new
+  IsCarried (Err Write) = out_rose × ((new ≡ old) ⊎ IsPart asked_for old new)
+  IsCarried (Err Memory) = (new ≡ old) ⊎ IsPart asked_for old new
+  IsCarried (Err _) = ⊥
+
 -- What a call did, where `none` says that its words are no command's, `told` are the files, where they are told,
 -- `IsFor` says what was asked of them, `IsPart` what may have been put of an answer, `shelf_rose` and `out_rose` that
 -- the count of faults rose, and `old` and `new` are what the output tells
-module _ (none : Type 0) (told : Option NamedFiles) (IsFor : NamedFiles → Result Asked Stopped → Type 0)
+module _ (none : Type 0) (told : Option NamedFiles) (IsFor : NamedFiles → Result Asked Stop → Type 0)
     (IsPart : Asked → Option (List ℕ) → Option (List ℕ) → Type 0) (shelf_rose out_rose : Type 0)
     (old new : Option (List ℕ)) where
-  -- it was asked for this, and part of the answer was put, or nothing
-  pub record IsBroken : Type 0 where
+  -- it was asked for this, and carried it out so
+  pub record IsWorked (ended : Result Status Stop) : Type 0 where
     pub asked_for : Asked
     pub asks : ForSome told (λ files. IsFor files (Ok asked_for))
-    pub part : (new ≡ old) ⊎ IsPart asked_for old new
+    pub carried : IsCarried asked_for IsPart out_rose old new ended
 
-  -- it was done with this status
-  pub record IsDoneWith (status : Status) : Type 0 where
-    pub asked_for : Asked
-    pub asks : ForSome told (λ files. IsFor files (Ok asked_for))
-    pub tells : Tells asked_for status old new
-
-  -- it stopped for this reason
-  abbrev pub IsStoppedBy : Stop → Type 0
-  IsStoppedBy Words = none × (new ≡ old)
-  IsStoppedBy (Input refusal) = ForSome told (λ files. IsFor files (Err (refused refusal))) × (new ≡ old)
-  IsStoppedBy Read =
-      (shelf_rose ⊎ IsSome told) × ForSome told (λ files. shelf_rose ⊎ IsFor files (Err absent)) × (new ≡ old)
-  IsStoppedBy Write = out_rose × IsBroken
-  IsStoppedBy Memory = (new ≡ old) ⊎ IsBroken
+  -- it had nothing to do, for this reason
+  abbrev pub IsNothing : Result Status Stop → Type 0
+  IsNothing (Ok status) = ⊥
+  IsNothing (Err why) = IsBarred none shelf_rose told IsFor why × (new ≡ old)
 
   -- it ended so
   abbrev pub IsEnd : Result Status Stop → Type 0
-  IsEnd (Ok status) = IsDoneWith status
-  IsEnd (Err why) = IsStoppedBy why
+  IsEnd ended = IsNothing ended ⊎ IsWorked ended

@@ -1,9 +1,6 @@
-pub mod Words
-pub mod WordsRead
 pub mod LastRows
 pub mod Summary
 pub mod Status
 pub mod Streamed
 pub mod Output
-pub mod Loads
 pub mod Ends

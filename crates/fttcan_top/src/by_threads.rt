@@ -1,51 +1,26 @@
 //! The top call of a run by threads: from the words of a call and the files that they name to the bytes that are
 //! written.
 
-ghost use Rattle.std.specs.Prelude.{◌≡◌, ◌+◌, ◌≤◌, ◌⊎◌, map, string_bytes, IfOk, IsErrOf, IsSome, None, Ok, Err, OnErr};
+ghost use Rattle.std.specs.Prelude.{◌≡◌, ◌+◌, ◌≤◌, ◌⊎◌, map, string_bytes, IfOk, IsErrOf, IsSome, None, Ok, Err};
 ghost use Rattle.std.specs.Option.{ForSome};
 ghost use Rattle.ftt_io.specs.Counts.{Rose};
+ghost use Rattle.command_words.specs.Words.{live_file_count, live_of};
+ghost use Rattle.asked_files.specs.declared.stopping.Refusal.{Refusal};
+ghost use Rattle.asked_files.specs.Asked.{Asked, IsLiveAsked};
+ghost use Rattle.asked_files.specs.Loads.{Fetches};
 ghost use Rattle.fttcan_top.specs.declared.status.Status.{Status};
-ghost use Rattle.fttcan_top.specs.declared.stop.Refusal.{Refusal};
 ghost use Rattle.fttcan_top.specs.Ends.{IsEnd};
-ghost use Rattle.fttcan_top.specs.Loads.{IsJob, job_of};
-ghost use Rattle.fttcan_top.specs.Output.{Asked, IsAnswer, IsCut, IsDone, IsLiveAsked, IsStopped, Says, Tells, TellsFront, live_log_of, message_of, refused};
-ghost use Rattle.fttcan_top.specs.Words.{live_file_count, live_of};
+ghost use Rattle.fttcan_top.specs.Output.{IsAnswer, IsCut, IsDone, IsStopped, Says, Tells, TellsFront, message_of};
 
-use crate::load::{Job, load_live};
-use crate::rows::put_rows;
 use crate::status::Status;
-use crate::stop::{Stop, tell};
-use crate::words::live_in;
-use crate::work::live_log_of;
+use crate::stop::tell;
+use crate::work::{live_log_of, put_answer};
+use asked_files::{Stop, load_live};
 use ftt_io::{Shelf, Sink};
 use live_run::Gate;
 use std::alloc::Global;
 use std::sync::Wait;
 use std::thread::Threads;
-use written_run::Cut;
-
-/// Runs what was asked, and writes the answer.
-fn carry_out<T: Threads + Wait + Sync, O: Sink, G: Gate>(
-    rt: &T,
-    alloc: Global,
-    job: Job,
-    report: bool,
-    out: &mut O,
-    gate: &G,
-) -> Result<Status, Cut>
-    requires job { IsJob job }
-    ensures faults_never_fall { O.faults out.old ≤ O.faults out.new }
-    ensures done { IfOk result IsDone }
-    ensures tells { IfOk result
-        (λ status. Tells (live_log_of (job_of job) report) status (O.told_bytes out.old) (O.told_bytes out.new)) }
-    ensures cut { OnErr result ((O.told_bytes out.new ≡ O.told_bytes out.old)
-        ⊎ TellsFront (live_log_of (job_of job) report) (O.told_bytes out.old) (O.told_bytes out.new)) }
-    ensures failed { IsErrOf result Cut.Write → Rose (O.faults out.old) (O.faults out.new) }
-{
-    let answer = live_log_of(rt, alloc, job, report, gate)?;
-    put_rows(out, answer.text.as_slice())?;
-    Ok(answer.status)
-}
 
 /// Carries out the words of a call.
 fn call<T: Threads + Wait + Sync, S: Shelf, O: Sink, G: Gate>(
@@ -63,16 +38,12 @@ fn call<T: Threads + Wait + Sync, S: Shelf, O: Sink, G: Gate>(
         (O.told_bytes out.old) (O.told_bytes out.new) result }
     ensures command { live_of (map string_bytes words.now) ≡ None
         → IsErrOf result Stop.Words ⊎ IsErrOf result Stop.Memory }
-    ensures fetches { S.fetches shelf.new ≤ S.fetches shelf.old + live_file_count (map string_bytes words.now) }
-    ensures files_stay { S.told_files shelf.new ≡ S.told_files shelf.old }
-    ensures fetches_never_fall { S.fetches shelf.old ≤ S.fetches shelf.new }
-    ensures faults_never_fall { S.faults shelf.old ≤ S.faults shelf.new }
+    ensures fetched { Fetches S.told_files S.fetches S.faults shelf.old shelf.new
+        (live_file_count (map string_bytes words.now)) }
     ensures out_faults_never_fall { O.faults out.old ≤ O.faults out.new }
 {
-    let run = live_in(alloc, words)?;
-    let job = load_live(alloc, shelf, run)?;
-    let status = carry_out(rt, alloc, job, run.report, out, gate)?;
-    Ok(status)
+    let task = load_live(alloc, words, shelf)?;
+    put_answer(live_log_of(rt, alloc, task.job, task.report, gate), out)
 }
 
 /// Carries out the words of a call whose first word is `live`, the program's name left out. Lines on what went wrong go
@@ -118,7 +89,7 @@ pub fn live<T: Threads + Wait + Sync, S: Shelf, O: Sink, R: Sink, G: Gate>(
     // What was put to `err`, and how often a file was fetched.
     ensures message { (refusal : Refusal)
         × (result ≡ Status.Input → ForSome (S.told_files shelf.old)
-        (λ files. IsLiveAsked (map string_bytes words.now) files (Err (refused refusal))))
+        (λ files. IsLiveAsked (map string_bytes words.now) files (Err (Stop.Input refusal))))
         × Says (R.told_bytes err.old) (R.told_bytes err.new) (Rose (R.faults err.old) (R.faults err.new))
         (message_of result refusal) }
     ensures fetches { S.fetches shelf.new ≤ S.fetches shelf.old + live_file_count (map string_bytes words.now) }

@@ -1,17 +1,14 @@
-//! The top of fttcan: the commands, from the bytes of the files that the words name to the bytes that are written.
+//! The top of fttcan: the commands, from the words of a call and the files that they name to the bytes that are written.
 #![tactic(auto)]
 
-mod arguments;
 mod by_threads;
 mod gathered;
-mod load;
 mod program;
 mod rows;
 mod status;
 mod stop;
 mod streamed;
 mod summary;
-mod words;
 mod work;
 
 pub use by_threads::live;

@@ -1,56 +1,38 @@
 //! The top call: from the words of a call and the files that they name to the bytes that are written.
 
-ghost use Rattle.std.specs.Prelude.{◌≡◌, ◌+◌, ◌≤◌, ◌⊎◌, map, string_bytes, IfOk, IsErrOf, IsSome, None, Ok, Err, OnErr};
+ghost use Rattle.std.specs.Prelude.{◌≡◌, ◌+◌, ◌≤◌, ◌⊎◌, map, string_bytes, IfOk, IsErrOf, IsSome, None, Ok, Err};
 ghost use Rattle.std.specs.Option.{ForSome};
 ghost use Rattle.ftt_io.specs.Counts.{Rose};
-ghost use Rattle.fttcan_top.specs.declared.stop.Refusal.{Refusal};
-ghost use Rattle.fttcan_top.specs.Ends.{IsEnd, PutsPart};
-ghost use Rattle.fttcan_top.specs.Loads.{IsTask, asked_of};
-ghost use Rattle.fttcan_top.specs.Output.{Asked, IsAnswer, IsAsked, IsCut, IsCutWhileRun, IsDone, IsStopped, Says, Tells, TellsFront, message_of, refused};
-ghost use Rattle.fttcan_top.specs.Words.{command_of, file_count};
+ghost use Rattle.command_words.specs.Words.{command_of, file_count};
+ghost use Rattle.asked_files.specs.declared.stopping.Refusal.{Refusal};
+ghost use Rattle.asked_files.specs.Asked.{Asked, IsAsked};
+ghost use Rattle.asked_files.specs.Loads.{Fetches, IsTask, asked_of};
+ghost use Rattle.fttcan_top.specs.Ends.{IsCarried, IsEnd, PutsPart};
+ghost use Rattle.fttcan_top.specs.Output.{IsAnswer, IsCut, IsCutWhileRun, IsDone, IsStopped, Says, Tells, TellsFront, message_of};
 
-use crate::load::{Task, load};
-use crate::rows::put_rows;
 use crate::status::Status;
-use crate::stop::{Stop, tell};
-use crate::streamed::write_log;
-use crate::words::command_in;
-use crate::work::work_out;
+use crate::stop::tell;
+use crate::streamed::put_log;
+use crate::work::{check_of, plan_of, put_answer, summary_of_made, tail_of};
+use asked_files::{Stop, Task, load};
 use ftt_io::{Shelf, Sink};
 use std::alloc::Global;
-use written_run::Cut;
-
-/// Works out what was asked, and then writes the answer.
-fn work_and_put<O: Sink>(alloc: Global, task: &Task, out: &mut O) -> Result<Status, Cut>
-    requires task { IsTask task.now }
-    ensures faults_never_fall { O.faults out.old ≤ O.faults out.new }
-    ensures done { IfOk result IsDone }
-    ensures tells { IfOk result
-        (λ status. Tells (asked_of task.now) status (O.told_bytes out.old) (O.told_bytes out.new)) }
-    ensures cut { OnErr result ((O.told_bytes out.new ≡ O.told_bytes out.old)
-        ⊎ TellsFront (asked_of task.now) (O.told_bytes out.old) (O.told_bytes out.new)) }
-    ensures failed { IsErrOf result Cut.Write → Rose (O.faults out.old) (O.faults out.new) }
-{
-    let answer = work_out(alloc, task)?;
-    put_rows(out, answer.text.as_slice())?;
-    Ok(answer.status)
-}
 
 /// Does what was asked, and writes the answer: a whole log while the run goes on, and anything else when it is worked
 /// out.
-fn carry_out<O: Sink>(alloc: Global, task: &Task, out: &mut O) -> Result<Status, Cut>
+fn carry_out<O: Sink>(alloc: Global, task: &Task, out: &mut O) -> Result<Status, Stop>
     requires task { IsTask task.now }
     ensures faults_never_fall { O.faults out.old ≤ O.faults out.new }
     ensures done { IfOk result IsDone }
-    ensures tells { IfOk result
-        (λ status. Tells (asked_of task.now) status (O.told_bytes out.old) (O.told_bytes out.new)) }
-    ensures cut { OnErr result ((O.told_bytes out.new ≡ O.told_bytes out.old)
-        ⊎ PutsPart (asked_of task.now) (O.told_bytes out.old) (O.told_bytes out.new)) }
-    ensures failed { IsErrOf result Cut.Write → Rose (O.faults out.old) (O.faults out.new) }
+    ensures carried { IsCarried (asked_of task.now) PutsPart (Rose (O.faults out.old) (O.faults out.new))
+        (O.told_bytes out.old) (O.told_bytes out.new) result }
 {
     match task {
-        Task::Log(job, None, report) => write_log(alloc, job, *report, out),
-        _ => work_and_put(alloc, task, out),
+        Task::Log(job, report) => put_log(alloc, job, *report, out),
+        Task::Tail(job, count, report) => put_answer(tail_of(alloc, job, *count, *report), out),
+        Task::Table(job) => put_answer(plan_of(alloc, job), out),
+        Task::Check(job, certificate) => put_answer(check_of(alloc, job, certificate), out),
+        Task::Summary(number) => put_answer(summary_of_made(alloc, *number), out),
     }
 }
 
@@ -68,16 +50,12 @@ fn call<S: Shelf, O: Sink>(
         (O.told_bytes out.old) (O.told_bytes out.new) result }
     ensures command { command_of (map string_bytes words.now) ≡ None
         → IsErrOf result Stop.Words ⊎ IsErrOf result Stop.Memory }
-    ensures fetches { S.fetches shelf.new ≤ S.fetches shelf.old + file_count (map string_bytes words.now) }
-    ensures files_stay { S.told_files shelf.new ≡ S.told_files shelf.old }
-    ensures fetches_never_fall { S.fetches shelf.old ≤ S.fetches shelf.new }
-    ensures faults_never_fall { S.faults shelf.old ≤ S.faults shelf.new }
+    ensures fetched { Fetches S.told_files S.fetches S.faults shelf.old shelf.new
+        (file_count (map string_bytes words.now)) }
     ensures out_faults_never_fall { O.faults out.old ≤ O.faults out.new }
 {
-    let command = command_in(alloc, words)?;
-    let task = load(alloc, shelf, command)?;
-    let status = carry_out(alloc, &task, out)?;
-    Ok(status)
+    let task = load(alloc, words, shelf)?;
+    carry_out(alloc, &task, out)
 }
 
 /// Carries out the words of a call, the program's name left out. Lines on what went wrong go to `err`; a failure of
@@ -123,7 +101,7 @@ pub fn plain<S: Shelf, O: Sink, R: Sink>(
     // What was put to `err`, and how often a file was fetched.
     ensures message { (refusal : Refusal)
         × (result ≡ Status.Input → ForSome (S.told_files shelf.old)
-        (λ files. IsAsked (map string_bytes words.now) files (Err (refused refusal))))
+        (λ files. IsAsked (map string_bytes words.now) files (Err (Stop.Input refusal))))
         × Says (R.told_bytes err.old) (R.told_bytes err.new) (Rose (R.faults err.old) (R.faults err.new))
         (message_of result refusal) }
     ensures fetches { S.fetches shelf.new ≤ S.fetches shelf.old + file_count (map string_bytes words.now) }

@@ -2,14 +2,16 @@
 
 ghost use Rattle.std.specs.Prelude.{◌≤◌, ◌⊎◌, None, IfOk, IsErrOf, OnErr, OnOk};
 ghost use Rattle.ftt_io.specs.Counts.{Rose};
-ghost use Rattle.fttcan_top.specs.Loads.{IsJob, job_of};
-ghost use Rattle.fttcan_top.specs.Output.{IsDone, Tells, TellsBegun, TellsFront, log_of};
+ghost use Rattle.asked_files.specs.Asked.{log_of};
+ghost use Rattle.asked_files.specs.Loads.{IsJob};
+ghost use Rattle.fttcan_top.specs.Ends.{IsCarried, PutsPart};
+ghost use Rattle.fttcan_top.specs.Output.{IsDone, Tells, TellsBegun, TellsFront};
 ghost use Rattle.fttcan_top.specs.Streamed.{PutsReport, PutsReportFront};
 
-use crate::load::Job;
 use crate::rows::put_rows;
 use crate::status::Status;
 use crate::work::status_of;
+use asked_files::{Job, Stop};
 use async_window::{Owner, Request};
 use ftt_io::Sink;
 use std::alloc::Global;
@@ -50,27 +52,37 @@ fn put_report<O: Sink>(
 /// # Errors
 ///
 /// `Memory` where memory runs out, `Write` where the sink fails. Then the sink took the first bytes of the output.
-pub fn write_log<O: Sink>(
-    alloc: Global,
-    job: &Job,
-    report: bool,
-    out: &mut O,
-) -> Result<Status, Cut>
+fn write_log<O: Sink>(alloc: Global, job: &Job, report: bool, out: &mut O) -> Result<Status, Cut>
     requires job { IsJob job.now }
     ensures faults_never_fall { O.faults out.old ≤ O.faults out.new }
     ensures done { IfOk result IsDone }
     ensures tells { IfOk result
-        (λ status. Tells (log_of (job_of job.now) None report) status (O.told_bytes out.old) (O.told_bytes out.new)) }
+        (λ status. Tells (log_of job.now None report) status (O.told_bytes out.old) (O.told_bytes out.new)) }
     ensures cut { OnErr result
-        (TellsFront (log_of (job_of job.now) None report) (O.told_bytes out.old) (O.told_bytes out.new)
-        ⊎ TellsBegun (job_of job.now) report (O.told_bytes out.old) (O.told_bytes out.new)) }
+        (TellsFront (log_of job.now None report) (O.told_bytes out.old) (O.told_bytes out.new)
+        ⊎ TellsBegun job.now report (O.told_bytes out.old) (O.told_bytes out.new)) }
     ensures failed { IsErrOf result Cut.Write → Rose (O.faults out.old) (O.faults out.new) }
 {
     rows_so_far();
-    let system = &job.system;
+    let system = job.system();
     let owners = system.owners.as_slice();
-    let requests = job.requests.as_slice();
-    let run = replay_to(alloc, system, job.steps.as_slice(), requests, report, out)?;
+    let requests = job.requests();
+    let run = replay_to(alloc, system, job.steps(), requests, report, out)?;
     put_report(alloc, &run, owners, requests, out)?;
     Ok(status_of(run.master.history()))
+}
+
+/// The same as an answer to a task.
+pub fn put_log<O: Sink>(alloc: Global, job: &Job, report: bool, out: &mut O) -> Result<Status, Stop>
+    requires job { IsJob job.now }
+    ensures faults_never_fall { O.faults out.old ≤ O.faults out.new }
+    ensures done { IfOk result IsDone }
+    ensures carried { IsCarried (log_of job.now None report) PutsPart (Rose (O.faults out.old) (O.faults out.new))
+        (O.told_bytes out.old) (O.told_bytes out.new) result }
+{
+    match write_log(alloc, job, report, out) {
+        Ok(status) => Ok(status),
+        Err(Cut::Memory) => Err(Stop::Memory),
+        Err(Cut::Write) => Err(Stop::Write),
+    }
 }

@@ -1,17 +1,20 @@
 //! What is done of what was asked: the answer to a task as a text, before it is written.
 
-ghost use Rattle.std.specs.Prelude.{◌≡◌, ◌++◌, IfOk, OnOk};
-ghost use Rattle.fttcan_top.specs.LastRows.{last_rows};
-ghost use Rattle.fttcan_top.specs.Loads.{IsJob, IsTask, IsToCheck, asked_of, job_of};
-ghost use Rattle.fttcan_top.specs.Output.{IsCheckText, IsDone, IsLiveLog, IsLog, IsOutput, IsPlanText, IsSummary, breach_line, report_if, refuses_nothing, status_of};
+ghost use Rattle.std.specs.Prelude.{◌≡◌, ◌≤◌, ◌++◌, Some, IfOk, OnOk};
+ghost use Rattle.ftt_io.specs.Counts.{Rose};
+ghost use Rattle.asked_files.specs.Asked.{Asked};
+ghost use Rattle.asked_files.specs.Loads.{IsJob, IsToCheck};
+ghost use Rattle.fttcan_top.specs.Ends.{IsCarried};
+ghost use Rattle.fttcan_top.specs.Output.{IsCheckText, IsDone, IsLiveLog, IsLog, IsOutput, IsPlanText, IsSummary, TellsFront, breach_line, report_if, refuses_nothing, status_of};
 
-use crate::load::{Job, Task};
-use crate::rows::last_rows;
+use crate::rows::{last_rows, put_rows};
 use crate::status::Status;
 use crate::summary::summary_of;
+use asked_files::{Job, Parts, Stop};
 use async_window::{Owner, Request};
 use bus_trace::log_text;
 use can_frame::TimedFrame;
+use ftt_io::Sink;
 use input_text::generate;
 use live_run::{Ended, Gate};
 use master_core::{Event, Master};
@@ -52,17 +55,6 @@ pub fn status_of(history: &[Event]) -> Status
     Status::Done
 }
 
-/// The text, or so many of its last rows. No command asks here for the whole log, which is written while the run goes
-/// on.
-fn tail_of(alloc: Global, text: Vec<u8>, tail: Option<u16>) -> Result<Vec<u8>, AllocError>
-    ensures rows { IfOk result (λ kept. kept.items ≡ last_rows tail text.items) }
-{
-    match tail {
-        Some(count) => last_rows(alloc, text.as_slice(), usize::from(count)),
-        None => Ok(text),
-    }
-}
-
 /// Appends the report of a run, where it is asked for.
 fn push_report(
     alloc: Global,
@@ -84,20 +76,21 @@ fn push_report(
     Ok(())
 }
 
-/// Runs the steps, and answers with the log, or with so many of its last rows, and with the report behind it where that
-/// is asked for.
-fn log_of(alloc: Global, job: &Job, tail: Option<u16>, report: bool) -> Result<Outcome, AllocError>
+/// Runs the steps, and answers with so many of the last rows of the log, and with the report after them where that is
+/// asked for.
+pub fn tail_of(alloc: Global, job: &Job, count: u16, report: bool) -> Result<Outcome, AllocError>
     requires job { IsJob job.now }
-    ensures log { IfOk result (λ outcome. IsLog (job_of job.now) tail report outcome.status outcome.text.items) }
+    ensures log { IfOk result (λ outcome. IsLog job.now (Some count) report outcome.status outcome.text.items) }
     ensures done { IfOk result (λ outcome. IsDone outcome.status) }
 {
-    let owners = job.system.owners.as_slice();
-    let requests = job.requests.as_slice();
-    let run = replay(alloc, &job.system, job.steps.as_slice(), requests)?;
+    let system = job.system();
+    let owners = system.owners.as_slice();
+    let requests = job.requests();
+    let run = replay(alloc, system, job.steps(), requests)?;
     let history = run.master.history();
     let trace = run.trace.as_slice();
     let log = log_text(alloc, history, trace)?;
-    let mut text = tail_of(alloc, log, tail)?;
+    let mut text = last_rows(alloc, log.as_slice(), usize::from(count))?;
     push_report(
         alloc,
         &mut text,
@@ -123,14 +116,14 @@ pub fn live_log_of<T: Threads + Wait + Sync, G: Gate>(
     gate: &G,
 ) -> Result<Outcome, AllocError>
     requires job { IsJob job }
-    ensures log { IfOk result (λ outcome. IsLiveLog (job_of job) report outcome.status outcome.text.items) }
+    ensures log { IfOk result (λ outcome. IsLiveLog job report outcome.status outcome.text.items) }
     ensures done { IfOk result (λ outcome. IsDone outcome.status) }
 {
-    let Job {
+    let Parts {
         system,
         steps,
         requests,
-    } = job;
+    } = job.into_parts();
     let owners = system.owners.as_slice();
     let requests = requests.as_slice();
     let Ended { master, run } = live_steps::live(rt, alloc, &system, steps, requests, gate)?;
@@ -145,7 +138,7 @@ pub fn live_log_of<T: Threads + Wait + Sync, G: Gate>(
 }
 
 /// Runs the input that a number makes, and answers with the summary.
-fn summary_of_made(alloc: Global, number: u32) -> Result<Outcome, AllocError>
+pub fn summary_of_made(alloc: Global, number: u32) -> Result<Outcome, AllocError>
     ensures summary { IfOk result (λ outcome. IsSummary number outcome.status outcome.text.items) }
     ensures done { IfOk result (λ outcome. IsDone outcome.status) }
 {
@@ -166,12 +159,12 @@ fn summary_of_made(alloc: Global, number: u32) -> Result<Outcome, AllocError>
 }
 
 /// Has a master answer the steps, and answers with the plan of the table that stands then.
-fn plan_of(alloc: Global, job: &Job) -> Result<Outcome, AllocError>
+pub fn plan_of(alloc: Global, job: &Job) -> Result<Outcome, AllocError>
     requires job { IsJob job.now }
-    ensures plan { IfOk result (λ outcome. IsPlanText (job_of job.now) outcome.status outcome.text.items) }
+    ensures plan { IfOk result (λ outcome. IsPlanText job.now outcome.status outcome.text.items) }
     ensures done { IfOk result (λ outcome. IsDone outcome.status) }
 {
-    let master = answer(alloc, &job.system.rules, job.steps.as_slice())?;
+    let master = answer(alloc, &job.system().rules, job.steps())?;
     let certificate = master.certificate(alloc)?;
     let text = write_plan(alloc, &certificate)?;
     Ok(Outcome {
@@ -200,15 +193,15 @@ fn breach_line(alloc: Global, breach: &Breach) -> Result<Vec<u8>, AllocError>
 }
 
 /// Checks a plan against the table that the steps ask for.
-fn check_of(alloc: Global, job: &Job, certificate: &Certificate) -> Result<Outcome, AllocError>
+pub fn check_of(alloc: Global, job: &Job, certificate: &Certificate) -> Result<Outcome, AllocError>
     requires job { IsJob job.now }
     requires certificate { IsToCheck certificate.now }
     ensures answer { IfOk result
-        (λ outcome. IsCheckText (job_of job.now) certificate.now outcome.status outcome.text.items) }
+        (λ outcome. IsCheckText job.now certificate.now outcome.status outcome.text.items) }
     ensures done { IfOk result (λ outcome. IsDone outcome.status) }
 {
-    let rules = &job.system.rules;
-    let placed = asked_table(alloc, rules.nodes, job.steps.as_slice())?;
+    let rules = &job.system().rules;
+    let placed = asked_table(alloc, rules.nodes, job.steps())?;
     match check(placed.as_slice(), rules.window, certificate) {
         Ok(()) => Ok(Outcome {
             status: Status::Done,
@@ -221,16 +214,21 @@ fn check_of(alloc: Global, job: &Job, certificate: &Certificate) -> Result<Outco
     }
 }
 
-/// The answer to a task, as it is to be written.
-pub fn work_out(alloc: Global, task: &Task) -> Result<Outcome, AllocError>
-    requires task { IsTask task.now }
-    ensures output { IfOk result (λ outcome. IsOutput (asked_of task.now) outcome.status outcome.text.items) }
-    ensures done { IfOk result (λ outcome. IsDone outcome.status) }
+/// Writes an answer that was worked out, row by row.
+pub fn put_answer<O: Sink>(answer: Result<Outcome, AllocError>, out: &mut O) -> Result<Status, Stop>
+    requires done { IfOk answer (λ outcome. IsDone outcome.status) }
+    ensures faults_never_fall { O.faults out.old ≤ O.faults out.new }
+    ensures done { IfOk result IsDone }
+    ensures carried { (asked_for : Asked)
+        → IfOk answer (λ outcome. IsOutput asked_for outcome.status outcome.text.items)
+        → IsCarried asked_for TellsFront (Rose (O.faults out.old) (O.faults out.new))
+        (O.told_bytes out.old) (O.told_bytes out.new) result }
 {
-    match task {
-        Task::Log(job, tail, report) => log_of(alloc, job, *tail, *report),
-        Task::Table(job) => plan_of(alloc, job),
-        Task::Check(job, certificate) => check_of(alloc, job, certificate),
-        Task::Summary(number) => summary_of_made(alloc, *number),
+    match answer {
+        Ok(outcome) => match put_rows(out, outcome.text.as_slice()) {
+            Ok(()) => Ok(outcome.status),
+            Err(_) => Err(Stop::Write),
+        },
+        Err(_) => Err(Stop::Memory),
     }
 }

@@ -1,6 +1,3 @@
-mod CsvFields
-mod CsvReading
-mod Digits
 mod RowByRow
 mod ListParts
 mod StepLines
@@ -9,7 +6,6 @@ mod StepsLegal
 mod StepsSaid
 mod StepDrafts
 mod StepsReading
-mod Hexadecimal
 mod RequestRows
 mod RequestsTogether
 mod RequestsReading

@@ -8,7 +8,7 @@ use Rattle.std.specs.List.{list_any}
 use Rattle.can_frame.specs.DataFrame.{DataFrame, IsFrame}
 use Rattle.async_window.specs.declared.request.Request.{Request}
 use Rattle.async_window.specs.declared.request.Owner.{Owner}
-use Rattle.input_text.specs.CsvRows.{trimmed}
+use Rattle.text_fields.specs.CsvRows.{trimmed}
 use Rattle.input_text.specs.RequestRow.{IsRequest, arrival_above, arrival_in, bytes_in, frame_with, identifier_in, is_owned, meaning}
 use Rattle.input_text.specs.declared.request_fault.RequestWhy.TheVariants.{Fields, Number, Identifier, Data, Order, Many}
 

@@ -10,7 +10,8 @@ use Rattle.csv.specs.Records.{field_at}
 use Rattle.requirement_table.specs.declared.entries.Entry.{Entry}
 use Rattle.change_protocol.specs.declared.operations.Op.{Op}
 use Rattle.change_protocol.specs.declared.operations.Op.TheVariants as operation
-use Rattle.input_text.specs.CsvRows.{number_at, number_of, within}
+use Rattle.text_fields.specs.CsvRows.{number_at}
+use Rattle.text_fields.specs.Decimal.{number_of, within}
 use Rattle.input_text.specs.StepFields.{beginning, entry_at, operation_at, said_as}
 use Rattle.input_text.specs.StepForm.{form_of, has_fields}
 use Rattle.input_text.specs.StepRow.{begins, below, count_in, ends_in_change, has_operator, line_of, looks, meaning}

@@ -1,7 +1,8 @@
 -- How a reader stands between two rows of a steps file.
-use Rattle.std.proofs.Common.{Bor, ◌≡◌, ℕ, List, length}
+use Rattle.std.proofs.Common.{Bor, ◌≡◌, ℕ, List, length, map}
 use Rattle.csv.specs.declared.reader.Reader.{Reader}
-use Rattle.input_text.proofs.CsvReading.{Reads}
+use Rattle.text_fields.specs.CsvReading.{Reads}
+use Rattle.text_fields.specs.CsvRows.{trimmed}
 use Rattle.input_text.specs.RowByRow.{AreItems}
 use Rattle.input_text.specs.StepRow.{meaning}
 use Rattle.input_text.specs.StepsReading.{Counts, Drafts}
@@ -14,7 +15,7 @@ pub record ReadsSteps (bytes : List ℕ) (reader : Reader (Bor (List ℕ))) (num
   pub before : List (List (List ℕ))
   pub lines : List Line
   pub reads : Reads bytes reader before
-  pub are : AreItems meaning before lines
+  pub are : AreItems meaning (map (map trimmed) before) lines
   pub counts : Counts lines tally
   pub drafts : Drafts lines draft
   pub numbered : number ≡ length before

@@ -1,4 +1,3 @@
-pub mod CsvRows
 pub mod RowByRow
 pub mod Whys
 pub mod RequestText

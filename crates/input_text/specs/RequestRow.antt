@@ -1,8 +1,8 @@
 -- What one row `AT,ID,DATA` of a requests file means, below the requests of the rows above it.
-use Rattle.std.specs.Prelude.{◌≡◌, ℕ, ◌+◌, ◌*◌, ◌-◌, ◌^◌, ◌%◌, ◌<◌, ◌≤◌, ◌==◌, ◌&&◌, Bool, true}
-use Rattle.std.specs.Prelude.{if◌then◌else◌, nat_eq, nat_lt, nat_le, List, [], ◌∷◌, length, take, drop}
+use Rattle.std.specs.Prelude.{◌≡◌, ℕ, ◌-◌, ◌^◌, ◌<◌, ◌≤◌, ◌==◌, ◌&&◌, Bool, true}
+use Rattle.std.specs.Prelude.{if◌then◌else◌, nat_eq, nat_lt, nat_le, List, length, take, drop}
 use Rattle.std.specs.Prelude.{codes, Option, Some, None, option_map, option_and_then, ok_or, unwrap_or, Result}
-use Rattle.std.specs.Char.{digit_value, is_ascii_hexdigit}
+use Rattle.std.specs.Char.{is_ascii_hexdigit}
 use Rattle.std.specs.List.{list_all, list_any, slice_get}
 use Rattle.std.specs.Str.{bytes_eq}
 use Rattle.std.specs.Str.Parse.{digits_value}
@@ -10,7 +10,9 @@ use Rattle.csv.specs.Records.{field_at}
 use Rattle.can_frame.specs.DataFrame.{DataFrame, IsFrame}
 use Rattle.async_window.specs.declared.request.Request.{Request}
 use Rattle.async_window.specs.declared.request.Owner.{Owner}
-use Rattle.input_text.specs.CsvRows.{number_of, number_at, within}
+use Rattle.text_fields.specs.ByteText.{bytes_of}
+use Rattle.text_fields.specs.CsvRows.{number_at}
+use Rattle.text_fields.specs.Decimal.{number_of, within}
 use Rattle.input_text.specs.Whys.{◌>>=◌, where_holds}
 use Rattle.input_text.specs.declared.request_fault.RequestWhy.{RequestWhy}
 use Rattle.input_text.specs.declared.request_fault.RequestWhy.TheVariants.{Fields, Number, Identifier}
@@ -27,18 +29,6 @@ abbrev pub identifier_of : List ℕ → Option ℕ
 identifier_of field =
     if bytes_eq (take 2 field) (codes "0x") then hexadecimal_of (drop 2 field)
     else option_and_then (within 0 65535) (number_of field)
-
--- the bytes that two hexadecimal digits each write
-abbrev pub bytes_written : List ℕ → List ℕ
-bytes_written [] = []
-bytes_written (high ∷ []) = []
-bytes_written (high ∷ low ∷ rest) = (16 * digit_value high + digit_value low) ∷ bytes_written rest
-
--- the bytes that a field writes: an even number of 0 to 16 hexadecimal digits of either case, and nothing else
-abbrev pub bytes_of : List ℕ → Option (List ℕ)
-bytes_of field =
-    if nat_le (length field) 16 && (length field % 2 == 0) && list_all is_ascii_hexdigit field
-    then Some (bytes_written field) else None
 
 -- AT: a number below 2 ^ 40
 abbrev pub arrival_in : List (List ℕ) → Option ℕ

@@ -2,7 +2,7 @@
 use Rattle.std.specs.Prelude.{ℕ, ◌≤◌, List, [], length, Result, Ok, Err, All, AllPairs, ⊤}
 use Rattle.async_window.specs.declared.request.Request.{Request}
 use Rattle.async_window.specs.declared.request.Owner.{Owner}
-use Rattle.input_text.specs.CsvRows.{rows_of}
+use Rattle.text_fields.specs.CsvRows.{rows_of}
 use Rattle.input_text.specs.RequestRow.{meaning, IsRequest}
 use Rattle.input_text.specs.RowByRow.{AreItems, Faulty, IsFirstFault, items_below}
 use Rattle.input_text.specs.declared.request_fault.RequestWhy.{RequestWhy}

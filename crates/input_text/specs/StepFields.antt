@@ -3,7 +3,7 @@ use Rattle.std.specs.Prelude.{ℕ, ◌+◌, ◌-◌, ◌^◌, List, Option, Some
 use Rattle.requirement_table.specs.declared.entries.Entry.{Entry}
 use Rattle.change_protocol.specs.declared.operations.Op.{Op}
 use Rattle.change_protocol.specs.declared.operations.Op.TheVariants as operation
-use Rattle.input_text.specs.CsvRows.{number_at}
+use Rattle.text_fields.specs.CsvRows.{number_at}
 use Rattle.input_text.specs.declared.step_rows.Verb.{Verb}
 use Rattle.input_text.specs.declared.step_rows.Verb.TheVariants.{Add, Remove, Change}
 use Rattle.input_text.specs.declared.step_rows.Form.{Form}

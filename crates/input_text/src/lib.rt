@@ -2,7 +2,6 @@
 //! refused.
 #![tactic(auto)]
 
-mod csv_rows;
 mod generating;
 mod lists;
 mod owners;

@@ -4,28 +4,29 @@
 //! identifier, as a decimal number or as `0x` and one to three hexadecimal digits. DATA is two
 //! hexadecimal digits for each of 0 to 8 bytes. There are at most 50,000 rows.
 
-ghost use Rattle.std.specs.Prelude.{◌≡◌, ◌≢◌, ◌⊎◌, ◌%◌, ℕ, ◌<◌, ◌≤◌, ◌&&◌, IfOk, IfErr, IfSome};
+ghost use Rattle.std.specs.Prelude.{◌≡◌, ◌≢◌, ◌⊎◌, ℕ, ◌<◌, ◌≤◌, ◌&&◌, IfOk, IfErr, IfSome};
 ghost use Rattle.std.specs.Prelude.{Err, Ok, Some, None, map, nat_eq, nat_le, length, get_or, false, true};
-ghost use Rattle.std.specs.Prelude.{◌+◌, ◌*◌, if◌then◌else◌, List, option_and_then, option_map, MatchResult};
-ghost use Rattle.std.specs.Char.{digit_value, is_ascii_hexdigit};
-ghost use Rattle.std.specs.List.{list_all, list_any};
+ghost use Rattle.std.specs.Prelude.{List, option_and_then, option_map, MatchResult};
+ghost use Rattle.std.specs.List.{list_any};
 ghost use Rattle.csv.specs.Records.{fields_of};
 ghost use Rattle.can_frame.specs.DataFrame.{IsFrame};
-ghost use Rattle.input_text.specs.CsvRows.{trimmed, number_of, within, rows_of};
-ghost use Rattle.input_text.specs.RequestRow.{hexadecimal_of, identifier_of, bytes_written, bytes_of, identifier_in};
+ghost use Rattle.text_fields.specs.CsvRows.{rows_of, trimmed};
+ghost use Rattle.text_fields.specs.Decimal.{number_of, within};
+ghost use Rattle.input_text.specs.RequestRow.{hexadecimal_of, identifier_of, identifier_in};
 ghost use Rattle.input_text.specs.RequestRow.{bytes_in, is_owned, arrival_above, meaning, IsRequest, frame_with};
 ghost use Rattle.input_text.specs.RequestOwners.{IsOwnedTable};
 ghost use Rattle.async_window.specs.declared.request.Owner.{Owner};
 ghost use Rattle.input_text.specs.declared.request_fault.RequestFault.TheVariants.{Memory};
 ghost use Rattle.input_text.specs.RequestsFile.{AreRequests, Faults, AreLegal, requests_of};
 
-use super::csv_rows::{field_of, number, read_next, read_number};
 use super::request_fault::{RequestFault, RequestWhy};
 use async_window::{LEAST_ASYNCHRONOUS, Owner, Request};
-use can_frame::{Frame, MAX_BYTES, MAX_IDENTIFIER};
-use csv::{ByteRecord, ReaderBuilder};
+use can_frame::{Frame, MAX_IDENTIFIER};
+use csv::ByteRecord;
 use std::alloc::{AllocError, Global};
-use std::str;
+use text_fields::{
+    field_of, number, read_bytes, read_hexadecimal, read_next, read_number, records_in,
+};
 
 /// The greatest arrival, in bit times.
 const MAX_ARRIVAL: u64 = (1 << 40) - 1;
@@ -39,24 +40,15 @@ const MAX_DIGITS: usize = 3;
 /// How many numbers an identifier's type has.
 const NUMBERS: usize = 65_536;
 
-/// Whether every byte is a hexadecimal digit.
-fn all_hexadecimal(field: &[u8]) -> bool
-    ensures value { result ≡ list_all is_ascii_hexdigit field.now }
-{
-    field.iter().all(|byte| byte.is_ascii_hexdigit())
-}
-
 /// The number that one to three hexadecimal digits write.
-fn read_hexadecimal(digits: &[u8]) -> Option<u16>
+fn read_short(digits: &[u8]) -> Option<u16>
     ensures value { result ≡ hexadecimal_of digits.now }
 {
-    if digits.is_empty() || digits.len() > MAX_DIGITS || !all_hexadecimal(digits) {
+    if digits.is_empty() || digits.len() > MAX_DIGITS {
         return None;
     }
-    let Ok(text) = str::from_utf8(digits) else {
-        return None;
-    };
-    u16::from_str_radix(text, 16).ok()
+    let number = read_hexadecimal(digits)?;
+    Some(number as u16)
 }
 
 /// The decimal number that the field writes, up to 65,535.
@@ -76,7 +68,7 @@ fn read_identifier(field: &[u8]) -> Option<u16>
     ensures value { result ≡ identifier_of field.now }
 {
     if let [b'0', b'x', digits @ ..] = field {
-        read_hexadecimal(digits)
+        read_short(digits)
     } else {
         read_decimal(field)
     }
@@ -90,60 +82,6 @@ fn identifier(row: &ByteRecord) -> Option<u16>
     read_identifier(field)
 }
 
-/// The value of a byte, where it is a hexadecimal digit.
-fn digit(byte: u8) -> Option<u8>
-    ensures value { result ≡ (if is_ascii_hexdigit byte then Some (digit_value byte) else None) }
-    ensures small { IfSome result (λ value. value < 16) }
-{
-    match byte {
-        b'0'..=b'9' => Some(byte - b'0'),
-        b'a'..=b'f' => Some(byte - b'a' + 10),
-        b'A'..=b'F' => Some(byte - b'A' + 10),
-        _ => None,
-    }
-}
-
-/// The byte that two digits write, where they are hexadecimal ones.
-fn byte_of(high: u8, low: u8) -> Option<u8>
-    ensures value { result ≡ (if is_ascii_hexdigit high && is_ascii_hexdigit low
-        then Some (16 * digit_value high + digit_value low) else None) }
-{
-    let Some(high) = digit(high) else {
-        return None;
-    };
-    let Some(low) = digit(low) else {
-        return None;
-    };
-    Some(16 * high + low)
-}
-
-/// The frame of an identifier and of the bytes that two digits each write, where all are hexadecimal
-/// ones.
-fn frame_of(id: u16, field: &[u8]) -> Option<Frame>
-    requires identifier { id ≤ 0x7EF }
-    requires few { length field.now ≤ 16 }
-    requires even { length field.now % 2 ≡ 0 }
-    ensures value { result ≡ option_map (frame_with id)
-        (if list_all is_ascii_hexdigit field.now then Some (bytes_written field.now) else None) }
-    ensures legal { IfSome result IsFrame }
-{
-    let mut bytes = [0; MAX_BYTES];
-    let mut count = 0;
-    let mut left = field;
-    while let [high, low, rest @ ..] = left {
-        let Some(byte) = byte_of(*high, *low) else {
-            return None;
-        };
-        bytes[count] = byte;
-        count += 1;
-        left = rest;
-    }
-    match Frame::new(id, &bytes[..count]) {
-        Ok(frame) => Some(frame),
-        Err(_) => unreachable!(),
-    }
-}
-
 /// The frame of an identifier and of the bytes in the third field of a row.
 fn read_frame(row: &ByteRecord, id: u16) -> Option<Frame>
     requires identifier { id ≤ 0x7EF }
@@ -151,10 +89,11 @@ fn read_frame(row: &ByteRecord, id: u16) -> Option<Frame>
     ensures legal { IfSome result IsFrame }
 {
     let field = field_of(row, 2)?;
-    if field.len() > 16 || field.len() % 2 != 0 {
-        return None;
+    let bytes = read_bytes(field)?;
+    match Frame::new(id, bytes.as_slice()) {
+        Ok(frame) => Some(frame),
+        Err(_) => unreachable!(),
     }
-    frame_of(id, field)
 }
 
 /// A table of so many places in which nothing stands.
@@ -246,10 +185,7 @@ pub fn read_requests(
         (λ fault. (fault ≡ Memory) ⊎ (requests_of owners.now bytes.now ≡ Err fault)) }
 {
     let owned = owned_numbers(alloc, owners)?;
-    let mut reader = ReaderBuilder::new()
-        .has_headers(false)
-        .flexible(true)
-        .from_reader(alloc, bytes);
+    let mut reader = records_in(alloc, bytes);
     let mut row = ByteRecord::new(alloc);
     let mut requests = Vec::new(alloc);
     while read_next(&mut reader, &mut row)? {

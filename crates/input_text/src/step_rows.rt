@@ -13,16 +13,16 @@
 
 ghost use Rattle.std.specs.Prelude.{◌≡◌, ◌≤◌, map, length, option_map};
 ghost use Rattle.csv.specs.Records.{fields_of};
-ghost use Rattle.input_text.specs.CsvRows.{trimmed};
+ghost use Rattle.text_fields.specs.CsvRows.{trimmed};
 ghost use Rattle.input_text.specs.StepForm.{verb_of, joins_of, form_of, fields_of_verb, has_fields};
 ghost use Rattle.input_text.specs.StepFields.{entry_at, operation_at, beginning, said_as};
 ghost use Rattle.input_text.specs.StepRow.{is_operator, has_operator, line_of};
 
-use super::csv_rows::{field_of, number};
 use super::step_fault::StepWhy;
 use change_protocol::Op;
 use csv::ByteRecord;
 use requirement_table::Entry;
+use text_fields::{field_of, number};
 
 /// What an operation does.
 #[derive(Clone, Copy, Debug, PartialEq, Eq)]

@@ -8,7 +8,7 @@
 ghost use Rattle.std.specs.Prelude.{◌≡◌, ◌⊎◌, ℕ, ◌+◌, List, [], ◌∷◌, ◌++◌, map, Option, is_some, is_ok, true};
 ghost use Rattle.std.specs.Prelude.{false, nat_lt, nat_le, IfOk, IfErr, Err, Ok, Some, None, MatchResult};
 ghost use Rattle.csv.specs.Records.{fields_of};
-ghost use Rattle.input_text.specs.CsvRows.{trimmed, rows_of};
+ghost use Rattle.text_fields.specs.CsvRows.{trimmed, rows_of};
 ghost use Rattle.input_text.specs.StepRow.{below, meaning, joins};
 ghost use Rattle.input_text.specs.StepsReading.{Counts, Drafts, GrowsBy, GrewBy, asking, step_of_asked, last_steps};
 ghost use Rattle.input_text.specs.StepsFile.{AreSteps, Faults, AreLegalSteps, steps_of};
@@ -16,12 +16,12 @@ ghost use Rattle.input_text.specs.declared.step_rows.Line.{Line};
 ghost use Rattle.input_text.specs.declared.step_fault.StepFault.TheVariants.{Memory};
 ghost use Rattle.input_text.specs.declared.step_fault.StepWhy.TheVariants.{Loose, Changes, Looks, Cycles};
 
-use super::csv_rows::read_next;
 use super::step_fault::{StepFault, StepWhy};
 use super::step_rows::{Line, read_line};
 use change_protocol::{Act, Change, Op, Ops};
-use csv::{ByteRecord, ReaderBuilder};
+use csv::ByteRecord;
 use std::alloc::Global;
+use text_fields::{read_next, records_in};
 
 /// What a steps file asks for, one after the other.
 #[derive(Drop, Debug)]
@@ -335,10 +335,7 @@ pub fn read_steps(alloc: Global, bytes: &[u8]) -> Result<Vec<Step>, StepFault>
     ensures value { MatchResult result (λ steps. steps_of bytes.now ≡ Ok steps.items)
         (λ fault. (fault ≡ Memory) ⊎ (steps_of bytes.now ≡ Err fault)) }
 {
-    let mut reader = ReaderBuilder::new()
-        .has_headers(false)
-        .flexible(true)
-        .from_reader(alloc, bytes);
+    let mut reader = records_in(alloc, bytes);
     let mut row = ByteRecord::new(alloc);
     let mut tally = Tally::new();
     let mut draft = Draft::new(alloc);

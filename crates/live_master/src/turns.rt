@@ -31,16 +31,21 @@ pub fn look_once(
     ensures legal { IsPlainlyLegal turn.now.fixed pass.new.view.seen }
 {
     match pass.try_turn(turn) {
-        Ok(mut held) => match held.value_mut().look(alloc, caller) {
-            Ok(next) => {
-                held.commit();
-                Ok(next)
+        Ok(mut held) => {
+            let desk = held.value_mut();
+            desk.is_plainly_legal();
+            match desk.master.reserve(alloc, 1) {
+                Ok(()) => {
+                    let next = desk.master.look(caller);
+                    held.commit();
+                    Ok(next)
+                }
+                Err(_full) => {
+                    held.give_back();
+                    Err(TryFault::Memory)
+                }
             }
-            Err(_full) => {
-                held.give_back();
-                Err(TryFault::Memory)
-            }
-        },
+        }
         Err(busy) => Err(TryFault::Busy { word: busy.word }),
     }
 }
@@ -62,16 +67,20 @@ pub fn submit_once(
     ensures legal { IsPlainlyLegal turn.now.fixed pass.new.view.seen }
 {
     match pass.try_turn(turn) {
-        Ok(mut held) => match held.value_mut().submit(alloc, caller, change) {
-            Ok(verdict) => {
-                held.commit();
-                Ok(verdict)
+        Ok(mut held) => {
+            let desk = held.value_mut();
+            desk.is_plainly_legal();
+            match desk.master.submit(alloc, caller, change) {
+                Ok(verdict) => {
+                    held.commit();
+                    Ok(verdict)
+                }
+                Err(_full) => {
+                    held.give_back();
+                    Err(TryFault::Memory)
+                }
             }
-            Err(_full) => {
-                held.give_back();
-                Err(TryFault::Memory)
-            }
-        },
+        }
         Err(busy) => Err(TryFault::Busy { word: busy.word }),
     }
 }
@@ -88,16 +97,21 @@ pub fn open_once(turn: &Turn<Desk>, alloc: Global, pass: &mut Pass<Desk>) -> Res
     ensures legal { IsPlainlyLegal turn.now.fixed pass.new.view.seen }
 {
     match pass.try_turn(turn) {
-        Ok(mut held) => match held.value_mut().open(alloc) {
-            Ok(order) => {
-                held.commit();
-                Ok(order)
+        Ok(mut held) => {
+            let desk = held.value_mut();
+            desk.is_plainly_legal();
+            match desk.master.reserve(alloc, 1) {
+                Ok(()) => {
+                    let order = desk.master.open();
+                    held.commit();
+                    Ok(order)
+                }
+                Err(_full) => {
+                    held.give_back();
+                    Err(TryFault::Memory)
+                }
             }
-            Err(_full) => {
-                held.give_back();
-                Err(TryFault::Memory)
-            }
-        },
+        }
         Err(busy) => Err(TryFault::Busy { word: busy.word }),
     }
 }

@@ -113,7 +113,7 @@ module _ (rules : Rules) (history : List Event) (list : List Placed) (since : �
 
   pub kept-opened : map (λ o. o.mask) (openings_of history) ≡ masks_of (plan_of rules list) cycle
   kept-opened =
-      opened-masks rules history (opened-of_legal rules history kept.legal.legal)
+      opened-masks rules history (opened-of_legal rules history kept.legal)
       ∙ ap (λ (l : List Placed). masks_of (plan_of rules l) (next_of history)) (sym kept.placed)
       ∙ ap (λ (n : ℕ). masks_of (plan_of rules list) n) (sym kept.next)
 
@@ -131,7 +131,7 @@ module _ (rules : Rules) (history : List Event) (list : List Placed) (since : �
       (λ none.
       recurs-onward round rules (placed_of history) (next_of history)
       (subst IsWellPlaced kept.placed (kept-well_placed rules history list since ranked cycle pending learned kept))
-      (recurs-of_legal rules history kept.ranges kept.legal.legal)
+      (recurs-of_legal rules history kept.ranges kept.legal)
       (subst (λ (plan : Planning). HasNoRecurrence plan rules.horizon) onward-is none))
       is
 

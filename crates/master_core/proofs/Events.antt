@@ -18,7 +18,11 @@ use Rattle.admission.specs.declared.verdict.Verdict.TheVariants.{Malformed, Pass
 use Rattle.admission.specs.Verdict.{IsDecision, IsRules, IsVerdict, is_accepted, placed_with, plan_from, trail_of}
 use Rattle.master_core.specs.declared.event.Event.{Event}
 use Rattle.master_core.specs.declared.event.Event.TheVariants.{Submit, Look, Open}
-use Rattle.master_core.specs.History.{IsRightAnswer, IsSince, is_changed, is_changed_after, is_open, learned_of, next_of, placed_after, placed_of, plan_of}
+use Rattle.master_core.specs.declared.answer.Answer.{Answer}
+use Rattle.master_core.specs.declared.answer.Made.{Made}
+use Rattle.master_core.specs.declared.table.Table.{Table}
+use Rattle.master_core.specs.Answers.{IsAnswer, IsMade, IsMadeOf, IsTakenOver}
+use Rattle.master_core.specs.History.{IsLegal, IsRightAnswer, IsSince, is_changed, is_changed_after, is_open, learned_of, next_of, placed_after, placed_of, plan_of}
 use Rattle.master_core.specs.Keeping.{HasRoom, IsKept}
 use Rattle.master_core.proofs.Earlier.{same-of_legal}
 use Rattle.master_core.proofs.Histories.{is_changed-push, legal-push, next_of-push, placed_of-push}
@@ -56,7 +60,7 @@ module _ (rules : Rules) (history : List Event) (list : List Placed) (since : �
   pub kept-look : (caller : ℕ) → IsKept rules (history ++ Look caller cycle ∷ []) list since ranked cycle pending learned
   kept-look caller = record {
     ranges = kept.ranges;
-    legal = legal-push rules history (Look caller cycle) kept.legal kept.next tt;
+    legal = legal-push rules history (Look caller cycle) kept.legal kept.next;
     placed = kept.placed ∙ sym (placed_of-push history (Look caller cycle));
     next = kept.next ∙ sym (next_of-push history (Look caller cycle) ∙ add-zero (next_of history));
     near = kept.near;
@@ -89,7 +93,7 @@ module _ (rules : Rules) (history : List Event) (list : List Placed) (since : �
         ranges = kept.ranges;
         legal =
             legal-push rules history (Open cycle mask) kept.legal
-            (kept.next, by ∙ ap (λ (l : List Placed). mask_at (plan_of rules l) cycle) kept.placed) tt;
+            (kept.next, by ∙ ap (λ (l : List Placed). mask_at (plan_of rules l) cycle) kept.placed);
         placed = kept.placed ∙ sym (placed_of-push history (Open cycle mask));
         next = later ∙ ap (λ (n : ℕ). n + 1) kept.next ∙ sym (next_of-push history (Open cycle mask));
         near = omega arith;
@@ -99,11 +103,9 @@ module _ (rules : Rules) (history : List Event) (list : List Placed) (since : �
         to_learn = sym (learned_of-push history (Open cycle mask));
       }
 
-  module _ (caller : ℕ) (change : Change) (decision : Decision) (types : All HasTypes change.ops) (decided : IsDecision rules list pending cycle change decision) where
-    abbrev answer : Event
-    answer = Submit caller change cycle decision.verdict decision.trail
-
-    right : IsRightAnswer rules history change cycle decision.verdict decision.trail
+  -- a change that was decided on from the next cycle on
+  module _ (change : Change) (decision : Decision) (types : All HasTypes change.ops) (decided : IsDecision rules list pending cycle change decision) where
+    pub right : IsRightAnswer rules history change cycle decision.verdict decision.trail
     right =
         let next = kept.next in
         let by_plan = subst (λ (q : ℕ). IsVerdict rules list q cycle cycle change decision.verdict) kept.waiting decided.answer in
@@ -123,74 +125,122 @@ module _ (rules : Rules) (history : List Event) (list : List Placed) (since : �
               ∙ ap (λ (l : List Placed). trail_of (plan_from rules (applied l change) cycle (pending_at (plan_of rules l) cycle)) decision.verdict) kept.placed;
         }
 
-    placed-then : placed_of (history ++ answer ∷ []) ≡ (if is_accepted decision.verdict then applied list change else list)
-    placed-then =
-        placed_of-push history answer
-        ∙ ap (λ (l : List Placed). if is_accepted decision.verdict then applied l change else l) (sym kept.placed)
+    abbrev answer_with : Change → Option Made → Answer
+    answer_with copy made = record { change = copy; from = cycle; verdict = decision.verdict; trail = decision.trail; made = made }
 
-    next-then : next_of (history ++ answer ∷ []) ≡ next_of history
-    next-then = next_of-push history answer ∙ add-zero (next_of history)
-
-    pub kept-refused : decision.placed ≡ None → IsKept rules (history ++ answer ∷ []) list since ranked cycle pending learned
-    kept-refused none =
-        let refused : is_accepted decision.verdict ≡ false = refused-is (applied list change) decision.verdict (sym decided.list ∙ none) in
-        record {
-          ranges = kept.ranges;
-          legal = legal-push rules history answer kept.legal right kept.next;
-          placed = sym (placed-then ∙ ap (λ (b : Bool). if b then applied list change else list) refused);
-          next = kept.next ∙ sym next-then;
-          near = kept.near;
-          waiting = kept.waiting;
-          passed = kept.passed;
-          left = kept.left;
-          to_learn =
-              kept.to_learn
-              ∙ sym (learned_of-push history answer
-              ∙ ap (λ (b : Bool). if (if b then true else is_changed history) then Some (if b then applied (placed_of history) change else placed_of history) else None)
-              refused);
-        }
+    pub answer-refused : (copy : Change) (made : Option Made) → copy ≡ change → made ≡ None → decision.placed ≡ None
+        → IsAnswer rules history (answer_with copy made)
+    answer-refused copy made same is none =
+        rw (same, is) (record { right = right; made = refused-is (applied list change) decision.verdict (sym decided.list ∙ none) })
 
     module _ (new : List Placed) (some : decision.placed ≡ Some new) where
       accepted : (is_accepted decision.verdict ≡ true) × (applied list change ≡ new)
       accepted = taken-is (applied list change) new decision.verdict (sym decided.list ∙ some)
 
-      new-is : new ≡ placed_of (history ++ answer ∷ [])
-      new-is = sym (placed-then ∙ ap (λ (b : Bool). if b then applied list change else list) accepted.0 ∙ accepted.1)
+      new-is : new ≡ applied (placed_of history) change
+      new-is = sym accepted.1 ∙ ap (λ (l : List Placed). applied l change) kept.placed
 
       pub taken-well_placed : IsWellPlaced new
       taken-well_placed =
-          subst IsWellPlaced (sym new-is)
-          (sound-of_legal rules (history ++ answer ∷ []) (legal-push rules history answer kept.legal right kept.next).legal).well_placed
+          subst IsWellPlaced
+          (placed_of-push history (Submit 1 change cycle decision.verdict decision.trail)
+          ∙ ap (λ (b : Bool). if b then applied (placed_of history) change else placed_of history) accepted.0
+          ∙ sym new-is)
+          (sound-of_legal rules (history ++ Submit 1 change cycle decision.verdict decision.trail ∷ [])
+          (legal-push rules history (Submit 1 change cycle decision.verdict decision.trail) kept.legal right)).well_placed
 
-      pub kept-taken : IsKept rules (history ++ answer ∷ []) new cycle (record { placed = not_over cycle new; policy = rules.policy }) cycle pending (Some new)
-      kept-taken =
-          let same = same-of_legal rules history answer kept.legal.legal right in
-          let next = kept.next in
-          record {
-            ranges = kept.ranges;
-            legal = legal-push rules history answer kept.legal right kept.next;
-            placed = new-is;
-            next = kept.next ∙ sym next-then;
-            near = kept.near;
-            waiting =
-                kept.waiting
-                ∙ ap (λ (l : List Placed). pending_at (plan_of rules l) cycle) kept.placed
-                ∙ sym (same.pending cycle (omega arith))
-                ∙ ap (λ (l : List Placed). pending_at (plan_of rules l) cycle) (sym new-is);
-            passed = omega arith;
-            left = refl;
-            to_learn =
-                ap (λ (l : List Placed). Some l) new-is
-                ∙ ap (λ (l : List Placed). Some l) (placed_of-push history answer)
-                ∙ ap (λ (b : Bool). if b then Some (placed_after (placed_of history) answer) else None)
-                (sym (ap (λ (b : Bool). if b then true else is_changed history) accepted.0))
-                ∙ sym (learned_of-push history answer);
-          }
+      pub answer-taken : (copy : Change) (made : Option Made) (table : Table) (to_learn : List Placed) → copy ≡ change
+          → made ≡ Some (record { table = table; learned = to_learn }) → table.placed.items ≡ new → table.since ≡ cycle
+          → table.ranked ≡ record { placed = not_over cycle new; policy = rules.policy } → to_learn ≡ new
+          → IsAnswer rules history (answer_with copy made)
+      answer-taken copy made table to_learn same is placed since ranked learned =
+          rw (same, is) (record {
+            right = right;
+            made = record {
+              accepted = accepted.0;
+              placed = placed ∙ new-is;
+              since = since;
+              ranked =
+                  ranked
+                  ∙ ap (λ (l : List Placed). record { placed = not_over cycle l; policy = rules.policy }) (sym placed)
+                  ∙ ap (λ (n : ℕ). record { placed = not_over n table.placed.items; policy = rules.policy }) (sym since);
+              learned = learned ∙ sym placed;
+            };
+          })
+
+  -- an answer that is right after the history is put behind it
+  module _ (caller : ℕ) (answer : Answer) (right : IsRightAnswer rules history answer.change answer.from answer.verdict answer.trail) where
+    abbrev event : Event
+    event = Submit caller answer.change answer.from answer.verdict answer.trail
+
+    pub legal-put : IsLegal rules (history ++ event ∷ [])
+    legal-put = legal-push rules history event kept.legal right
+
+    next-then : next_of (history ++ event ∷ []) ≡ next_of history
+    next-then = next_of-push history event ∙ add-zero (next_of history)
+
+    kept-refused : is_accepted answer.verdict ≡ false → IsKept rules (history ++ event ∷ []) list since ranked cycle pending learned
+    kept-refused refused = record {
+      ranges = kept.ranges;
+      legal = legal-put;
+      placed =
+          kept.placed
+          ∙ sym (placed_of-push history event ∙ ap (λ (b : Bool). if b then applied (placed_of history) answer.change else placed_of history) refused);
+      next = kept.next ∙ sym next-then;
+      near = kept.near;
+      waiting = kept.waiting;
+      passed = kept.passed;
+      left = kept.left;
+      to_learn =
+          kept.to_learn
+          ∙ sym (learned_of-push history event
+          ∙ ap
+          (λ (b : Bool). if (if b then true else is_changed history) then Some (if b then applied (placed_of history) answer.change else placed_of history) else None)
+          refused);
+    }
+
+    kept-taken : (made : Made) → IsMadeOf rules history answer made
+        → IsKept rules (history ++ event ∷ []) made.table.placed.items made.table.since made.table.ranked cycle pending (Some made.learned)
+    kept-taken made is =
+        let same = same-of_legal rules history event kept.legal right in
+        let next = kept.next in
+        let opened = right.opened in
+        let since = is.since in
+        let new_is : made.table.placed.items ≡ placed_of (history ++ event ∷ []) =
+        is.placed
+        ∙ sym (placed_of-push history event ∙ ap (λ (b : Bool). if b then applied (placed_of history) answer.change else placed_of history) is.accepted) in
+        record {
+          ranges = kept.ranges;
+          legal = legal-put;
+          placed = new_is;
+          next = kept.next ∙ sym next-then;
+          near = kept.near;
+          waiting =
+              kept.waiting
+              ∙ ap (λ (l : List Placed). pending_at (plan_of rules l) cycle) kept.placed
+              ∙ sym (same.pending cycle (omega arith))
+              ∙ ap (λ (l : List Placed). pending_at (plan_of rules l) cycle) (sym new_is);
+          passed = omega arith;
+          left = is.ranked;
+          to_learn =
+              ap (λ (l : List Placed). Some l) (is.learned ∙ new_is)
+              ∙ ap (λ (l : List Placed). Some l) (placed_of-push history event)
+              ∙ ap (λ (b : Bool). if b then Some (placed_after (placed_of history) event) else None)
+              (sym (ap (λ (b : Bool). if b then true else is_changed history) is.accepted))
+              ∙ sym (learned_of-push history event);
+        }
+
+    pub kept-put : (made : Option Made) (old new : Table) (old_learned new_learned : Option (List Placed)) → IsMade rules history answer made
+        → IsTakenOver made old new old_learned new_learned → list ≡ old.placed.items → since ≡ old.since → ranked ≡ old.ranked → learned ≡ old_learned
+        → IsKept rules (history ++ event ∷ []) new.placed.items new.since new.ranked cycle pending new_learned
+    kept-put None old new old_learned new_learned refused same list_is since_is ranked_is learned_is =
+        rw (same.0, same.1, ← list_is, ← since_is, ← ranked_is, ← learned_is) (kept-refused refused)
+    kept-put (Some made) old new old_learned new_learned is taken list_is since_is ranked_is learned_is = rw (taken.0, taken.1) (kept-taken made is)
 
 pub kept-new : (rules : Rules) → IsRules rules → IsKept rules [] [] 0 (record { placed = []; policy = rules.policy }) 0 0 None
 kept-new rules ranges = record {
   ranges = ranges;
-  legal = record { legal = tt; now = tt };
+  legal = tt;
   placed = refl;
   next = refl;
   near = omega arith;

@@ -15,11 +15,15 @@ AllAfter-push holds before (x ∷ events) event all last = (
   AllAfter-push holds (before ++ x ∷ []) events event all.1 (subst (λ h. holds h event) (sym (append_assoc before (x ∷ []) events)) last),
 )
 
-pub legal-push : (rules : Rules) (history : List Event) (event : Event) → IsPlainlyLegal rules history → IsRight rules history event
-    → IsPlannedNow history event → IsPlainlyLegal rules (history ++ event ∷ [])
-legal-push rules history event legal right now = record {
-  legal = AllAfter-push (IsRight rules) [] history event legal.legal right;
-  now = AllAfter-push IsPlannedNow [] history event legal.now now;
+pub legal-push : (rules : Rules) (history : List Event) (event : Event) → IsLegal rules history → IsRight rules history event
+    → IsLegal rules (history ++ event ∷ [])
+legal-push rules history event legal right = AllAfter-push (IsRight rules) [] history event legal right
+
+pub plain-push : (rules : Rules) (history : List Event) (event : Event) → IsPlannedNow history event → IsLegal rules (history ++ event ∷ [])
+    → IsPlainlyLegal rules history → IsPlainlyLegal rules (history ++ event ∷ [])
+plain-push rules history event now legal plain = record {
+  legal = legal;
+  now = AllAfter-push IsPlannedNow [] history event plain.now now;
 }
 
 pub placed_of-push : (history : List Event) (event : Event) → placed_of (history ++ event ∷ []) ≡ placed_after (placed_of history) event

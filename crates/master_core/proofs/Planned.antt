@@ -23,14 +23,14 @@ some-is (Some i) some = (i, refl)
 module _ (rules : Rules) (history : List Event) (list : List Placed) (since : ℕ) (ranked : Ranking) (cycle pending : ℕ) (learned : Option (List Placed))
     (kept : IsKept rules history list since ranked cycle pending learned) where
   pub kept-well_placed : IsWellPlaced list
-  kept-well_placed = subst IsWellPlaced (sym kept.placed) (sound-of_legal rules history kept.legal.legal).well_placed
+  kept-well_placed = subst IsWellPlaced (sym kept.placed) (sound-of_legal rules history kept.legal).well_placed
 
   pub kept-in_time : NeverMisses (plan_of rules list)
-  kept-in_time = subst (λ (l : List Placed). NeverMisses (plan_of rules l)) (sym kept.placed) (sound-of_legal rules history kept.legal.legal).in_time
+  kept-in_time = subst (λ (l : List Placed). NeverMisses (plan_of rules l)) (sym kept.placed) (sound-of_legal rules history kept.legal).in_time
 
   pub kept-valid : IsValid list cycle pending
   kept-valid =
-      let here = valid-of_legal rules history kept.legal.legal in
+      let here = valid-of_legal rules history kept.legal in
       let of_list = subst (λ (l : List Placed). IsValid l (next_of history) (pending_at (plan_of rules l) (next_of history))) (sym kept.placed) here in
       let at_cycle = subst (λ (n : ℕ). IsValid list n (pending_at (plan_of rules list) n)) (sym kept.next) of_list in
       subst (λ (q : ℕ). IsValid list cycle q) (sym kept.waiting) at_cycle

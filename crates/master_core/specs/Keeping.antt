@@ -6,7 +6,7 @@ use Rattle.planner_policies.specs.Plan.{Ranking, pending_at}
 use Rattle.admission_rules.specs.declared.Rules.{Rules}
 use Rattle.admission.specs.Verdict.{IsRules}
 use Rattle.master_core.specs.declared.event.Event.{Event}
-use Rattle.master_core.specs.History.{IsPlainlyLegal, learned_of, next_of, placed_of, plan_of}
+use Rattle.master_core.specs.History.{IsLegal, learned_of, next_of, placed_of, plan_of}
 
 -- what contracts see of a master: its rules, its history, and the number of events that it has room for
 pub record MasterView : Type 0 where
@@ -19,7 +19,7 @@ pub record MasterView : Type 0 where
 pub record IsKept (rules : Rules) (history : List Event) (list : List Placed) (since : ℕ) (ranked : Ranking)
     (cycle pending : ℕ) (learned : Option (List Placed)) : Type 0 where
   pub ranges : IsRules rules
-  pub legal : IsPlainlyLegal rules history
+  pub legal : IsLegal rules history
   pub placed : list ≡ placed_of history
   pub next : cycle ≡ next_of history
   pub near : cycle ≤ 2 ^ 41

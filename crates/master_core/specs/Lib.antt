@@ -1,3 +1,4 @@
+pub mod Answers
 pub mod Certificates
 pub mod History
 pub mod Keeping

@@ -4,6 +4,7 @@
 //! Cycles are elementary cycles, counted from 0.
 #![tactic(auto)]
 
+mod answer;
 mod event;
 pub mod laws;
 mod master;

@@ -6,16 +6,18 @@ ghost use Rattle.planner_policies.specs.Plan.{mask_at, pending_at};
 ghost use Rattle.plan_check.specs.PlanKept.{IsTaken};
 ghost use Rattle.admission.specs.Certified.{end_of};
 ghost use Rattle.admission.specs.Verdict.{IsInTime, IsRules, IsTakenWhereDue, plan_from};
+ghost use Rattle.master_core.specs.Answers.{IsAnswer};
 ghost use Rattle.master_core.specs.Certificates.{IsCertificateOfPlan};
 ghost use Rattle.master_core.specs.declared.event.Event.TheVariants.{Submit, Look, Open};
-ghost use Rattle.master_core.specs.History.{IsPlainlyLegal, next_of, placed_of, plan_of};
+ghost use Rattle.master_core.specs.History.{IsLegal, IsPlainlyLegal, next_of, placed_of, plan_of};
 ghost use Rattle.master_core.specs.Orders.{IsOrder};
 
+use crate::answer::{Answer, made_of, take_over};
 use crate::event::Event;
 use crate::opened::opened_masks;
 use crate::planning::plan_next;
 use crate::room::{make_room, put};
-use crate::table::{Table, copy_of, list_of};
+use crate::table::{Table, copy_of};
 use admission::{CertifyFault, Decision, Rules, Verdict, certify, decide};
 use change_protocol::Change;
 use plan_check::Certificate;
@@ -119,46 +121,105 @@ impl Master {
             IfOk result (λ verdict. IsInTime self.old.rules (placed_of self.old.history) next change.now
             → IsTakenWhereDue self.old.rules plan verdict) }
         ensures spare { self.new.spare ≡ self.old.spare }
-        ensures legal { IsPlainlyLegal self.new.rules self.new.history }
+        ensures legal { IsLegal self.new.rules self.new.history }
+        ensures plain { IsPlainlyLegal self.old.rules self.old.history
+            → IsPlainlyLegal self.new.rules self.new.history }
         ensures few { length self.new.history + self.new.spare < 2 ^ 61 }
     {
-        let decision = decide(
+        let answer = self.plan_change(alloc, change)?;
+        self.make_room()?;
+        Ok(self.put_answer(caller, answer))
+    }
+
+    /// Plans a change from the next cycle on, and takes all memory that its answer needs.
+    fn plan_change(&self, alloc: Global, change: &Change) -> Result<Answer, AllocError>
+        ensures answer { IfOk result (IsAnswer self.now.rules self.now.history) }
+        ensures change { IfOk result (λ answer. answer.change ≡ change.now) }
+        ensures from { IfOk result (λ answer. answer.from ≡ next_of self.now.history) }
+        ensures complete { let next = next_of self.now.history in
+            let pending = pending_at (plan_of self.now.rules (placed_of self.now.history)) next in
+            let plan = plan_from self.now.rules (applied (placed_of self.now.history) change.now) next pending in
+            IfOk result (λ answer. IsInTime self.now.rules (placed_of self.now.history) next change.now
+            → IsTakenWhereDue self.now.rules plan answer.verdict) }
+        ensures legal { IsLegal self.now.rules self.now.history }
+        ensures few { length self.now.history + self.now.spare < 2 ^ 61 }
+    {
+        let Decision {
+            verdict,
+            placed,
+            trail,
+        } = decide(
             alloc,
             &self.rules,
             self.table.placed.as_slice(),
             &self.state,
             change,
         )?;
-        let Decision {
-            verdict,
-            placed,
-            trail,
-        } = decision;
-        let event = Event::Submit {
-            caller,
-            change: copy_of(alloc, change)?,
-            from: self.state.cycle,
-            verdict,
-            trail,
+        let change = copy_of(alloc, change)?;
+        let from = self.state.cycle;
+        let made = match placed {
+            None => None,
+            Some(list) => Some(made_of(alloc, list, from, self.rules.policy)?),
         };
+        Ok(Answer {
+            change,
+            from,
+            verdict,
+            trail,
+            made,
+        })
+    }
+
+    /// Makes room for one event more. Where memory runs out, nothing is changed.
+    fn make_room(&mut self) -> Result<(), AllocError>
+        ensures rules { self.new.rules ≡ self.old.rules }
+        ensures history { self.new.history ≡ self.old.history }
+        ensures room { OnOk result (self.new.spare ≡ self.old.spare + 1) }
+        ensures same { OnErr result (self.new.spare ≡ self.old.spare) }
+        ensures legal { IsLegal self.new.rules self.new.history }
+        ensures few { length self.new.history + self.new.spare < 2 ^ 61 }
+    {
         let events = self.spare + 1;
-        match placed {
-            None => {
-                make_room(&mut self.history, events)?;
-                put(&mut self.history, event);
-                Ok(verdict)
-            }
-            Some(list) => {
-                let list = list.into_vec();
-                let learned = list_of(alloc, list.as_slice())?;
-                let table = Table::of(alloc, list, self.state.cycle, self.rules.policy)?;
-                make_room(&mut self.history, events)?;
-                self.table = table;
-                self.learned = Some(learned);
-                put(&mut self.history, event);
-                Ok(verdict)
-            }
-        }
+        make_room(&mut self.history, events)?;
+        self.spare = events;
+        Ok(())
+    }
+
+    /// Puts an answer to operator `caller` behind the history. It takes no memory, and one of the room. The table
+    /// changes only where the verdict is `Accepted`.
+    fn put_answer(&mut self, caller: u8, answer: Answer) -> Verdict
+        requires spare { 1 ≤ self.old.spare }
+        requires answer { IsAnswer self.old.rules self.old.history answer }
+        ensures rules { self.new.rules ≡ self.old.rules }
+        ensures verdict { result ≡ answer.verdict }
+        ensures event { self.new.history ≡ self.old.history
+            ++ Submit caller answer.change answer.from answer.verdict answer.trail ∷ [] }
+        ensures spare { self.new.spare + 1 ≡ self.old.spare }
+        ensures legal { IsLegal self.new.rules self.new.history }
+        ensures plain { answer.from ≡ next_of self.old.history → IsPlainlyLegal self.old.rules self.old.history
+            → IsPlainlyLegal self.new.rules self.new.history }
+        ensures few { length self.new.history + self.new.spare < 2 ^ 61 }
+    {
+        let Answer {
+            change,
+            from,
+            verdict,
+            trail,
+            made,
+        } = answer;
+        take_over(made, &mut self.table, &mut self.learned);
+        put(
+            &mut self.history,
+            Event::Submit {
+                caller,
+                change,
+                from,
+                verdict,
+                trail,
+            },
+        );
+        self.spare -= 1;
+        verdict
     }
 
     /// Answers the next cycle to be opened, for operator `caller`, 1 to 8. It takes no memory, and one of the room.
@@ -169,7 +230,9 @@ impl Master {
         ensures next { result ≡ next_of self.old.history }
         ensures event { self.new.history ≡ self.old.history ++ Look caller result ∷ [] }
         ensures spare { self.new.spare + 1 ≡ self.old.spare }
-        ensures legal { IsPlainlyLegal self.new.rules self.new.history }
+        ensures legal { IsLegal self.new.rules self.new.history }
+        ensures plain { IsPlainlyLegal self.old.rules self.old.history
+            → IsPlainlyLegal self.new.rules self.new.history }
         ensures few { length self.new.history + self.new.spare < 2 ^ 61 }
     {
         let next = self.state.cycle;
@@ -187,7 +250,9 @@ impl Master {
         ensures order { IsOrder self.old.rules self.old.history result }
         ensures event { self.new.history ≡ self.old.history ++ Open result.cycle result.mask ∷ [] }
         ensures spare { self.new.spare + 1 ≡ self.old.spare }
-        ensures legal { IsPlainlyLegal self.new.rules self.new.history }
+        ensures legal { IsLegal self.new.rules self.new.history }
+        ensures plain { IsPlainlyLegal self.old.rules self.old.history
+            → IsPlainlyLegal self.new.rules self.new.history }
         ensures few { length self.new.history + self.new.spare < 2 ^ 61 }
     {
         let cycle = self.state.cycle;
@@ -269,7 +334,7 @@ impl Master {
     /// All calls with their answers, in their order.
     pub fn history(&self) -> &[Event]
         ensures list { result.now ≡ self.now.history }
-        ensures legal { IsPlainlyLegal self.now.rules self.now.history }
+        ensures legal { IsLegal self.now.rules self.now.history }
         ensures few { length self.now.history + self.now.spare < 2 ^ 61 }
     {
         self.history.as_slice()

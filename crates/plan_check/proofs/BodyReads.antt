@@ -8,7 +8,7 @@ use Rattle.plan_check.specs.declared.text_fault.PlanTextFault.{PlanTextFault}
 use Rattle.plan_check.specs.declared.text_fault.PlanTextFault.TheVariants.{Line, Memory}
 use Rattle.plan_check.specs.Certificate.{CertificateView, length_of}
 use Rattle.plan_check.specs.PlanText.{BeginsAsPlan, IsFirstWrongLine, IsMaskFault, IsReadable, IsReadableHead, IsTextFault, IsWrongMask, head_lines, lines_of_head, mask_digits, mask_lines, plan_lines, plan_text, text_of}
-use Rattle.plan_check.proofs.HexText.{hex-injective}
+use Rattle.text_fields.proofs.Shared.{hex-injective}
 use Rattle.plan_check.proofs.PlanReads.{AllClean, begins-by, clean-append, clean-head, clean-masks, count-lines, counted-length, counted-readable, front-more, literal-clean, next-line, number-same, same_front}
 use Rattle.plan_check.proofs.TextLines.{text_of-append}
 

@@ -6,7 +6,7 @@ use Rattle.requirement_table.specs.Slots.{slots}
 use Rattle.plan_check.specs.Certificate.{CertificateView, length_of}
 use Rattle.plan_check.specs.PlanText.{IsFirstWrongLine, IsReadable, IsReadableHead, lines_of_head, mask_digits, text_of}
 use Rattle.plan_check.proofs.PlanReads.{begins-head, clean-take, clean-head, front-more, head-wrong, near-false, number-same, word-number}
-use Rattle.plan_check.proofs.TextLines.{same_line}
+use Rattle.text_fields.proofs.Shared.{same_line}
 
 abbrev from_digits : ℕ → List ℕ
 from_digits n = codes "from " ++ decimal n

@@ -1,10 +1,8 @@
 mod Current
 mod BodyReads
 mod CycleSteps
-mod Decimals
 mod HeadReads
 mod Held
-mod HexText
 mod PlanReads
 mod Repeated
 mod Rounds

@@ -8,10 +8,10 @@ use Rattle.std.proofs.lemmas.List.{append_cancel_left, length-append, length-map
 use Rattle.std.proofs.lemmas.List.Elements.{All-append, All-cons, All-nil, All-replicate}
 use Rattle.requirement_table.specs.Slots.{slots}
 use Rattle.plan_check.specs.Certificate.{CertificateView, length_of}
-use Rattle.plan_check.specs.PlanText.{BeginsAsPlan, HasNoFeed, IsFirstWrongLine, IsReadable, IsReadableHead, head_lines, lines_of_head, mask_digits, mask_lines, plan_lines, plan_text, text_of}
-use Rattle.plan_check.proofs.Decimals.{decimal-digits}
-use Rattle.plan_check.proofs.HexText.{hex-no_feed}
-use Rattle.plan_check.proofs.TextLines.{no_feed-append, no_feed-digits, same_line, text_of-append}
+use Rattle.plan_check.specs.PlanText.{BeginsAsPlan, IsFirstWrongLine, IsReadable, IsReadableHead, head_lines, lines_of_head, mask_digits, mask_lines, plan_lines, plan_text, text_of}
+use Rattle.text_fields.specs.Lines.{HasNoFeed}
+use Rattle.text_fields.proofs.Shared.{no_feed-append, no_feed-decimal, no_feed-hex, same_line}
+use Rattle.plan_check.proofs.TextLines.{text_of-append}
 
 abbrev pub AllClean : List (List ℕ) → Type 0
 AllClean [] = Unit {0}
@@ -51,7 +51,7 @@ clean-take (suc k) (x ∷ xs) clean = (clean.0, clean-take k xs clean.1)
 
 pub clean-masks : (masks : List ℕ) → AllClean (map mask_digits masks)
 clean-masks [] = tt
-clean-masks (m ∷ masks) = (hex-no_feed 10 m, clean-masks masks)
+clean-masks (m ∷ masks) = (no_feed-hex 10 m, clean-masks masks)
 
 pub literal-clean : (word : List ℕ) → list_all (λ b. not (nat_eq b 10)) word ≡ true → HasNoFeed word
 literal-clean [] test i within = absurd (omega arith)
@@ -60,7 +60,7 @@ literal-clean (b ∷ word) test (suc i) within =
     literal-clean word (and_parts (not (nat_eq b 10)) (list_all (λ c. not (nat_eq c 10)) word) test).1 i (omega arith)
 
 pub word-number : (word : List ℕ) (n : ℕ) → list_all (λ b. not (nat_eq b 10)) word ≡ true → n < 2 ^ 42 → HasNoFeed (word ++ decimal n)
-word-number word n test small = no_feed-append word (decimal n) (literal-clean word test) (no_feed-digits (decimal n) (decimal-digits n small))
+word-number word n test small = no_feed-append word (decimal n) (literal-clean word test) (no_feed-decimal n (omega arith))
 
 pub clean-head : (from pending first length : ℕ) → from < 2 ^ 42 → first < 2 ^ 42 → length < 2 ^ 42 → AllClean (lines_of_head from pending first length)
 clean-head from pending first length small near few = (
@@ -68,7 +68,7 @@ clean-head from pending first length small near few = (
   (
     word-number (codes "from ") from refl small,
     (
-      no_feed-append (codes "pending ") (mask_digits pending) (literal-clean (codes "pending ") refl) (hex-no_feed 10 pending),
+      no_feed-append (codes "pending ") (mask_digits pending) (literal-clean (codes "pending ") refl) (no_feed-hex 10 pending),
       (word-number (codes "first ") first refl near, (word-number (codes "length ") length refl few, tt)),
     ),
   ),

@@ -1,25 +1,17 @@
 -- The text of a plan: its lines, which certificates have one that is read back, and the first line of a text that
 -- breaks the form.
-use Rattle.std.specs.Prelude.{◌≡◌, ◌≢◌, ℕ, zero, suc, ◌+◌, ◌/◌, ◌%◌, ◌^◌, ◌<◌, ◌≤◌}
-use Rattle.std.specs.Prelude.{List, [], ◌∷◌, ◌++◌, All, false, codes, get_or, length, map, take}
-use Rattle.std.specs.Fmt.{decimal, digit_glyph}
+use Rattle.std.specs.Prelude.{◌≡◌, ℕ, ◌+◌, ◌^◌, ◌<◌, ◌≤◌}
+use Rattle.std.specs.Prelude.{List, [], ◌∷◌, ◌++◌, All, codes, length, map, take}
+use Rattle.std.specs.Fmt.{decimal}
 use Rattle.requirement_table.specs.Slots.{slots}
+use Rattle.text_fields.specs.Hexadecimal.{hex_digits}
 use Rattle.plan_check.specs.declared.text_fault.PlanTextFault.{PlanTextFault}
 use Rattle.plan_check.specs.declared.text_fault.PlanTextFault.TheVariants.{Line, Memory}
 use Rattle.plan_check.specs.Certificate.{CertificateView, length_of}
 
--- the last `count` hexadecimal digits of a number, lower case, the most significant one first
-unfoldable pub hex_digits : ℕ → ℕ → List ℕ
-hex_digits zero number = []
-hex_digits (suc count) number = hex_digits count (number / 16) ++ digit_glyph false (number % 16) ∷ []
-
 -- the digits of a mask: ten of them, of the number whose bit s is slot s
 abbrev pub mask_digits : ℕ → List ℕ
 mask_digits mask = hex_digits 10 mask
-
--- no byte is a line feed
-abbrev pub HasNoFeed : List ℕ → Type 0
-HasNoFeed bytes = (i : ℕ) → i < length bytes → get_or bytes i 0 ≢ 10
 
 -- each line ends with one line feed
 abbrev pub text_of : List (List ℕ) → List ℕ

@@ -29,6 +29,7 @@ use crate::plan_reading::{mask_line, number_line, word_line};
 use crate::text_fault::PlanTextFault;
 use requirement_table::Mask;
 use std::alloc::{AllocError, Global};
+use text_fields::push_hex;
 
 /// The text of a certificate.
 pub fn write_plan(alloc: Global, certificate: &Certificate) -> Result<Vec<u8>, AllocError>
@@ -67,8 +68,8 @@ fn push_masks(text: &mut String, masks: &[Mask]) -> Result<(), AllocError>
 fn push_mask(text: &mut String, mask: Mask) -> Result<(), AllocError>
     ensures ok { OnOk result (string_bytes text.new ≡ string_bytes text.old ++ (mask_digits mask ++ 10 ∷ [])) }
 {
-    let bits = mask.bits() as u64;
-    writeln!(text, "{bits:010x}")
+    push_hex(text, mask.bits() as u64)?;
+    writeln!(text)
 }
 
 /// The most cycles from FROM to FIRST, and the most that the repeated part has.

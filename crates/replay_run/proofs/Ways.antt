@@ -20,11 +20,13 @@ use Rattle.replay_run.specs.Run.{AnswersSteps, IsRun}
 
 -- a run whose master has answered a call that opens no cycle goes on
 pub answered : CallsBetween → (setting : Setting) (run : Run) (master : MasterView) (call : Event) → is_open call ≡ false
-    → master.rules ≡ run.master.rules → master.history ≡ run.master.history ++ call ∷ [] → IsPlainlyLegal master.rules master.history
+    → master.rules ≡ run.master.rules → master.history ≡ run.master.history ++ call ∷ []
+    → (IsPlainlyLegal run.master.rules run.master.history → IsPlainlyLegal master.rules master.history)
     → IsGoing setting run → IsGoing setting (record { master = master; trace = run.trace; nodes = run.nodes })
-answered laws setting run master call closed same_rules history legal going =
+answered laws setting run master call closed same_rules history keeps going =
     let rules : master.rules ≡ setting.rules = same_rules ∙ going.same_rules in
-    let plain : IsPlainlyLegal setting.rules master.history = subst (λ r. IsPlainlyLegal r master.history) rules legal in
+    let plain : IsPlainlyLegal setting.rules master.history =
+    subst (λ r. IsPlainlyLegal r master.history) rules (keeps (subst (λ r. IsPlainlyLegal r run.master.history) (sym going.same_rules) going.plain)) in
     let one : All (λ event. is_open event ≡ false) (call ∷ []) =
     All-cons (λ event. is_open event ≡ false) call [] closed (All-nil (λ event. is_open event ≡ false)) in
     let whole : IsLegal setting.rules (run.master.history ++ call ∷ []) = subst (λ h. IsLegal setting.rules h) history plain.legal in
@@ -39,13 +41,15 @@ answered laws setting run master call closed same_rules history legal going =
 pub ran : CyclesRun → (setting : Setting) (run after : Run) (order : Order) (frames : List TimedFrame)
     → IsOrder setting.rules run.master.history order → RanOrder order run.nodes after.nodes frames
     → after.master.rules ≡ run.master.rules → after.master.history ≡ run.master.history ++ Open order.cycle order.mask ∷ []
-    → IsPlainlyLegal after.master.rules after.master.history → after.trace.items ≡ run.trace.items ++ frames
+    → (IsPlainlyLegal run.master.rules run.master.history → IsPlainlyLegal after.master.rules after.master.history) → after.trace.items ≡ run.trace.items ++ frames
     → IsGoing setting run → IsGoing setting after
-ran laws setting run after order frames ordered did same_rules history legal trace going =
+ran laws setting run after order frames ordered did same_rules history keeps trace going =
     let rules : after.master.rules ≡ setting.rules = same_rules ∙ going.same_rules in
     record {
       same_rules = rules;
-      plain = subst (λ r. IsPlainlyLegal r after.master.history) rules legal;
+      plain =
+          subst (λ r. IsPlainlyLegal r after.master.history) rules
+          (keeps (subst (λ r. IsPlainlyLegal r run.master.history) (sym going.same_rules) going.plain));
       way = subst (λ h. IsOnTheWay setting h after.trace.items after.nodes) (sym history)
           (subst (λ t. IsOnTheWay setting (run.master.history ++ Open order.cycle order.mask ∷ []) t after.nodes) (sym trace)
           (way-run laws setting run.master.history run.trace.items frames run.nodes after.nodes order ordered did going.way));

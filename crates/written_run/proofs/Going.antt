@@ -30,12 +30,14 @@ use Rattle.written_run.proofs.EventRows.{called-rows, opened-rows, triggers-more
 
 -- a run whose master has answered a call that opens no cycle goes on
 pub answered : CallsBetween → (setting : Setting) (trace : List TimedFrame) (run after : Written) (call : Event) → is_open call ≡ false
-    → after.master.rules ≡ run.master.rules → after.master.history ≡ run.master.history ++ call ∷ [] → IsPlainlyLegal after.master.rules after.master.history
+    → after.master.rules ≡ run.master.rules → after.master.history ≡ run.master.history ++ call ∷ []
+    → (IsPlainlyLegal run.master.rules run.master.history → IsPlainlyLegal after.master.rules after.master.history)
     → after.nodes ≡ run.nodes → after.trace ≡ run.trace
     → IsGoing setting trace run → IsBroughtOn setting trace run after []
-answered laws setting trace run after call closed same_rules history legal same_nodes same_trace going =
+answered laws setting trace run after call closed same_rules history keeps same_nodes same_trace going =
     let rules : after.master.rules ≡ setting.rules = same_rules ∙ going.same_rules in
-    let plain : IsPlainlyLegal setting.rules after.master.history = subst (λ r. IsPlainlyLegal r after.master.history) rules legal in
+    let plain : IsPlainlyLegal setting.rules after.master.history =
+    subst (λ r. IsPlainlyLegal r after.master.history) rules (keeps (subst (λ r. IsPlainlyLegal r run.master.history) (sym going.same_rules) going.plain)) in
     let one : All (λ event. is_open event ≡ false) (call ∷ []) =
     All-cons (λ event. is_open event ≡ false) call [] closed (All-nil (λ event. is_open event ≡ false)) in
     let whole : IsLegal setting.rules (run.master.history ++ call ∷ []) = subst (λ h. IsLegal setting.rules h) history plain.legal in
@@ -158,9 +160,9 @@ ran-triggers trace frames history order is =
 pub ran : CyclesSent → (setting : Setting) (trace : List TimedFrame) (run after : Written) (order : Order) (frames : List TimedFrame)
     → IsOrder run.master.rules run.master.history order → RanOrder order run.nodes after.nodes frames
     → after.master.rules ≡ run.master.rules → after.master.history ≡ run.master.history ++ Open order.cycle order.mask ∷ []
-    → IsPlainlyLegal after.master.rules after.master.history → (KeepsFrames run.trace trace → KeepsFrames after.trace (trace ++ frames))
+    → (IsPlainlyLegal run.master.rules run.master.history → IsPlainlyLegal after.master.rules after.master.history) → (KeepsFrames run.trace trace → KeepsFrames after.trace (trace ++ frames))
     → IsGoing setting trace run → IsBroughtOn setting trace run after frames
-ran laws setting trace run after order frames right did same_rules history legal kept going =
+ran laws setting trace run after order frames right did same_rules history keeps kept going =
     let rules : after.master.rules ≡ setting.rules = same_rules ∙ going.same_rules in
     let ordered : IsOrder setting.rules run.master.history order = subst (λ r. IsOrder r run.master.history order) going.same_rules right in
     let way = way-run laws.run setting run.master.history trace frames run.nodes after.nodes order ordered did going.way in
@@ -171,7 +173,9 @@ ran laws setting trace run after order frames right did same_rules history legal
       history = history;
       going = record {
         same_rules = rules;
-        plain = subst (λ r. IsPlainlyLegal r after.master.history) rules legal;
+        plain =
+            subst (λ r. IsPlainlyLegal r after.master.history) rules
+            (keeps (subst (λ r. IsPlainlyLegal r run.master.history) (sym going.same_rules) going.plain));
         way = subst (λ h. IsOnTheWay setting h (trace ++ frames) after.nodes) (sym history) way;
         triggers = ran-triggers trace frames run.master.history order sent ∙ ap (λ n. n + 1) going.triggers ∙ sym next;
         frames = kept going.frames;

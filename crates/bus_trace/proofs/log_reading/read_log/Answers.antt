@@ -1,68 +1,66 @@
-use Rattle.std.proofs.Common.{◌≡◌, ◌+◌, ap, sym, subst, ◌∙◌, inl, arith}
+use Rattle.std.proofs.Common.{◌≡◌, ◌+◌, ap, map, subst, sym, inl, arith}
+use Rattle.csv.specs.Records.{fields_of}
+use Rattle.bus_trace.specs.Row.{fields_of_row}
 use Rattle.bus_trace.specs.declared.log_fault.LogFault.TheVariants.{Row}
-use Rattle.bus_trace.proofs.Readings.{AreRead, empty-list, faulty-row, none-empty, none-formed, none-unended, one-fault, read-more, some-list, whole-back, NoRow}
+use Rattle.bus_trace.proofs.Readings.{AreRead, NoRow, faulty-row, none-faulty, none-formed, not-back, one-fault, read-more, whole-back}
+use Rattle.bus_trace.proofs.RowLines.{records-text}
 use Rattle.bus_trace.proofs.log_reading.read_log.Goals as goal
-
-pub returns-in_default-clause-back : goal.returns-in_default-clause-back
-returns-in_default-clause-back c = λ rows legal text.
-    let rest = c.loop-rest.rest.now in
-    let all = whole-back c.args.bytes.now rest c.loop-rest.rows.items c.loop-rest.invariant rows (none-unended rest c.in_default.ensures.none) legal text in
-    absurd (some-list rest c.loop-rest-test.ensures all.1)
 
 pub returns-in_default-clause-faulty : goal.returns-in_default-clause-faulty
 returns-in_default-clause-faulty c =
-    let rest = c.loop-rest.rest.now in
+    let so_far = c.loop-rows.invariant in
+    let fields = fields_of c.read_next.new.row in
+    let one = c.in_ok-read_next.ensures.one c.if-branch.true c.args.bytes.now (map fields_of_row c.loop-rows.rows.items) so_far.reads in
+    let none : NoRow fields = none-formed fields c.in_default.ensures.value in
     let count = c.len.ensures in
-    faulty-row c.args.bytes.now rest c.loop-rest.rows.items c.loop-rest.invariant (c.len.result + 1) (omega arith)
-    (some-list rest c.loop-rest-test.ensures) (none-unended rest c.in_default.ensures.none)
+    faulty-row c.args.bytes.now c.loop-rows.rows.items so_far.rows fields one.below one.split none (c.len.result + 1) (omega arith)
+
+pub returns-in_default-clause-complete : goal.returns-in_default-clause-complete
+returns-in_default-clause-complete c = λ rows legal are.
+    let so_far = c.loop-rows.invariant in
+    let fields = fields_of c.read_next.new.row in
+    let one = c.in_ok-read_next.ensures.one c.if-branch.true c.args.bytes.now (map fields_of_row c.loop-rows.rows.items) so_far.reads in
+    let none : NoRow fields = none-formed fields c.in_default.ensures.value in
+    absurd (not-back c.args.bytes.now c.loop-rows.rows.items so_far.rows fields one.below one.split none rows legal are)
+
+pub returns-in_default-clause-back : goal.returns-in_default-clause-back
+returns-in_default-clause-back c = λ rows legal text.
+    returns-in_default-clause-complete c rows legal (records-text c.args.bytes.now rows legal text)
 
 pub returns-in_default-clause-first : goal.returns-in_default-clause-first
 returns-in_default-clause-first c = λ number fault.
-    let rest = c.loop-rest.rest.now in
+    let so_far = c.loop-rows.invariant in
+    let fields = fields_of c.read_next.new.row in
+    let one = c.in_ok-read_next.ensures.one c.if-branch.true c.args.bytes.now (map fields_of_row c.loop-rows.rows.items) so_far.reads in
+    let none : NoRow fields = none-formed fields c.in_default.ensures.value in
     let count = c.len.ensures in
-    let one = one-fault c.args.bytes.now rest c.loop-rest.rows.items c.loop-rest.invariant number (none-unended rest c.in_default.ensures.none) fault in
-    let at : c.len.result + 1 ≡ number = omega (arith, one.0) in
-    inl (ap Row at)
+    let at = one-fault c.args.bytes.now c.loop-rows.rows.items so_far.rows fields one.below one.split none number fault in
+    let same : c.len.result + 1 ≡ number = omega arith in
+    inl (ap Row same)
 
-pub returns-in_default-2-clause-back : goal.returns-in_default-2-clause-back
-returns-in_default-2-clause-back c = λ rows legal text.
-    let rest = c.loop-rest.rest.now in
-    let none : NoRow rest = none-formed rest c.in-Some.line.now c.in-Some.later.now c.in-Some.ensures.split c.in-Some.ensures.line (sym c.in_default-2.is ∙ c.in_ok-row.ensures.row) in
-    let all = whole-back c.args.bytes.now rest c.loop-rest.rows.items c.loop-rest.invariant rows none legal text in
-    absurd (some-list rest c.loop-rest-test.ensures all.1)
+pub loop-rows-smaller : goal.loop-rows-smaller
+loop-rows-smaller c =
+    (c.in_ok-read_next.ensures.one c.if-branch.true c.args.bytes.now (map fields_of_row c.loop-rows.rows.items) c.loop-rows.invariant.reads).fewer
 
-pub returns-in_default-2-clause-faulty : goal.returns-in_default-2-clause-faulty
-returns-in_default-2-clause-faulty c =
-    let rest = c.loop-rest.rest.now in
-    let count = c.len.ensures in
-    let none : NoRow rest = none-formed rest c.in-Some.line.now c.in-Some.later.now c.in-Some.ensures.split c.in-Some.ensures.line (sym c.in_default-2.is ∙ c.in_ok-row.ensures.row) in
-    faulty-row c.args.bytes.now rest c.loop-rest.rows.items c.loop-rest.invariant (c.len.result + 1) (omega arith)
-    (some-list rest c.loop-rest-test.ensures) none
+pub loop-rows-preserved : goal.loop-rows-preserved
+loop-rows-preserved c =
+    let so_far = c.loop-rows.invariant in
+    let fields = fields_of c.read_next.new.row in
+    let one = c.in_ok-read_next.ensures.one c.if-branch.true c.args.bytes.now (map fields_of_row c.loop-rows.rows.items) so_far.reads in
+    subst (AreRead c.args.bytes.now c.read_next.new.reader) (sym c.in_ok-push.ensures.items)
+    (read-more c.args.bytes.now c.loop-rows.reader c.read_next.new.reader c.loop-rows.rows.items fields c.in-Some.row so_far one (sym c.in-Some.ensures.value))
 
-pub returns-in_default-2-clause-first : goal.returns-in_default-2-clause-first
-returns-in_default-2-clause-first c = λ number fault.
-    let rest = c.loop-rest.rest.now in
-    let count = c.len.ensures in
-    let none : NoRow rest = none-formed rest c.in-Some.line.now c.in-Some.later.now c.in-Some.ensures.split c.in-Some.ensures.line (sym c.in_default-2.is ∙ c.in_ok-row.ensures.row) in
-    let one = one-fault c.args.bytes.now rest c.loop-rest.rows.items c.loop-rest.invariant number none fault in
-    let at : c.len.result + 1 ≡ number = omega (arith, one.0) in
-    inl (ap Row at)
+pub returns-clause-fields : goal.returns-clause-fields
+returns-clause-fields c =
+    c.in_ok-read_next.ensures.all c.if-branch.false c.args.bytes.now (map fields_of_row c.loop-rows.rows.items) c.loop-rows.invariant.reads
 
-pub loop-rest-preserved : goal.loop-rest-preserved
-loop-rest-preserved c =
-    subst (λ rows. AreRead c.args.bytes.now rows c.in-Some.later.now) (sym c.in_ok-push.ensures.items)
-    (read-more c.args.bytes.now c.loop-rest.rest.now c.in-Some.line.now c.in-Some.later.now c.loop-rest.rows.items c.in-Some-2.row c.loop-rest.invariant
-    c.in-Some.ensures.split (sym c.in-Some-2.is ∙ c.in_ok-row.ensures.row))
+pub returns-clause-complete : goal.returns-clause-complete
+returns-clause-complete c = λ rows legal are.
+    whole-back c.args.bytes.now c.loop-rows.rows.items c.loop-rows.invariant.rows (returns-clause-fields c) rows legal are
 
 pub returns-clause-back : goal.returns-clause-back
-returns-clause-back c = λ rows legal text.
-    let rest = c.loop-rest.rest.now in
-    let none : NoRow rest = subst NoRow (sym (empty-list rest c.loop-rest-test.ensures)) none-empty in
-    (whole-back c.args.bytes.now rest c.loop-rest.rows.items c.loop-rest.invariant rows none legal text).0
+returns-clause-back c = λ rows legal text. returns-clause-complete c rows legal (records-text c.args.bytes.now rows legal text)
 
 pub returns-clause-first : goal.returns-clause-first
 returns-clause-first c = λ number fault.
-    let rest = c.loop-rest.rest.now in
-    let empty = empty-list rest c.loop-rest-test.ensures in
-    let none : NoRow rest = subst NoRow (sym empty) none-empty in
-    (one-fault c.args.bytes.now rest c.loop-rest.rows.items c.loop-rest.invariant number none fault).1 empty
+    none-faulty c.args.bytes.now c.loop-rows.rows.items c.loop-rows.invariant.rows (returns-clause-fields c) number fault

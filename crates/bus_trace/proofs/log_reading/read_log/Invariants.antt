@@ -1,9 +1,10 @@
-use Rattle.std.proofs.Common.{length}
+use Rattle.text_fields.specs.CsvReading.{bytes_left}
 use Rattle.bus_trace.proofs.Readings.{AreRead}
 use Rattle.bus_trace.proofs.log_reading.read_log.Given as goal
 
-abbrev pub invariant-loop-rest : goal.invariant-loop-rest
-invariant-loop-rest l = AreRead l.bytes l.rows.items l.rest
+-- the rows so far are those of the records that were read
+abbrev pub invariant-loop-rows : goal.invariant-loop-rows
+invariant-loop-rows l = AreRead l.bytes l.reader l.rows.items
 
-abbrev pub decreases-loop-rest : goal.decreases-loop-rest
-decreases-loop-rest l = length l.rest
+abbrev pub decreases-loop-rows : goal.decreases-loop-rows
+decreases-loop-rows l = bytes_left l.reader

@@ -2,8 +2,9 @@ use Rattle.std.proofs.Common.{◌≡◌, None, Err, refl, sym, subst}
 use Rattle.std.specs.Prelude.{map, string_bytes}
 use Rattle.ftt_io.specs.Counts.{Rose}
 use Rattle.fttcan_top.specs.Ends.{PutsPart, refusal_of}
-use Rattle.fttcan_top.specs.Output.{IsAsked, IsAskedBy, no_command}
-use Rattle.fttcan_top.specs.Words.{command_of}
+use Rattle.asked_files.specs.declared.stopping.Stop.{Stop}
+use Rattle.asked_files.specs.Asked.{IsAsked, IsAskedBy}
+use Rattle.command_words.specs.Words.{command_of}
 use Rattle.fttcan_top.proofs.EndLemmas.{command-status, said}
 use Rattle.fttcan_top.proofs.program.plain.Goals as goal
 
@@ -15,7 +16,7 @@ returns g c =
     (Rose (g.O.Sink.faults c.args.out.now) (g.O.Sink.faults c.call-ended.new.out))
     (g.O.Sink.told_bytes c.args.out.now) (g.O.Sink.told_bytes c.call-ended.new.out)
     c.call-ended.result c.tell.result c.tell.ensures.status c.call-ended.ensures.done c.call-ended.ensures.ended
-    (λ none files. subst (λ command. IsAskedBy files command (Err no_command)) (sym none) refl) in
+    (λ none files. subst (λ command. IsAskedBy files command (Err Stop.Words)) (sym none) refl) in
     record {
       answer = all.answer;
       words = all.words;
@@ -26,10 +27,10 @@ returns g c =
       cut = all.cut;
       nothing = all.nothing;
       message = (refusal_of c.call-ended.result, all.input, c.tell.ensures.message);
-      fetches = c.call-ended.ensures.fetches;
-      files_stay = c.call-ended.ensures.files_stay;
-      fetches_never_fall = c.call-ended.ensures.fetches_never_fall;
-      faults_never_fall = c.call-ended.ensures.faults_never_fall;
+      fetches = c.call-ended.ensures.fetched.counted;
+      files_stay = c.call-ended.ensures.fetched.files_stay;
+      fetches_never_fall = c.call-ended.ensures.fetched.fetches_never_fall;
+      faults_never_fall = c.call-ended.ensures.fetched.faults_never_fall;
       out_faults_never_fall = c.call-ended.ensures.out_faults_never_fall;
       err_faults_never_fall = c.tell.ensures.faults_never_fall;
     }

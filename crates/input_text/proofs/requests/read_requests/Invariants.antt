@@ -1,5 +1,5 @@
 -- The requests so far are those of the rows that were read.
-use Rattle.input_text.proofs.CsvReading.{bytes_left}
+use Rattle.text_fields.specs.CsvReading.{bytes_left}
 use Rattle.input_text.proofs.RequestsReading.{ReadsRequests}
 use Rattle.input_text.proofs.requests.read_requests.Given as goal
 

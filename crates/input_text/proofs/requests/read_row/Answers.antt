@@ -1,7 +1,7 @@
 -- Each return is one of the cases of what a row means.
 use Rattle.std.proofs.Common.{◌^◌, ◌<◌, sym, map, arith}
 use Rattle.csv.specs.Records.{fields_of}
-use Rattle.input_text.specs.CsvRows.{trimmed}
+use Rattle.text_fields.specs.CsvRows.{trimmed}
 use Rattle.input_text.proofs.RequestRows.{asks, bytes_read, falls, is_request, no_arrival, no_bytes, no_identifier, none_read, not_owned, other_fields, other_than_three, three_fields, too_many}
 use Rattle.input_text.proofs.requests.read_row.Goals as goal
 

@@ -1,5 +1,5 @@
 -- The tally and the draft so far are those of the rows that were read.
-use Rattle.input_text.proofs.CsvReading.{bytes_left}
+use Rattle.text_fields.specs.CsvReading.{bytes_left}
 use Rattle.input_text.proofs.StepsReading.{ReadsSteps}
 use Rattle.input_text.proofs.steps.read_steps.Given as goal
 

@@ -1,6 +1,7 @@
 use Rattle.std.proofs.Common.{◌++◌, ◌∷◌, ◌∙◌, ap, sym}
 use Rattle.std.proofs.lemmas.List.{append_cancel_left}
-use Rattle.plan_check.proofs.TextLines.{line-is, no_feed-append, no_line, stripped-none, stripped-some}
+use Rattle.plan_check.proofs.TextLines.{stripped-none, stripped-some}
+use Rattle.text_fields.proofs.Shared.{line-is, no_feed-append, no_line}
 use Rattle.plan_check.proofs.plan_reading.line_behind.Goals as goal
 
 pub returns-in_err-line-clause-none : goal.returns-in_err-line-clause-none

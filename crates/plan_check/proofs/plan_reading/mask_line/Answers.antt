@@ -1,17 +1,17 @@
 use Rattle.std.proofs.Common.{◌++◌, ◌∷◌, ◌∙◌, ap}
 use Rattle.plan_check.specs.PlanText.{mask_digits}
-use Rattle.plan_check.proofs.HexText.{hex-no_feed}
+use Rattle.text_fields.proofs.Shared.{no_feed-hex}
 use Rattle.plan_check.proofs.plan_reading.mask_line.Goals as goal
 
 pub returns-in_err-digits-clause-none : goal.returns-in_err-digits-clause-none
 returns-in_err-digits-clause-none c =
     rw c.from_residual.ensures
-    (λ n after small is. c.in_err-digits.ensures.none (mask_digits n) after (hex-no_feed 10 n) is)
+    (λ n after small is. c.in_err-digits.ensures.none (mask_digits n) after (no_feed-hex 10 n) is)
 
 pub returns-in_err-mask-clause-none : goal.returns-in_err-mask-clause-none
 returns-in_err-mask-clause-none c =
     rw c.from_residual-in_err-mask.ensures
-    (λ n after small is. c.in_err-mask.ensures.none n small (c.in_ok-digits.ensures.only (mask_digits n) after (hex-no_feed 10 n) is))
+    (λ n after small is. c.in_err-mask.ensures.none n small (c.in_ok-digits.ensures.only (mask_digits n) after (no_feed-hex 10 n) is))
 
 pub returns-clause-found : goal.returns-clause-found
 returns-clause-found c =

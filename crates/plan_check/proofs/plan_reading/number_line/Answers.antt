@@ -1,20 +1,19 @@
-use Rattle.std.proofs.Common.{◌++◌, ◌∷◌, ◌∙◌, ap}
+use Rattle.std.proofs.Common.{◌++◌, ◌∷◌, ◌∙◌, ap, arith}
 use Rattle.std.specs.Fmt.{decimal}
-use Rattle.plan_check.proofs.Decimals.{decimal-digits}
-use Rattle.plan_check.proofs.TextLines.{no_feed-digits}
+use Rattle.text_fields.proofs.Shared.{no_feed-decimal}
 use Rattle.plan_check.proofs.plan_reading.number_line.Goals as goal
 
 pub returns-in_err-digits-clause-none : goal.returns-in_err-digits-clause-none
 returns-in_err-digits-clause-none c =
     rw c.from_residual.ensures
-    (λ n after small is. c.in_err-digits.ensures.none (decimal n) after (no_feed-digits (decimal n) (decimal-digits n small)) is)
+    (λ n after small is. c.in_err-digits.ensures.none (decimal n) after (no_feed-decimal n (omega arith)) is)
 
 pub returns-in_err-number-clause-none : goal.returns-in_err-number-clause-none
 returns-in_err-number-clause-none c =
     rw c.from_residual-in_err-number.ensures
     (λ n after small is.
     c.in_err-number.ensures.none n small
-    (c.in_ok-digits.ensures.only (decimal n) after (no_feed-digits (decimal n) (decimal-digits n small)) is))
+    (c.in_ok-digits.ensures.only (decimal n) after (no_feed-decimal n (omega arith)) is))
 
 pub returns-clause-found : goal.returns-clause-found
 returns-clause-found c =

@@ -1,5 +1,5 @@
 use Rattle.std.specs.Cmp.Lexicographic.{other_text}
-use Rattle.plan_check.proofs.TextLines.{line-is, no_line}
+use Rattle.text_fields.proofs.Shared.{line-is, no_line}
 use Rattle.plan_check.proofs.plan_reading.word_line.Goals as goal
 
 pub returns-in_err-line-clause-none : goal.returns-in_err-line-clause-none

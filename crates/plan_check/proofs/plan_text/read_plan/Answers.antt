@@ -1,9 +1,16 @@
-use Rattle.std.proofs.Common.{◌≡◌, ℕ, ◌+◌, ◌-◌, ◌∷◌, [], List, false, length, nat_eq, refl, sym, ap, rules, arith}
+use Rattle.std.proofs.Common.{◌≡◌, ◌<◌, zero, suc, true, ℕ, ◌+◌, ◌-◌, ◌∷◌, [], List, false, length, nat_eq, refl, sym, ap, rules, arith}
 use Rattle.plan_check.specs.declared.text_fault.PlanTextFault.TheVariants.{Memory}
 use Rattle.plan_check.specs.PlanText.{IsTextFault}
 use Rattle.plan_check.proofs.BodyReads.{fault-back, mask-fault, was-read, wrong-behind, wrong-end, wrong-mask}
-use Rattle.plan_check.proofs.Decimals.{none-length, some-length}
+use Rattle.std.proofs.lemmas.Bool.{eqb-true}
 use Rattle.plan_check.proofs.plan_text.read_plan.Goals as goal
+
+none-length : (k : ℕ) → true ≡ nat_eq k 0 → k ≡ 0
+none-length k test = eqb-true k 0 (sym test)
+
+some-length : (k : ℕ) → false ≡ nat_eq k 0 → 0 < k
+some-length zero test = absurd (cc)
+some-length (suc k) test = omega arith
 
 not-empty : (tail : List ℕ) → false ≡ nat_eq (length tail) 0 → tail ≡ [] → ⊥
 not-empty tail test none = let some = some-length (length tail) test in let size = ap length none in omega arith

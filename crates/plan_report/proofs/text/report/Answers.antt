@@ -8,7 +8,7 @@ use Rattle.plan_report.proofs.text.report.Goals as goal
 pub returns : goal.returns
 returns c =
     let history = c.args.master.now.history in
-    let legal = c.history-history.ensures.legal.legal in
+    let legal = c.history-history.ensures.legal in
     let list = c.history-history.ensures.list in
     let placed = c.placed-placed.ensures.list in
     let load = c.opened_load.ensures.load

@@ -17,5 +17,5 @@ returns-clause-on_the_way g c =
       runs = λ owners requests placed past before. c.in_ok-segment.ensures.runs owners requests placed past before;
       stand = λ owners requests placed past before. c.in_ok-segment.ensures.stand owners requests placed past before;
     })
-    c.open-order.ensures.rules c.open-order.ensures.event c.open-order.ensures.legal
+    c.open-order.ensures.rules c.open-order.ensures.event c.open-order.ensures.plain
     (c.in_ok-extend_from_slice.ensures.items ∙ ap (λ l. c.args.run.now.trace.items ++ l) c.frames.ensures.list) way

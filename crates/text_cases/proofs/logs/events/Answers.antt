@@ -2,12 +2,12 @@ use Rattle.std.proofs.Common.{[], refl, arith}
 use Rattle.text_cases.proofs.logs.events.Goals as goal
 
 pub event_rows-requires-2-clause-frames : goal.event_rows-requires-2-clause-frames
-event_rows-requires-2-clause-frames c = λ after. record {
-  trigger = record { start = 1000; len = 126; frame = after.encode-frame.result };
+event_rows-requires-2-clause-frames c = record {
+  trigger = record { start = 1000; len = 126; frame = c.encode-frame.result };
   later = [];
   frames_are = refl;
   width = 55;
   wide = omega arith;
-  says = after.encode-frame.ensures.frame;
+  says = c.encode-frame.ensures.frame;
   others = λ k d within. absurd (omega arith);
 }

@@ -8,4 +8,4 @@ returns-clause-on c = λ setting trace going.
     answered (record { under_way = c.calls_between.ensures.under_way; ready = c.calls_between.ensures.ready }) setting trace c.args.run.now
     (record { master = c.look.new.self; trace = c.args.run.now.trace; nodes = c.args.run.now.nodes })
     (Look c.args.caller c.look.result) refl (c.look.ensures.rules ∙ c.reserve.ensures.rules)
-    (c.look.ensures.event ∙ ap (λ h. h ++ Look c.args.caller c.look.result ∷ []) c.reserve.ensures.history) c.look.ensures.legal refl refl going
+    (c.look.ensures.event ∙ ap (λ h. h ++ Look c.args.caller c.look.result ∷ []) c.reserve.ensures.history) (λ plain. c.look.ensures.plain (rw (c.reserve.ensures.rules, c.reserve.ensures.history) plain)) refl refl going

@@ -19,7 +19,7 @@ returns-clause-on c = λ setting trace going.
       runs = λ owners requests placed past before. c.in_ok-segment.ensures.runs owners requests placed past before;
       stand = λ owners requests placed past before. c.in_ok-segment.ensures.stand owners requests placed past before;
     })
-    c.open-order.ensures.rules c.open-order.ensures.event c.open-order.ensures.legal
+    c.open-order.ensures.rules c.open-order.ensures.event c.open-order.ensures.plain
     (λ kept. subst (λ l. KeepsFrames c.keep.new.trace (trace ++ l)) c.frames.ensures.list (c.in_ok-keep.ensures.frames trace kept))
     going
 

@@ -1,6 +1,8 @@
-use Rattle.std.proofs.Common.{◌≡◌, ap, arith}
+use Rattle.std.proofs.Common.{◌≡◌, ap, arith, subst, sym}
+use Rattle.master_core.specs.History.{IsPlainlyLegal}
 use Rattle.master_core.specs.Keeping.{MasterView}
 use Rattle.master_core.proofs.Events.{kept-look, room-used}
+use Rattle.master_core.proofs.Histories.{plain-push}
 use Rattle.master_core.proofs.master.Master.look.Goals as goal
 
 pub invariant_of-self : goal.invariant_of-self
@@ -12,3 +14,8 @@ invariant_of-self c =
 
 pub returns-clause-legal : goal.returns-clause-legal
 returns-clause-legal c = rw c.put.ensures.events (kept-look _ _ _ _ _ _ _ _ c.self.invariant.0 c.args.caller).legal
+
+pub returns-clause-plain : goal.returns-clause-plain
+returns-clause-plain c plain =
+    let was = subst (λ (v : MasterView). IsPlainlyLegal v.rules v.history) (sym c.self.view_is) plain in
+    rw c.put.ensures.events (plain-push _ _ _ tt (kept-look _ _ _ _ _ _ _ _ c.self.invariant.0 c.args.caller).legal was)

@@ -1,9 +1,10 @@
-use Rattle.std.proofs.Common.{◌≡◌, ap, ◌∙◌, subst, arith}
+use Rattle.std.proofs.Common.{◌≡◌, ap, ◌∙◌, subst, sym, arith}
 use Rattle.planner_policies.specs.Plan.{Ranking}
-use Rattle.master_core.specs.History.{next_of}
+use Rattle.master_core.specs.History.{IsPlainlyLegal, next_of}
 use Rattle.master_core.specs.Keeping.{MasterView}
 use Rattle.master_core.specs.Orders.{IsOrder}
 use Rattle.master_core.proofs.Events.{kept-open, kept-passed, room-used}
+use Rattle.master_core.proofs.Histories.{plain-push}
 use Rattle.master_core.proofs.Planned.{order-is, ranked-in_time, ranked-left, ranked-mask, ranked-valid}
 use Rattle.master_core.proofs.master.Master.open.Goals as goal
 
@@ -53,3 +54,14 @@ returns-clause-legal c =
     rw c.put.ensures.events
     (kept-open _ _ _ _ _ _ _ _ kept _ _ _ (omega arith) (c.plan_next-mask.ensures.mask ∙ ranked-mask _ _ _ _ _ _ _ _ kept) c.plan_next-mask.ensures.cycle
     (c.plan_next-mask.ensures.pending ∙ ranked-left _ _ _ _ _ _ _ _ kept)).legal
+
+pub returns-clause-plain : goal.returns-clause-plain
+returns-clause-plain c plain =
+    let kept = kept-passed _ _ _ _ _ _ _ _ c.self.invariant.0 _ _ _ c.pass.ensures.placed c.pass.ensures.since c.pass.ensures.ranked in
+    let near = c.requires.next in
+    let at : c.self.inside.state.cycle ≡ next_of c.args.self.now.history = c.self.invariant.0.next ∙ ap (λ (v : MasterView). next_of v.history) c.self.view_is in
+    let was = subst (λ (v : MasterView). IsPlainlyLegal v.rules v.history) (sym c.self.view_is) plain in
+    rw c.put.ensures.events
+    (plain-push _ _ _ tt
+    (kept-open _ _ _ _ _ _ _ _ kept _ _ _ (omega arith) (c.plan_next-mask.ensures.mask ∙ ranked-mask _ _ _ _ _ _ _ _ kept) c.plan_next-mask.ensures.cycle
+    (c.plan_next-mask.ensures.pending ∙ ranked-left _ _ _ _ _ _ _ _ kept)).legal was)

@@ -1,7 +1,6 @@
 use Rattle.std.proofs.Common.{List, ap, ◌∙◌}
 use Rattle.requirement_table.specs.declared.entries.Placed.{Placed}
 use Rattle.requirement_table.specs.Table.{not_over}
-use Rattle.planner_policies.specs.Plan.{Ranking}
 use Rattle.master_core.proofs.Passing.{not_over-again}
 use Rattle.master_core.proofs.table.Table.pass.Goals as goal
 

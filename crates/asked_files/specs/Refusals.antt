@@ -1,0 +1,29 @@
+-- The lines for a file that is refused.
+use Rattle.std.specs.Prelude.{ℕ, List, ◌++◌, codes}
+use Rattle.std.specs.Fmt.{decimal}
+use Rattle.input_text.specs.SystemText.{system_fault_line}
+use Rattle.input_text.specs.StepText.{text_of as steps_line}
+use Rattle.input_text.specs.RequestText.{text_of as requests_line}
+use Rattle.asked_files.specs.declared.stopping.Refusal.{Refusal}
+use Rattle.asked_files.specs.declared.stopping.Source.{Source}
+use Rattle.asked_files.specs.Asked.{limit_of}
+
+-- the word for a file
+abbrev pub source_word : Source → List ℕ
+source_word Source.System = codes "system"
+source_word Source.Steps = codes "steps"
+source_word Source.Requests = codes "requests"
+source_word Source.Plan = codes "plan"
+
+-- the line for a file that is longer than its limit
+abbrev pub length_line : Source → List ℕ
+length_line source = source_word source ++ codes ": longer than " ++ decimal (limit_of source) ++ codes " bytes\n"
+
+-- the line for a file that is refused
+abbrev pub refusal_line : Refusal → List ℕ
+refusal_line (Refusal.TooLong source) = length_line source
+refusal_line (Refusal.System fault) = system_fault_line fault
+refusal_line (Refusal.Steps fault) = steps_line fault
+refusal_line (Refusal.Requests fault) = requests_line fault
+refusal_line (Refusal.Plan line) = codes "plan: line " ++ decimal line ++ codes "\n"
+refusal_line Refusal.LaterPlan = codes "plan: start\n"

@@ -1,0 +1,321 @@
+//! What is asked for, from the words of a call and the bytes of the files that they name.
+
+ghost use Rattle.std.specs.Prelude.{◌≡◌, ◌+◌, ◌⊎◌, IfOk, IfErr, IsErrOf, Ok, Some, None, map, option_map, string_bytes};
+ghost use Rattle.std.specs.Option.{ForSome};
+ghost use Rattle.ftt_io.specs.Counts.{Rose};
+ghost use Rattle.input_text.specs.SystemFile.{IsSystem};
+ghost use Rattle.input_text.specs.RequestsFile.{AreLegal};
+ghost use Rattle.input_text.specs.StepsFile.{AreLegalSteps};
+ghost use Rattle.command_words.specs.Words.{admit, check, command_of, file_count, files_named, live_file_count, live_of, named, replay};
+ghost use Rattle.command_words.specs.WordsRead.{command_read, run_read};
+ghost use Rattle.asked_files.specs.Asked.{IsAsked, IsAskedOf, IsLiveAsked, IsPlanIn, IsPlanMeant, job_in, live_log_of, requests_in, steps_in, system_in, within_limit};
+ghost use Rattle.asked_files.specs.Loads.{Bars, Fetches, IsBarred, IsJob, IsRefusedFor, IsTask, IsToCheck, asked_of};
+
+use crate::runs::Job;
+use crate::stopping::{Refusal, Source, Stop};
+use async_window::{Owner, Request};
+use command_words::{Command, RunWords, command_in, live_in};
+use ftt_io::{FetchFault, Shelf};
+use input_text::{
+    RequestFault, Step, StepFault, System, SystemFault, read_requests, read_steps, read_system,
+};
+use plan_check::{Certificate, PlanTextFault, read_plan};
+use requirement_table::Mask;
+use std::alloc::Global;
+
+/// What is to be done.
+#[derive(Debug, Drop)]
+pub enum Task {
+    /// To write the log of the run, and the report after it or not.
+    Log(Job, bool),
+    /// To write so many of the last rows of the log, and the report after them or not.
+    Tail(Job, u16, bool),
+    /// To write the plan of the table that stands after the run.
+    Table(Job),
+    /// To check the certificate against the changes of the steps.
+    Check(Job, Certificate),
+    /// To write the summary of the run of the input that this number makes.
+    Summary(u32),
+}
+
+/// A run by threads that is to be done.
+#[derive(Debug, Drop)]
+pub struct LiveTask {
+    /// The run.
+    pub job: Job,
+    /// Whether the report is to be written after the log.
+    pub report: bool,
+}
+
+/// Fetches a file's bytes.
+fn fetch_file<S: Shelf>(
+    alloc: Global,
+    shelf: &mut S,
+    source: Source,
+    name: &str,
+) -> Result<Vec<u8>, Stop>
+    ensures fetched { Fetches S.told_files S.fetches S.faults shelf.old shelf.new 1 }
+    ensures ok { IfOk result (λ bytes. ForSome (S.told_files shelf.old)
+        (λ files. within_limit source (files name.now) ≡ Ok bytes.items)) }
+    ensures stop { IfErr result (Bars S.told_files S.faults shelf.old shelf.new
+        (λ files read. read ≡ within_limit source (files name.now))) }
+{
+    match shelf.fetch(alloc, name, source.limit()) {
+        Ok(bytes) => Ok(bytes),
+        Err(FetchFault::Failed) => Err(Stop::Read),
+        Err(FetchFault::TooLong) => Err(Stop::Input(Refusal::TooLong(source))),
+        Err(FetchFault::Memory) => Err(Stop::Memory),
+    }
+}
+
+/// Fetches and reads the system file.
+fn load_system<S: Shelf>(alloc: Global, shelf: &mut S, name: &str) -> Result<System, Stop>
+    ensures fetched { Fetches S.told_files S.fetches S.faults shelf.old shelf.new 1 }
+    ensures valid { IfOk result IsSystem }
+    ensures ok { IfOk result (λ system. ForSome (S.told_files shelf.old)
+        (λ files. system_in files name.now ≡ Ok system)) }
+    ensures stop { IfErr result (Bars S.told_files S.faults shelf.old shelf.new
+        (λ files read. read ≡ system_in files name.now)) }
+{
+    let bytes = fetch_file(alloc, shelf, Source::System, name)?;
+    match read_system(alloc, bytes.as_slice()) {
+        Ok(system) => Ok(system),
+        Err(SystemFault::Memory) => Err(Stop::Memory),
+        Err(fault) => Err(Stop::Input(Refusal::System(fault))),
+    }
+}
+
+/// Fetches and reads the steps file.
+fn load_steps<S: Shelf>(alloc: Global, shelf: &mut S, name: &str) -> Result<Vec<Step>, Stop>
+    ensures fetched { Fetches S.told_files S.fetches S.faults shelf.old shelf.new 1 }
+    ensures valid { IfOk result (λ steps. AreLegalSteps steps.items) }
+    ensures ok { IfOk result (λ steps. ForSome (S.told_files shelf.old)
+        (λ files. steps_in files name.now ≡ Ok steps.items)) }
+    ensures stop { IfErr result (Bars S.told_files S.faults shelf.old shelf.new
+        (λ files read. read ≡ steps_in files name.now)) }
+{
+    let bytes = fetch_file(alloc, shelf, Source::Steps, name)?;
+    match read_steps(alloc, bytes.as_slice()) {
+        Ok(steps) => Ok(steps),
+        Err(StepFault::Memory) => Err(Stop::Memory),
+        Err(fault) => Err(Stop::Input(Refusal::Steps(fault))),
+    }
+}
+
+/// Fetches and reads the requests file, for these owners.
+fn load_requests<S: Shelf>(
+    alloc: Global,
+    shelf: &mut S,
+    name: &str,
+    owners: &[Owner],
+) -> Result<Vec<Request>, Stop>
+    ensures fetched { Fetches S.told_files S.fetches S.faults shelf.old shelf.new 1 }
+    ensures valid { IfOk result (λ requests. AreLegal owners.now requests.items) }
+    ensures ok { IfOk result (λ requests. ForSome (S.told_files shelf.old)
+        (λ files. requests_in files (Some name.now) owners.now ≡ Ok requests.items)) }
+    ensures stop { IfErr result (Bars S.told_files S.faults shelf.old shelf.new
+        (λ files read. read ≡ requests_in files (Some name.now) owners.now)) }
+{
+    let bytes = fetch_file(alloc, shelf, Source::Requests, name)?;
+    match read_requests(alloc, bytes.as_slice(), owners) {
+        Ok(requests) => Ok(requests),
+        Err(RequestFault::Memory) => Err(Stop::Memory),
+        Err(fault) => Err(Stop::Input(Refusal::Requests(fault))),
+    }
+}
+
+/// The requests of a file, where one is named, and none otherwise.
+fn load_named_requests<S: Shelf>(
+    alloc: Global,
+    shelf: &mut S,
+    name: Option<&str>,
+    owners: &[Owner],
+) -> Result<Vec<Request>, Stop>
+    ensures fetched { Fetches S.told_files S.fetches S.faults shelf.old shelf.new
+        (named (option_map (λ word. word.now) name.entry)) }
+    ensures valid { IfOk result (λ requests. AreLegal owners.now requests.items) }
+    ensures ok { IfOk result (λ requests. ForSome (S.told_files shelf.old)
+        (λ files. requests_in files (option_map (λ word. word.now) name.entry) owners.now ≡ Ok requests.items)) }
+    ensures stop { IfErr result (Bars S.told_files S.faults shelf.old shelf.new
+        (λ files read. read ≡ requests_in files (option_map (λ word. word.now) name.entry) owners.now)) }
+{
+    match name {
+        Some(name) => load_requests(alloc, shelf, name, owners),
+        None => Ok(Vec::new(alloc)),
+    }
+}
+
+/// The run that files of these names ask for: the system's file and its text first, then the steps', then the requests'
+/// where one is named.
+fn load_job<S: Shelf>(
+    alloc: Global,
+    shelf: &mut S,
+    system_name: &str,
+    steps_name: &str,
+    requests_name: Option<&str>,
+) -> Result<Job, Stop>
+    ensures fetched { Fetches S.told_files S.fetches S.faults shelf.old shelf.new
+        (2 + named (option_map (λ word. word.now) requests_name.entry)) }
+    ensures job { IfOk result IsJob }
+    ensures ok { IfOk result (λ job. ForSome (S.told_files shelf.old)
+        (λ files. job_in files system_name.now steps_name.now (option_map (λ word. word.now) requests_name.entry)
+        ≡ Ok job)) }
+    ensures stop { IfErr result (Bars S.told_files S.faults shelf.old shelf.new
+        (λ files read. read ≡ job_in files system_name.now steps_name.now
+        (option_map (λ word. word.now) requests_name.entry))) }
+{
+    let system = load_system(alloc, shelf, system_name)?;
+    let steps = load_steps(alloc, shelf, steps_name)?;
+    let requests = load_named_requests(alloc, shelf, requests_name, system.owners.as_slice())?;
+    Ok(Job::of(system, steps, requests))
+}
+
+/// The certificate of a plan's text.
+fn plan_in(alloc: Global, bytes: &[u8]) -> Result<Certificate, Stop>
+    ensures certificate { IfOk result IsToCheck }
+    ensures ok { IfOk result (λ certificate. IsPlanMeant bytes.now (Ok certificate)) }
+    ensures stop { IfErr result (IsRefusedFor (IsPlanMeant bytes.now)) }
+{
+    let certificate = match read_plan(alloc, bytes) {
+        Ok(certificate) => certificate,
+        Err(PlanTextFault::Line { number }) => return Err(Stop::Input(Refusal::Plan(number))),
+        Err(PlanTextFault::Memory) => return Err(Stop::Memory),
+    };
+    if certificate.from() != 0 || certificate.pending() != Mask::empty() {
+        return Err(Stop::Input(Refusal::LaterPlan));
+    }
+    Ok(certificate)
+}
+
+/// Fetches and reads the plan file.
+fn load_plan<S: Shelf>(alloc: Global, shelf: &mut S, name: &str) -> Result<Certificate, Stop>
+    ensures fetched { Fetches S.told_files S.fetches S.faults shelf.old shelf.new 1 }
+    ensures certificate { IfOk result IsToCheck }
+    ensures ok { IfOk result (λ certificate. ForSome (S.told_files shelf.old)
+        (λ files. IsPlanIn files name.now (Ok certificate))) }
+    ensures stop { IfErr result (Bars S.told_files S.faults shelf.old shelf.new
+        (λ files plan. IsPlanIn files name.now plan)) }
+{
+    let bytes = fetch_file(alloc, shelf, Source::Plan, name)?;
+    plan_in(alloc, bytes.as_slice())
+}
+
+/// The log that `replay` asks for, or so many of its last rows, and the report after it or not.
+fn load_replay<S: Shelf>(
+    alloc: Global,
+    shelf: &mut S,
+    run: RunWords<'_>,
+    tail: Option<u16>,
+) -> Result<Task, Stop>
+    ensures fetched { Fetches S.told_files S.fetches S.faults shelf.old shelf.new
+        (files_named (Some (replay (run_read run.entry) tail))) }
+    ensures task { IfOk result IsTask }
+    ensures ok { IfOk result (λ task. ForSome (S.told_files shelf.old)
+        (λ files. IsAskedOf files (replay (run_read run.entry) tail) (Ok (asked_of task)))) }
+    ensures stop { IfErr result (Bars S.told_files S.faults shelf.old shelf.new
+        (λ files asked_for. IsAskedOf files (replay (run_read run.entry) tail) asked_for)) }
+{
+    let job = load_job(alloc, shelf, run.system, run.steps, run.requests)?;
+    match tail {
+        None => Ok(Task::Log(job, run.report)),
+        Some(count) => Ok(Task::Tail(job, count, run.report)),
+    }
+}
+
+/// The plan that `admit` asks for.
+fn load_table<S: Shelf>(
+    alloc: Global,
+    shelf: &mut S,
+    system_name: &str,
+    steps_name: &str,
+) -> Result<Task, Stop>
+    ensures fetched { Fetches S.told_files S.fetches S.faults shelf.old shelf.new 2 }
+    ensures task { IfOk result IsTask }
+    ensures ok { IfOk result (λ task. ForSome (S.told_files shelf.old)
+        (λ files. IsAskedOf files (admit system_name.now steps_name.now) (Ok (asked_of task)))) }
+    ensures stop { IfErr result (Bars S.told_files S.faults shelf.old shelf.new
+        (λ files asked_for. IsAskedOf files (admit system_name.now steps_name.now) asked_for)) }
+{
+    let job = load_job(alloc, shelf, system_name, steps_name, None)?;
+    Ok(Task::Table(job))
+}
+
+/// The check that `check` asks for.
+fn load_check<S: Shelf>(
+    alloc: Global,
+    shelf: &mut S,
+    system_name: &str,
+    steps_name: &str,
+    plan_name: &str,
+) -> Result<Task, Stop>
+    ensures fetched { Fetches S.told_files S.fetches S.faults shelf.old shelf.new 3 }
+    ensures task { IfOk result IsTask }
+    ensures ok { IfOk result (λ task. ForSome (S.told_files shelf.old)
+        (λ files. IsAskedOf files (check system_name.now steps_name.now plan_name.now) (Ok (asked_of task)))) }
+    ensures stop { IfErr result (Bars S.told_files S.faults shelf.old shelf.new
+        (λ files asked_for. IsAskedOf files (check system_name.now steps_name.now plan_name.now) asked_for)) }
+{
+    let job = load_job(alloc, shelf, system_name, steps_name, None)?;
+    let certificate = load_plan(alloc, shelf, plan_name)?;
+    Ok(Task::Check(job, certificate))
+}
+
+/// The task that a command asks for.
+fn load_command<S: Shelf>(alloc: Global, shelf: &mut S, command: Command<'_>) -> Result<Task, Stop>
+    ensures fetched { Fetches S.told_files S.fetches S.faults shelf.old shelf.new
+        (files_named (Some (command_read command.entry))) }
+    ensures task { IfOk result IsTask }
+    ensures ok { IfOk result (λ task. ForSome (S.told_files shelf.old)
+        (λ files. IsAskedOf files (command_read command.entry) (Ok (asked_of task)))) }
+    ensures stop { IfErr result (Bars S.told_files S.faults shelf.old shelf.new
+        (λ files asked_for. IsAskedOf files (command_read command.entry) asked_for)) }
+{
+    match command {
+        Command::Replay { run, tail } => load_replay(alloc, shelf, run, tail),
+        Command::Admit { system, steps } => load_table(alloc, shelf, system, steps),
+        Command::Check {
+            system,
+            steps,
+            plan,
+        } => load_check(alloc, shelf, system, steps, plan),
+        Command::Generate { number } => Ok(Task::Summary(number)),
+    }
+}
+
+/// The task that the words of a call ask for.
+pub fn load<S: Shelf>(alloc: Global, words: &[String], shelf: &mut S) -> Result<Task, Stop>
+    ensures fetched { Fetches S.told_files S.fetches S.faults shelf.old shelf.new
+        (file_count (map string_bytes words.now)) }
+    ensures task { IfOk result IsTask }
+    ensures ok { IfOk result (λ task. ForSome (S.told_files shelf.old)
+        (λ files. IsAsked (map string_bytes words.now) files (Ok (asked_of task)))) }
+    ensures stop { IfErr result (IsBarred (command_of (map string_bytes words.now) ≡ None)
+        (Rose (S.faults shelf.old) (S.faults shelf.new)) (S.told_files shelf.old)
+        (IsAsked (map string_bytes words.now))) }
+    ensures command { command_of (map string_bytes words.now) ≡ None
+        → IsErrOf result Stop.Words ⊎ IsErrOf result Stop.Memory }
+{
+    let command = command_in(alloc, words)?;
+    load_command(alloc, shelf, command)
+}
+
+/// The run by threads that the words of a call ask for.
+pub fn load_live<S: Shelf>(alloc: Global, words: &[String], shelf: &mut S) -> Result<LiveTask, Stop>
+    ensures fetched { Fetches S.told_files S.fetches S.faults shelf.old shelf.new
+        (live_file_count (map string_bytes words.now)) }
+    ensures job { IfOk result (λ task. IsJob task.job) }
+    ensures ok { IfOk result (λ task. ForSome (S.told_files shelf.old)
+        (λ files. IsLiveAsked (map string_bytes words.now) files (Ok (live_log_of task.job task.report)))) }
+    ensures stop { IfErr result (IsBarred (live_of (map string_bytes words.now) ≡ None)
+        (Rose (S.faults shelf.old) (S.faults shelf.new)) (S.told_files shelf.old)
+        (IsLiveAsked (map string_bytes words.now))) }
+    ensures command { live_of (map string_bytes words.now) ≡ None
+        → IsErrOf result Stop.Words ⊎ IsErrOf result Stop.Memory }
+{
+    let run = live_in(alloc, words)?;
+    let job = load_job(alloc, shelf, run.system, run.steps, run.requests)?;
+    Ok(LiveTask {
+        job,
+        report: run.report,
+    })
+}

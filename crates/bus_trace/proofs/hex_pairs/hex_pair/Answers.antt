@@ -1,5 +1,0 @@
-use Rattle.bus_trace.proofs.RowDigits.{pair_is}
-use Rattle.bus_trace.proofs.hex_pairs.hex_pair.Goals as goal
-
-pub returns : goal.returns
-returns c = record { digits = cc (pair_is c.args.byte c.ranges.byte.fits) }

@@ -1,9 +1,0 @@
-use Rattle.std.proofs.Common.{◌≡◌, ◌^◌, ◌<◌, take}
-use Rattle.std.specs.Str.Parse.{digits_value}
-use Rattle.bus_trace.proofs.row_fields.read_hex.Given as goal
-
-abbrev pub invariant-loop-byte : goal.invariant-loop-byte
-invariant-loop-byte l = record {
-  so_far : l.number ≡ digits_value 16 (take l.byte-index l.field);
-  small : l.number < 16 ^ l.byte-index;
-}

@@ -1,0 +1,94 @@
+-- What clap's getters read, by the rows of its matches.
+use Rattle.std.proofs.Common.{◌≡◌, ◌<◌, ◌^◌, ℕ, Bool, true, false, refl, sym, ap, List, [], ◌∷◌, length, codes, Option, Some, None, Result, Ok, Err, nat_lt, lt-ltb, ltb-true, unwrap_or}
+use Rattle.std.specs.Option.{option_map_or}
+use Rattle.std.specs.Prelude.{option_and_then}
+use Rattle.std.specs.List.{list_all}
+use Rattle.std.specs.Char.{digit_value}
+use Rattle.std.specs.Str.{bytes_eq}
+use Rattle.std.specs.Str.Parse.{AllDigits, IsNumeral, ParsesBool, ParsesUnsigned, digits_value, without_leading_plus}
+use Rattle.std.proofs.lemmas.Slice.Eq.{bytes_eq-Decides}
+use Rattle.clap.specs.Matches.{ReadsOne}
+use Rattle.clap.specs.ValueTests.{is_numeral}
+use Rattle.clap.specs.Walk.{Text}
+use Rattle.clap.proofs.WalkLemmas.{both}
+use Rattle.clap.specs.Words.{is_simple_and_free}
+use Rattle.clap.proofs.OnLiterals.{clap_on_literals}
+use Rattle.command_words.specs.Words.{admit_app, check_app, generate_app, live_app, number_in, replay_app}
+
+is_true : {E : Type 0} (G : Text → Result Bool E → Type 0) (text : Text) (read : Option Bool)
+    → ((t : Text) (x : Result Bool E) → G t x → ParsesBool t x) → ReadsOne G text read → unwrap_or read false ≡ bytes_eq text (codes "true")
+is_true G text (Some true) gives reads = let is : text ≡ codes "true" = gives text (Ok true) reads in rw is refl
+is_true G text (Some false) gives reads = let is : text ≡ codes "false" = gives text (Ok false) reads in rw is refl
+is_true G text None gives reads = go (bytes_eq text (codes "true")) refl
+  where
+    go : (b : Bool) → bytes_eq text (codes "true") ≡ b → false ≡ bytes_eq text (codes "true")
+    go true is = absurd ((gives text (Err reads.0) reads.1).0 ((bytes_eq-Decides text (codes "true")).0 is))
+    go false is = sym is
+
+-- a flag is read as its text says
+pub read_flag : {E : Type 0} (G : Text → Result Bool E → Type 0) (text : Option Text) (read : Option Bool)
+    → ((t : Text) (x : Result Bool E) → G t x → ParsesBool t x) → (text ≡ None → read ≡ None) → ((t : Text) → text ≡ Some t → ReadsOne G t read)
+    → unwrap_or read false ≡ option_map_or (λ t. bytes_eq t (codes "true")) text false
+read_flag G None read gives none some = ap (λ r. unwrap_or r false) (none refl)
+read_flag G (Some text) read gives none some = is_true G text read gives (some text refl)
+
+all_digits : (digits : List ℕ) → AllDigits 10 digits → list_all (λ d. nat_lt (digit_value d) 10) digits ≡ true
+all_digits [] each = refl
+all_digits (digit ∷ rest) each = rw (lt-ltb (digit_value digit) 10 each.0) (all_digits rest each.1)
+
+each_digit : (digits : List ℕ) → list_all (λ d. nat_lt (digit_value d) 10) digits ≡ true → AllDigits 10 digits
+each_digit [] all = tt
+each_digit (digit ∷ rest) all = let parts = both _ _ all in (ltb-true _ _ parts.0, each_digit rest parts.1)
+
+numeral_test : (digits : List ℕ) → IsNumeral 10 digits → is_numeral digits ≡ true
+numeral_test digits is = rw (lt-ltb 0 (length digits) is.0) (all_digits digits is.1)
+
+numeral_back : (digits : List ℕ) → is_numeral digits ≡ true → IsNumeral 10 digits
+numeral_back digits is = let parts = both _ _ is in (ltb-true _ _ parts.0, each_digit digits parts.1)
+
+-- a number is read as its text says
+pub read_number : {E : Type 0} (G : Text → Result ℕ E → Type 0) (bits : ℕ) (text : Text) (read : Option ℕ)
+    → ((t : Text) (x : Result ℕ E) → G t x → ParsesUnsigned bits 10 t x) → ReadsOne G text read → read ≡ number_in bits text
+read_number G bits text (Some n) gives reads =
+    let parsed = gives text (Ok n) reads in
+    let digits = without_leading_plus text in
+    rw (numeral_test digits parsed.0.0, lt-ltb (digits_value 10 digits) (2 ^ bits) parsed.0.1) (ap Some parsed.1)
+read_number G bits text None gives reads =
+    let refused = gives text (Err reads.0) reads.1 in
+    let digits = without_leading_plus text in
+    go (is_numeral digits) refl (nat_lt (digits_value 10 digits) (2 ^ bits)) refl refused
+  where
+    go : (a : Bool) → is_numeral (without_leading_plus text) ≡ a → (b : Bool) → nat_lt (digits_value 10 (without_leading_plus text)) (2 ^ bits) ≡ b
+        → ((IsNumeral 10 (without_leading_plus text) × (digits_value 10 (without_leading_plus text) < 2 ^ bits)) → ⊥)
+        → None ≡ number_in bits text
+    go true is true low refused = absurd (refused (numeral_back _ is, ltb-true _ _ low))
+    go true is false low refused = rw (is, low) refl
+    go false is b low refused = rw is refl
+
+pub read_number_of : {E : Type 0} (G : Text → Result ℕ E → Type 0) (bits : ℕ) (text : Option Text) (read : Option ℕ)
+    → ((t : Text) (x : Result ℕ E) → G t x → ParsesUnsigned bits 10 t x) → (text ≡ None → read ≡ None)
+    → ((t : Text) → text ≡ Some t → ReadsOne G t read) → read ≡ option_and_then (number_in bits) text
+read_number_of G bits None read gives none some = none refl
+read_number_of G bits (Some text) read gives none some = read_number G bits text read gives (some text refl)
+
+-- clap's contract is exact of each command of the table
+
+pub replay_is_simple : is_simple_and_free replay_app ≡ true
+unfolding clap_on_literals replay_app
+replay_is_simple = refl
+
+pub admit_is_simple : is_simple_and_free admit_app ≡ true
+unfolding clap_on_literals admit_app
+admit_is_simple = refl
+
+pub check_is_simple : is_simple_and_free check_app ≡ true
+unfolding clap_on_literals check_app
+check_is_simple = refl
+
+pub generate_is_simple : is_simple_and_free generate_app ≡ true
+unfolding clap_on_literals generate_app
+generate_is_simple = refl
+
+pub live_is_simple : is_simple_and_free live_app ≡ true
+unfolding clap_on_literals live_app
+live_is_simple = refl

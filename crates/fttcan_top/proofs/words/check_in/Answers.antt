@@ -1,7 +1,0 @@
-use Rattle.std.proofs.Common.{◌∙◌, ap}
-use Rattle.clap.specs.Words.{is_simple_and_free}
-use Rattle.fttcan_top.proofs.WordLemmas.{check_is_simple}
-use Rattle.fttcan_top.proofs.words.check_in.Goals as goal
-
-pub parsed-requires : goal.parsed-requires
-parsed-requires c = record { simple = ap is_simple_and_free c.in_ok-command.ensures.app ∙ check_is_simple }

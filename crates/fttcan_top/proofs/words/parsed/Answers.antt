@@ -1,5 +1,0 @@
-use Rattle.clap.proofs.WalkLemmas.{both}
-use Rattle.fttcan_top.proofs.words.parsed.Goals as goal
-
-pub returns-in-Ok-clause-rows : goal.returns-in-Ok-clause-rows
-returns-in-Ok-clause-rows c = (c.in-Ok.ensures.matches (both _ _ c.requires.simple).0).0

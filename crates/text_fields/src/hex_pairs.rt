@@ -1,0 +1,43 @@
+//! The pairs of hexadecimal digits of bytes, in lower case.
+
+ghost use Rattle.std.specs.Prelude.{◌≡◌, ◌<◌, ◌∷◌, []};
+ghost use Rattle.text_fields.specs.HexPairs.{digit_at};
+ghost use Rattle.text_fields.specs.Hexadecimal.{hex_digits};
+
+/// The two digits of each byte from 0 to 255, one pair behind the other.
+static HEX_PAIRS: [u8; 512] = *b"\
+    000102030405060708090a0b0c0d0e0f\
+    101112131415161718191a1b1c1d1e1f\
+    202122232425262728292a2b2c2d2e2f\
+    303132333435363738393a3b3c3d3e3f\
+    404142434445464748494a4b4c4d4e4f\
+    505152535455565758595a5b5c5d5e5f\
+    606162636465666768696a6b6c6d6e6f\
+    707172737475767778797a7b7c7d7e7f\
+    808182838485868788898a8b8c8d8e8f\
+    909192939495969798999a9b9c9d9e9f\
+    a0a1a2a3a4a5a6a7a8a9aaabacadaeaf\
+    b0b1b2b3b4b5b6b7b8b9babbbcbdbebf\
+    c0c1c2c3c4c5c6c7c8c9cacbcccdcecf\
+    d0d1d2d3d4d5d6d7d8d9dadbdcdddedf\
+    e0e1e2e3e4e5e6e7e8e9eaebecedeeef\
+    f0f1f2f3f4f5f6f7f8f9fafbfcfdfeff\
+";
+
+/// The digit at a place of the table.
+#[inline(always)]
+fn digit_at(place: usize) -> u8
+    requires within { place < 512 }
+    ensures digit { result ≡ digit_at place }
+{
+    HEX_PAIRS[place]
+}
+
+/// The two hexadecimal digits of a byte.
+#[inline(always)]
+pub fn hex_pair(byte: u8) -> (u8, u8)
+    ensures digits { result.0 ∷ result.1 ∷ [] ≡ hex_digits 2 byte }
+{
+    let first = 2 * usize::from(byte);
+    (digit_at(first), digit_at(first + 1))
+}

@@ -1,0 +1,20 @@
+//! Fields as text, once for all readers and writers: decimal and hexadecimal numbers, data bytes, whole lines, and rows
+//! of comma-separated fields.
+#![tactic(auto)]
+
+mod csv_rows;
+mod data_bytes;
+mod decimals;
+mod hex_pairs;
+mod hexadecimal;
+mod lines;
+mod row_parts;
+
+pub use csv_rows::{field_in, field_of, number, read_next, records_in};
+pub use data_bytes::{DataBytes, read_bytes, read_data};
+pub use decimals::{read_decimal, read_number};
+pub use hexadecimal::{push_hex, read_hex, read_hexadecimal};
+pub use lines::split_line;
+pub use row_parts::{
+    ROOM, put_byte, put_data_bytes, put_decimal, put_hex, put_identifier, put_word, row_from,
+};
