@@ -2,8 +2,6 @@
 
 ghost use Rattle.std.specs.Prelude.{◌≡◌, ◌+◌, ◌<◌, ◌≤◌, Some, None, nat_lt, nat_eq, if◌then◌else◌};
 
-use crate::unanswered::Unanswered;
-use crate::words;
 use recurrence_check::{Keyed, Repeat, Walk, WalkEnd, lasso, lasso_keyed};
 use std::alloc::{AllocError, Global};
 
@@ -110,61 +108,25 @@ impl Keyed for Values {
     ) };
 }
 
-/// The answer to a call with these words.
-pub fn answer(alloc: Global, word: &str, rest: &str) -> Result<String, Unanswered> {
-    match word {
-        "lasso" => {
-            let (walk, horizon) = walk(alloc, rest)?;
-            compared(alloc, &walk, horizon)
-        }
-        "lasso_keyed" => {
-            let (walk, horizon) = walk(alloc, rest)?;
-            keyed(alloc, &walk, horizon)
-        }
-        "no_memory" => Ok(end(alloc, WalkEnd::Memory)?),
-        _ => Err(Unanswered::Words),
-    }
-}
-
-/// A walk and a horizon as `BACK TOP STOP HORIZON`.
-fn walk(alloc: Global, rest: &str) -> Result<(Values, u64), Unanswered> {
-    let words = words::parts(alloc, rest, ' ')?;
-    let [back, top, stop, horizon] = *words.as_slice() else {
-        return Err(Unanswered::Words);
+/// The answer to a call with these numbers: back, top and stop of a walk, and a horizon. What is found by comparing
+/// states stands in front of what is found by keys.
+pub fn answer(alloc: Global, numbers: &[u64]) -> Result<String, AllocError> {
+    let [back, top, stop, horizon] = *numbers else {
+        return Ok(String::new(alloc));
     };
-    let walk = Values {
-        back: words::number(back)?,
-        top: words::number(top)?,
-        stop: words::number(stop)?,
-    };
-    Ok((walk, words::number(horizon)?))
-}
-
-/// What is found by comparing states.
-fn compared(alloc: Global, walk: &Values, horizon: u64) -> Result<String, Unanswered> {
     if horizon > 100_000 {
-        return Err(Unanswered::Forbidden);
+        return Ok(String::new(alloc));
     }
-    Ok(found(alloc, lasso(alloc, walk, horizon))?)
-}
-
-/// What is found by keys.
-fn keyed(alloc: Global, walk: &Values, horizon: u64) -> Result<String, Unanswered> {
-    if horizon > 100_000 {
-        return Err(Unanswered::Forbidden);
-    }
-    Ok(found(alloc, lasso_keyed(alloc, walk, horizon))?)
+    let walk = Values { back, top, stop };
+    let compared = found(alloc, lasso(alloc, &walk, horizon))?;
+    let keyed = found(alloc, lasso_keyed(alloc, &walk, horizon))?;
+    format!(in alloc; "{compared}, {keyed}")
 }
 
 /// A repeat as `FIRST LENGTH`, or why there is none.
 fn found(alloc: Global, found: Result<Repeat, WalkEnd>) -> Result<String, AllocError> {
     match found {
         Ok(Repeat { first, length }) => format!(in alloc; "{first} {length}"),
-        Err(why) => end(alloc, why),
+        Err(why) => format!(in alloc; "{why}"),
     }
-}
-
-/// Why there is no repeat.
-fn end(alloc: Global, end: WalkEnd) -> Result<String, AllocError> {
-    format!(in alloc; "{end}")
 }
