@@ -63,23 +63,6 @@ keep_last_again count xs ys =
     let same : front ++ (last ++ ys) ≡ xs ++ ys = sym (append_assoc front last ys) ∙ ap (λ l. l ++ ys) (take-append-drop (length xs - count) xs) in
     sym (drop-append-add front (last ++ ys) (length (last ++ ys) - count)) ∙ ap (λ k. drop k (front ++ (last ++ ys))) places ∙ ap (drop (length (xs ++ ys) - count)) same
 
--- the rows that are kept, when one more row was read
-pub next_kept : (count : ℕ) (kept all : List (List ℕ)) (rest row later : List ℕ) → keep_last count (kept ++ rows_in rest) ≡ all
-    → rows_in rest ≡ row ∷ rows_in later → keep_last count (keep_last count (kept ++ row ∷ []) ++ rows_in later) ≡ all
-next_kept count kept all rest row later before first =
-    keep_last_again count (kept ++ row ∷ []) (rows_in later)
-    ∙ ap (keep_last count) (append_assoc kept (row ∷ []) (rows_in later) ∙ ap (λ rows. kept ++ rows) (sym first)) ∙ before
-
-pub kept_again : {A : Type 0} (count : ℕ) (xs : List A) → keep_last count (keep_last count xs) ≡ keep_last count xs
-kept_again count xs = ap (keep_last count) (sym (append-nil (keep_last count xs))) ∙ keep_last_again count xs [] ∙ ap (keep_last count) (append-nil xs)
-
--- the rows that are kept when all were read
-pub all_kept : (count : ℕ) (kept all : List (List ℕ)) (rest : List ℕ) → keep_last count (kept ++ rows_in rest) ≡ all
-    → keep_last count kept ≡ kept → length rest ≡ 0 → kept ≡ all
-all_kept count kept all [] before whole none =
-    sym whole ∙ ap (keep_last count) (sym (append-nil kept)) ∙ ap (λ rows. keep_last count (kept ++ rows)) (sym no_rows) ∙ before
-all_kept count kept all (byte ∷ rest) before whole none = absurd (omega arith)
-
 -- The rows of two texts
 
 begun-append : (byte : ℕ) (row : List ℕ) (rows more : List (List ℕ)) → begun_by byte ((row ∷ rows) ++ more) ≡ begun_by byte (row ∷ rows) ++ more
@@ -94,22 +77,60 @@ has_row byte rest = go (byte == 10) refl (rows_in rest) refl
     go false is [] rows = (byte ∷ [], ([], row_goes_by byte rest is ∙ ap (begun_by byte) rows))
     go false is (row ∷ more) rows = (byte ∷ row, (more, row_goes_by byte rest is ∙ ap (begun_by byte) rows))
 
+-- so two texts have the rows of both, where they have them but for the first byte
+longer : (byte next : ℕ) (rest second : List ℕ) (feed : Bool) → (byte == 10) ≡ feed
+    → rows_in ((next ∷ rest) ++ second) ≡ rows_in (next ∷ rest) ++ rows_in second
+    → rows_in (byte ∷ next ∷ (rest ++ second)) ≡ rows_in (byte ∷ next ∷ rest) ++ rows_in second
+longer byte next rest second true is later =
+    row_ends byte (next ∷ (rest ++ second)) (eqb-true byte 10 is) ∙ ap (λ rows. (byte ∷ []) ∷ rows) later
+    ∙ ap (λ rows. rows ++ rows_in second) (sym (row_ends byte (next ∷ rest) (eqb-true byte 10 is)))
+longer byte next rest second false is later =
+    let (row, (rows, has)) = has_row next rest in
+    row_goes_by byte (next ∷ (rest ++ second)) is ∙ ap (begun_by byte) (later ∙ ap (λ l. l ++ rows_in second) has)
+    ∙ ap (λ l. begun_by byte l ++ rows_in second) (sym has)
+    ∙ ap (λ l. l ++ rows_in second) (sym (row_goes_by byte (next ∷ rest) is))
+
 -- the rows of whole rows and of a text behind them
 pub rows_in-append : (first second : List ℕ) → AreRows first → rows_in (first ++ second) ≡ rows_in first ++ rows_in second
 rows_in-append [] second are = ap (λ rows. rows ++ rows_in second) (sym no_rows)
 rows_in-append (byte ∷ []) second are =
     row_ends byte second are ∙ ap (λ rows. (byte ∷ []) ∷ rows ++ rows_in second) (sym no_rows)
     ∙ ap (λ rows. rows ++ rows_in second) (sym (row_ends byte [] are))
-rows_in-append (byte ∷ next ∷ rest) second are = go (byte == 10) refl
-  where
-    later : rows_in ((next ∷ rest) ++ second) ≡ rows_in (next ∷ rest) ++ rows_in second
-    later = rows_in-append (next ∷ rest) second are
-    go : (b : Bool) → (byte == 10) ≡ b → rows_in (byte ∷ next ∷ (rest ++ second)) ≡ rows_in (byte ∷ next ∷ rest) ++ rows_in second
-    go true is =
-        row_ends byte (next ∷ (rest ++ second)) (eqb-true byte 10 is) ∙ ap (λ rows. (byte ∷ []) ∷ rows) later
-        ∙ ap (λ rows. rows ++ rows_in second) (sym (row_ends byte (next ∷ rest) (eqb-true byte 10 is)))
-    go false is =
-        let (row, (rows, has)) = has_row next rest in
-        row_goes_by byte (next ∷ (rest ++ second)) is ∙ ap (begun_by byte) (later ∙ ap (λ l. l ++ rows_in second) has)
-        ∙ ap (λ l. begun_by byte l ++ rows_in second) (sym has)
-        ∙ ap (λ l. l ++ rows_in second) (sym (row_goes_by byte (next ∷ rest) is))
+rows_in-append (byte ∷ next ∷ rest) second are =
+    longer byte next rest second (byte == 10) refl (rows_in-append (next ∷ rest) second are)
+
+-- The last rows that are kept
+
+-- these rows are kept while the rows of `rest` are read, the last bytes of `text`
+pub record IsKeeping (count : ℕ) (kept : List (List ℕ)) (rest text : List ℕ) : Type 0 where
+  pub whole : keep_last count kept ≡ kept
+  pub rows : keep_last count (kept ++ rows_in rest) ≡ keep_last count (rows_in text)
+
+kept_again : {A : Type 0} (count : ℕ) (xs : List A) → keep_last count (keep_last count xs) ≡ keep_last count xs
+kept_again count xs = ap (keep_last count) (sym (append-nil (keep_last count xs))) ∙ keep_last_again count xs [] ∙ ap (keep_last count) (append-nil xs)
+
+-- before the first of them
+pub begins_keeping : (count : ℕ) (kept : List (List ℕ)) (past text : List ℕ) → AreRows past → kept ≡ keep_last count (rows_in past)
+    → IsKeeping count kept text (past ++ text)
+begins_keeping count kept past text are is = record {
+  whole = ap (keep_last count) is ∙ kept_again count (rows_in past) ∙ sym is;
+  rows = ap (λ rows. keep_last count (rows ++ rows_in text)) is ∙ keep_last_again count (rows_in past) (rows_in text)
+      ∙ ap (keep_last count) (sym (rows_in-append past text are));
+}
+
+-- when one more row was read
+pub next_kept : (count : ℕ) (kept : List (List ℕ)) (text rest row later : List ℕ) (now : List (List ℕ)) → IsKeeping count kept rest text
+    → rows_in rest ≡ row ∷ rows_in later → now ≡ keep_last count (kept ++ row ∷ []) → IsKeeping count now later text
+next_kept count kept text rest row later now before first is = record {
+  whole = ap (keep_last count) is ∙ kept_again count (kept ++ row ∷ []) ∙ sym is;
+  rows = ap (λ rows. keep_last count (rows ++ rows_in later)) is
+      ∙ keep_last_again count (kept ++ row ∷ []) (rows_in later)
+      ∙ ap (keep_last count) (append_assoc kept (row ∷ []) (rows_in later) ∙ ap (λ rows. kept ++ rows) (sym first)) ∙ before.rows;
+}
+
+-- when all were read
+pub all_kept : (count : ℕ) (kept : List (List ℕ)) (text rest : List ℕ) → IsKeeping count kept rest text → length rest ≡ 0
+    → kept ≡ keep_last count (rows_in text)
+all_kept count kept text [] is none =
+    sym is.whole ∙ ap (keep_last count) (sym (append-nil kept)) ∙ ap (λ rows. keep_last count (kept ++ rows)) (sym no_rows) ∙ is.rows
+all_kept count kept text (byte ∷ rest) is none = absurd (omega arith)

@@ -2,6 +2,7 @@
 use Rattle.std.specs.Prelude.{◌≡◌, ℕ, ◌==◌, List, [], ◌∷◌, Option, Some, None, fold, if◌then◌else◌}
 use Rattle.std.specs.List.{concat}
 use Rattle.circular_buffer.specs.Buffer.{keep_last}
+use Rattle.bus_trace.specs.Recent.{LastRows}
 
 -- the rows of a text whose first row begins with this byte, where these are the rows of the rest
 abbrev pub begun_by : ℕ → List (List ℕ) → List (List ℕ)
@@ -25,3 +26,8 @@ last_byte before text = fold (λ last byte. byte) before text
 -- the text is whole rows: it is empty, or a line feed (10) ends it
 abbrev pub AreRows : List ℕ → Type 0
 AreRows text = last_byte 10 text ≡ 10
+
+-- the text is whole rows, and these are its last ones, up to as many as there may be
+pub record HasLast (text : List ℕ) (recent : LastRows) : Type 0 where
+  pub whole : AreRows text
+  pub rows : recent.rows ≡ keep_last recent.most (rows_in text)

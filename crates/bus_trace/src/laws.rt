@@ -1,13 +1,12 @@
 //! Laws about logs. Each function has an empty body, and its contract is the law.
 
 ghost use Rattle.std.specs.Prelude.{◌≡◌, ℕ, ◌++◌, [], ◌∷◌, List};
-ghost use Rattle.circular_buffer.specs.Buffer.{keep_last};
 ghost use Rattle.std.specs.List.{flat_map};
 ghost use Rattle.can_frame.specs.declared.data_frame.TimedFrame.{TimedFrame};
 ghost use Rattle.master_core.specs.declared.event.Event.{Event};
 ghost use Rattle.master_core.specs.History.{AllAfter, next_of};
 ghost use Rattle.bus_trace.specs.EventRows.{SaysWidth, rows_of_event, told_of_event};
-ghost use Rattle.bus_trace.specs.LastRows.{AreRows, rows_in};
+ghost use Rattle.bus_trace.specs.LastRows.{AreRows};
 ghost use Rattle.bus_trace.specs.Log.{end_row, log_text};
 ghost use Rattle.bus_trace.specs.LogRows.{log_rows};
 ghost use Rattle.bus_trace.specs.Row.{text_of_rows};
@@ -31,13 +30,8 @@ pub fn logs_are_rows()
         → log_text history trace ≡ text_of_rows (log_rows history trace) }
 {}
 
-/// The rows of an event, and the last row, are whole rows, and so are whole rows behind whole rows. So the last rows of
-/// a log are found while it goes on: they are the last ones of those that were kept and of those that come behind them.
+/// The rows of an event, and the last row of a log, are whole rows.
 pub fn rows_are_whole()
     ensures event { (event : Event) (frames : List TimedFrame) → AreRows (rows_of_event event frames) }
     ensures end { (next : ℕ) → AreRows (end_row next) }
-    ensures both { (first second : List ℕ) → AreRows first → AreRows second → AreRows (first ++ second) }
-    ensures kept { (count : ℕ) (first second : List ℕ) → AreRows first
-        → keep_last count (keep_last count (rows_in first) ++ rows_in second)
-        ≡ keep_last count (rows_in (first ++ second)) }
 {}

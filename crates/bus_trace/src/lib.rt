@@ -17,6 +17,7 @@ mod row_reading;
 mod rows;
 mod streaming;
 
+pub use gathering::Gathered;
 pub use log::log_text;
 pub use log_fault::LogFault;
 pub use log_reading::read_log;

@@ -1,9 +1,9 @@
 //! The last rows of a log.
 
-ghost use Rattle.std.specs.Prelude.{◌≡◌, ◌<◌, ◌≤◌, ◌++◌, ◌∷◌, [], IfOk, OnOk, drop, length, take};
+ghost use Rattle.std.specs.Prelude.{◌≡◌, ◌<◌, ◌≤◌, ◌++◌, ◌∷◌, [], List, ℕ, IfOk, OnOk, drop, length, take};
 ghost use Rattle.std.specs.List.{concat, flat_map};
 ghost use Rattle.circular_buffer.specs.Buffer.{keep_last};
-ghost use Rattle.bus_trace.specs.LastRows.{rows_in};
+ghost use Rattle.bus_trace.specs.LastRows.{AreRows, HasLast, rows_in};
 ghost use Rattle.bus_trace.specs.Recent.{bytes_of};
 
 use circular_buffer::HeapCircularBuffer;
@@ -88,15 +88,15 @@ pub fn row_len(text: &[u8]) -> usize
     text.len()
 }
 
-/// Puts the rows of a text behind the others, one after the other.
+/// Puts the rows of a text behind the others, one after the other. The text is whole rows.
 ///
 /// # Errors
 ///
 /// Only where memory runs out.
 pub fn push_rows(recent: &mut Recent, alloc: Global, text: &[u8]) -> Result<(), AllocError>
-    requires kept { keep_last recent.old.most recent.old.rows ≡ recent.old.rows }
-    ensures rows { OnOk result
-        (recent.new.rows ≡ keep_last recent.old.most (recent.old.rows ++ rows_in text.now)) }
+    requires whole { AreRows text.now }
+    ensures last { OnOk result ((past : List ℕ)
+        → HasLast past recent.old → HasLast (past ++ text.now) recent.new) }
     ensures most { recent.new.most ≡ recent.old.most }
 {
     let mut rest = text;

@@ -4,6 +4,7 @@
 ghost use Rattle.std.specs.Prelude.{◌≡◌, ◌+◌, ◌<◌, ◌≤◌, ◌++◌, ◌∷◌, []};
 ghost use Rattle.std.specs.Prelude.{List, OnOk, OnErr, IfOk, is_some, length, map};
 ghost use Rattle.can_frame.specs.declared.data_frame.TimedFrame.{TimedFrame};
+ghost use Rattle.change_protocol.specs.declared.operations.Act.TheVariants as act_of;
 ghost use Rattle.input_text.specs.SystemFile.{IsSystem};
 ghost use Rattle.input_text.specs.RequestsFile.{AreLegal};
 ghost use Rattle.master_core.specs.Calls.{asked, call_of, opens};
@@ -176,7 +177,7 @@ impl Bus {
         ensures on { OnOk result (BringsOn self.old self.new []) }
         ensures last { OnOk result (CanTellLast self.new.master.history []) }
         ensures calls { OnOk result (map call_of self.new.master.history
-            ≡ map call_of self.old.master.history ++ call_of (Submit caller change.now 0 Passed []) ∷ []) }
+            ≡ map call_of self.old.master.history ++ asked caller (act_of.Ask change.now) ∷ []) }
         ensures next { OnOk result (next_of self.new.master.history ≡ next_of self.old.master.history) }
         ensures kept { OnOk result (is_some self.new.trace ≡ is_some self.old.trace) }
         ensures still { OnErr result (GoesStill self.old self.new) }
@@ -184,5 +185,44 @@ impl Bus {
         calls_between();
         self.master.submit(alloc, caller, change)?;
         Ok(())
+    }
+
+    /// Answers a look.
+    fn look(&mut self, alloc: Global, caller: u8) -> Result<(), AllocError>
+        requires caller { (1 ≤ caller) × (caller ≤ 8) }
+        ensures on { OnOk result (BringsOn self.old self.new []) }
+        ensures last { OnOk result (CanTellLast self.new.master.history []) }
+        ensures calls { OnOk result (map call_of self.new.master.history
+            ≡ map call_of self.old.master.history ++ asked caller act_of.Look ∷ []) }
+        ensures next { OnOk result (next_of self.new.master.history ≡ next_of self.old.master.history) }
+        ensures kept { OnOk result (is_some self.new.trace ≡ is_some self.old.trace) }
+        ensures still { OnErr result (GoesStill self.old self.new) }
+    {
+        calls_between();
+        self.master.reserve(alloc, 1)?;
+        self.master.look(caller);
+        Ok(())
+    }
+
+    /// Answers an act of operator `caller`, 1 to 8.
+    ///
+    /// # Errors
+    ///
+    /// Only where memory runs out. Then the act is not answered.
+    pub fn answer(&mut self, alloc: Global, caller: u8, act: &Act) -> Result<(), AllocError>
+        requires caller { (1 ≤ caller) × (caller ≤ 8) }
+        requires few { next_of self.old.master.history ≤ 20000 }
+        ensures on { OnOk result (BringsOn self.old self.new []) }
+        ensures last { OnOk result (CanTellLast self.new.master.history []) }
+        ensures calls { OnOk result (map call_of self.new.master.history
+            ≡ map call_of self.old.master.history ++ asked caller act.now ∷ []) }
+        ensures next { OnOk result (next_of self.new.master.history ≡ next_of self.old.master.history) }
+        ensures kept { OnOk result (is_some self.new.trace ≡ is_some self.old.trace) }
+        ensures still { OnErr result (GoesStill self.old self.new) }
+    {
+        match act {
+            Act::Ask { change } => self.ask(alloc, caller, change),
+            Act::Look => self.look(alloc, caller),
+        }
     }
 }

@@ -1,8 +1,15 @@
-use Rattle.std.proofs.Common.{◌≡◌, ◌∙◌, ◌++◌, ◌∷◌, [], ap, ap₂, length, rules, sym}
+use Rattle.std.proofs.Common.{◌≡◌, ◌∙◌, ◌++◌, ◌∷◌, [], ap, ap₂, length, refl, rules, sym}
 use Rattle.circular_buffer.specs.Buffer.{keep_last}
 use Rattle.bus_trace.specs.LastRows.{rows_in}
-use Rattle.bus_trace.proofs.RowLemmas.{all_kept, kept_again, next_kept}
+use Rattle.bus_trace.proofs.RowEnds.{rows-append}
+use Rattle.bus_trace.proofs.RowLemmas.{all_kept, begins_keeping, next_kept}
 use Rattle.bus_trace.proofs.recent.push_rows.Goals as goal
+
+pub loop-rest-init : goal.loop-rest-init
+loop-rest-init c = record {
+  most = refl;
+  last = λ past has. begins_keeping c.args.recent.now.most c.args.recent.now.rows past c.args.text.now has.whole has.rows;
+}
 
 pub loop-rest-preserved : goal.loop-rest-preserved
 loop-rest-preserved c =
@@ -17,13 +24,14 @@ loop-rest-preserved c =
     c.push.ensures.rows ∙ ap₂ (λ most bytes. keep_last most (kept ++ bytes ∷ [])) c.loop-rest.invariant.most items in
     record {
       most = c.push.ensures.most ∙ c.loop-rest.invariant.most;
-      whole = ap (keep_last count) now ∙ kept_again count (kept ++ row ∷ []) ∙ sym now;
-      rows = ap (λ rows. keep_last count (rows ++ rows_in later)) now
-          ∙ next_kept count kept _ c.loop-rest.rest.now row later c.loop-rest.invariant.rows first;
+      last = λ past has. next_kept count kept (past ++ c.args.text.now) c.loop-rest.rest.now row later c.push.new.self.rows (c.loop-rest.invariant.last past has) first now;
     }
 
-pub returns-clause-rows : goal.returns-clause-rows
-returns-clause-rows c =
+pub returns-clause-last : goal.returns-clause-last
+returns-clause-last c =
     let none : length c.loop-rest.rest.now ≡ 0 = search rules in
-    let all = all_kept c.args.recent.now.most c.loop-rest.recent.rows (keep_last c.args.recent.now.most (c.args.recent.now.rows ++ rows_in c.args.text.now)) c.loop-rest.rest.now c.loop-rest.invariant.rows c.loop-rest.invariant.whole none in
-    search (rules, all)
+    λ past has. record {
+      whole = rows-append past c.args.text.now has.whole c.requires.whole;
+      rows = all_kept c.args.recent.now.most c.loop-rest.recent.rows (past ++ c.args.text.now) c.loop-rest.rest.now (c.loop-rest.invariant.last past has) none
+          ∙ ap (λ most. keep_last most (rows_in (past ++ c.args.text.now))) (sym c.loop-rest.invariant.most);
+    }
