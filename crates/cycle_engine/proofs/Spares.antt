@@ -1,18 +1,18 @@
 -- How long a list nodes can learn without memory, as they change one after the other.
-use Rattle.std.proofs.Common.{◌≡◌, ℕ, ◌<◌, ◌≤◌, List, All, length, get_or, sym, subst, arith}
+use Rattle.std.proofs.Common.{◌≡◌, ℕ, ◌<◌, ◌≤◌, List, All, length, get_or, inl, inr, sym, subst, arith}
 use Rattle.std.specs.List.{slice_set}
 use Rattle.std.proofs.Math.Seq.{map-set_same}
 use Rattle.std.proofs.lemmas.Bool.{cases_eq}
-use Rattle.std.proofs.lemmas.List.{get_or_default, get_or-set_same, get_or-set_other, length-set}
+use Rattle.std.proofs.lemmas.List.{get_or-set_same, get_or-set_other, length-set}
 use Rattle.std.proofs.lemmas.List.Elements.{All-map}
 use Rattle.node_model.specs.Node.{NodeView}
-use Rattle.cycle_engine.specs.Nodes.{HaveSpare, KeepSpare, spares_of}
+use Rattle.cycle_engine.specs.Nodes.{KeepSpare, spares_of}
 use Rattle.cycle_engine.proofs.Lists.{All-from_map}
 
 -- one of them changes, and it not
 pub spares_of-same : (nodes : List NodeView) (place : ℕ) (d after : NodeView) → after.spare ≡ (get_or nodes place d).spare
     → spares_of (slice_set nodes place after) ≡ spares_of nodes
-spares_of-same nodes place d after same = map-set_same (λ n. n.spare) nodes place d after same
+spares_of-same nodes place d after same = map-set_same (λ n. n.spare) nodes place after d same
 
 -- where it is the same in each node, it did not fall
 pub kept-same : (old new : List NodeView) → spares_of new ≡ spares_of old → KeepSpare old new

@@ -93,7 +93,9 @@ impl NodeStations {
     /// What is true of the nodes of a bus. This does nothing: it brings the fact to a proof.
     pub fn are_known(&self)
         ensures known { AreNodes self.now.layout (states_of self.now.nodes) }
-    {}
+    {
+        let _ = &self.layout;
+    }
 
     /// The number of requests that are not sent.
     pub fn left(&self) -> usize
