@@ -1,136 +1,87 @@
--- A run whose rows are put, and one that is cut short.
-use Rattle.std.proofs.Common.{◌≡◌, ℕ, suc, ◌+◌, ◌-◌, ◌<◌, arith, replicate, length, get_or, take, drop, List, [], ◌∷◌, ◌++◌, map, Option, refl, sym, ap, ◌∙◌, subst, append_assoc}
-use Rattle.std.specs.List.{flat_map}
-use Rattle.std.proofs.Math.Seq.{drop-cons}
-use Rattle.std.proofs.lemmas.List.{append-nil, replicate-append-replicate, take-append-drop}
-use Rattle.std.proofs.lemmas.List.Concat.{flat_map-append}
-use Rattle.input_text.specs.declared.steps.Step.{Step}
+-- A run whose rows are heard, and one that is cut short.
+use Rattle.std.proofs.Common.{◌≡◌, ℕ, List, [], ◌∷◌, ◌++◌, map, refl, sym, ap, ◌∙◌, subst}
+use Rattle.std.specs.Prelude.{is_some}
+use Rattle.std.proofs.lemmas.List.{append-nil}
 use Rattle.can_frame.specs.declared.data_frame.TimedFrame.{TimedFrame}
-use Rattle.master_core.specs.History.{IsPlainlyLegal, next_of}
-use Rattle.master_core.specs.Keeping.{MasterView}
-use Rattle.kept_run.specs.Progress.{IsOnTheWay}
-use Rattle.ftt_io.specs.Puts.{Puts, PutsPrefix}
-use Rattle.ftt_io.proofs.Shared.{Puts-append, PutsPrefix-all, PutsPrefix-append}
 use Rattle.bus_trace.specs.EventRows.{rows_of_event}
 use Rattle.bus_trace.specs.Log.{events_rows}
-use Rattle.replay_run.specs.Run.{Call, call_of, calls_of, opens}
-use Rattle.replay_run.specs.declared.writing.Written.{Written}
-use Rattle.replay_run.specs.Progress.{BringsOn, CanGo, CanWrite, IsCutBehind, IsCutIn, KeepsWriting, PutsFrontOfLast, PutsLast, Start}
+use Rattle.master_core.specs.Calls.{Call, call_of}
+use Rattle.replay_run.specs.declared.bus.Bus.{Bus}
+use Rattle.replay_run.specs.declared.cut.Cut.TheVariants.{Memory, Write}
+use Rattle.replay_run.specs.Progress.{BringsOn, CanGo, CanLog, GoesOn, GoesStill, HearsLast, IsCutBehind, IsLogged, Start}
 
-pub can-go : (run : Written) (told : Option (List ℕ)) → CanWrite run told → CanGo run
-can-go run told can = (can.0.setting, can.1.trace, can.1.going)
-
--- a run that was brought on, and the rows of whose last event were put, is being written
-pub put-on : (run after : Written) (frames : List TimedFrame) (told now : Option (List ℕ)) → BringsOn run after frames
-    → PutsLast after.master.history frames told now → KeepsWriting run after told now
-put-on run after frames told now brings puts = λ start writing.
-    let on = brings start.setting writing.trace writing.going in
+-- a run that only made room was brought on no less
+pub still-on : (run between after : Bus) (frames : List TimedFrame) → GoesStill run between → BringsOn between after frames
+    → BringsOn run after frames
+still-on run between after frames still brings = λ setting trace going.
+    let on = brings setting trace (still.going setting trace going) in
     record {
-      trace = writing.trace ++ frames;
+      event = on.event;
+      history = on.history ∙ ap (λ h. h ++ on.event ∷ []) still.same;
       going = on.going;
-      puts = subst (Puts start.told now) (sym on.rows)
-          (Puts-append start.told told now (events_rows writing.trace [] run.master.history) (rows_of_event on.event frames) writing.puts
-          (puts on.event (record { before = run.master.history; is = on.history })));
+      rows = on.rows ∙ ap (λ h. events_rows trace [] h ++ rows_of_event on.event frames) still.same;
     }
 
--- where they were put in part, it is cut behind that event
-pub cut-behind : (run after : Written) (frames : List TimedFrame) (calls : List Call) (told now : Option (List ℕ)) → BringsOn run after frames
-    → map call_of after.master.history ≡ map call_of run.master.history ++ calls
-    → PutsFrontOfLast after.master.history frames told now → IsCutBehind run calls told now
-cut-behind run after frames calls told now brings answered puts = λ start writing.
-    let on = brings start.setting writing.trace writing.going in
-    record {
-      history = after.master.history;
-      trace = writing.trace ++ frames;
-      later = [];
-      answers = append-nil (map call_of after.master.history) ∙ answered;
-      known = on.going.way.known;
-      plain = on.going.plain;
-      under_way = on.going.way.under_way;
-      puts = subst (PutsPrefix start.told now) (sym on.rows)
-          (PutsPrefix-append start.told told now (events_rows writing.trace [] run.master.history) writing.puts
-          (puts on.event (record { before = run.master.history; is = on.history })));
-    }
+pub still-can : (run after : Bus) → GoesStill run after → CanGo run → CanGo after
+still-can run after still can = (can.0, can.1, still.going can.0 can.1 can.2)
 
--- where nothing was put, before these calls
-pub cut-before : (run : Written) (calls : List Call) (told : Option (List ℕ)) → IsCutBehind run calls told told
-cut-before run calls told = λ start writing. record {
-  history = run.master.history;
-  trace = writing.trace;
-  later = calls;
-  answers = refl;
-  known = writing.going.way.known;
-  plain = writing.going.plain;
-  under_way = writing.going.way.under_way;
-  puts = PutsPrefix-all start.told told (events_rows writing.trace [] run.master.history) writing.puts;
-}
+module _ {L : Type 0} (Heard Broke : L → List ℕ → L → Type 0) where
+  pub can-go : (run : Bus) (told : L) → CanLog Heard run told → CanGo run
+  can-go run told can = (can.0.setting, can.1.trace, can.1.going)
 
--- the first of some calls are the first of more
-cut-longer : (start : Start) (calls more : List Call) (now : Option (List ℕ)) → IsCutIn start calls now → IsCutIn start (calls ++ more) now
-cut-longer start calls more now is = record {
-  history = is.history;
-  trace = is.trace;
-  later = is.later ++ more;
-  answers = sym (append_assoc (map call_of is.history) is.later more) ∙ ap (λ l. l ++ more) is.answers;
-  known = is.known;
-  plain = is.plain;
-  under_way = is.under_way;
-  puts = is.puts;
-}
+  -- what joins the rows of calls
+  abbrev pub More : Type 0
+  More = (one other third : L) (rows later : List ℕ) → Heard one rows other → Heard other later third → Heard one (rows ++ later) third
 
--- a run that is cut in its next calls, when it had got so far
-pub cut-on : (run between : Written) (calls some more : List Call) (told middle now : Option (List ℕ)) → KeepsWriting run between told middle
-    → IsCutBehind between some middle now → (map call_of between.master.history ++ some) ++ more ≡ map call_of run.master.history ++ calls
-    → IsCutBehind run calls told now
-cut-on run between calls some more told middle now keeps cut all = λ start writing.
-    subst (λ l. IsCutIn start l now) all (cut-longer start (map call_of between.master.history ++ some) more now (cut start (keeps start writing)))
+  abbrev pub Later : Type 0
+  Later = (one other third : L) (rows later : List ℕ) → Heard one rows other → Broke other later third → Broke one (rows ++ later) third
 
--- a master that only made room keeps a run as it is
-pub spared : (run : Written) (master : MasterView) (told : Option (List ℕ)) → master.rules ≡ run.master.rules → master.history ≡ run.master.history
-    → KeepsWriting run (record { master = master; trace = run.trace; nodes = run.nodes }) told told
-spared run master told rules history = λ start writing.
-    let going = writing.going in record {
-      trace = writing.trace;
-      going = record {
-        same_rules = rules ∙ going.same_rules;
-        plain = subst (IsPlainlyLegal start.setting.rules) (sym history) going.plain;
-        way = subst (λ h. IsOnTheWay start.setting h writing.trace run.nodes) (sym history) going.way;
-        triggers = going.triggers ∙ ap next_of (sym history);
-        frames = going.frames;
-      };
-      puts = subst (λ h. Puts start.told told (events_rows writing.trace [] h)) (sym history) writing.puts;
-    }
+  -- a run that was brought on by a call, and the rows of whose last event were heard, goes on
+  pub heard-on : More → (run after : Bus) (frames : List TimedFrame) (told now : L) (calls : List Call) → BringsOn run after frames
+      → map call_of after.master.history ≡ map call_of run.master.history ++ calls → is_some after.trace ≡ is_some run.trace
+      → HearsLast Heard after.master.history frames told now → GoesOn Heard run told calls after now
+  heard-on more run after frames told now calls brings answers kept hears = record {
+    answers = answers;
+    kept = kept;
+    logged = λ start logged.
+        let on = brings start.setting logged.trace logged.going in
+        record {
+          trace = logged.trace ++ frames;
+          going = on.going;
+          heard = subst (λ rows. Heard start.listener rows now) (sym on.rows)
+              (more start.listener told now (events_rows logged.trace [] run.master.history) (rows_of_event on.event frames) logged.heard
+              (hears on.event (record { before = run.master.history; is = on.history })));
+        };
+  }
 
-pub keeps-on : (run between after : Written) (told middle now : Option (List ℕ)) → KeepsWriting run between told middle → KeepsWriting between after middle now
-    → KeepsWriting run after told now
-keeps-on run between after told middle now first second = λ start writing. second start (first start writing)
+  -- where the listener broke off within them, the run is cut behind that event
+  pub cut-behind : Later → (run after : Bus) (frames : List TimedFrame) (told now : L) (calls : List Call) → BringsOn run after frames
+      → map call_of after.master.history ≡ map call_of run.master.history ++ calls
+      → HearsLast Broke after.master.history frames told now → IsCutBehind Heard Broke run told calls now Write
+  cut-behind later run after frames told now calls brings answered breaks = λ start logged.
+      let on = brings start.setting logged.trace logged.going in
+      record {
+        history = after.master.history;
+        trace = logged.trace ++ frames;
+        later = [];
+        answers = append-nil (map call_of after.master.history) ∙ answered;
+        known = on.going.way.known;
+        plain = on.going.plain;
+        under_way = on.going.way.under_way;
+        heard = subst (λ rows. Broke start.listener rows now) (sym on.rows)
+            (later start.listener told now (events_rows logged.trace [] run.master.history) (rows_of_event on.event frames) logged.heard
+            (breaks on.event (record { before = run.master.history; is = on.history })));
+      }
 
-pub can-on : (run after : Written) (told now : Option (List ℕ)) → KeepsWriting run after told now → CanWrite run told → CanWrite after now
-can-on run after told now keeps can = (can.0, keeps can.0 can.1)
-
--- the calls of some cycles, when some of them were opened and one more is
-pub calls-of_cycles : (calls now : List Call) (counter count : ℕ) → counter < count → now ≡ calls ++ replicate counter opens
-    → (more : ℕ) × ((now ++ opens ∷ []) ++ replicate more opens ≡ calls ++ replicate count opens)
-calls-of_cycles calls now counter count below is = (
-  count - (counter + 1),
-  (let left = count - (counter + 1) in
-      let split : counter + (1 + left) ≡ count = omega arith in
-      ap (λ l. (l ++ opens ∷ []) ++ replicate left opens) is
-      ∙ append_assoc (calls ++ replicate counter opens) (opens ∷ []) (replicate left opens)
-      ∙ append_assoc calls (replicate counter opens) (opens ∷ [] ++ replicate left opens)
-      ∙ ap (λ l. calls ++ (replicate counter opens ++ l)) (replicate-append-replicate 1 left opens)
-      ∙ ap (λ l. calls ++ l) (replicate-append-replicate counter (1 + left) opens) ∙ ap (λ n. calls ++ replicate n opens) split),
-)
-
--- the calls of the steps up to a place, and of the step there, are the first calls of all steps
-pub calls-of_steps : (steps : List Step) (i : ℕ) (d step : Step) (now : List Call) → i < length steps → get_or steps i d ≡ step
-    → now ≡ flat_map calls_of (take i steps) → (now ++ calls_of step) ++ flat_map calls_of (drop (i + 1) steps) ≡ flat_map calls_of steps
-calls-of_steps steps i d step now within is so_far =
-    let next : i + 1 ≡ suc i = omega arith in
-    ap (λ l. (l ++ calls_of step) ++ flat_map calls_of (drop (i + 1) steps)) so_far
-    ∙ append_assoc (flat_map calls_of (take i steps)) (calls_of step) (flat_map calls_of (drop (i + 1) steps))
-    ∙ ap (λ n. flat_map calls_of (take i steps) ++ (calls_of step ++ flat_map calls_of (drop n steps))) next
-    ∙ ap (λ s. flat_map calls_of (take i steps) ++ (calls_of s ++ flat_map calls_of (drop (suc i) steps))) (sym is)
-    ∙ ap (λ l. flat_map calls_of (take i steps) ++ flat_map calls_of l) (sym (drop-cons steps i d within))
-    ∙ sym (flat_map-append calls_of (take i steps) (drop i steps))
-    ∙ ap (flat_map calls_of) (take-append-drop i steps)
+  -- where memory ran out, before these calls
+  pub cut-before : (run : Bus) (calls : List Call) (told : L) → IsCutBehind Heard Broke run told calls told Memory
+  cut-before run calls told = λ start logged. record {
+    history = run.master.history;
+    trace = logged.trace;
+    later = calls;
+    answers = refl;
+    known = logged.going.way.known;
+    plain = logged.going.plain;
+    under_way = logged.going.way.under_way;
+    heard = logged.heard;
+  }

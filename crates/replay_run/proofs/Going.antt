@@ -1,5 +1,6 @@
--- What keeps a run going whose rows are put.
-use Rattle.std.proofs.Common.{◌≡◌, ◌≢◌, ℕ, ◌+◌, ◌*◌, ◌^◌, ◌<◌, ◌≤◌, ◌⊎◌, false, cond, List, [], ◌∷◌, ◌++◌, map, All, sym, ap, ◌∙◌, subst, arith, inl, inr, add-zero}
+-- What keeps a run going.
+use Rattle.std.proofs.Common.{◌≡◌, ◌≢◌, ℕ, ◌+◌, ◌*◌, ◌^◌, ◌<◌, ◌≤◌, ◌⊎◌, false, cond, length, List, [], ◌∷◌, ◌++◌, map, All, sym, ap, ◌∙◌, subst, arith, inl, inr, add-zero}
+use Rattle.std.specs.Prelude.{is_some}
 use Rattle.std.specs.List.{range_with_len}
 use Rattle.std.proofs.lemmas.List.{append-nil}
 use Rattle.std.proofs.lemmas.List.Elements.{All-cons, All-nil, All-weaker}
@@ -12,29 +13,31 @@ use Rattle.async_window.specs.declared.request.Request.{Request}
 use Rattle.admission_rules.specs.declared.Rules.{Rules}
 use Rattle.bus_line.specs.Trace.{Follows, end_of}
 use Rattle.cycle_engine.specs.Cycle.{FitsWindow, FollowsTrace, IsRequestFrame, IsSlotFrame, RunsCycle}
-use Rattle.cycle_engine.specs.Nodes.{NodesView, opening_of}
+use Rattle.cycle_engine.specs.Nodes.{HaveSpare, IsBus, IsNumber, NodesView, opening_of, states_of}
 use Rattle.cycle_engine.specs.Offered.{AreAsynchronous, IsCanTrace, offered_in}
 use Rattle.master_core.specs.declared.event.Event.{Event}
 use Rattle.master_core.specs.declared.event.Event.TheVariants.{Open}
 use Rattle.master_core.specs.History.{IsLegal, IsPlainlyLegal, is_open, next_of, placed_of}
 use Rattle.master_core.specs.Openings.{openings_of}
 use Rattle.master_core.specs.Orders.{IsOrder}
-use Rattle.kept_run.specs.Progress.{IsOnTheWay, IsSetting, Setting}
+use Rattle.kept_run.specs.Progress.{AreReady, IsOnTheWay, IsSetting, Setting}
 use Rattle.kept_run.proofs.Shared.{CallsBetween, CyclesRun, RanOrder, next_of-push, number-below, way-called, way-run}
+use Rattle.node_model.specs.Node.{NodeView}
 use Rattle.bus_trace.specs.EventRows.{BeginsCycle, rows_of_event, width_told_in}
 use Rattle.bus_trace.specs.Log.{events_rows, triggers_in}
-use Rattle.replay_run.specs.declared.writing.Written.{Written}
-use Rattle.replay_run.specs.Progress.{CanGo, CanPutLast, IsBroughtOn, IsGoing}
+use Rattle.replay_run.specs.declared.bus.Bus.{Bus}
+use Rattle.replay_run.specs.Progress.{CanGo, CanTellLast, GoesStill, IsBroughtOn, IsGoing}
 use Rattle.replay_run.specs.Written.{KeepsFrames}
+use Rattle.replay_run.proofs.FewFrames.{TakesTime, few-frames}
 use Rattle.replay_run.proofs.EventRows.{called-rows, opened-rows, triggers-more}
 
 -- a run whose master has answered a call that opens no cycle goes on
-pub answered : CallsBetween → (setting : Setting) (trace : List TimedFrame) (run after : Written) (call : Event) → is_open call ≡ false
+pub answered : CallsBetween → (setting : Setting) (trace : List TimedFrame) (run after : Bus) (call : Event) → is_open call ≡ false
     → after.master.rules ≡ run.master.rules → after.master.history ≡ run.master.history ++ call ∷ []
     → (IsPlainlyLegal run.master.rules run.master.history → IsPlainlyLegal after.master.rules after.master.history)
-    → after.nodes ≡ run.nodes → after.trace ≡ run.trace
+    → after.nodes ≡ run.nodes → after.spare ≡ run.spare → after.trace ≡ run.trace
     → IsGoing setting trace run → IsBroughtOn setting trace run after []
-answered laws setting trace run after call closed same_rules history keeps same_nodes same_trace going =
+answered laws setting trace run after call closed same_rules history keeps same_nodes same_spare same_trace going =
     let rules : after.master.rules ≡ setting.rules = same_rules ∙ going.same_rules in
     let plain : IsPlainlyLegal setting.rules after.master.history =
     subst (λ r. IsPlainlyLegal r after.master.history) rules (keeps (subst (λ r. IsPlainlyLegal r run.master.history) (sym going.same_rules) going.plain)) in
@@ -50,6 +53,7 @@ answered laws setting trace run after call closed same_rules history keeps same_
           (way-called laws setting run.master.history (call ∷ []) trace run.nodes one whole going.way));
       triggers = going.triggers ∙ sym next;
       frames = subst (λ t. KeepsFrames t trace) (sym same_trace) going.frames;
+      spare = subst (λ n. HaveSpare n after.nodes.nodes) (sym same_spare) (subst (λ nodes. HaveSpare run.spare nodes.nodes) (sym same_nodes) going.spare);
     } in
     let same : trace ≡ trace ++ [] = sym (append-nil trace) in
     record {
@@ -131,9 +135,9 @@ begins history order frames is = record {
   others = is.others;
 }
 
-pub its-frames : CyclesSent → (run : Written) (new : NodesView) (order : Order) (frames : List TimedFrame) (history : List Event)
+pub its-frames : CyclesSent → (run : Bus) (new : NodesView) (order : Order) (frames : List TimedFrame) (history : List Event)
     → CanGo run → IsOrder run.master.rules run.master.history order → RanOrder order run.nodes new frames
-    → history ≡ run.master.history ++ Open order.cycle order.mask ∷ [] → CanPutLast history frames
+    → history ≡ run.master.history ++ Open order.cycle order.mask ∷ [] → CanTellLast history frames
 its-frames laws run new order frames history can ordered did is =
     let setting = can.0 in
     let going = can.2 in
@@ -157,12 +161,12 @@ ran-triggers trace frames history order is =
     ap (λ l. triggers_in (trace ++ l)) is.frames_are ∙ triggers-more trace is.trigger is.later (ap (λ f. f.identifier) is.is_trigger) is.others
 
 -- a run whose next cycle was opened and run goes on, and its rows are those of the event behind those before it
-pub ran : CyclesSent → (setting : Setting) (trace : List TimedFrame) (run after : Written) (order : Order) (frames : List TimedFrame)
+pub ran : CyclesSent → (setting : Setting) (trace : List TimedFrame) (run after : Bus) (order : Order) (frames : List TimedFrame)
     → IsOrder run.master.rules run.master.history order → RanOrder order run.nodes after.nodes frames
     → after.master.rules ≡ run.master.rules → after.master.history ≡ run.master.history ++ Open order.cycle order.mask ∷ []
-    → (IsPlainlyLegal run.master.rules run.master.history → IsPlainlyLegal after.master.rules after.master.history) → (KeepsFrames run.trace trace → KeepsFrames after.trace (trace ++ frames))
+    → (IsPlainlyLegal run.master.rules run.master.history → IsPlainlyLegal after.master.rules after.master.history) → (KeepsFrames run.trace trace → KeepsFrames after.trace (trace ++ frames)) → (HaveSpare run.spare run.nodes.nodes → HaveSpare after.spare after.nodes.nodes)
     → IsGoing setting trace run → IsBroughtOn setting trace run after frames
-ran laws setting trace run after order frames right did same_rules history keeps kept going =
+ran laws setting trace run after order frames right did same_rules history keeps kept spared going =
     let rules : after.master.rules ≡ setting.rules = same_rules ∙ going.same_rules in
     let ordered : IsOrder setting.rules run.master.history order = subst (λ r. IsOrder r run.master.history order) going.same_rules right in
     let way = way-run laws.run setting run.master.history trace frames run.nodes after.nodes order ordered did going.way in
@@ -179,7 +183,62 @@ ran laws setting trace run after order frames right did same_rules history keeps
         way = subst (λ h. IsOnTheWay setting h (trace ++ frames) after.nodes) (sym history) way;
         triggers = ran-triggers trace frames run.master.history order sent ∙ ap (λ n. n + 1) going.triggers ∙ sym next;
         frames = kept going.frames;
+        spare = spared going.spare;
       };
       rows = ap (events_rows (trace ++ frames) []) history
           ∙ ran-rows setting.rules trace frames run.master.history order going.way.under_way.legal going.triggers ordered.cycle sent;
     }
+
+-- its frames are few
+pub few : TakesTime → CyclesRun → (run : Bus) (new : NodesView) (order : Order) (frames : List TimedFrame) → CanGo run
+    → IsOrder run.master.rules run.master.history order → RanOrder order run.nodes new frames → length frames ≤ 2128
+few long laws run new order frames can ordered did =
+    let setting = can.0 in
+    let going = can.2 in
+    let way = going.way in
+    let right = subst (λ r. IsOrder r run.master.history order) going.same_rules ordered in
+    let before = laws.before setting run.master.history can.1 run.nodes order way.under_way way.ready right in
+    let follows = did.runs setting.owners setting.requests (placed_of run.master.history) can.1 before in
+    let count = few-frames long _ can.1 (order.cycle * run.nodes.layout.cycle) ((order.cycle + 1) * run.nodes.layout.cycle) frames follows in
+    let same : run.nodes.layout.cycle ≡ setting.layout.cycle = ap (λ layout. layout.cycle) way.ready.same_layout in
+    let most = way.known.known.cycle_range.below in
+    let product : (order.cycle + 1) * run.nodes.layout.cycle ≡ order.cycle * run.nodes.layout.cycle + run.nodes.layout.cycle = omega arith in
+    omega arith
+
+-- A run that only made room
+
+-- nodes that show the same states are as ready
+still-ready : (setting : Setting) (history : List Event) (trace : List TimedFrame) (nodes new : NodesView) → new.layout ≡ nodes.layout
+    → states_of new.nodes ≡ states_of nodes.nodes → AreReady setting history trace nodes → AreReady setting history trace new
+still-ready setting history trace nodes new layout states ready = record {
+  same_layout = layout ∙ ready.same_layout;
+  numbers = λ number within. subst (λ s. IsNumber s number) (sym states) (ready.numbers number within);
+  known = ready.known;
+  bus = subst (IsBus setting.layout setting.owners setting.requests ready.known trace (next_of history)) (sym states) ready.bus;
+  up_to_date = ready.up_to_date;
+}
+
+pub still : (run after : Bus) → after.master.rules ≡ run.master.rules → after.master.history ≡ run.master.history
+    → ((trace : List TimedFrame) → KeepsFrames run.trace trace → KeepsFrames after.trace trace) → is_some after.trace ≡ is_some run.trace
+    → after.nodes.layout ≡ run.nodes.layout → states_of after.nodes.nodes ≡ states_of run.nodes.nodes
+    → ((setting : Setting) (trace : List TimedFrame) → IsGoing setting trace run → HaveSpare after.spare after.nodes.nodes) → GoesStill run after
+still run after rules history frames kept layout states spare = record {
+  same = history;
+  kept = kept;
+  going = λ setting trace going. record {
+    same_rules = rules ∙ going.same_rules;
+    plain = subst (IsPlainlyLegal setting.rules) (sym history) going.plain;
+    way = subst (λ h. IsOnTheWay setting h trace after.nodes) (sym history) (record {
+      known = going.way.known;
+      under_way = going.way.under_way;
+      ready = still-ready setting run.master.history trace run.nodes after.nodes layout states going.way.ready;
+    });
+    triggers = going.triggers ∙ ap next_of (sym history);
+    frames = frames trace going.frames;
+    spare = spare setting trace going;
+  };
+}
+
+-- nodes that can learn so many entries without memory can learn fewer
+pub less-spare : (entries spare : ℕ) (nodes : List NodeView) → entries ≤ spare → HaveSpare spare nodes → HaveSpare entries nodes
+less-spare entries spare nodes fewer have = All-weaker (λ node. spare ≤ node.spare) (λ node. entries ≤ node.spare) (λ node room. omega arith) nodes have

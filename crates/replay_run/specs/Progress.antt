@@ -86,15 +86,11 @@ pub record Start (L : Type 0) : Type 0 where
   pub setting : Setting
   pub listener : L
 
--- where `Heard` says that one who hears has heard some rows, and `Broke` that it broke off within them
-module _ {L : Type 0} (Heard Broke : L → List ℕ → L → Type 0) where
-  -- it heard the rows of the history's last event, or broke off
+-- where `Heard` says that one who hears has heard some rows
+module _ {L : Type 0} (Heard : L → List ℕ → L → Type 0) where
+  -- it heard the rows of the history's last event
   abbrev pub HearsLast : List Event → List TimedFrame → L → L → Type 0
   HearsLast history frames old new = (event : Event) → EndsIn history event → Heard old (rows_of_event event frames) new
-
-  abbrev pub BreaksOffLast : List Event → List TimedFrame → L → L → Type 0
-  BreaksOffLast history frames old new =
-      (event : Event) → EndsIn history event → Broke old (rows_of_event event frames) new
 
   -- the run has a trace with which it is going, and its rows so far were heard
   pub record IsLogged (start : Start L) (bus : Bus) (now : L) : Type 0 where
@@ -112,6 +108,8 @@ module _ {L : Type 0} (Heard Broke : L → List ℕ → L → Type 0) where
     pub kept : is_some new.trace ≡ is_some old.trace
     pub logged : (start : Start L) → IsLogged start old told → IsLogged start new now
 
+-- and `Broke` that it broke off within them
+module _ {L : Type 0} (Heard Broke : L → List ℕ → L → Type 0) where
   -- what was heard of rows when a run was cut: all of them where memory ran out, else the first of them
   abbrev pub HeardAt : Cut → L → List ℕ → L → Type 0
   HeardAt Memory old rows now = Heard old rows now
@@ -130,5 +128,5 @@ module _ {L : Type 0} (Heard Broke : L → List ℕ → L → Type 0) where
 
   -- the run was cut in these calls behind those before
   abbrev pub IsCutBehind : Bus → L → List Call → L → Cut → Type 0
-  IsCutBehind old told calls now why = (start : Start L) → IsLogged start old told
+  IsCutBehind old told calls now why = (start : Start L) → IsLogged Heard start old told
       → IsCutIn start (map call_of old.master.history ++ calls) now why

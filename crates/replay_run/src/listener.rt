@@ -45,6 +45,7 @@ pub trait Listener {
 }
 
 /// One who hears nothing of the rows.
+#[derive(Drop)]
 pub struct Silence;
 
 impl Listener for Silence {

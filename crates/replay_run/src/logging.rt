@@ -8,7 +8,7 @@ ghost use Rattle.input_text.specs.RequestsFile.{AreLegal};
 ghost use Rattle.input_text.specs.StepsFile.{AreLegalSteps};
 ghost use Rattle.kept_run.specs.Progress.{IsSetting};
 ghost use Rattle.master_core.specs.declared.event.Event.{Event};
-ghost use Rattle.replay_run.specs.Progress.{BreaksOffLast, CanLog, CanTellLast, GoesOn, HearsLast, IsCutBehind};
+ghost use Rattle.replay_run.specs.Progress.{CanLog, CanTellLast, GoesOn, HearsLast, IsCutBehind};
 ghost use Rattle.replay_run.specs.Progress.{setting_of};
 ghost use Rattle.replay_run.specs.Run.{calls_of};
 ghost use Rattle.replay_run.specs.Whole.{IsCutOff, IsHeard};
@@ -42,7 +42,7 @@ fn tell_last<L: Listener>(
 ) -> Result<(), Failed>
     requires last { CanTellLast history.now frames.now }
     ensures heard { OnOk result (HearsLast L.heard history.now frames.now listener.old listener.new) }
-    ensures broke { OnErr result (BreaksOffLast L.broke history.now frames.now listener.old listener.new) }
+    ensures broke { OnErr result (HearsLast L.broke history.now frames.now listener.old listener.new) }
 {
     let event = &history[history.len() - 1];
     listener.hear(alloc, event, frames)
@@ -102,9 +102,9 @@ fn log_calls<L: Listener>(
     requires first { bus.master.history ≡ [] }
     requires steps { AreLegalSteps steps.now }
     ensures goes_on { IfOk result
-        (λ now. GoesOn L.heard bus.entry listener.old (flat_map calls_of steps.now) now listener.new) }
+        (λ now. GoesOn L.heard bus listener.old (flat_map calls_of steps.now) now listener.new) }
     ensures stops { IfErr result
-        (λ why. IsCutBehind L.heard L.broke bus.entry listener.old (flat_map calls_of steps.now) listener.new why) }
+        (λ why. IsCutBehind L.heard L.broke bus listener.old (flat_map calls_of steps.now) listener.new why) }
 {
     let mut logged = Logged { bus, listener };
     drive(&mut logged, alloc, steps)?;

@@ -65,12 +65,10 @@ pub fn replay(
     ensures rules { IfOk result (λ run. run.master.rules ≡ system.now.rules) }
 {
     match log_steps(alloc, system, steps, requests, true, &mut Silence) {
-        Ok(Bus {
-            master,
-            trace: Some(trace),
-            ..
-        }) => Ok(Run { master, trace }),
-        Ok(Bus { trace: None, .. }) => unreachable!(),
+        Ok(Bus { master, trace, .. }) => match trace {
+            Some(trace) => Ok(Run { master, trace }),
+            None => unreachable!(),
+        },
         Err(_) => Err(AllocError),
     }
 }
