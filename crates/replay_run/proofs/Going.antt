@@ -20,7 +20,7 @@ use Rattle.master_core.specs.declared.event.Event.TheVariants.{Open}
 use Rattle.master_core.specs.History.{IsLegal, IsPlainlyLegal, is_open, next_of, placed_of}
 use Rattle.master_core.specs.Openings.{openings_of}
 use Rattle.master_core.specs.Orders.{IsOrder}
-use Rattle.kept_run.specs.Progress.{AreReady, IsOnTheWay, IsSetting, Setting}
+use Rattle.kept_run.specs.Progress.{AreReady, IsOnTheWay, IsSetting, IsUnderWay, Setting}
 use Rattle.kept_run.proofs.Shared.{CallsBetween, CyclesRun, RanOrder, next_of-push, number-below, way-called, way-run}
 use Rattle.node_model.specs.Node.{NodeView}
 use Rattle.bus_trace.specs.EventRows.{BeginsCycle, rows_of_event, width_told_in}
@@ -242,3 +242,16 @@ still run after rules history frames kept layout states spare = record {
 -- nodes that can learn so many entries without memory can learn fewer
 pub less-spare : (entries spare : ℕ) (nodes : List NodeView) → entries ≤ spare → HaveSpare spare nodes → HaveSpare entries nodes
 less-spare entries spare nodes fewer have = All-weaker (λ node. spare ≤ node.spare) (λ node. entries ≤ node.spare) (λ node room. omega arith) nodes have
+
+-- A run of no calls yet
+
+pub begins-going : (setting : Setting) (bus : Bus) → IsSetting setting → IsUnderWay setting [] [] → AreReady setting [] [] bus.nodes
+    → bus.master.rules ≡ setting.rules → bus.master.history ≡ [] → KeepsFrames bus.trace [] → bus.spare ≡ 0 → IsGoing setting [] bus
+begins-going setting bus known way ready rules empty frames none = record {
+  same_rules = rules;
+  plain = subst (IsPlainlyLegal setting.rules) (sym empty) (record { legal = tt; now = tt });
+  way = subst (λ h. IsOnTheWay setting h [] bus.nodes) (sym empty) (record { known = known; under_way = way; ready = ready });
+  triggers = sym (ap next_of empty);
+  frames = frames;
+  spare = λ k d within. omega (arith, none);
+}

@@ -1,5 +1,5 @@
 -- What proofs of the crates above may take from here: lemmas about the definitions of this crate.
-use Rattle.std.proofs.Common.{◌≡◌, ◌≤◌, ℕ, List, [], true, nat_eq, refl, sym, subst}
+use Rattle.std.proofs.Common.{◌≡◌, ◌≤◌, ◌-◌, ℕ, zero, suc, List, [], drop, true, nat_eq, refl, sym, ◌∙◌, subst}
 use Rattle.std.specs.List.{Any, list_any}
 use Rattle.std.proofs.lemmas.Bool.{eqb-true}
 use Rattle.std.proofs.lemmas.List.Folds.{Any-from_list_any}
@@ -28,7 +28,11 @@ owner-of owners id is =
     let found = Any-from_list_any (λ owner. nat_eq owner.id id) owners is in
     (found.0, found.1, found.2, found.3, eqb-true _ _ found.4)
 
+drop-none : {A : Type 0} (n : ℕ) → drop {A = A} n [] ≡ []
+drop-none zero = refl
+drop-none (suc n) = refl
+
 -- before any rows none are kept
 pub none-last : (recent : LastRows) → recent.rows ≡ [] → HasLast [] recent
 unfolding rows_in
-none-last recent none = record { whole = refl; rows = none }
+none-last recent none = record { whole = refl; rows = none ∙ sym (drop-none (0 - recent.most)) }

@@ -106,3 +106,8 @@ module _ {L : Type 0} (Heard Broke : L → List ℕ → L → Type 0) (nothing :
         broke = later told middle now (events_rows is.trace [] after.master.history) (end_row (next_of after.master.history)) is.heard
             (subst (λ n. Broke middle (end_row n) now) count broke);
       }
+
+  -- its master has the rules of the system
+  pub same-rules : (run after : Bus) (middle : L) → IsGoing (setting_of system requests) [] run → run.master.history ≡ []
+      → GoesOn Heard run told (flat_map calls_of steps) after middle → after.master.rules ≡ system.rules
+  same-rules run after middle going empty on = (on.logged start_at (begins-logged run going empty)).going.same_rules

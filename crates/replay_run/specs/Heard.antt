@@ -17,6 +17,7 @@ module _ {O : Type 0} (told_bytes : O → Option (List ℕ)) (faults : O → ℕ
 
   -- it failed within them, and took the first bytes
   pub record BreaksOff (old : O) (rows : List ℕ) (new : O) : Type 0 where
+    pub faults_never_fall : faults old ≤ faults new
     pub rose : Rose (faults old) (faults new)
     pub puts : PutsPrefix (told_bytes old) (told_bytes new) rows
 
@@ -40,8 +41,10 @@ module _ {O : Type 0} (told_bytes : O → Option (List ℕ)) (faults : O → ℕ
       → BreaksOff one (rows ++ later) third
   breaks-later one other third rows later first second =
       let before = first.faults_never_fall in
+      let between = second.faults_never_fall in
       let after = second.rose in
       record {
+        faults_never_fall = omega (arith, before, between);
         rose = omega arith;
         puts = PutsPrefix-append (told_bytes one) (told_bytes other) (told_bytes third) rows first.puts second.puts;
       }

@@ -9,6 +9,7 @@ ghost use Rattle.input_text.specs.SystemFile.{IsSystem};
 ghost use Rattle.input_text.specs.RequestsFile.{AreLegal};
 ghost use Rattle.master_core.specs.Calls.{asked, call_of, opens};
 ghost use Rattle.master_core.specs.History.{next_of};
+ghost use Rattle.kept_run.specs.Progress.{AreReady, IsSetting};
 ghost use Rattle.cycle_engine.specs.Nodes.{HaveSpare, KeepSpare, states_of};
 ghost use Rattle.replay_run.specs.Progress.{BringsOn, CanGo, CanTellLast, GoesStill, HasRoom, IsGoing, IsReady};
 ghost use Rattle.replay_run.specs.Progress.{setting_of};
@@ -98,6 +99,35 @@ fn make_spare(
     Ok(())
 }
 
+/// What the runs of a system with these requests stand on is in its ranges.
+pub fn in_ranges(system: &System, requests: &[Request])
+    requires system { IsSystem system.now }
+    requires requests { AreLegal system.now.owners requests.now }
+    ensures setting { IsSetting (setting_of system.now requests.now) }
+{
+    requests_of_owners();
+}
+
+/// The nodes of a system before cycle 0, with these requests.
+fn fresh_nodes(
+    alloc: Global,
+    system: &System,
+    requests: &[Request],
+) -> Result<Nodes, AllocError>
+    requires system { IsSystem system.now }
+    requires requests { AreLegal system.now.owners requests.now }
+    ensures ready { IfOk result (AreReady (setting_of system.now requests.now) [] []) }
+{
+    beginning();
+    let System {
+        layout,
+        rules,
+        owners,
+    } = system;
+    let nodes = Nodes::new(alloc, *layout, rules.nodes, owners.as_slice(), requests)?;
+    Ok(nodes)
+}
+
 impl Bus {
     /// A run of no calls yet, on the bus of a system with these requests. The frames are kept where `keeps` says so.
     ///
@@ -117,18 +147,12 @@ impl Bus {
         ensures kept { IfOk result (λ bus. is_some bus.trace ≡ keeps) }
     {
         beginning();
-        requests_of_owners();
-        let System {
-            layout,
-            rules,
-            owners,
-        } = system;
-        let nodes = Nodes::new(alloc, *layout, rules.nodes, owners.as_slice(), requests)?;
+        in_ranges(system, requests);
         Ok(Bus {
-            master: Master::new(alloc, *rules)?,
-            nodes,
+            master: Master::new(alloc, system.rules)?,
+            nodes: fresh_nodes(alloc, system, requests)?,
             spare: 0,
-            segment: Segment::new(alloc, layout)?,
+            segment: Segment::new(alloc, &system.layout)?,
             trace: kept_frames(Vec::new(alloc), keeps),
         })
     }

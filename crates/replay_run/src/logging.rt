@@ -1,19 +1,18 @@
 //! The run of a steps file on a bus, whose rows something hears while it goes on.
 
-ghost use Rattle.std.specs.Prelude.{◌≡◌, ◌++◌, ◌≤◌, ◌<◌, [], List, ℕ, OnOk, OnErr, IfOk, IfErr, is_some};
+ghost use Rattle.std.specs.Prelude.{◌≡◌, ◌+◌, ◌∷◌, ◌≤◌, ◌<◌, [], List, ℕ, OnOk, OnErr, IfOk, IfErr, is_some};
 ghost use Rattle.std.specs.List.{flat_map};
 ghost use Rattle.can_frame.specs.declared.data_frame.TimedFrame.{TimedFrame};
 ghost use Rattle.input_text.specs.SystemFile.{IsSystem};
 ghost use Rattle.input_text.specs.RequestsFile.{AreLegal};
 ghost use Rattle.input_text.specs.StepsFile.{AreLegalSteps};
-ghost use Rattle.kept_run.specs.Progress.{IsSetting};
-ghost use Rattle.master_core.specs.declared.event.Event.{Event};
+ghost use Rattle.master_core.specs.Calls.{asked, opens};
+ghost use Rattle.master_core.specs.History.{next_of};
 ghost use Rattle.replay_run.specs.Progress.{CanLog, CanTellLast, GoesOn, HearsLast, IsCutBehind};
-ghost use Rattle.replay_run.specs.Progress.{setting_of};
 ghost use Rattle.replay_run.specs.Run.{calls_of};
 ghost use Rattle.replay_run.specs.Whole.{IsCutOff, IsHeard};
 
-use crate::bus::Bus;
+use crate::bus::{Bus, in_ranges};
 use crate::cut::Cut;
 use crate::driver::{Driven, drive};
 use crate::listener::Listener;
@@ -22,14 +21,14 @@ use can_frame::TimedFrame;
 use change_protocol::Act;
 use ftt_io::Failed;
 use input_text::{Step, System};
-use kept_run::laws::{beginning, promise, requests_of_owners};
+use kept_run::laws::{beginning, promise};
 use master_core::Event;
 use std::alloc::Global;
 
 /// A run on a bus, and what hears its rows.
 #[derive(Drop)]
 struct Logged<'a, L> {
-    bus: Bus,
+    bus: &'a mut Bus,
     listener: &'a mut L,
 }
 
@@ -48,6 +47,42 @@ fn tell_last<L: Listener>(
     listener.hear(alloc, event, frames)
 }
 
+/// Opens the next cycle, runs it on the bus, and tells its rows. All memory is taken first.
+fn open_next<L: Listener>(bus: &mut Bus, listener: &mut L, alloc: Global) -> Result<(), Cut>
+    requires ready { CanLog L.heard bus.old listener.old }
+    requires few { next_of bus.old.master.history < 20000 }
+    ensures goes_on { OnOk result (GoesOn L.heard bus.old listener.old (opens ∷ []) bus.new listener.new) }
+    ensures next { OnOk result (next_of bus.new.master.history ≡ next_of bus.old.master.history + 1) }
+    ensures stops { IfErr result (IsCutBehind L.heard L.broke bus.old listener.old (opens ∷ []) listener.new) }
+{
+    bus.make_ready(alloc)?;
+    bus.run_next();
+    tell_last(listener, alloc, bus.master.history(), bus.segment.frames())?;
+    Ok(())
+}
+
+/// Answers an act of operator `caller`, 1 to 8, and tells its rows.
+fn answer_act<L: Listener>(
+    bus: &mut Bus,
+    listener: &mut L,
+    alloc: Global,
+    caller: u8,
+    act: &Act,
+) -> Result<(), Cut>
+    requires ready { CanLog L.heard bus.old listener.old }
+    requires few { next_of bus.old.master.history ≤ 20000 }
+    requires caller { (1 ≤ caller) × (caller ≤ 8) }
+    ensures goes_on { OnOk result
+        (GoesOn L.heard bus.old listener.old (asked caller act.now ∷ []) bus.new listener.new) }
+    ensures next { OnOk result (next_of bus.new.master.history ≡ next_of bus.old.master.history) }
+    ensures stops { IfErr result
+        (IsCutBehind L.heard L.broke bus.old listener.old (asked caller act.now ∷ []) listener.new) }
+{
+    bus.answer(alloc, caller, act)?;
+    tell_last(listener, alloc, bus.master.history(), &[])?;
+    Ok(())
+}
+
 impl<'a, L: Listener> Driven for Logged<'a, L> {
     ghost use Rattle.std.specs.Prelude.{◌≡◌, refl};
     ghost use Rattle.std.proofs.Common.{◌∙◌};
@@ -57,67 +92,57 @@ impl<'a, L: Listener> Driven for Logged<'a, L> {
 
     type Stop = Cut;
 
-    ghost is_ready = { λ logged. CanLog L.heard logged.bus logged.listener.now };
+    ghost is_ready = { λ logged. CanLog L.heard logged.bus.now logged.listener.now };
 
-    ghost cycles = { λ logged. next_of logged.bus.master.history };
+    ghost cycles = { λ logged. next_of logged.bus.now.master.history };
 
-    ghost goes_on = { λ old calls new. (new.listener.ghost_name ≡ old.listener.ghost_name)
-        × GoesOn L.heard old.bus old.listener.now calls new.bus new.listener.now };
+    ghost goes_on = { λ old calls new. (new.bus.ghost_name ≡ old.bus.ghost_name)
+        × (new.listener.ghost_name ≡ old.listener.ghost_name)
+        × GoesOn L.heard old.bus.now old.listener.now calls new.bus.now new.listener.now };
 
-    ghost stops = { λ old calls new why. (new.listener.ghost_name ≡ old.listener.ghost_name)
-        × IsCutBehind L.heard L.broke old.bus old.listener.now calls new.listener.now why };
+    ghost stops = { λ old calls new why. (new.bus.ghost_name ≡ old.bus.ghost_name)
+        × (new.listener.ghost_name ≡ old.listener.ghost_name)
+        × IsCutBehind L.heard L.broke old.bus.now old.listener.now calls new.listener.now why };
 
     fn open_cycle(&mut self, alloc: Global) -> Result<(), Cut> {
-        self.bus.make_ready(alloc)?;
-        self.bus.run_next();
-        tell_last(self.listener, alloc, self.bus.master.history(), self.bus.segment.frames())?;
-        Ok(())
+        open_next(self.bus, self.listener, alloc)
     }
 
     fn answer(&mut self, alloc: Global, caller: u8, act: &Act) -> Result<(), Cut> {
-        self.bus.answer(alloc, caller, act)?;
-        tell_last(self.listener, alloc, self.bus.master.history(), &[])?;
-        Ok(())
+        answer_act(self.bus, self.listener, alloc, caller, act)
     }
 
-    ghost at_once = { λ one. (refl, goes-at_once L.heard one.bus one.listener.now) };
+    ghost at_once = { λ one. (refl, refl, goes-at_once L.heard one.bus.now one.listener.now) };
 
-    ghost in_turn = { λ one other third calls later first second. (second.0 ∙ first.0,
-        goes-in_turn L.heard one.bus other.bus third.bus one.listener.now other.listener.now third.listener.now calls later first.1 second.1) };
+    ghost in_turn = { λ one other third calls later first second. (second.0 ∙ first.0, second.1 ∙ first.1,
+        goes-in_turn L.heard one.bus.now other.bus.now third.bus.now
+        one.listener.now other.listener.now third.listener.now calls later first.2 second.2) };
 
-    ghost ready_still = { λ one other calls ready on. (ready.0, on.1.logged ready.0 ready.1) };
+    ghost ready_still = { λ one other calls ready on. (ready.0, on.2.logged ready.0 ready.1) };
 
-    ghost stops_later = { λ one other third calls later more why first second. (second.0 ∙ first.0,
-        cut-later L.heard L.broke one.bus other.bus one.listener.now other.listener.now third.listener.now calls later more why first.1 second.1) };
+    ghost stops_later = { λ one other third calls later more why first second.
+        (second.0 ∙ first.0, second.1 ∙ first.1,
+        cut-later L.heard L.broke one.bus.now other.bus.now
+        one.listener.now other.listener.now third.listener.now calls later more why first.2 second.2) };
 }
 
 /// Has the calls of steps answered on a bus, and their rows heard.
 fn log_calls<L: Listener>(
     alloc: Global,
-    bus: Bus,
+    bus: &mut Bus,
     steps: &[Step],
     listener: &mut L,
-) -> Result<Bus, Cut>
-    requires ready { CanLog L.heard bus listener.old }
-    requires first { bus.master.history ≡ [] }
+) -> Result<(), Cut>
+    requires ready { CanLog L.heard bus.old listener.old }
+    requires first { bus.old.master.history ≡ [] }
     requires steps { AreLegalSteps steps.now }
-    ensures goes_on { IfOk result
-        (λ now. GoesOn L.heard bus listener.old (flat_map calls_of steps.now) now listener.new) }
+    ensures goes_on { OnOk result
+        (GoesOn L.heard bus.old listener.old (flat_map calls_of steps.now) bus.new listener.new) }
     ensures stops { IfErr result
-        (λ why. IsCutBehind L.heard L.broke bus listener.old (flat_map calls_of steps.now) listener.new why) }
+        (IsCutBehind L.heard L.broke bus.old listener.old (flat_map calls_of steps.now) listener.new) }
 {
     let mut logged = Logged { bus, listener };
-    drive(&mut logged, alloc, steps)?;
-    Ok(logged.bus)
-}
-
-/// What the runs of a system with these requests stand on is in its ranges.
-fn in_ranges(system: &System, requests: &[Request])
-    requires system { IsSystem system.now }
-    requires requests { AreLegal system.now.owners requests.now }
-    ensures setting { IsSetting (setting_of system.now requests.now) }
-{
-    requests_of_owners();
+    drive(&mut logged, alloc, steps)
 }
 
 /// Answers the steps of a file, in their order, on the bus of a system with these requests, and has the log heard
@@ -149,8 +174,8 @@ pub fn log_steps<L: Listener>(
     promise();
     beginning();
     in_ranges(system, requests);
-    let bus = Bus::begin(alloc, system, requests, keeps)?;
-    let bus = log_calls(alloc, bus, steps, listener)?;
+    let mut bus = Bus::begin(alloc, system, requests, keeps)?;
+    log_calls(alloc, &mut bus, steps, listener)?;
     listener.hear_end(alloc, bus.master.next())?;
     Ok(bus)
 }
