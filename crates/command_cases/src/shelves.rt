@@ -1,6 +1,6 @@
 //! Fetching from shelves.
 
-use crate::cases::plain;
+use crate::marks::plain;
 use ftt_io::{FileShelf, MemShelf, Shelf};
 use std::alloc::{AllocError, Global};
 

@@ -71,7 +71,7 @@ fn gathered_to_full(rt: &HostRuntime) -> io::Result<String> {
 fn replayed<W: Write + Drop>(rt: &HostRuntime, stream: W) -> io::Result<String> {
     let alloc = rt.alloc();
     let mut words = Vec::new(alloc);
-    for word in ["replay", "two_nodes.toml", "one_cycle.csv"] {
+    for word in ["replay", "tables/two_nodes.toml", "tables/one_cycle.csv"] {
         words.push(String::from_str(alloc, word)?)?;
     }
     let mut shelf = FileShelf::new(rt);

@@ -1,6 +1,6 @@
 use Rattle.std.proofs.Common.{◌≡◌}
 use Rattle.turn_lock.specs.Passes.{IsOf}
-use Rattle.live_cases.proofs.masters.call_all.Given as goal
+use Rattle.command_cases.proofs.masters.call_all.Given as goal
 
 abbrev pub invariant-loop-word : goal.invariant-loop-word
 invariant-loop-word l = record {

@@ -1,6 +1,6 @@
 //! Reading logs, and writing the rows of events.
 
-use crate::cases::plain;
+use crate::marks::plain;
 use bus_trace::{LogFault, LogRow, Recent, event_rows, read_log};
 use can_frame::TimedFrame;
 use master_core::Event;

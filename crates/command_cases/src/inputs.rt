@@ -1,6 +1,6 @@
 //! Reading the input files, and generating their values.
 
-use crate::cases::plain;
+use crate::marks::plain;
 use async_window::{Owner, Request};
 use change_protocol::{Act, Op};
 use input_text::{Generated, Step, System, generate, read_requests, read_steps, read_system};
