@@ -14,6 +14,7 @@ mod OneMore
 mod OneTrace
 mod Pending
 mod SlotSums
+mod Spares
 mod Waking
 mod Window
 mod BackToBack
