@@ -1,4 +1,3 @@
 pub mod Callers
 pub mod Calls
 pub mod Passes
-pub mod Planned

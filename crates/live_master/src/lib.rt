@@ -16,6 +16,6 @@ mod tries;
 mod turns;
 mod waits;
 
-pub use fault::TryFault;
+pub use fault::{SettleFault, TryFault};
 pub use live::LiveMaster;
 pub use passes::{DispatcherPass, OperatorPass};
