@@ -2,7 +2,7 @@
 
 ghost use Rattle.std.specs.Prelude.{◌≡◌, ◌<◌, ◌^◌, IfOk, IfErr, OnErr};
 ghost use Rattle.turn_lock.specs.Passes.{Facts, IsOf, IsReady};
-ghost use Rattle.master_core.specs.History.{IsPlainlyLegal, next_of};
+ghost use Rattle.master_core.specs.History.{IsLegal, next_of};
 ghost use Rattle.live_master.specs.Callers.{number_of};
 ghost use Rattle.live_master.specs.Calls.{AfterWaiting, Faulted, GaveBack};
 ghost use Rattle.live_master.specs.Passes.{IsPassOf};
@@ -42,12 +42,11 @@ fn open_within_once(
     ensures fault { IfErr result (λ fault. Faulted pass.old pass.new fault) }
     ensures ready { IsReady turn.now pass.new }
     ensures facts { Facts number_of pass.new.view }
-    ensures legal { IsPlainlyLegal turn.now.fixed pass.new.view.seen }
+    ensures legal { IsLegal turn.now.fixed pass.new.view.seen }
 {
     match pass.try_turn(turn) {
         Ok(mut held) => {
             let desk = held.value_mut();
-            desk.is_plainly_legal();
             let needed = desk.master.placed().len();
             if entries < needed {
                 held.give_back();

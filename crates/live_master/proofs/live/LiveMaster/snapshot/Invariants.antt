@@ -1,6 +1,6 @@
 use Rattle.turn_lock.specs.Passes.{IsOf}
 use Rattle.live_master.specs.Calls.{Waited}
-use Rattle.live_master.proofs.live.LiveMaster.submit.Given as goal
+use Rattle.live_master.proofs.live.LiveMaster.snapshot.Given as goal
 
 abbrev pub invariant-loop : goal.invariant-loop
 invariant-loop g l = record {
