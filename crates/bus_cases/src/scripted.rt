@@ -107,6 +107,10 @@ impl Stations for Scripted {
 
     ghost state = { λ stations. (stations.low, stations.middle, stations.high) };
 
+    ghost Fixed = { ⊤ };
+
+    ghost fixed = { λ _. tt };
+
     fn offers(&self, at: u64, ids: &mut Contenders) {
         ids.clear();
         self.low.offer(at, ids);

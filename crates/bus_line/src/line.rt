@@ -27,6 +27,7 @@ pub fn run_until<S: Stations>(
     ensures ran { Ran S.line (S.state stations.old) (S.state stations.new) from until
         out.old.items out.new.items result }
     ensures capacity { vec_capacity out.old ≤ vec_capacity out.new }
+    ensures fixed { S.fixed stations.new ≡ S.fixed stations.old }
 {
     let mut free = from;
     while let Some(next) = next_frame(stations, free, until) {

@@ -16,6 +16,11 @@ pub trait Stations {
 
     ghost state: { Self → State };
 
+    /// What else is known of the stations, and no frame changes.
+    ghost Fixed: { Type 0 };
+
+    ghost fixed: { Self → Fixed };
+
     /// Makes `ids` the list of the identifiers that are offered at a time: at most 32, distinct,
     /// from 0x000 to 0x7EF.
     fn offers(&self, at: u64, ids: &mut Contenders)
@@ -40,5 +45,6 @@ pub trait Stations {
     fn sent(&mut self, sent: &TimedFrame)
         requires time { sent.now.start < 2 ^ 60 }
         requires sending { IsSending line (state self.old) sent.now }
-        ensures next { state self.new ≡ line.next (state self.old) sent.now };
+        ensures next { state self.new ≡ line.next (state self.old) sent.now }
+        ensures fixed { fixed self.new ≡ fixed self.old };
 }

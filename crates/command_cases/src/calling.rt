@@ -41,7 +41,8 @@ fn answer(folder: &Folder<'_>, words: &[String]) -> Result<Answer, CaseFault> {
     let alloc = folder.rt.alloc();
     let room = folder.number("room", ROOM)?;
     let mut out = MemSink::new(alloc, room as usize, folder.numbers("failing-puts")?)?;
-    let mut err = MemSink::new(alloc, ROOM as usize, Vec::new(alloc))?;
+    let failing = folder.numbers("failing-error-puts")?;
+    let mut err = MemSink::new(alloc, ROOM as usize, failing)?;
     let status = status_of(alloc, words, &mut shelf, &mut out, &mut err);
     Ok(Answer {
         status,

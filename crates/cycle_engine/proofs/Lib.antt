@@ -1,5 +1,6 @@
 mod Along
 mod Belongs
+mod FewFrames
 mod FreshNodes
 mod Least
 mod Left
@@ -14,6 +15,7 @@ mod OneMore
 mod OneTrace
 mod Pending
 mod SlotSums
+mod Spares
 mod Waking
 mod Window
 mod BackToBack

@@ -1,6 +1,6 @@
 -- The nodes of a bus together.
-use Rattle.std.specs.Prelude.{◌≡◌, ℕ, ◌*◌, ◌<◌}
-use Rattle.std.specs.Prelude.{List, All, Any, Contains, map, fold, sum_by, Option, Some, None, IsSome, true}
+use Rattle.std.specs.Prelude.{◌≡◌, ℕ, ◌*◌, ◌<◌, ◌≤◌}
+use Rattle.std.specs.Prelude.{List, All, Any, Contains, map, fold, sum_by, Option, Some, None, IfSome, IsSome, length, true}
 use Rattle.can_frame.specs.declared.data_frame.TimedFrame.{TimedFrame}
 use Rattle.cycle_layout.specs.Layout.{CycleLayout}
 use Rattle.requirement_table.specs.declared.entries.Placed.{Placed}
@@ -23,6 +23,22 @@ pub record NodesView : Type 0 where
 -- what nodes know
 abbrev pub states_of : List NodeView → List NodeState
 states_of nodes = map (λ node. node.state) nodes
+
+-- the greatest length of a list that each of the nodes can learn without memory
+abbrev pub spares_of : List NodeView → List ℕ
+spares_of nodes = map (λ node. node.spare) nodes
+
+-- the nodes' `spare` is at least so much: each of them can learn a list of so many entries without memory
+abbrev pub HaveSpare : ℕ → List NodeView → Type 0
+HaveSpare entries nodes = All (λ node. entries ≤ node.spare) nodes
+
+-- it did not fall: what it was at least, it is at least now
+abbrev pub KeepSpare : List NodeView → List NodeView → Type 0
+KeepSpare old new = (entries : ℕ) → HaveSpare entries old → HaveSpare entries new
+
+-- nodes that can learn a list without memory, where there is one
+abbrev pub CanLearn : Option (List Placed) → List NodeView → Type 0
+CanLearn learned nodes = IfSome learned (λ placed. HaveSpare (length placed) nodes)
 
 -- nodes that have learnt a list, where there is one
 abbrev pub learnt_by : Option (List Placed) → List NodeState → List NodeState

@@ -1,6 +1,7 @@
 //! The run of one cycle on the bus.
 
-ghost use Rattle.std.specs.Prelude.{◌≡◌, ℕ, ◌+◌, ◌*◌, ◌^◌, ◌<◌, ◌≤◌, ◌++◌, All, IfOk, IfSome, List, OnErr, OnOk};
+ghost use Rattle.std.specs.Prelude.{◌≡◌, ℕ, ◌+◌, ◌*◌, ◌/◌, ◌^◌, ◌<◌, ◌≤◌, ◌++◌, All, IfOk, IfSome, List, OnErr, OnOk};
+ghost use Rattle.std.specs.Prelude.{length};
 ghost use Rattle.can_frame.specs.declared.data_frame.TimedFrame.{TimedFrame};
 ghost use Rattle.requirement_table.specs.declared.entries.Placed.{Placed};
 ghost use Rattle.requirement_table.specs.Table.{IsWellPlaced};
@@ -8,7 +9,8 @@ ghost use Rattle.async_window.specs.declared.request.Owner.{Owner};
 ghost use Rattle.async_window.specs.declared.request.Request.{Request};
 ghost use Rattle.bus_line.specs.Trace.{Follows};
 ghost use Rattle.cycle_engine.specs.Offered.{offered_in};
-ghost use Rattle.cycle_engine.specs.Nodes.{IsBefore, IsBus, heard_by, learnt_by, opening_of, states_of};
+ghost use Rattle.cycle_engine.specs.Nodes.{CanLearn, IsBefore, IsBus, KeepSpare, heard_by, learnt_by, opening_of};
+ghost use Rattle.cycle_engine.specs.Nodes.{states_of};
 
 use crate::nodes::Nodes;
 use crate::segment::Segment;
@@ -16,9 +18,6 @@ use can_frame::laws::wire_lengths;
 use node_model::laws::{hears_a_cycle, offers_in_range, offers_its_part, stays_a_node};
 use requirement_table::Order;
 use std::alloc::{AllocError, Global};
-
-/// The length of the shortest frame, in bit times.
-const SHORTEST_FRAME: u32 = 47;
 
 /// Runs one cycle on the bus: the nodes learn the order's list, where there is one, the master sends the trigger, and
 /// the nodes send what they are to send.
@@ -53,15 +52,46 @@ pub fn run_cycle(alloc: Global, order: &Order, nodes: &mut Nodes) -> Result<Segm
         → IsBus nodes.old.layout owners requests placed (past ++ segment)
         (order.now.cycle + 1) (states_of nodes.new.nodes)) }
 {
+    let mut segment = Segment::new(alloc, nodes.layout())?;
+    nodes.reserve_for(alloc, &order.learned)?;
+    run_cycle_in(order, nodes, &mut segment);
+    Ok(segment)
+}
+
+/// The same without memory, where the nodes can learn the list of the order without memory. The frames of the cycle
+/// take the place of those of the segment: no more than one for every 47 bit times of the cycle, and one. Nothing
+/// refuses it.
+pub fn run_cycle_in(order: &Order, nodes: &mut Nodes, segment: &mut Segment)
+    requires cycle { order.now.cycle < 2 ^ 42 }
+    requires next { All (λ node. node.next ≡ order.now.cycle) (states_of nodes.old.nodes) }
+    requires learned { IfSome order.now.learned IsWellPlaced }
+    requires window { order.now.l ≤ nodes.old.layout.window }
+    requires spare { CanLearn order.now.learned nodes.old.nodes }
+    ensures layout { nodes.new.layout ≡ nodes.old.layout }
+    ensures heard { states_of nodes.new.nodes
+        ≡ heard_by segment.new (learnt_by order.now.learned (states_of nodes.old.nodes)) }
+    ensures next { All (λ node. node.next ≡ order.now.cycle + 1) (states_of nodes.new.nodes) }
+    ensures spare { KeepSpare nodes.old.nodes nodes.new.nodes }
+    ensures few { length segment.new ≤ nodes.old.layout.cycle / 47 + 1 }
+    ensures runs { (owners : List Owner) (requests : List Request) (placed : List Placed) (past : List TimedFrame)
+        → IsBefore nodes.old.layout owners requests placed past order.now
+        (learnt_by order.now.learned (states_of nodes.old.nodes))
+        → Follows (offered_in nodes.old.layout requests (opening_of order.now placed)) past
+        (order.now.cycle * nodes.old.layout.cycle) ((order.now.cycle + 1) * nodes.old.layout.cycle) segment.new }
+    ensures stand { (owners : List Owner) (requests : List Request) (placed : List Placed) (past : List TimedFrame)
+        → IsBefore nodes.old.layout owners requests placed past order.now
+        (learnt_by order.now.learned (states_of nodes.old.nodes))
+        → IsBus nodes.old.layout owners requests placed (past ++ segment.new)
+        (order.now.cycle + 1) (states_of nodes.new.nodes) }
+{
     wire_lengths();
     offers_its_part();
     hears_a_cycle();
     stays_a_node();
     offers_in_range();
     order.mask.known();
-    let room = nodes.layout().cycle() / SHORTEST_FRAME + 2;
-    let mut frames = Vec::with_capacity(alloc, room as usize)?;
-    nodes.learn(alloc, &order.learned)?;
-    nodes.run(order, &mut frames);
-    Ok(Segment::of(frames))
+    nodes.are_known();
+    nodes.learn(&order.learned);
+    segment.frames.clear();
+    nodes.run(order, &mut segment.frames);
 }

@@ -10,7 +10,7 @@ ghost use Rattle.bus_line.specs.Stations.{IsWake, sooner};
 ghost use Rattle.node_model.specs.Node.{IsNode, learnt, node_offer};
 ghost use Rattle.node_model.specs.Own.{AreApart, counting};
 ghost use Rattle.node_model.specs.Window.{AreOfSlots};
-ghost use Rattle.cycle_engine.specs.Nodes.{heard_by, left_in, states_of};
+ghost use Rattle.cycle_engine.specs.Nodes.{HaveSpare, KeepSpare, heard_by, left_in, spares_of, states_of};
 ghost use Rattle.cycle_engine.specs.Stations.{all_hear, frame_by_nodes, offered_by_nodes};
 ghost use Rattle.cycle_engine.specs.SyncWindow.{due_by};
 
@@ -25,8 +25,9 @@ use trigger_codec::{TRIGGER_IDENTIFIER, Trigger, decode};
 
 /// Makes each node able to learn a list of so many entries without memory.
 pub fn reserve(alloc: Global, nodes: &mut [Node], entries: usize) -> Result<(), AllocError>
-    ensures room { OnOk result (All (λ node. entries ≤ node.spare) nodes.new) }
+    ensures room { OnOk result (HaveSpare entries nodes.new) }
     ensures same { states_of nodes.new ≡ states_of nodes.old }
+    ensures spare { KeepSpare nodes.old nodes.new }
 {
     for node in nodes {
         node.reserve(alloc, entries)?;
@@ -37,8 +38,9 @@ pub fn reserve(alloc: Global, nodes: &mut [Node], entries: usize) -> Result<(), 
 /// Hands a list to each node.
 pub fn learn(nodes: &mut [Node], placed: &[Placed])
     requires well_placed { IsWellPlaced placed.now }
-    requires room { All (λ node. length placed.now ≤ node.spare) nodes.old }
+    requires room { HaveSpare (length placed.now) nodes.old }
     ensures learnt { states_of nodes.new ≡ map (learnt placed.now) (states_of nodes.old) }
+    ensures spare { KeepSpare nodes.old nodes.new }
 {
     for node in nodes {
         node.learn_in(placed);
@@ -52,6 +54,7 @@ pub fn hear(nodes: &mut [Node], first: usize, sent: &TimedFrame)
     requires are { All IsNode (states_of nodes.old) }
     requires apart { AllPairs AreApart (states_of nodes.old) }
     ensures heard { states_of nodes.new ≡ all_hear (states_of nodes.old) sent.now }
+    ensures spare { spares_of nodes.new ≡ spares_of nodes.old }
 {
     if sent.frame.id() == TRIGGER_IDENTIFIER {
         hear_trigger(nodes, sent, &decode(&sent.frame).ok());
@@ -68,6 +71,7 @@ fn hear_trigger(nodes: &mut [Node], sent: &TimedFrame, trigger: &Option<Trigger>
     requires reading { trigger.now ≡ trigger_of sent.now.frame }
     requires next { All (λ node. node.next < 2 ^ 42) (states_of nodes.old) }
     ensures heard { states_of nodes.new ≡ all_hear (states_of nodes.old) sent.now }
+    ensures spare { spares_of nodes.new ≡ spares_of nodes.old }
 {
     for node in nodes {
         node.hear_trigger(sent, trigger);
@@ -82,6 +86,7 @@ fn hear_from(nodes: &mut [Node], place: usize, sent: &TimedFrame)
     requires are { All IsNode (states_of nodes.old) }
     requires apart { AllPairs AreApart (states_of nodes.old) }
     ensures heard { states_of nodes.new ≡ all_hear (states_of nodes.old) sent.now }
+    ensures spare { spares_of nodes.new ≡ spares_of nodes.old }
 {
     hears_a_request();
     nodes_are_apart();
@@ -95,6 +100,7 @@ fn hear_from(nodes: &mut [Node], place: usize, sent: &TimedFrame)
 /// Lets each node count a frame.
 fn count(nodes: &mut [Node])
     ensures counted { states_of nodes.new ≡ map counting (states_of nodes.old) }
+    ensures spare { spares_of nodes.new ≡ spares_of nodes.old }
 {
     for node in nodes {
         node.count();
@@ -105,6 +111,7 @@ fn count(nodes: &mut [Node])
 fn hear_other(nodes: &mut [Node], sent: &TimedFrame)
     requires identifier { sent.now.frame.identifier ≢ 0 }
     ensures heard { states_of nodes.new ≡ all_hear (states_of nodes.old) sent.now }
+    ensures spare { spares_of nodes.new ≡ spares_of nodes.old }
 {
     for node in nodes {
         node.hear(sent);
@@ -141,6 +148,7 @@ pub fn due_frame(nodes: &[Node], slot: u8) -> Frame
 pub fn hear_slots(nodes: &mut [Node], sent: Mask, frames: &[TimedFrame])
     requires slots { AreOfSlots sent frames.now }
     ensures heard { states_of nodes.new ≡ heard_by frames.now (states_of nodes.old) }
+    ensures spare { spares_of nodes.new ≡ spares_of nodes.old }
 {
     if frames.is_empty() {
         return;

@@ -13,6 +13,6 @@ mod segment;
 mod stations;
 mod sync_window;
 
-pub use cycle::run_cycle;
+pub use cycle::{run_cycle, run_cycle_in};
 pub use nodes::Nodes;
 pub use segment::Segment;

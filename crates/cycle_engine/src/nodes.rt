@@ -10,7 +10,8 @@ ghost use Rattle.bus_line.specs.Stations.{offers_of};
 ghost use Rattle.node_model.specs.Node.{IsNode, NodeView};
 ghost use Rattle.async_window.specs.Owners.{AreOwners};
 ghost use Rattle.node_model.specs.Node.{fresh_node};
-ghost use Rattle.cycle_engine.specs.Nodes.{IsBus, IsNumber, heard_by, learnt_by, left_in, states_of};
+ghost use Rattle.cycle_engine.specs.Nodes.{CanLearn, HaveSpare, IsBus, IsNumber, KeepSpare, heard_by, learnt_by, left_in};
+ghost use Rattle.cycle_engine.specs.Nodes.{states_of};
 ghost use Rattle.cycle_engine.specs.Stations.{announced, cycle_line};
 ghost use Rattle.cycle_engine.specs.SyncWindow.{IsBeforeWindow};
 
@@ -86,34 +87,59 @@ impl Nodes {
         self.stations.left()
     }
 
-    /// The layout of the bus.
-    pub(crate) fn layout(&self) -> Layout
-        ensures layout { result ≡ self.now.layout }
+    /// The layout of the bus, without memory: that with which the nodes were made.
+    pub fn layout(&self) -> &Layout
+        ensures layout { result.now ≡ self.now.layout }
+    {
+        self.stations.layout()
+    }
+
+    /// What is true of all nodes and their layout. This does nothing: it brings the facts to a proof.
+    pub(crate) fn are_known(&self)
         ensures are { All IsNode (states_of self.now.nodes) }
         ensures known { IsLayout self.now.layout }
     {
-        let layout = self.stations.layout();
-        layout.is_in_range();
-        layout
+        self.stations.are_known();
+        self.stations.layout().is_in_range();
     }
 
-    /// Hands a list to each node, where there is one. All memory is taken first.
-    pub(crate) fn learn(
+    /// Makes `spare` of the nodes at least `entries`: then each can learn a list of so many entries without memory.
+    pub fn reserve(&mut self, alloc: Global, entries: usize) -> Result<(), AllocError>
+        ensures room { OnOk result (HaveSpare entries self.new.nodes) }
+        ensures same { states_of self.new.nodes ≡ states_of self.old.nodes }
+        ensures layout { self.new.layout ≡ self.old.layout }
+        ensures spare { KeepSpare self.old.nodes self.new.nodes }
+    {
+        self.stations.reserve(alloc, entries)
+    }
+
+    /// Makes the nodes able to learn a list without memory, where there is one.
+    pub(crate) fn reserve_for(
         &mut self,
         alloc: Global,
         learned: &Option<PlacedList>,
     ) -> Result<(), AllocError>
-        requires well_placed { IfSome learned.now IsWellPlaced }
+        ensures room { OnOk result (CanLearn learned.now self.new.nodes) }
+        ensures same { states_of self.new.nodes ≡ states_of self.old.nodes }
         ensures layout { self.new.layout ≡ self.old.layout }
-        ensures learnt { OnOk result (states_of self.new.nodes ≡ learnt_by learned.now (states_of self.old.nodes)) }
-        ensures same { OnErr result (states_of self.new.nodes ≡ states_of self.old.nodes) }
+    {
+        match learned {
+            Some(list) => self.reserve(alloc, list.as_slice().len()),
+            None => Ok(()),
+        }
+    }
+
+    /// Hands a list to each node, where there is one.
+    pub(crate) fn learn(&mut self, learned: &Option<PlacedList>)
+        requires well_placed { IfSome learned.now IsWellPlaced }
+        requires room { CanLearn learned.now self.old.nodes }
+        ensures layout { self.new.layout ≡ self.old.layout }
+        ensures learnt { states_of self.new.nodes ≡ learnt_by learned.now (states_of self.old.nodes) }
+        ensures spare { KeepSpare self.old.nodes self.new.nodes }
     {
         if let Some(list) = learned {
-            let placed = list.as_slice();
-            self.stations.reserve(alloc, placed.len())?;
-            self.stations.learn(placed);
+            self.stations.learn(list.as_slice());
         }
-        Ok(())
     }
 
     /// Runs the bus over the nodes through the cycle of an order, and puts the frames into `frames`, which has room for
@@ -131,8 +157,11 @@ impl Nodes {
             (trigger_frame order.now.cycle order.now.l order.now.mask) (states_of self.old.nodes)))
             [] (order.now.cycle * self.old.layout.cycle)
             ((order.now.cycle + 1) * self.old.layout.cycle) frames.new.items }
+        ensures capacity { vec_capacity frames.old ≤ vec_capacity frames.new }
+        ensures spare { KeepSpare self.old.nodes self.new.nodes }
     {
-        let layout = self.layout();
+        self.are_known();
+        let layout = *self.layout();
         let end = (order.cycle + 1) * u64::from(layout.cycle());
         let from = self.run_up_to_window(order, frames);
         self.stations.run_window(from, end, frames);
@@ -151,6 +180,7 @@ impl Nodes {
             (states_of self.old.nodes)
             (states_of self.new.nodes) frames.new.items result }
         ensures capacity { vec_capacity frames.old ≤ vec_capacity frames.new }
+        ensures spare { KeepSpare self.old.nodes self.new.nodes }
     {
         wire_lengths();
         trace_laws::<StationOffers<NodeStations>>();
@@ -159,7 +189,8 @@ impl Nodes {
         stays_a_node();
         offers_in_range();
         order.mask.known();
-        let layout = self.layout();
+        self.are_known();
+        let layout = *self.layout();
         let start = order.cycle * u64::from(layout.cycle());
         let window = layout.sync_start(order.cycle, order.l);
         let trigger = encode(order.cycle, order.l, order.mask);

@@ -1,31 +1,42 @@
 //! The frames of one cycle.
 
-ghost use Rattle.std.specs.Prelude.{◌≡◌};
+ghost use Rattle.std.specs.Prelude.{◌≡◌, ◌/◌, ◌+◌, ◌≤◌, [], IfOk, vec_capacity};
 
 use can_frame::TimedFrame;
+use cycle_layout::Layout;
+use std::alloc::{AllocError, Global};
 use std::marker::Model;
 
-/// The frames that start in one cycle, in the order of their starts. Contracts see the list.
+/// The most frames of one cycle, and one more: the longest cycle has 100,000 bit times, and the shortest frame 47.
+const ROOM: usize = 100_000 / 47 + 2;
+
+/// The frames that start in one cycle, in the order of their starts, with room for those of another one. Contracts see
+/// the list.
 #[derive(Drop)]
 pub struct Segment {
-    frames: Vec<TimedFrame>,
+    pub(crate) frames: Vec<TimedFrame>,
 }
 
 impl Model for Segment {
-    ghost use Rattle.std.specs.Prelude.{List};
+    ghost use Rattle.std.specs.Prelude.{◌/◌, ◌+◌, ◌≤◌, List, vec_capacity};
     ghost use Rattle.can_frame.specs.declared.data_frame.TimedFrame.{TimedFrame};
 
     ghost Value = { List TimedFrame };
 
     ghost view = { λ s. s.frames.items };
+
+    ghost invariant = { λ s. 100000 / 47 + 2 ≤ vec_capacity s.frames };
 }
 
 impl Segment {
-    /// The segment of these frames.
-    pub(crate) fn of(frames: Vec<TimedFrame>) -> Segment
-        ensures list { result ≡ frames.items }
+    /// No frames, with room for those of a cycle of this layout. The room is the same in each layout: that of the longest
+    /// cycle, so that a segment serves any nodes.
+    pub fn new(alloc: Global, _layout: &Layout) -> Result<Segment, AllocError>
+        ensures empty { IfOk result (λ segment. segment ≡ []) }
     {
-        Segment { frames }
+        Ok(Segment {
+            frames: Vec::with_capacity(alloc, ROOM)?,
+        })
     }
 
     /// The frames, without memory.

@@ -6,7 +6,7 @@ ghost use Rattle.cycle_layout.specs.Layout.{IsLayout};
 ghost use Rattle.requirement_table.specs.Table.{IsWellPlaced};
 ghost use Rattle.node_model.specs.Node.{learnt};
 ghost use Rattle.node_model.specs.Window.{IsInWindow};
-ghost use Rattle.cycle_engine.specs.Nodes.{left_in, states_of};
+ghost use Rattle.cycle_engine.specs.Nodes.{HaveSpare, KeepSpare, left_in, spares_of, states_of};
 ghost use Rattle.bus_line.specs.Stations.{IsWake};
 ghost use Rattle.async_window.specs.Owners.{AreOwners};
 ghost use Rattle.cycle_engine.specs.Stations.{AreNodes, frame_by_nodes, offered_by_nodes, offered_trigger};
@@ -84,11 +84,17 @@ impl NodeStations {
     }
 
     /// The layout of the bus.
-    pub fn layout(&self) -> Layout
-        ensures layout { result ≡ self.now.layout }
+    pub fn layout(&self) -> &Layout
+        ensures layout { result.now ≡ self.now.layout }
+    {
+        &self.layout
+    }
+
+    /// What is true of the nodes of a bus. This does nothing: it brings the fact to a proof.
+    pub fn are_known(&self)
         ensures known { AreNodes self.now.layout (states_of self.now.nodes) }
     {
-        self.layout
+        let _ = &self.layout;
     }
 
     /// The number of requests that are not sent.
@@ -101,9 +107,10 @@ impl NodeStations {
 
     /// Makes each node able to learn a list of so many entries without memory.
     pub fn reserve(&mut self, alloc: Global, entries: usize) -> Result<(), AllocError>
-        ensures room { OnOk result (All (λ node. entries ≤ node.spare) self.new.nodes) }
+        ensures room { OnOk result (HaveSpare entries self.new.nodes) }
         ensures layout { self.new.layout ≡ self.old.layout }
         ensures same { states_of self.new.nodes ≡ states_of self.old.nodes }
+        ensures spare { KeepSpare self.old.nodes self.new.nodes }
     {
         self.soonest = None;
         each::reserve(alloc, self.nodes.as_mut_slice(), entries)
@@ -112,9 +119,10 @@ impl NodeStations {
     /// Hands a list to each node.
     pub fn learn(&mut self, placed: &[Placed])
         requires well_placed { IsWellPlaced placed.now }
-        requires room { All (λ node. length placed.now ≤ node.spare) self.old.nodes }
+        requires room { HaveSpare (length placed.now) self.old.nodes }
         ensures layout { self.new.layout ≡ self.old.layout }
         ensures learnt { states_of self.new.nodes ≡ map (learnt placed.now) (states_of self.old.nodes) }
+        ensures spare { KeepSpare self.old.nodes self.new.nodes }
     {
         stays_a_node();
         nodes_are_apart();
@@ -161,6 +169,8 @@ impl NodeStations {
         ensures layout { self.new.layout ≡ self.old.layout }
         ensures sent { IsSentBy (states_of self.old.nodes)
             (states_of self.new.nodes) from until out.old.items out.new.items }
+        ensures capacity { vec_capacity out.old ≤ vec_capacity out.new }
+        ensures spare { spares_of self.new.nodes ≡ spares_of self.old.nodes }
     {
         stays_a_node();
         nodes_are_apart();
@@ -171,6 +181,8 @@ impl NodeStations {
 }
 
 impl Stations for NodeStations {
+    ghost use Rattle.std.specs.Prelude.{ℕ, List};
+    ghost use Rattle.cycle_engine.specs.Nodes.{spares_of};
     ghost use Rattle.cycle_engine.specs.Stations.{Stationed, cycle_line, stationed};
 
     ghost State = { Stationed };
@@ -178,6 +190,10 @@ impl Stations for NodeStations {
     ghost line = { cycle_line };
 
     ghost state = { stationed };
+
+    ghost Fixed = { List ℕ };
+
+    ghost fixed = { λ s. spares_of s.nodes };
 
     fn offers(&self, at: u64, ids: &mut Contenders) {
         offers_in_range();

@@ -7,7 +7,7 @@ ghost use Rattle.requirement_table.specs.Slots.{contains_slot, slots};
 ghost use Rattle.node_model.specs.Opening.{first_identifier};
 ghost use Rattle.node_model.specs.Node.{IsNode};
 ghost use Rattle.node_model.specs.Window.{AreOfSlots, IsInWindow};
-ghost use Rattle.cycle_engine.specs.Nodes.{states_of};
+ghost use Rattle.cycle_engine.specs.Nodes.{spares_of, states_of};
 ghost use Rattle.cycle_engine.specs.SyncWindow.{IsSentBy, back_to_back, by_slots, due_among, due_by};
 
 use crate::each;
@@ -25,6 +25,8 @@ pub fn run_window(nodes: &mut [Node], from: u64, until: u64, out: &mut Vec<Timed
     requires window { All (IsInWindow from until) (states_of nodes.old) }
     requires room { from < until → length out.old.items + ((until - from) / 47 + 1) ≤ vec_capacity out.old }
     ensures sent { IsSentBy (states_of nodes.old) (states_of nodes.new) from until out.old.items out.new.items }
+    ensures capacity { vec_capacity out.old ≤ vec_capacity out.new }
+    ensures spare { spares_of nodes.new ≡ spares_of nodes.old }
 {
     wire_lengths();
     sends_its_slots();
@@ -44,6 +46,7 @@ fn send_slots(nodes: &[Node], set: Mask, from: u64, until: u64, out: &mut Vec<Ti
     requires room { from < until → vec_len out.old + ((until - from) / 47 + 1) ≤ vec_capacity out.old }
     ensures sent { out.new.items
         ≡ out.old.items ++ back_to_back (by_slots (due_among (states_of nodes.now) set)) from until }
+    ensures capacity { vec_capacity out.old ≤ vec_capacity out.new }
 {
     let mut left = set;
     let mut at = from;

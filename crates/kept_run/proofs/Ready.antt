@@ -1,5 +1,5 @@
 -- The nodes of a run: what they know once they have learnt the list of an order and heard a cycle.
-use Rattle.std.proofs.Common.{◌≡◌, ℕ, ◌+◌, ◌*◌, ◌<◌, ◌≤◌, eqb, Bool, true, false, cond, List, [], ◌∷◌, ◌++◌, map, fold, All, Contains, Option, Some, None, refl, ap, sym, ◌∙◌, subst}
+use Rattle.std.proofs.Common.{◌≡◌, ℕ, ◌+◌, ◌*◌, ◌<◌, ◌≤◌, eqb, Bool, length, true, false, cond, List, [], ◌∷◌, ◌++◌, map, fold, All, Contains, Option, Some, None, refl, ap, sym, ◌∙◌, subst}
 use Rattle.std.specs.Prelude.{IfSome, is_some}
 use Rattle.std.proofs.lemmas.List.Elements.{All-contains, All-map, All-weaker}
 use Rattle.can_frame.specs.DataFrame.{DataFrame}
@@ -19,11 +19,11 @@ use Rattle.master_core.specs.History.{IsLegal, IsRight, is_changed, is_open, nex
 use Rattle.master_core.specs.Orders.{IsOrder}
 use Rattle.async_window.specs.declared.request.Owner.{Owner}
 use Rattle.async_window.specs.declared.request.Request.{Request}
-use Rattle.node_model.specs.Node.{NodeState, after_frame, after_hearing, counted, entries_of, is_own_slot, learnt}
+use Rattle.node_model.specs.Node.{NodeState, NodeView, after_frame, after_hearing, counted, entries_of, is_own_slot, learnt}
 use Rattle.node_model.specs.Own.{Stands}
 use Rattle.node_model.proofs.Shared.{instance-of_own}
 use Rattle.cycle_engine.specs.Cycle.{FitsWindow}
-use Rattle.cycle_engine.specs.Nodes.{FitsOrder, IsBefore, IsBus, IsKnown, IsNumber, IsOwned, NodesView, heard_by, learnt_by, opening_of, states_of}
+use Rattle.cycle_engine.specs.Nodes.{CanLearn, FitsOrder, HaveSpare, IsBefore, IsBus, IsKnown, IsNumber, IsOwned, NodesView, heard_by, learnt_by, opening_of, states_of}
 use Rattle.kept_run.specs.Progress.{AreReady, IsSetting, IsUnderWay, Setting}
 use Rattle.kept_run.proofs.Histories.{next_of-closed, next_of-push, placed_of-push, unchanged-closed}
 use Rattle.kept_run.proofs.Lists.{Contains-from_map}
@@ -153,6 +153,17 @@ order-right rules history order is = (is.cycle, is.mask ∙ ap (λ n. mask_at (p
 pub order-learned : (rules : Rules) (history : List Event) (order : Order) → IsWellPlaced (placed_of history) → IsOrder rules history order → IfSome order.learned IsWellPlaced
 order-learned rules history order well is =
     subst (λ o. IfSome o IsWellPlaced) (sym is.learned) (well-learned (placed_of history) (is_changed history) well)
+
+-- nodes with room for the placed entries can learn it without memory
+can-learn : (placed : List Placed) (changed : Bool) (nodes : List NodeView) → HaveSpare (length placed) nodes
+    → CanLearn (cond changed (Some placed) None) nodes
+can-learn placed true nodes have = have
+can-learn placed false nodes have = tt
+
+pub order-spare : (rules : Rules) (history : List Event) (nodes : NodesView) (order : Order) → HaveSpare (length (placed_of history)) nodes.nodes
+    → IsOrder rules history order → CanLearn order.learned nodes.nodes
+order-spare rules history nodes order have is =
+    subst (λ o. CanLearn o nodes.nodes) (sym is.learned) (can-learn (placed_of history) (is_changed history) nodes.nodes have)
 
 -- its flagged slots have instances to send, and fit the largest window together
 pub order-fits : (setting : Setting) (history : List Event) (order : Order) → IsSetting setting → IsOrder setting.rules history order

@@ -3,7 +3,8 @@
 //! A run keeps two things between its steps: its history and its trace are under way, and its nodes are ready. It
 //! begins so, each step keeps it, and whatever is under way keeps what is promised.
 
-ghost use Rattle.std.specs.Prelude.{◌≡◌, ℕ, ◌+◌, ◌*◌, ◌<◌, ◌≤◌, ◌↔◌, false, List, [], ◌∷◌, ◌++◌, All, Any, IfSome};
+ghost use Rattle.std.specs.Prelude.{◌≡◌, ℕ, ◌+◌, ◌*◌, ◌<◌, ◌≤◌, ◌↔◌, ◌==◌, false, List, [], ◌∷◌, ◌++◌, All, Any, IfSome};
+ghost use Rattle.std.specs.Prelude.{filter, length};
 ghost use Rattle.can_frame.specs.declared.data_frame.TimedFrame.{TimedFrame};
 ghost use Rattle.requirement_table.specs.declared.entries.Order.{Order};
 ghost use Rattle.requirement_table.specs.Table.{IsWellPlaced};
@@ -16,8 +17,8 @@ ghost use Rattle.async_window.specs.declared.request.Owner.{Owner};
 ghost use Rattle.async_window.specs.declared.request.Request.{Request};
 ghost use Rattle.async_window.specs.Owners.{AreOwners};
 ghost use Rattle.bus_line.specs.Trace.{Follows};
-ghost use Rattle.cycle_engine.specs.Cycle.{FitsWindow};
-ghost use Rattle.cycle_engine.specs.Nodes.{IsBefore, IsBus, IsNumber, NodesView};
+ghost use Rattle.cycle_engine.specs.Cycle.{FitsWindow, cycle_of};
+ghost use Rattle.cycle_engine.specs.Nodes.{CanLearn, HaveSpare, IsBefore, IsBus, IsNumber, NodesView};
 ghost use Rattle.cycle_engine.specs.Nodes.{heard_by, learnt_by, opening_of, states_of};
 ghost use Rattle.cycle_engine.specs.Offered.{AreAsynchronous, offered_in};
 ghost use Rattle.kept_run.specs.Kept.{Kept};
@@ -82,7 +83,8 @@ pub fn calls_between()
 
 /// An order of the master can be run as it is: its opening is right after the history, its frames fit into the largest
 /// window, what the nodes are to learn is well placed, and when they have learnt it each flagged slot has a node that
-/// knows what to send.
+/// knows what to send. Nodes that can learn a list as long as that of the placed entries without memory can learn what
+/// the order has for them, so its cycle needs no memory.
 pub fn orders()
     ensures right { (rules : Rules) (history : List Event) (order : Order) → IsOrder rules history order
         → IsRight rules history (Open order.cycle order.mask) }
@@ -93,6 +95,9 @@ pub fn orders()
     ensures learned { (rules : Rules) (history : List Event) (order : Order)
         → IsLegal rules history → IsOrder rules history order
         → IfSome order.learned IsWellPlaced }
+    ensures spare { (rules : Rules) (history : List Event) (nodes : NodesView) (order : Order)
+        → HaveSpare (length (placed_of history)) nodes.nodes → IsOrder rules history order
+        → CanLearn order.learned nodes.nodes }
     ensures window { (setting : Setting) (history : List Event) (trace : List TimedFrame)
         (nodes : NodesView) (order : Order)
         → IsSetting setting → AreReady setting history trace nodes
@@ -143,4 +148,16 @@ pub fn cycles_run()
     planned_slots();
     states();
     valid_states();
+}
+
+/// In a run under way the triggers up to a frame, itself included, are one more than the number of the cycle in which it
+/// starts: its start divided by the length of a cycle.
+pub fn triggers_count_cycles()
+    ensures counted { (setting : Setting) (history : List Event) (trace : List TimedFrame)
+        → IsSetting setting → IsUnderWay setting history trace
+        → (front later : List TimedFrame) (sent : TimedFrame) → trace ≡ front ++ sent ∷ later
+        → length (filter (λ other. other.frame.identifier == 0) (front ++ sent ∷ []))
+        ≡ cycle_of setting.layout sent + 1 }
+{
+    opened_cycles();
 }

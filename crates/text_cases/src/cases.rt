@@ -1,7 +1,7 @@
 //! Cases as text. Each ends with a line `---`, and has what is given, a line `=>` and what is wanted.
 
 use crate::tables::Table;
-use crate::{inputs, logs, shelves, sinks, streams};
+use crate::{inputs, logs, prefixes, shelves, sinks, streams};
 use std::alloc::{AllocError, Global};
 use std::io;
 
@@ -30,6 +30,7 @@ fn told(rt: &HostRuntime, table: Table, given: &str) -> io::Result<String> {
         Table::Rows => Ok(logs::second_rows(alloc, given)?),
         Table::LastRows => Ok(logs::last_rows(alloc, given)?),
         Table::Events => Ok(logs::events(alloc)?),
+        Table::Prefixes => Ok(prefixes::answers(alloc, given)?),
     }
 }
 

@@ -6,6 +6,7 @@
 mod cases;
 mod inputs;
 mod logs;
+mod prefixes;
 mod shelves;
 mod sinks;
 mod streams;

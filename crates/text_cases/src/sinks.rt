@@ -1,5 +1,6 @@
 //! Putting to a sink in memory, and the texts of faults.
 
+use bus_trace::LogFault;
 use ftt_io::{Failed, FetchFault, MemSink, write_all};
 use std::alloc::{AllocError, Global};
 
@@ -41,6 +42,8 @@ pub fn printed(alloc: Global, given: &str) -> Result<String, AllocError> {
             "fetch failed" => writeln!(told, "{}", FetchFault::Failed)?,
             "fetch too long" => writeln!(told, "{}", FetchFault::TooLong)?,
             "fetch without memory" => writeln!(told, "{}", FetchFault::Memory)?,
+            "log" => writeln!(told, "{}", LogFault::Row { number: 12 })?,
+            "log without memory" => writeln!(told, "{}", LogFault::Memory)?,
             _ => writeln!(told, "{Failed}")?,
         }
     }

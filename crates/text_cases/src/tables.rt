@@ -29,10 +29,12 @@ pub enum Table {
     LastRows,
     /// The rows of one event are written, and then those of another.
     Events,
+    /// A plan text is checked, and each first part of it.
+    Prefixes,
 }
 
 /// The tables, each with the name of its file.
-pub const TABLES: [(&str, Table); 13] = [
+pub const TABLES: [(&str, Table); 14] = [
     ("memory_shelf", Table::MemoryShelf),
     ("file_shelf", Table::FileShelf),
     ("memory_sink", Table::MemorySink),
@@ -46,4 +48,5 @@ pub const TABLES: [(&str, Table); 13] = [
     ("rows", Table::Rows),
     ("last_rows", Table::LastRows),
     ("events", Table::Events),
+    ("prefixes", Table::Prefixes),
 ];

@@ -1,80 +1,25 @@
-use Rattle.std.proofs.Common.{All, ap, arith, refl, subst, sym, ◌*◌, ◌++◌, ◌+◌, ◌<◌, ◌∙◌, ◌≡◌}
-use Rattle.std.proofs.Math.Nat.{add-mul}
-use Rattle.node_model.specs.Node.{IsNode}
-use Rattle.trigger_codec.specs.Bytes.{trigger_frame}
-use Rattle.cycle_engine.specs.Nodes.{IsBus, heard_by, learnt_by, states_of}
-use Rattle.cycle_engine.specs.Stations.{announced}
-use Rattle.cycle_engine.proofs.Along.{NodeLaws, told-heard}
-use Rattle.cycle_engine.proofs.NextCycle.{AtCycle-behind}
-use Rattle.cycle_engine.proofs.OneCycle.{Follows-same, announced-same, cycle_runs, cycle_stands, learnt_by-are, learnt_by-next}
+use Rattle.std.proofs.Common.{List, subst, ◌*◌, ◌++◌, ◌+◌}
+use Rattle.cycle_layout.specs.Layout.{CycleLayout}
+use Rattle.bus_line.specs.Trace.{Follows}
+use Rattle.node_model.specs.Node.{NodeState}
+use Rattle.cycle_engine.specs.Nodes.{IsBefore, IsBus, learnt_by, opening_of, states_of}
+use Rattle.cycle_engine.specs.Offered.{offered_in}
 use Rattle.cycle_engine.proofs.cycle.run_cycle.Goals as goal
 
-pub run-requires-clause-next : goal.run-requires-clause-next
-run-requires-clause-next c =
-    subst (λ nodes. All (λ node. node.next ≡ c.args.order.now.cycle) nodes) (sym c.in_ok-learn.ensures.learnt)
-    (learnt_by-next c.args.order.now.learned c.args.order.now.cycle (states_of c.args.nodes.now.nodes) c.requires.next)
-
 pub returns-clause-runs : goal.returns-clause-runs
-returns-clause-runs c =
+returns-clause-runs c = λ owners requests placed past.
     let order = c.args.order.now in
-    let layout = c.args.nodes.now.layout in
-    let learned = c.learn.new.self in
-    let nodes = learnt_by order.learned (states_of c.args.nodes.now.nodes) in
-    let laws : NodeLaws = record {
-      positive = c.wire_lengths.ensures.not_empty;
-      own_part = c.offers_its_part.ensures.own_part;
-      trigger = c.hears_a_cycle.ensures.trigger;
-      later = c.hears_a_cycle.ensures.later;
-      stays = c.stays_a_node.ensures.hearing;
-    } in
-    let are = learnt_by-are order.learned (states_of c.args.nodes.now.nodes) c.stays_a_node.ensures.learning c.requires.learned c.layout.ensures.are in
-    let trigger = trigger_frame order.cycle order.l order.mask in
-    let follows = Follows-same (announced learned.layout (order.cycle * learned.layout.cycle) trigger (states_of learned.nodes)) (announced layout (order.cycle * layout.cycle) trigger nodes)
-    (order.cycle * learned.layout.cycle) (order.cycle * layout.cycle) ((order.cycle + 1) * learned.layout.cycle) ((order.cycle + 1) * layout.cycle) c.run.new.frames.items c.of.result
-    (announced-same learned.layout layout (order.cycle * learned.layout.cycle) (order.cycle * layout.cycle) trigger trigger (states_of learned.nodes) nodes
-    c.learn.ensures.layout (ap (λ l. order.cycle * l.cycle) c.learn.ensures.layout) refl c.in_ok-learn.ensures.learnt)
-    (ap (λ l. order.cycle * l.cycle) c.learn.ensures.layout) (ap (λ l. (order.cycle + 1) * l.cycle) c.learn.ensures.layout) (sym c.of.ensures.list) c.run.ensures.runs in
-    cycle_runs laws layout order nodes c.of.result c.layout.ensures.known c.requires.cycle c.requires.window c.known.ensures.below are follows
+    let segment = c.run_cycle_in.new.segment in
+    let Runs : CycleLayout → List NodeState → Type 0 = λ layout nodes. IsBefore layout owners requests placed past order (learnt_by order.learned nodes)
+    → Follows (offered_in layout requests (opening_of order placed)) past (order.cycle * layout.cycle) ((order.cycle + 1) * layout.cycle) segment in
+    subst (λ layout. Runs layout (states_of c.args.nodes.now.nodes)) c.reserve_for.ensures.layout
+    (subst (λ nodes. Runs c.reserve_for.new.self.layout nodes) c.reserve_for.ensures.same (c.run_cycle_in.ensures.runs owners requests placed past))
 
 pub returns-clause-stand : goal.returns-clause-stand
-returns-clause-stand c = λ owners requests placed past before.
+returns-clause-stand c = λ owners requests placed past.
     let order = c.args.order.now in
-    let layout = c.args.nodes.now.layout in
-    let learned = c.learn.new.self in
-    let nodes = learnt_by order.learned (states_of c.args.nodes.now.nodes) in
-    let laws : NodeLaws = record {
-      positive = c.wire_lengths.ensures.not_empty;
-      own_part = c.offers_its_part.ensures.own_part;
-      trigger = c.hears_a_cycle.ensures.trigger;
-      later = c.hears_a_cycle.ensures.later;
-      stays = c.stays_a_node.ensures.hearing;
-    } in
-    let are = learnt_by-are order.learned (states_of c.args.nodes.now.nodes) c.stays_a_node.ensures.learning c.requires.learned c.layout.ensures.are in
-    let trigger = trigger_frame order.cycle order.l order.mask in
-    let follows = Follows-same (announced learned.layout (order.cycle * learned.layout.cycle) trigger (states_of learned.nodes)) (announced layout (order.cycle * layout.cycle) trigger nodes)
-    (order.cycle * learned.layout.cycle) (order.cycle * layout.cycle) ((order.cycle + 1) * learned.layout.cycle) ((order.cycle + 1) * layout.cycle) c.run.new.frames.items c.of.result
-    (announced-same learned.layout layout (order.cycle * learned.layout.cycle) (order.cycle * layout.cycle) trigger trigger (states_of learned.nodes) nodes
-    c.learn.ensures.layout (ap (λ l. order.cycle * l.cycle) c.learn.ensures.layout) refl c.in_ok-learn.ensures.learnt)
-    (ap (λ l. order.cycle * l.cycle) c.learn.ensures.layout) (ap (λ l. (order.cycle + 1) * l.cycle) c.learn.ensures.layout) (sym c.of.ensures.list) c.run.ensures.runs in
-    let heard : states_of c.run.new.self.nodes ≡ heard_by c.of.result nodes =
-    c.run.ensures.heard ∙ ap (λ frames. heard_by frames (states_of learned.nodes)) (sym c.of.ensures.list) ∙ ap (λ ns. heard_by c.of.result ns) c.in_ok-learn.ensures.learnt in
-    subst (λ ns. IsBus layout owners requests placed (past ++ c.of.result) (order.cycle + 1) ns) (sym heard)
-    (cycle_stands laws layout order nodes c.of.result c.layout.ensures.known c.requires.cycle c.requires.window c.known.ensures.below are follows owners requests placed past before)
-
-pub returns-clause-next : goal.returns-clause-next
-returns-clause-next c =
-    let order = c.args.order.now in
-    let learned = c.learn.new.self in
-    let length = learned.layout.cycle in
-    let trigger = trigger_frame order.cycle order.l order.mask in
-    let before = learnt_by order.learned (states_of c.args.nodes.now.nodes) in
-    let are = subst (All IsNode) (sym c.in_ok-learn.ensures.learnt)
-    (learnt_by-are order.learned (states_of c.args.nodes.now.nodes) c.stays_a_node.ensures.learning c.requires.learned c.layout.ensures.are) in
-    let at = subst (λ nodes. All (λ node. node.next ≡ order.cycle) nodes) (sym c.in_ok-learn.ensures.learnt)
-    (learnt_by-next order.learned order.cycle (states_of c.args.nodes.now.nodes) c.requires.next) in
-    let longer : order.cycle * length < (order.cycle + 1) * length =
-    omega (arith, add-mul order.cycle 1 length, ap (λ l. l.cycle) c.learn.ensures.layout, c.layout.ensures.known.cycle_range.above) in
-    let behind = AtCycle-behind c.offers_in_range.ensures.in_range c.stays_a_node.ensures.hearing learned.layout ((order.cycle + 1) * length) (states_of learned.nodes) c.run.new.frames.items
-    (order.cycle * length) order.cycle trigger longer refl are c.requires.cycle at c.run.ensures.runs in
-    subst (λ nodes. All (λ node. node.next ≡ order.cycle + 1) nodes)
-    (told-heard c.run.new.frames.items (announced learned.layout (order.cycle * length) trigger (states_of learned.nodes)) ∙ sym c.run.ensures.heard) behind
+    let segment = c.run_cycle_in.new.segment in
+    let Stand : CycleLayout → List NodeState → Type 0 = λ layout nodes. IsBefore layout owners requests placed past order (learnt_by order.learned nodes)
+    → IsBus layout owners requests placed (past ++ segment) (order.cycle + 1) (states_of c.run_cycle_in.new.nodes.nodes) in
+    subst (λ layout. Stand layout (states_of c.args.nodes.now.nodes)) c.reserve_for.ensures.layout
+    (subst (λ nodes. Stand c.reserve_for.new.self.layout nodes) c.reserve_for.ensures.same (c.run_cycle_in.ensures.stand owners requests placed past))

@@ -1,6 +1,7 @@
 use Rattle.std.proofs.Common.{ap, ◌∙◌}
 use Rattle.cycle_engine.specs.Stations.{all_hear}
 use Rattle.cycle_engine.proofs.OneTakes.{heard-by_owner, states_of-same}
+use Rattle.cycle_engine.proofs.Spares.{spares_of-same}
 use Rattle.cycle_engine.proofs.each.hear_from.Goals as goal
 
 pub returns-then-take_own : goal.returns-then-take_own
@@ -10,6 +11,8 @@ returns-then-take_own c = record {
       (λ one other. c.hears_a_request.ensures.others one other c.args.sent.now) c.nodes_are_apart.ensures.turned
       c.args.nodes.now c.args.place c.index-nodes-place.result c.take_own.new.self c.requires.place
       (c.take_own.ensures.own c.if-take_own.true) c.take_own.ensures.taken c.requires.are c.requires.apart;
+  spare = c.count.ensures.spare
+      ∙ spares_of-same c.args.nodes.now c.args.place c.index-nodes-place.result c.take_own.new.self c.take_own.ensures.spare;
 }
 
 pub returns-else-take_own : goal.returns-else-take_own
@@ -17,4 +20,6 @@ returns-else-take_own c = record {
   heard = c.hear_other.ensures.heard ∙ ap (λ nodes. all_hear nodes c.args.sent.now)
       (states_of-same c.args.nodes.now c.args.place c.index-nodes-place.result c.take_own.new.self
       (c.take_own.ensures.none c.if-take_own.false));
+  spare = c.hear_other.ensures.spare
+      ∙ spares_of-same c.args.nodes.now c.args.place c.index-nodes-place.result c.take_own.new.self c.take_own.ensures.spare;
 }

@@ -1,8 +1,13 @@
+use Rattle.std.proofs.Common.{◌≡◌}
 use Rattle.std.specs.Prelude.{fold}
 use Rattle.node_model.specs.Node.{after_hearing}
+use Rattle.cycle_engine.specs.Nodes.{spares_of}
 use Rattle.cycle_engine.proofs.NodeByNode.{DoneBefore}
 use Rattle.cycle_engine.proofs.each.hear_slots.Given as goal
 
 -- the nodes before this one have heard the frames
 abbrev pub invariant-loop-node : goal.invariant-loop-node
-invariant-loop-node l = DoneBefore (λ node. fold after_hearing node l.frames) l.node-index l.initial.node-items l.node-items
+invariant-loop-node l = record {
+  done : DoneBefore (λ node. fold after_hearing node l.frames) l.node-index l.initial.node-items l.node-items;
+  spare : spares_of l.node-items ≡ spares_of l.initial.node-items;
+}

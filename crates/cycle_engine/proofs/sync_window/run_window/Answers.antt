@@ -1,4 +1,4 @@
-use Rattle.std.proofs.Common.{◌≡◌, ◌-◌, ◌+◌, ◌++◌, ◌<◌, ◌≤◌, All, length, vec_len, sym, ap, ◌∙◌, subst, arith}
+use Rattle.std.proofs.Common.{◌≡◌, ◌+◌, ◌++◌, ◌<◌, ◌≤◌, All, length, vec_len, sym, ap, ◌∙◌, subst, arith}
 use Rattle.requirement_table.specs.Slots.{slots}
 use Rattle.node_model.specs.Opening.{first_identifier}
 use Rattle.cycle_engine.specs.Nodes.{heard_by, states_of}
@@ -50,4 +50,6 @@ returns c =
         no_trigger = λ k d within zero. omega (arith, zero, (due-ids nodes c.args.from c.args.until k d within).0);
         follows = λ layout. Follows-due laws layout c.args.from c.args.until nodes c.requires.nodes c.requires.window;
       };
+      capacity = c.send_slots.ensures.capacity;
+      spare = c.hear_slots.ensures.spare;
     }

@@ -1,4 +1,4 @@
-use Rattle.std.proofs.Common.{◌≡◌, ◌++◌, ◌+◌, true, sym, ap, ◌∙◌, arith, append-nil, refl, subst, ◌<◌, ◌∷◌, [], cond}
+use Rattle.std.proofs.Common.{◌≡◌, ◌++◌, ◌+◌, sym, ap, ◌∙◌, arith, append-nil, refl, subst, ◌<◌, ◌∷◌, [], cond}
 use Rattle.std.specs.Result.{IsOk}
 use Rattle.can_frame.specs.declared.data_frame.TimedFrame.{TimedFrame}
 use Rattle.std.proofs.lemmas.Bool.Decides.{nat_tests}
@@ -22,6 +22,7 @@ returns-then-at-until c =
     let nothing = put-late (by_slots (due_among (states_of c.args.nodes.now) c.loop-slot.left)) c.loop-slot.at c.args.until c.if-at-until.true in
     record {
       sent = sym (append-nil c.loop-slot.out.items) ∙ ap (λ fs. c.loop-slot.out.items ++ fs) (sym nothing) ∙ c.loop-slot.invariant.all;
+      capacity = c.loop-slot.invariant.capacity;
     }
 
 pub due_frame-frame-requires-clause-slot : goal.due_frame-frame-requires-clause-slot
@@ -75,4 +76,5 @@ returns c =
     record {
       sent = sym (append-nil c.loop-slot.out.items)
           ∙ ap (λ fs. c.loop-slot.out.items ++ back_to_back fs c.loop-slot.at c.args.until) (sym nothing) ∙ c.loop-slot.invariant.all;
+      capacity = c.loop-slot.invariant.capacity;
     }

@@ -1,4 +1,4 @@
-use Rattle.kept_run.proofs.Ready.{order-before, order-fits, order-learned, order-next, order-right, order-window}
+use Rattle.kept_run.proofs.Ready.{order-before, order-fits, order-learned, order-next, order-right, order-spare, order-window}
 use Rattle.kept_run.proofs.laws.orders.Goals as goal
 
 pub returns-clause-right : goal.returns-clause-right
@@ -9,6 +9,9 @@ returns-clause-next c = order-next
 
 pub returns-clause-learned : goal.returns-clause-learned
 returns-clause-learned c = λ rules history order legal is. order-learned rules history order (c.legal_histories.ensures.well_placed rules history legal) is
+
+pub returns-clause-spare : goal.returns-clause-spare
+returns-clause-spare c = order-spare
 
 pub returns-clause-window : goal.returns-clause-window
 returns-clause-window c = order-window

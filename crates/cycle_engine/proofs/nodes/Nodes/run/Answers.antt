@@ -1,20 +1,21 @@
-use Rattle.std.proofs.Common.{◌≡◌, ◌+◌, ◌*◌, ◌<◌, ◌++◌, [], All, sym, ap, ◌∙◌, subst, arith}
+use Rattle.std.proofs.Common.{◌≡◌, ◌+◌, ◌*◌, [], All, sym, ap, ◌∙◌, subst, arith}
 use Rattle.std.proofs.Math.Nat.{add-mul}
 use Rattle.trigger_codec.specs.Bytes.{trigger_frame}
 use Rattle.bus_line.specs.Trace.{Follows}
 use Rattle.bus_line.specs.Stations.{offers_of}
 use Rattle.node_model.specs.Window.{IsInWindow}
-use Rattle.cycle_engine.specs.Nodes.{NodesView, heard_by, left_in, states_of}
+use Rattle.cycle_engine.specs.Nodes.{NodesView, heard_by, left_in, states_of, HaveSpare}
 use Rattle.cycle_engine.specs.Stations.{announced, cycle_line}
 use Rattle.cycle_engine.specs.SyncWindow.{nodes_alone}
 use Rattle.cycle_engine.proofs.Left.{left-heard}
 use Rattle.cycle_engine.proofs.TwoParts.{heard-later}
+use Rattle.cycle_engine.proofs.Spares.{kept-same}
 use Rattle.cycle_engine.proofs.nodes.Nodes.run.Goals as goal
 
 pub run_window-requires-clause-window : goal.run_window-requires-clause-window
 run_window-requires-clause-window c =
     let cycle = c.args.order.now.cycle in
-    let length : c.from.result ≡ c.args.self.now.layout.cycle = c.from.ensures ∙ c.cycle.ensures.value ∙ ap (λ l. l.cycle) c.layout-layout.ensures.layout in
+    let length : c.from.result ≡ c.args.self.now.layout.cycle = c.from.ensures ∙ c.cycle.ensures.value ∙ ap (λ l. l.cycle) c.layout.ensures.layout in
     let from = c.run_up_to_window-from.result in
     subst (λ (v : NodesView). All (IsInWindow from ((cycle + 1) * c.from.result)) (states_of v.nodes)) (sym c.self.view_is)
     (subst (λ n. All (IsInWindow from ((cycle + 1) * n)) (states_of c.run_up_to_window-from.new.self.nodes)) (sym length)
@@ -24,7 +25,7 @@ pub run_window-requires-clause-room : goal.run_window-requires-clause-room
 run_window-requires-clause-room c = λ early.
     let cycle = c.args.order.now.cycle in
     let E = c.args.self.now.layout.cycle in
-    let length : c.from.result ≡ E = c.from.ensures ∙ c.cycle.ensures.value ∙ ap (λ l. l.cycle) c.layout-layout.ensures.layout in
+    let length : c.from.result ≡ E = c.from.ensures ∙ c.cycle.ensures.value ∙ ap (λ l. l.cycle) c.layout.ensures.layout in
     let ends : (cycle + 1) * c.from.result ≡ cycle * E + E = ap (λ n. (cycle + 1) * n) length ∙ omega (arith, add-mul cycle 1 E) in
     omega (arith, early, ends, c.run_up_to_window-from.ensures.before_window.few, c.run_up_to_window-from.ensures.capacity, c.requires.room)
 
@@ -45,7 +46,7 @@ returns-clause-runs c =
     let from = c.run_up_to_window-from.result in
     let part = c.run_up_to_window-from.ensures.before_window in
     let sent = c.run_window.ensures.sent in
-    let length : c.from.result ≡ layout.cycle = c.from.ensures ∙ c.cycle.ensures.value ∙ ap (λ l. l.cycle) c.layout-layout.ensures.layout in
+    let length : c.from.result ≡ layout.cycle = c.from.ensures ∙ c.cycle.ensures.value ∙ ap (λ l. l.cycle) c.layout.ensures.layout in
     let mid = states_of c.run_up_to_window-from.new.self.nodes in
     let follows : Follows (offers_of cycle_line (nodes_alone layout mid)) [] from ((order.cycle + 1) * layout.cycle) sent.frames =
     subst (λ (v : NodesView). Follows (offers_of cycle_line (nodes_alone layout (states_of v.nodes))) [] from ((order.cycle + 1) * layout.cycle) sent.frames) c.self.view_is
@@ -57,3 +58,8 @@ pub invariant_of-self : goal.invariant_of-self
 invariant_of-self c =
     let sent = c.run_window.ensures.sent in
     omega (arith, ap left_in sent.heard, left-heard sent.frames (states_of c.self.inside.stations.nodes), c.self.invariant)
+
+pub returns-clause-spare : goal.returns-clause-spare
+returns-clause-spare c = λ entries have.
+    kept-same c.self.inside.stations.nodes c.run_window.new.self.nodes c.run_window.ensures.spare entries
+    (subst (λ (v : NodesView). HaveSpare entries v.nodes) (sym c.self.view_is) (c.run_up_to_window-from.ensures.spare entries have))

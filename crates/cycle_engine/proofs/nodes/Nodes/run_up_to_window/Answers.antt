@@ -1,15 +1,16 @@
-use Rattle.std.proofs.Common.{◌≡◌, ◌+◌, ◌*◌, ◌≤◌, sym, ap, ◌∙◌, subst, arith}
+use Rattle.std.proofs.Common.{◌≡◌, ◌*◌, ◌≤◌, sym, ap, ◌∙◌, subst, arith}
 use Rattle.can_frame.specs.DataFrame.{DataFrame}
 use Rattle.can_frame.specs.Wire.{wire_length}
 use Rattle.cycle_layout.specs.Layout.{sync_start}
 use Rattle.trigger_codec.specs.Bytes.{trigger_frame}
-use Rattle.cycle_engine.specs.Nodes.{NodesView, heard_by, left_in, states_of}
+use Rattle.cycle_engine.specs.Nodes.{NodesView, heard_by, left_in, states_of, spares_of}
 use Rattle.cycle_engine.specs.Stations.{AreNodes, StationsView, announced, stationed}
 use Rattle.cycle_engine.specs.SyncWindow.{IsBeforeWindow}
 use Rattle.cycle_engine.proofs.Along.{told-heard, told-layout}
 use Rattle.cycle_engine.proofs.Left.{left-heard}
 use Rattle.cycle_engine.proofs.OneCycle.{announced-same}
 use Rattle.cycle_engine.proofs.TwoParts.{PartLaws, before-window}
+use Rattle.cycle_engine.proofs.Spares.{kept-same}
 use Rattle.cycle_engine.proofs.nodes.Nodes.run_up_to_window.Goals as goal
 
 pub returns-clause-layout : goal.returns-clause-layout
@@ -24,10 +25,10 @@ returns-clause-before_window c =
     let nodes = states_of c.args.self.now.nodes in
     let laws : PartLaws = record { joined = c.trace_laws.ensures.joined; along = c.same_along.ensures.along } in
     let long : (frame : DataFrame) → 47 ≤ wire_length frame = λ frame. omega (arith, c.wire_lengths.ensures.at_least frame) in
-    let length : c.from.result ≡ layout.cycle = c.from.ensures ∙ c.cycle.ensures.value ∙ ap (λ l. l.cycle) c.layout-layout.ensures.layout in
+    let length : c.from.result ≡ layout.cycle = c.from.ensures ∙ c.cycle.ensures.value ∙ ap (λ l. l.cycle) c.layout.ensures.layout in
     let start : order.cycle * c.from.result ≡ order.cycle * layout.cycle = ap (λ n. order.cycle * n) length in
     let window : c.sync_start-window.result ≡ sync_start layout order.cycle order.l =
-    c.sync_start-window.ensures.value ∙ ap (λ l. sync_start l order.cycle order.l) c.layout-layout.ensures.layout in
+    c.sync_start-window.ensures.value ∙ ap (λ l. sync_start l order.cycle order.l) c.layout.ensures.layout in
     let before : stationed c.announce.new.self ≡ announced layout (order.cycle * layout.cycle) (trigger_frame order.cycle order.l order.mask) nodes =
     ap stationed c.announce.ensures.announced
     ∙ announced-same _ _ _ _ _ _ _ _ (ap (λ v. v.layout) c.self.view_is) start c.encode-trigger.ensures.frame (ap (λ v. states_of v.nodes) c.self.view_is) in
@@ -36,7 +37,7 @@ returns-clause-before_window c =
     (subst (λ (v : StationsView). AreNodes v.layout (states_of v.nodes)) c.announce.ensures.announced c.announce.ensures.known) in
     subst (λ from. IsBeforeWindow layout order.cycle order.l order.mask nodes (states_of c.run_until.new.stations.nodes) c.run_until.new.out.items from) (sym c.max.ensures)
     (before-window laws long c.offers_in_range.ensures.in_range c.stays_a_node.ensures.hearing c.sends_its_slots.ensures.stays c.sends_its_slots.ensures.opens
-    layout order.cycle order.l order.mask c.layout-layout.ensures.known c.requires.cycle c.requires.window c.known.ensures.below nodes are c.requires.next
+    layout order.cycle order.l order.mask c.are_known.ensures.known c.requires.cycle c.requires.window c.known.ensures.below nodes are c.requires.next
     (stationed c.announce.new.self) (stationed c.run_until.new.stations) _ _ _ _ _ before start window c.requires.empty c.run_until.ensures.ran)
 
 pub invariant_of-self : goal.invariant_of-self
@@ -46,3 +47,8 @@ invariant_of-self c =
     ap (λ s. s.nodes) ran.told_of ∙ told-heard ran.frames (stationed c.announce.new.self)
     ∙ ap (λ v. heard_by ran.frames (stationed v).nodes) c.announce.ensures.announced in
     omega (arith, ap left_in heard, left-heard ran.frames (states_of c.self.inside.stations.nodes), c.self.invariant)
+
+pub returns-clause-spare : goal.returns-clause-spare
+returns-clause-spare c =
+    kept-same c.args.self.now.nodes c.run_until.new.stations.nodes
+    (c.run_until.ensures.fixed ∙ ap (λ (v : StationsView). spares_of v.nodes) c.announce.ensures.announced ∙ ap (λ (v : NodesView). spares_of v.nodes) c.self.view_is)

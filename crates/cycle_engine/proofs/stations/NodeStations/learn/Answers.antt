@@ -1,8 +1,8 @@
 use Rattle.std.proofs.Common.{map, sym, ap, ◌∙◌, subst}
 use Rattle.std.proofs.lemmas.List.{take_at}
 use Rattle.node_model.specs.Node.{learnt}
-use Rattle.cycle_engine.specs.Nodes.{states_of}
-use Rattle.cycle_engine.specs.Stations.{AreStations}
+use Rattle.cycle_engine.specs.Nodes.{states_of, KeepSpare}
+use Rattle.cycle_engine.specs.Stations.{AreStations, StationsView}
 use Rattle.cycle_engine.proofs.NodesApart.{AreStations-learning}
 use Rattle.cycle_engine.proofs.stations.NodeStations.learn.Goals as goal
 
@@ -18,3 +18,8 @@ invariant_of-self c =
           (λ one other differ. c.nodes_are_apart.ensures.learning placed one other differ c.requires.well_placed) c.self.invariant.are);
       look = tt;
     }
+
+pub returns-clause-spare : goal.returns-clause-spare
+returns-clause-spare c =
+    subst (λ nodes. KeepSpare c.args.self.now.nodes nodes) (sym (take_at _ _ _ (c.learn.auto.nodes ∙ c.as_mut_slice.ensures.len)))
+    (subst (λ nodes. KeepSpare nodes c.learn.new.nodes) (c.as_mut_slice.ensures.value ∙ ap (λ (v : StationsView). v.nodes) c.self.view_is) c.learn.ensures.spare)

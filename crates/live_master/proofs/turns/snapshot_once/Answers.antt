@@ -1,6 +1,6 @@
 use Rattle.std.proofs.Common.{rules, ◌≡◌}
 use Rattle.turn_lock.specs.Passes.{knowing, refused}
-use Rattle.live_master.proofs.turns.submit_once.Goals as goal
+use Rattle.live_master.proofs.turns.snapshot_once.Goals as goal
 
 pub returns-in-Err-clause-facts : goal.returns-in-Err-clause-facts
 returns-in-Err-clause-facts c =
