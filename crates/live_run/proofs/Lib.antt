@@ -1,4 +1,5 @@
 mod Crews
 mod Cycles
+mod Openings
 mod Runs
 mod Whole

@@ -59,7 +59,7 @@ filter-nil-step : (e : Event) (es : List Event) (b : Bool) → is_open e ≡ b �
 filter-nil-step e es true is none = absurd (cc)
 filter-nil-step e es false is none = (refl, none)
 
-all-closed : (calls : List Event) → filter is_open calls ≡ [] → All (λ call. is_open call ≡ false) calls
+pub all-closed : (calls : List Event) → filter is_open calls ≡ [] → All (λ call. is_open call ≡ false) calls
 all-closed [] none = All-nil (λ call. is_open call ≡ false)
 all-closed (e ∷ es) none =
     let parts = filter-nil-step e es (is_open e) refl none in
@@ -80,7 +80,7 @@ done-few shared (s ∷ scripts) operators same done k d within = let is = (done.
 done-few shared [] operators same done k d within = absurd (omega arith)
 
 -- between what the dispatcher saw last and the history, nothing was opened
-closed-behind : (seen later whole_history mine : List Event) → seen ++ later ≡ whole_history → filter is_open seen ≡ mine
+pub closed-behind : (seen later whole_history mine : List Event) → seen ++ later ≡ whole_history → filter is_open seen ≡ mine
     → filter is_open whole_history ≡ mine → All (λ call. is_open call ≡ false) later
 closed-behind seen later whole_history mine parts before after =
     all-closed later (append-cancel (filter is_open seen) (filter is_open later)
