@@ -8,6 +8,7 @@ mod cases;
 mod desk;
 mod gates;
 mod locks;
+mod lone;
 mod masters;
 mod runs;
 

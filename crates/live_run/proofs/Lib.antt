@@ -1,3 +1,4 @@
+mod Asking
 mod Crews
 mod Cycles
 mod Openings
