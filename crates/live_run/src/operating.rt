@@ -4,7 +4,7 @@ ghost use Rattle.std.specs.Prelude.{◌≡◌, ◌++◌, ◌∷◌, [], OnOk, ma
 ghost use Rattle.change_protocol.specs.declared.operations.Act.TheVariants as act_of;
 ghost use Rattle.turn_lock.specs.Passes.{IsOf};
 ghost use Rattle.live_master.specs.Passes.{IsPassOf};
-ghost use Rattle.live_run.specs.Answers.{asked, call_of};
+ghost use Rattle.master_core.specs.Calls.{asked, call_of};
 
 use crate::points::{Gate, Point};
 use change_protocol::{Act, Change};

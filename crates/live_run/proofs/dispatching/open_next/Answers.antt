@@ -9,7 +9,7 @@ pub returns-in_err-order-clause-memory : goal.returns-in_err-order-clause-memory
 returns-in_err-order-clause-memory g c =
     on_err c.from_residual.result _ (back-seen c.loop.pass c.open_within.new.pass c.in_err-order.ensures.memory c.openings_of_dispatchers.ensures.openings
     c.args.shared.now.fixed c.args.pass.now.view.seen (c.loop.invariant.stays.number ∙ c.requires.dispatcher)
-    c.loop.invariant.standing.facts c.in_err-order.ensures.standing.facts c.in_err-order.ensures.standing.legal.legal c.loop.invariant.seen)
+    c.loop.invariant.standing.facts c.in_err-order.ensures.standing.facts c.in_err-order.ensures.standing.legal c.loop.invariant.seen)
 
 pub returns-in-Opened-clause-opened : goal.returns-in-Opened-clause-opened
 returns-in-Opened-clause-opened g c =
@@ -17,7 +17,7 @@ returns-in-Opened-clause-opened g c =
     (λ history later. c.one_call_more.ensures.front c.args.shared.now.fixed history later)
     (subst (λ o. AfterWaiting (λ one other. OpenedWithin c.args.shared.now.fixed c.loop.entries one other o) c.loop.pass c.open_within.new.pass)
     c.in-Opened.is c.in_ok-order.ensures.within)
-    c.in_ok-order.ensures.standing.legal.legal c.loop.invariant.seen
+    c.in_ok-order.ensures.standing.legal c.loop.invariant.seen
 
 pub returns-in_err-reserve-in-Short-clause-memory : goal.returns-in_err-reserve-in-Short-clause-memory
 returns-in_err-reserve-in-Short-clause-memory g c =
@@ -26,7 +26,7 @@ returns-in_err-reserve-in-Short-clause-memory g c =
     c.in-Short.is c.in_ok-order.ensures.within) in
     on_err c.from_residual-in_err-reserve-in-Short.result _ (back-seen c.loop.pass c.open_within.new.pass back c.openings_of_dispatchers.ensures.openings
     c.args.shared.now.fixed c.args.pass.now.view.seen (c.loop.invariant.stays.number ∙ c.requires.dispatcher)
-    c.loop.invariant.standing.facts c.in_ok-order.ensures.standing.facts c.in_ok-order.ensures.standing.legal.legal c.loop.invariant.seen)
+    c.loop.invariant.standing.facts c.in_ok-order.ensures.standing.facts c.in_ok-order.ensures.standing.legal c.loop.invariant.seen)
 
 pub loop-preserved : goal.loop-preserved
 loop-preserved g c =
@@ -38,7 +38,7 @@ loop-preserved g c =
       next = ap next_of (back-mine c.loop.pass c.open_within.new.pass back) ∙ c.loop.invariant.next;
       seen = back-seen c.loop.pass c.open_within.new.pass back c.openings_of_dispatchers.ensures.openings
           c.args.shared.now.fixed c.args.pass.now.view.seen (c.loop.invariant.stays.number ∙ c.requires.dispatcher)
-          c.loop.invariant.standing.facts c.in_ok-order.ensures.standing.facts c.in_ok-order.ensures.standing.legal.legal c.loop.invariant.seen;
+          c.loop.invariant.standing.facts c.in_ok-order.ensures.standing.facts c.in_ok-order.ensures.standing.legal c.loop.invariant.seen;
       spare = c.in_ok-reserve-in-Short.ensures.room;
       layout = c.in_ok-reserve-in-Short.ensures.layout ∙ c.loop.invariant.layout;
       same = c.in_ok-reserve-in-Short.ensures.same ∙ c.loop.invariant.same;
