@@ -5,7 +5,9 @@ mod LogHistory
 mod Plans
 mod PutRows
 mod Readings
+mod RowEnds
 mod RowForms
+mod RowLemmas
 mod RowLines
 mod RowsTold
 pub mod Shared

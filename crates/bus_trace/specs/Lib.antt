@@ -1,4 +1,5 @@
 pub mod EventRows
+pub mod LastRows
 pub mod Log
 pub mod LogRows
 pub mod Logged

@@ -6,6 +6,7 @@ ghost use Rattle.can_frame.specs.declared.data_frame.TimedFrame.{TimedFrame};
 ghost use Rattle.master_core.specs.declared.event.Event.{Event};
 ghost use Rattle.master_core.specs.History.{AllAfter, next_of};
 ghost use Rattle.bus_trace.specs.EventRows.{SaysWidth, rows_of_event, told_of_event};
+ghost use Rattle.bus_trace.specs.LastRows.{AreRows};
 ghost use Rattle.bus_trace.specs.Log.{end_row, log_text, started_in};
 ghost use Rattle.bus_trace.specs.LogRows.{log_rows};
 ghost use Rattle.bus_trace.specs.Row.{text_of_rows};
@@ -36,4 +37,10 @@ pub fn frames_by_cycle()
         → ((front later : List TimedFrame) (sent : TimedFrame) → trace ≡ front ++ sent ∷ later
         → length (filter is_trigger (front ++ sent ∷ [])) ≡ cycle_of sent + 1)
         → (cycle : ℕ) → started_in cycle 0 trace ≡ filter (λ sent. cycle_of sent == cycle) trace }
+{}
+
+/// The rows of an event, and the last row of a log, are whole rows.
+pub fn rows_are_whole()
+    ensures event { (event : Event) (frames : List TimedFrame) → AreRows (rows_of_event event frames) }
+    ensures end { (next : ℕ) → AreRows (end_row next) }
 {}

@@ -17,9 +17,10 @@ mod row_reading;
 mod rows;
 mod streaming;
 
+pub use gathering::Gathered;
 pub use log::log_text;
 pub use log_fault::LogFault;
 pub use log_reading::read_log;
-pub use recent::Recent;
+pub use recent::{Recent, push_rows, row_len};
 pub use row::{LogRow, LogVerdict};
 pub use streaming::{event_rows, put_end_row, put_event_rows};

@@ -1,8 +1,9 @@
 //! The last rows of a log.
 
-ghost use Rattle.std.specs.Prelude.{◌≡◌, ◌++◌, ◌∷◌, [], IfOk, OnOk};
+ghost use Rattle.std.specs.Prelude.{◌≡◌, ◌<◌, ◌≤◌, ◌++◌, ◌∷◌, [], List, ℕ, IfOk, OnOk, drop, length, take};
 ghost use Rattle.std.specs.List.{concat, flat_map};
 ghost use Rattle.circular_buffer.specs.Buffer.{keep_last};
+ghost use Rattle.bus_trace.specs.LastRows.{AreRows, HasLast, rows_in};
 ghost use Rattle.bus_trace.specs.Recent.{bytes_of};
 
 use circular_buffer::HeapCircularBuffer;
@@ -68,6 +69,41 @@ fn push_all(text: &mut Vec<u8>, rows: &[Vec<u8>]) -> Result<(), AllocError>
 {
     for row in rows {
         text.extend_from_slice(row.as_slice())?;
+    }
+    Ok(())
+}
+
+/// The number of bytes of the first row of a text, its line feed included.
+pub fn row_len(text: &[u8]) -> usize
+    requires { 0 < length text.now }
+    ensures some { 0 < result }
+    ensures within { result ≤ length text.now }
+    ensures first { rows_in text.now ≡ take result text.now ∷ rows_in (drop result text.now) }
+{
+    for (place, byte) in text.iter().enumerate() {
+        if *byte == b'\n' {
+            return place + 1;
+        }
+    }
+    text.len()
+}
+
+/// Puts the rows of a text behind the others, one after the other. The text is whole rows.
+///
+/// # Errors
+///
+/// Only where memory runs out.
+pub fn push_rows(recent: &mut Recent, alloc: Global, text: &[u8]) -> Result<(), AllocError>
+    requires whole { AreRows text.now }
+    ensures last { OnOk result ((past : List ℕ)
+        → HasLast past recent.old → HasLast (past ++ text.now) recent.new) }
+    ensures most { recent.new.most ≡ recent.old.most }
+{
+    let mut rest = text;
+    while !rest.is_empty() {
+        let (row, later) = rest.split_at(row_len(rest));
+        recent.push(row.to_vec(alloc)?);
+        rest = later;
     }
     Ok(())
 }

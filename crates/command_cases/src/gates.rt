@@ -8,20 +8,33 @@ use std::sync::atomic::Ordering::SeqCst;
 /// How often a thread looks whether it may go on.
 const TURNS: u64 = 200_000_000;
 
-/// A gate that holds the first answer until cycle 3 was opened, and that cycle before it is run until the second
-/// answer.
+/// At which points a gate holds threads.
+#[derive(Clone, Copy)]
+pub enum Held {
+    /// The first answer until cycle 3 was opened, and that cycle before it is run until the second answer.
+    Cycle,
+    /// Cycle 0 before it is run until the first plan is begun, and that plan until cycle 1 was opened.
+    Plan,
+}
+
+/// A gate that holds threads at two points.
 #[derive(Drop)]
-pub struct HeldCycle {
+pub struct HoldingGate {
+    held: Held,
+    /// Not 0 once the cycle was opened for which a thread waits.
     opened: AtomicU64,
+    /// Not 0 once the first answer was given, or the first plan begun.
     first: AtomicU64,
+    /// Not 0 once the second answer was given.
     second: AtomicU64,
     given_up: AtomicU64,
 }
 
-impl HeldCycle {
+impl HoldingGate {
     /// A gate that nobody passed yet.
-    pub fn new() -> HeldCycle {
-        HeldCycle {
+    pub fn new(held: Held) -> HoldingGate {
+        HoldingGate {
+            held,
             opened: AtomicU64::new(0),
             first: AtomicU64::new(0),
             second: AtomicU64::new(0),
@@ -44,10 +57,9 @@ impl HeldCycle {
         }
         self.given_up.store(1, SeqCst);
     }
-}
 
-impl Gate for HeldCycle {
-    fn pass(&self, point: Point) {
+    /// Holds a cycle for an answer, and an answer for that cycle.
+    fn pass_held_cycle(&self, point: Point) {
         match point {
             Point::CycleOpen { cycle: 3 } => {
                 self.opened.store(1, SeqCst);
@@ -61,6 +73,28 @@ impl Gate for HeldCycle {
                 }
             }
             _ => {}
+        }
+    }
+
+    /// Holds a cycle for a plan, and that plan for the cycle behind it.
+    fn pass_held_plan(&self, point: Point) {
+        match point {
+            Point::CycleOpen { cycle: 0 } => self.hold(&self.first),
+            Point::CycleOpen { cycle: 1 } => self.opened.store(1, SeqCst),
+            Point::Planning { .. } => {
+                self.first.store(1, SeqCst);
+                self.hold(&self.opened);
+            }
+            _ => {}
+        }
+    }
+}
+
+impl Gate for HoldingGate {
+    fn pass(&self, point: Point) {
+        match self.held {
+            Held::Cycle => self.pass_held_cycle(point),
+            Held::Plan => self.pass_held_plan(point),
         }
     }
 }

@@ -175,11 +175,13 @@ fn is_free(turn: &Turn<Desk>, pass: &mut Pass<Desk>) -> bool
     }
 }
 
-/// Notes a call by the first pass, and answers what the second one finds while the first one holds the turn.
+/// Notes a call by the first pass, where that is wanted, or gives the turn back, and answers what the second one finds
+/// while the first one holds the turn.
 fn found_meanwhile(
     turn: &Turn<Desk>,
     first: &mut Pass<Desk>,
     second: &mut Pass<Desk>,
+    wanted: bool,
 ) -> Option<Result<usize, Busy>>
     requires first { IsReady turn.now first.old × (first.old.view.number ≡ 0) }
     requires second { IsReady turn.now second.old }
@@ -189,7 +191,7 @@ fn found_meanwhile(
     match first.try_turn(turn) {
         Ok(mut held) => {
             let found = look(turn, second);
-            if held.value_mut().note((0, 5)) {
+            if wanted && held.value_mut().note((0, 5)) {
                 held.commit();
             } else {
                 held.give_back();
@@ -210,7 +212,7 @@ fn two_passes(alloc: Global) -> Result<String, AllocError> {
     writeln!(told, "number {number}, made {made}, out {out}")?;
     let (number, made, out) = (second.number(), second.made(), second.out());
     writeln!(told, "number {number}, made {made}, out {out}")?;
-    let meanwhile = found_meanwhile(&turn, &mut first, &mut second);
+    let meanwhile = found_meanwhile(&turn, &mut first, &mut second, true);
     writeln!(told, "meanwhile {meanwhile:?}")?;
     let length = turn.length(&mut second);
     let found = look(&turn, &mut second);
@@ -219,6 +221,18 @@ fn two_passes(alloc: Global) -> Result<String, AllocError> {
     let free = is_free(&turn, &mut first);
     writeln!(told, "free: {free}")?;
     Ok(told)
+}
+
+/// A pass that is refused while the first one holds the turn, and one that did not ask then: what each finds once the
+/// first one has noted a call, where that is wanted, or has given the turn back.
+fn asked_again(alloc: Global, wanted: bool) -> Result<String, AllocError> {
+    let (turn, mut first) = Turn::new(alloc, Desk::empty(alloc, 7))?;
+    let mut refused = turn.split_pass(&mut first);
+    let mut other = turn.split_pass(&mut first);
+    let meanwhile = found_meanwhile(&turn, &mut first, &mut refused, wanted);
+    let again = look(&turn, &mut refused);
+    let never = look(&turn, &mut other);
+    format!(in alloc; "meanwhile {meanwhile:?}, then {again:?}, never refused {never:?}\n")
 }
 
 /// A lock that is closed after one call.
@@ -254,6 +268,8 @@ pub fn told<T: Threads + Wait + Sync>(
 ) -> Result<String, AllocError> {
     match given.trim_end() {
         "two passes" => two_passes(rt.alloc()),
+        "refused, then committed" => asked_again(rt.alloc(), true),
+        "refused, then given back" => asked_again(rt.alloc(), false),
         "closed" => closed(rt.alloc()),
         "threads" => shared(threads, rt.alloc(), seed_of(rt)),
         _ => Ok(String::new(rt.alloc())),

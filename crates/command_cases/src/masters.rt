@@ -13,8 +13,10 @@ use requirement_table::Entry;
 use std::alloc::{AllocError, Global};
 
 /// Rules of one node, with windows of 135 bit times.
-fn rules() -> Rules
+pub fn rules() -> Rules
     ensures rules { IsRules result }
+    ensures nodes { result.nodes ≡ 1 }
+    ensures window { result.window ≡ 135 }
 {
     Rules {
         nodes: 1,
@@ -24,8 +26,8 @@ fn rules() -> Rules
     }
 }
 
-/// The change that is asked for: an entry without data, with an instance in each cycle from cycle 0 on.
-fn change(alloc: Global) -> Result<Change, AllocError> {
+/// The change that is asked for: an entry without data, with an instance in each cycle from this one on.
+pub fn change(alloc: Global, start: u64) -> Result<Change, AllocError> {
     let entry = Entry {
         slot: 0,
         node: 0,
@@ -36,7 +38,7 @@ fn change(alloc: Global) -> Result<Change, AllocError> {
         priority: 0,
     };
     let ops = Ops::of(Vec::from_slice(alloc, &[Op::Add { entry }])?);
-    Ok(Change { start: 0, ops })
+    Ok(Change { start, ops })
 }
 
 /// Looks once.
@@ -63,7 +65,7 @@ fn submit(
     requires of { IsOf shared.now operator.old }
     ensures of { IsOf shared.now operator.new }
 {
-    let change = change(alloc)?;
+    let change = change(alloc, 0)?;
     match shared.try_submit(alloc, operator, &change) {
         Ok(verdict) => format!(in alloc; "{verdict:?}\n"),
         Err(fault) => format!(in alloc; "{fault:?}\n"),

@@ -1,6 +1,7 @@
 //! Whole calls by threads.
 
-use crate::gates::HeldCycle;
+use crate::gates::{Held, HoldingGate};
+use crate::lone;
 use ftt_io::{FileShelf, MemSink};
 use fttcan_top::{Gate, OpenGate, Status, live};
 use std::alloc::{AllocError, Global};
@@ -38,13 +39,24 @@ fn call<T: Threads + Wait + Sync, G: Gate>(
     Ok(Answer { status, out, err })
 }
 
+/// What follows in a row of a change of operator 1 that was planned from cycle 0 or from cycle 1.
+fn planned_early(line: &str) -> Option<&str> {
+    match line.strip_prefix("submit,1,0,") {
+        Some(rest) => Some(rest),
+        None => line.strip_prefix("submit,1,1,"),
+    }
+}
+
 /// The lines of a text but those of looks, whose places follow from the schedule, and behind them the number of those.
+/// Of the cycles 0 and 1 it does not say from which a change was planned, which follows from the schedule too.
 fn without_looks(alloc: Global, bytes: &[u8]) -> Result<String, AllocError> {
     let mut told = String::new(alloc);
     let mut looks = 0u64;
     for line in str::from_utf8(bytes).unwrap_or("no text\n").lines() {
         if line.starts_with("look,") {
             looks = looks.saturating_add(1);
+        } else if let Some(rest) = planned_early(line) {
+            writeln!(told, "submit,1,0 or 1,{rest}")?;
         } else {
             writeln!(told, "{line}")?;
         }
@@ -80,13 +92,15 @@ fn open_call<T: Threads + Wait + Sync>(
     answer_lines(rt.alloc(), &answer)
 }
 
-/// A call in which a change is answered while cycle 3 is open and not run yet.
+/// A call in which a change is answered while cycle 3 is open and not run yet, or in which cycle 1 is opened while a
+/// change is planned.
 fn held_call<T: Threads + Wait + Sync>(
     rt: &HostRuntime,
     threads: &T,
     words: &str,
+    held: Held,
 ) -> Result<String, AllocError> {
-    let gate = HeldCycle::new();
+    let gate = HoldingGate::new(held);
     let answer = call(rt, threads, words, &gate)?;
     if gate.is_given_up() {
         return String::from_str(rt.alloc(), "given up\n");
@@ -118,7 +132,10 @@ pub fn told<T: Threads + Wait + Sync>(
     let line = given.strip_suffix('\n').unwrap_or(given);
     let (made, words) = line.split_once(' ').unwrap_or((line, ""));
     match made {
-        "held" => held_call(rt, threads, words),
+        "held" => held_call(rt, threads, words, Held::Cycle),
+        "planned" => held_call(rt, threads, words, Held::Plan),
+        "lone-held" => lone::told(rt.alloc(), threads, Held::Cycle),
+        "lone-planned" => lone::told(rt.alloc(), threads, Held::Plan),
         "counted" => counted_call(rt, threads, words),
         _ => open_call(rt, threads, words),
     }

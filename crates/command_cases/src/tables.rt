@@ -1,6 +1,6 @@
 //! Cases as text, in tables. Each case ends with a line `---`, and has what is given, a line `=>` and what is wanted.
 
-use crate::{inputs, locks, logs, masters, runs, shelves, sinks, streams};
+use crate::{inputs, locks, logs, masters, prefixes, runs, shelves, sinks, streams};
 use ftt_io::{FileShelf, Shelf};
 use std::io;
 use std::sync::Wait;
@@ -38,6 +38,8 @@ pub enum Table {
     LastRows,
     /// The rows of one event are written, and then those of another.
     Events,
+    /// A plan text that is cut short is checked.
+    Prefixes,
     /// Passes try for the turn of a lock.
     Locks,
     /// The calls of a shared master by one thread.
@@ -47,7 +49,7 @@ pub enum Table {
 }
 
 /// The tables, each with the name of its file.
-pub const TABLES: [(&str, Table); 16] = [
+pub const TABLES: [(&str, Table); 17] = [
     ("memory_shelf", Table::MemoryShelf),
     ("file_shelf", Table::FileShelf),
     ("memory_sink", Table::MemorySink),
@@ -61,6 +63,7 @@ pub const TABLES: [(&str, Table); 16] = [
     ("rows", Table::Rows),
     ("last_rows", Table::LastRows),
     ("events", Table::Events),
+    ("prefixes", Table::Prefixes),
     ("locks", Table::Locks),
     ("masters", Table::Masters),
     ("runs", Table::Runs),
@@ -88,6 +91,7 @@ fn told<T: Threads + Wait + Sync>(
         Table::Rows => Ok(logs::second_rows(alloc, given)?),
         Table::LastRows => Ok(logs::last_rows(alloc, given)?),
         Table::Events => Ok(logs::events(alloc)?),
+        Table::Prefixes => Ok(prefixes::answers(alloc, given)?),
         Table::Locks => Ok(locks::told(rt, threads, given)?),
         Table::Masters => Ok(masters::told(alloc, given)?),
         Table::Runs => Ok(runs::told(rt, threads, given)?),

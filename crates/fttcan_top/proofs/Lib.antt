@@ -1,3 +1,2 @@
 mod EndLemmas
 mod StreamedLemmas
-mod RowLemmas

@@ -1,5 +1,5 @@
 -- What is told of a log that was written while its run went on.
-use Rattle.std.proofs.Common.{◌≡◌, ℕ, Bool, List, [], ◌++◌, ◌⊎◌, Option, None, refl, sym, ap, ◌∙◌, subst, inl, inr}
+use Rattle.std.proofs.Common.{◌≡◌, ℕ, Bool, List, [], ◌++◌, ◌⊎◌, Option, Some, None, refl, sym, ap, ◌∙◌, subst, inl, inr}
 use Rattle.can_frame.specs.declared.TimedFrame.{TimedFrame}
 use Rattle.async_window.specs.declared.request.Owner.{Owner}
 use Rattle.async_window.specs.declared.request.Request.{Request}
@@ -11,15 +11,16 @@ use Rattle.input_text.specs.SystemFile.{IsSystem}
 use Rattle.input_text.specs.declared.steps.Step.{Step}
 use Rattle.input_text.specs.declared.system.System.{System}
 use Rattle.master_core.specs.declared.event.Event.{Event}
+use Rattle.bus_trace.specs.LastRows.{last_rows}
 use Rattle.bus_trace.specs.Log.{events_rows, log_text}
 use Rattle.replay_run.specs.Begun.{IsBegun}
 use Rattle.replay_run.specs.Run.{IsRun}
-use Rattle.written_run.specs.Written.{IsCut, IsWritten}
-use Rattle.written_run.specs.declared.writing.Written.{Written}
+use Rattle.replay_run.specs.Written.{HasLastRows, IsCut, IsWritten}
+use Rattle.replay_run.specs.declared.replaying.Written.{Written}
 use Rattle.fttcan_top.specs.declared.status.Status.{Status}
 use Rattle.asked_files.specs.Asked.{JobView, log_of}
 use Rattle.fttcan_top.specs.Output.{IsLog, Tells, TellsBegun, TellsFront, report_if, status_of}
-use Rattle.fttcan_top.specs.Streamed.{PutsReport, PutsReportFront}
+use Rattle.fttcan_top.specs.Streamed.{IsReport, PutsReport, PutsReportFront}
 
 -- the rows of a run of the first calls begin the log of every run of all calls
 pub record RowsSoFar : Type 0 where
@@ -117,3 +118,29 @@ module _ (job : JobView) (report : Bool) (system : System) (steps : List Step) (
       tells-cut laws job report old new known legal
       (subst (λ s. IsCut s job.steps job.requests old new) same_system
       (subst (λ s. IsCut system s job.requests old new) same_steps (subst (λ r. IsCut system steps r old new) same_requests cut)))
+
+  as-last : (run : Written) (count : ℕ) (rows : List ℕ) → HasLastRows system steps requests run.master.history run.trace count rows
+      → HasLastRows job.system job.steps job.requests run.master.history run.trace count rows
+  as-last run count rows is =
+      subst (λ s. HasLastRows s job.steps job.requests run.master.history run.trace count rows) same_system
+      (subst (λ s. HasLastRows system s job.requests run.master.history run.trace count rows) same_steps
+      (subst (λ r. HasLastRows system steps r run.master.history run.trace count rows) same_requests is))
+
+  -- the last rows of a log, and the report behind them
+  pub tail-told : (run : Written) (count : ℕ) (status : Status) (rows behind text : List ℕ)
+      → HasLastRows system steps requests run.master.history run.trace count rows → is_some run.trace ≡ report
+      → IsReport run owners requests behind → text ≡ rows ++ behind → status ≡ status_of run.master.history
+      → IsLog job (Some count) report status text
+  tail-told run count status rows behind text last kept reports all ended =
+      let is = as-last run count rows last in
+      let history = run.master.history in
+      record {
+        history = history;
+        trace = is.trace;
+        run = is.run;
+        ended = ended;
+        written = all ∙ ap (λ l. l ++ behind) is.last ∙ ap (λ l. last_rows (Some count) (log_text history is.trace) ++ l) (reports is.trace is.frames)
+            ∙ ap (λ b. last_rows (Some count) (log_text history is.trace) ++ report_if b history is.trace owners requests) kept
+            ∙ ap (λ o. last_rows (Some count) (log_text history is.trace) ++ report_if report history is.trace o requests) own
+            ∙ ap (λ r. last_rows (Some count) (log_text history is.trace) ++ report_if report history is.trace job.system.owners r) same_requests;
+      }

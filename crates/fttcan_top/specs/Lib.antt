@@ -1,4 +1,3 @@
-pub mod LastRows
 pub mod Summary
 pub mod Status
 pub mod Streamed

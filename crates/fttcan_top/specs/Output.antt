@@ -10,6 +10,7 @@ use Rattle.plan_check.specs.PlanKept.{IsTaken}
 use Rattle.plan_check.specs.PlanText.{plan_text}
 use Rattle.plan_check.specs.declared.breach.Breach.{Breach}
 use Rattle.plan_check.specs.declared.breach.Breach.TheVariants.{BadLoop, NotReleased, TooWide, Missed, NotClosed}
+use Rattle.bus_trace.specs.LastRows.{last_rows}
 use Rattle.bus_trace.specs.Log.{events_rows, log_text}
 use Rattle.plan_report.specs.Report.{report_text}
 use Rattle.input_text.specs.Generator.{requests_made, steps_made, system_made}
@@ -30,7 +31,6 @@ use Rattle.asked_files.specs.declared.stopping.Refusal.{Refusal}
 use Rattle.asked_files.specs.declared.stopping.Stop.{Stop}
 use Rattle.asked_files.specs.Asked.{Asked, JobView, check_of, live_log_of, log_of, plan_of, summary_of}
 use Rattle.asked_files.specs.Refusals.{refusal_line}
-use Rattle.fttcan_top.specs.LastRows.{last_rows}
 use Rattle.fttcan_top.specs.Summary.{summary_text}
 
 -- What is written

@@ -6,7 +6,7 @@ ghost use Rattle.asked_files.specs.Asked.{log_of};
 ghost use Rattle.asked_files.specs.Loads.{IsJob};
 ghost use Rattle.fttcan_top.specs.Ends.{IsCarried, PutsPart};
 ghost use Rattle.fttcan_top.specs.Output.{IsDone, Tells, TellsBegun, TellsFront};
-ghost use Rattle.fttcan_top.specs.Streamed.{PutsReport, PutsReportFront};
+ghost use Rattle.fttcan_top.specs.Streamed.{IsReport, PutsReport, PutsReportFront};
 
 use crate::rows::put_rows;
 use crate::status::Status;
@@ -14,9 +14,24 @@ use crate::work::status_of;
 use asked_files::{Job, Stop};
 use async_window::{Owner, Request};
 use ftt_io::Sink;
-use std::alloc::Global;
-use written_run::laws::rows_so_far;
-use written_run::{Cut, Written, replay_to};
+use replay_run::laws::rows_so_far;
+use replay_run::{Cut, Written, replay_to};
+use std::alloc::{AllocError, Global};
+
+/// The report of a run, where its frames were kept; else no text.
+pub fn report_of(
+    alloc: Global,
+    run: &Written,
+    owners: &[Owner],
+    requests: &[Request],
+) -> Result<Vec<u8>, AllocError>
+    ensures report { IfOk result (λ text. IsReport run.now owners.now requests.now text.items) }
+{
+    match &run.trace {
+        None => Ok(Vec::new(alloc)),
+        Some(trace) => plan_report::report(alloc, &run.master, trace.as_slice(), owners, requests),
+    }
+}
 
 /// Puts the report of a run, where its frames were kept.
 fn put_report<O: Sink>(
@@ -33,14 +48,9 @@ fn put_report<O: Sink>(
         (PutsReportFront run.now owners.now requests.now (O.told_bytes out.old) (O.told_bytes out.new)) }
     ensures failed { IsErrOf result Cut.Write → Rose (O.faults out.old) (O.faults out.new) }
 {
-    match &run.trace {
-        None => Ok(()),
-        Some(trace) => {
-            let text = plan_report::report(alloc, &run.master, trace.as_slice(), owners, requests)?;
-            put_rows(out, text.as_slice())?;
-            Ok(())
-        }
-    }
+    let text = report_of(alloc, run, owners, requests)?;
+    put_rows(out, text.as_slice())?;
+    Ok(())
 }
 
 /// Runs the steps and writes the log meanwhile, and the report behind it where that is asked for. Answers the status of

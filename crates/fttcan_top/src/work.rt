@@ -7,8 +7,9 @@ ghost use Rattle.asked_files.specs.Loads.{IsJob, IsToCheck};
 ghost use Rattle.fttcan_top.specs.Ends.{IsCarried};
 ghost use Rattle.fttcan_top.specs.Output.{IsCheckText, IsDone, IsLiveLog, IsLog, IsOutput, IsPlanText, IsSummary, TellsFront, breach_line, report_if, refuses_nothing, status_of};
 
-use crate::rows::{last_rows, put_rows};
+use crate::rows::put_rows;
 use crate::status::Status;
+use crate::streamed::report_of;
 use crate::summary::summary_of;
 use asked_files::{Job, Parts, Stop};
 use async_window::{Owner, Request};
@@ -19,7 +20,7 @@ use input_text::generate;
 use live_run::{Ended, Gate};
 use master_core::{Event, Master};
 use plan_check::{Breach, Certificate, check, write_plan};
-use replay_run::{answer, asked_table, replay};
+use replay_run::{Tailed, answer, asked_table, replay, replay_tail};
 use std::alloc::{AllocError, Global};
 use std::sync::Wait;
 use std::thread::Threads;
@@ -77,7 +78,7 @@ fn push_report(
 }
 
 /// Runs the steps, and answers with so many of the last rows of the log, and with the report after them where that is
-/// asked for.
+/// asked for. The other rows are dropped while the run goes on.
 pub fn tail_of(alloc: Global, job: &Job, count: u16, report: bool) -> Result<Outcome, AllocError>
     requires job { IsJob job.now }
     ensures log { IfOk result (λ outcome. IsLog job.now (Some count) report outcome.status outcome.text.items) }
@@ -86,22 +87,13 @@ pub fn tail_of(alloc: Global, job: &Job, count: u16, report: bool) -> Result<Out
     let system = job.system();
     let owners = system.owners.as_slice();
     let requests = job.requests();
-    let run = replay(alloc, system, job.steps(), requests)?;
-    let history = run.master.history();
-    let trace = run.trace.as_slice();
-    let log = log_text(alloc, history, trace)?;
-    let mut text = last_rows(alloc, log.as_slice(), usize::from(count))?;
-    push_report(
-        alloc,
-        &mut text,
-        &run.master,
-        trace,
-        owners,
-        requests,
-        report,
-    )?;
+    let count = usize::from(count);
+    let Tailed { run, rows } = replay_tail(alloc, system, job.steps(), requests, report, count)?;
+    let behind = report_of(alloc, &run, owners, requests)?;
+    let mut text = rows;
+    text.extend_from_slice(behind.as_slice())?;
     Ok(Outcome {
-        status: status_of(history),
+        status: status_of(run.master.history()),
         text,
     })
 }

@@ -10,7 +10,8 @@ use Rattle.admission.specs.declared.verdict.Verdict.{Verdict}
 use Rattle.master_core.specs.declared.event.Event.{Event}
 use Rattle.master_core.specs.declared.event.Event.TheVariants.{Submit, Look, Open}
 use Rattle.master_core.specs.History.{AllAfter, IsPlainlyLegal, IsPlannedNow, IsRight, IsRightAnswer, next_of, placed_of, plan_of}
-use Rattle.replay_run.specs.Run.{Call, asks, call_of}
+use Rattle.change_protocol.specs.declared.operations.Act.TheVariants as act
+use Rattle.master_core.specs.Calls.{Call, asked, call_of}
 
 -- there is one verdict
 pub record OneVerdict : Type 0 where
@@ -36,20 +37,20 @@ record SameAsked (caller other : ℕ) (change also : Change) : Type 0 where
   pub caller_is : caller ≡ other
   pub change_is : change ≡ also
 
-same-asked : (caller other : ℕ) (change also : Change) → asks caller change ≡ asks other also → SameAsked caller other change also
+same-asked : (caller other : ℕ) (change also : Change) → asked caller (act.Ask change) ≡ asked other (act.Ask also) → SameAsked caller other change also
 same-asked caller other change also is = record { caller_is = cc; change_is = cc }
 
 -- an event is what was called for, and the one right answer to it
 same-event : OneVerdict → (rules : Rules) (before : List Event) (one other : Event) → call_of one ≡ call_of other
     → IsRight rules before one → IsPlannedNow before one → IsRight rules before other → IsPlannedNow before other → one ≡ other
 same-event verdicts rules before (Submit caller change from verdict trail) (Submit second also later answer plan) calls right now right2 now2 =
-    let asked = same-asked caller second change also calls in
+    let same_call = same-asked caller second change also calls in
     let same_from : later ≡ from = now2 ∙ sym now in
     let moved : IsRightAnswer rules before change from answer plan =
-    subst (λ f. IsRightAnswer rules before change f answer plan) same_from (subst (λ c. IsRightAnswer rules before c later answer plan) (sym asked.change_is) right2) in
+    subst (λ f. IsRightAnswer rules before change f answer plan) same_from (subst (λ c. IsRightAnswer rules before c later answer plan) (sym same_call.change_is) right2) in
     let same = same-answer verdicts rules before change from verdict answer trail plan right moved in
-    let caller_is = asked.caller_is in
-    let change_is = asked.change_is in
+    let caller_is = same_call.caller_is in
+    let change_is = same_call.change_is in
     let verdict_is = same.verdict in
     let plan_is = same.plan in
     cc

@@ -1,5 +1,5 @@
 -- What proofs of the crates above may take from here: lemmas about the definitions of this crate.
-use Rattle.std.proofs.Common.{◌≡◌, ◌≤◌, ℕ, List, true, nat_eq, sym, subst}
+use Rattle.std.proofs.Common.{◌≡◌, ◌≤◌, ◌-◌, ℕ, zero, suc, List, [], drop, true, nat_eq, refl, sym, ◌∙◌, subst}
 use Rattle.std.specs.List.{Any, list_any}
 use Rattle.std.proofs.lemmas.Bool.{eqb-true}
 use Rattle.std.proofs.lemmas.List.Folds.{Any-from_list_any}
@@ -7,7 +7,8 @@ use Rattle.async_window.specs.declared.request.Owner.{Owner}
 use Rattle.admission.specs.Verdict.{IsRules}
 use Rattle.input_text.specs.SystemFile.{IsSystem}
 use Rattle.input_text.specs.declared.system.System.{System}
-pub use Rattle.replay_run.proofs.Steps.{calls-more, cycles-more, step-next}
+use Rattle.bus_trace.specs.LastRows.{HasLast, rows_in}
+use Rattle.bus_trace.specs.Recent.{LastRows}
 pub use Rattle.replay_run.proofs.Fronts.{cut-at, started-all, started-early, started-within}
 
 -- the rules of a system are in range
@@ -26,3 +27,12 @@ pub owner-of : (owners : List Owner) (id : ℕ) → list_any (λ owner. nat_eq o
 owner-of owners id is =
     let found = Any-from_list_any (λ owner. nat_eq owner.id id) owners is in
     (found.0, found.1, found.2, found.3, eqb-true _ _ found.4)
+
+drop-none : {A : Type 0} (n : ℕ) → drop {A = A} n [] ≡ []
+drop-none zero = refl
+drop-none (suc n) = refl
+
+-- before any rows none are kept
+pub none-last : (recent : LastRows) → recent.rows ≡ [] → HasLast [] recent
+unfolding rows_in
+none-last recent none = record { whole = refl; rows = none ∙ sym (drop-none (0 - recent.most)) }

@@ -8,7 +8,8 @@ use Rattle.input_text.specs.declared.system.System.{System}
 use Rattle.master_core.specs.declared.event.Event.{Event}
 use Rattle.master_core.specs.History.{IsPlainlyLegal}
 use Rattle.kept_run.specs.Kept.{Kept}
-use Rattle.replay_run.specs.Run.{Call, call_of, calls_of}
+use Rattle.master_core.specs.Calls.{Call, call_of}
+use Rattle.replay_run.specs.Run.{calls_of}
 
 -- a run of the first calls of the steps: the history answers them, each change planned when it is answered, and history
 -- and trace keep what is promised

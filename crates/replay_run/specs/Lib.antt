@@ -1,4 +1,10 @@
+pub mod Answered
+pub mod Asked
 pub mod AskedTable
 pub mod Begun
+pub mod Heard
+pub mod Logging
 pub mod Progress
 pub mod Run
+pub mod Whole
+pub mod Written

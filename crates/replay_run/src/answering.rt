@@ -1,62 +1,60 @@
-//! A master alone, step by step.
+//! A master alone, which answers steps.
 
-ghost use Rattle.std.specs.Prelude.{◌≡◌, ◌+◌, ◌≤◌, ◌++◌, OnOk, IfOk, map, replicate};
+ghost use Rattle.std.specs.Prelude.{IfOk};
+ghost use Rattle.std.specs.Prelude.{◌≡◌};
 ghost use Rattle.admission.specs.Verdict.{IsRules};
-ghost use Rattle.input_text.specs.StepsFile.{AreLegalSteps, IsStep, count_of};
-ghost use Rattle.master_core.specs.History.{IsPlainlyLegal, next_of};
-ghost use Rattle.replay_run.specs.Run.{AnswersSteps, call_of, calls_of, opens};
+ghost use Rattle.input_text.specs.StepsFile.{AreLegalSteps};
+ghost use Rattle.master_core.specs.History.{IsPlainlyLegal};
+ghost use Rattle.replay_run.specs.Run.{AnswersSteps};
 
+use crate::driver::{Driven, drive};
 use admission_rules::Rules;
 use change_protocol::Act;
 use input_text::Step;
 use master_core::Master;
 use std::alloc::{AllocError, Global};
 
-/// Opens so many cycles.
-fn open_cycles(master: &mut Master, alloc: Global, count: u64) -> Result<(), AllocError>
-    requires plain { IsPlainlyLegal master.old.rules master.old.history }
-    requires few { next_of master.old.history + count ≤ 20000 }
-    ensures rules { OnOk result (master.new.rules ≡ master.old.rules) }
-    ensures plain { OnOk result (IsPlainlyLegal master.new.rules master.new.history) }
-    ensures calls { OnOk result
-        (map call_of master.new.history ≡ map call_of master.old.history ++ replicate count opens) }
-    ensures next { OnOk result (next_of master.new.history ≡ next_of master.old.history + count) }
-{
-    master.reserve(alloc, count as usize)?;
-    for _ in 0..count {
-        let _ = master.open();
-    }
-    Ok(())
-}
+impl Driven for Master {
+    ghost use Rattle.std.specs.Prelude.{⊤};
+    ghost use Rattle.master_core.specs.History.{next_of};
+    ghost use Rattle.replay_run.specs.Answered.{Answered, answered-nothing, answered-more};
 
-/// Answers a step.
-fn answer_step(master: &mut Master, alloc: Global, step: &Step) -> Result<(), AllocError>
-    requires plain { IsPlainlyLegal master.old.rules master.old.history }
-    requires step { IsStep step.now }
-    requires few { next_of master.old.history + count_of step.now ≤ 20000 }
-    ensures rules { OnOk result (master.new.rules ≡ master.old.rules) }
-    ensures plain { OnOk result (IsPlainlyLegal master.new.rules master.new.history) }
-    ensures calls { OnOk result (map call_of master.new.history ≡ map call_of master.old.history ++ calls_of step.now) }
-    ensures next { OnOk result (next_of master.new.history ≡ next_of master.old.history + count_of step.now) }
-{
-    match step {
-        Step::Cycle { count } => open_cycles(master, alloc, *count),
-        Step::Act {
-            caller,
-            act: Act::Ask { change },
-        } => {
-            master.submit(alloc, *caller, change)?;
-            Ok(())
-        }
-        Step::Act {
-            caller,
-            act: Act::Look,
-        } => {
-            master.reserve(alloc, 1)?;
-            master.look(*caller);
-            Ok(())
-        }
+    type Stop = AllocError;
+
+    ghost is_ready = { λ master. ⊤ };
+
+    ghost cycles = { λ master. next_of master.history };
+
+    ghost goes_on = { Answered };
+
+    ghost stops = { λ old calls new why. ⊤ };
+
+    fn open_cycle(&mut self, alloc: Global) -> Result<(), AllocError> {
+        self.reserve(alloc, 1)?;
+        self.open();
+        Ok(())
     }
+
+    fn answer(&mut self, alloc: Global, caller: u8, act: &Act) -> Result<(), AllocError> {
+        match act {
+            Act::Ask { change } => {
+                self.submit(alloc, caller, change)?;
+            }
+            Act::Look => {
+                self.reserve(alloc, 1)?;
+                self.look(caller);
+            }
+        }
+        Ok(())
+    }
+
+    ghost at_once = { answered-nothing };
+
+    ghost in_turn = { answered-more };
+
+    ghost ready_still = { λ one other calls ready on. tt };
+
+    ghost stops_later = { λ one other third calls later more why on stopped. tt };
 }
 
 /// Answers the steps of a file by a master alone, with no bus. Its history is the one of every run of these steps by
@@ -73,8 +71,6 @@ pub fn answer(alloc: Global, rules: &Rules, steps: &[Step]) -> Result<Master, Al
     ensures answers { IfOk result (λ master. AnswersSteps master.history steps.now) }
 {
     let mut master = Master::new(alloc, *rules)?;
-    for step in steps {
-        answer_step(&mut master, alloc, step)?;
-    }
+    drive(&mut master, alloc, steps)?;
     Ok(master)
 }

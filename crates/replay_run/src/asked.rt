@@ -1,34 +1,37 @@
 //! The table that steps ask for.
 
-ghost use Rattle.std.specs.Prelude.{◌≡◌, ◌+◌, ◌≤◌, IfOk, OnOk};
+ghost use Rattle.std.specs.Prelude.{◌≡◌, IfOk, OnOk};
 ghost use Rattle.requirement_table.specs.Table.{IsWellPlaced};
-ghost use Rattle.input_text.specs.StepsFile.{AreLegalSteps, count_of};
-ghost use Rattle.replay_run.specs.AskedTable.{after_change, after_step, table_of};
+ghost use Rattle.input_text.specs.StepsFile.{AreLegalSteps};
+ghost use Rattle.replay_run.specs.AskedTable.{after_change, table_of};
 
+use crate::driver::{Driven, drive};
 use change_protocol::{Act, ApplyFault, Change, apply};
 use input_text::Step;
 use requirement_table::Placed;
 use std::alloc::{AllocError, Global};
 
-/// The placed entries behind some steps, and the number of cycles that these run.
+/// The placed entries behind some calls on a bus of so many nodes, and the number of cycles that these open.
 #[derive(Drop)]
 struct Asked {
+    nodes: u8,
     placed: Vec<Placed>,
     next: u64,
 }
 
 /// Applies a change where it breaks no rule and its start has not passed.
-fn ask(asked: &mut Asked, alloc: Global, nodes: u8, change: &Change) -> Result<(), AllocError>
+fn ask(asked: &mut Asked, alloc: Global, change: &Change) -> Result<(), AllocError>
     requires well_placed { IsWellPlaced asked.old.placed.items }
     ensures well_placed { OnOk result (IsWellPlaced asked.new.placed.items) }
+    ensures nodes { OnOk result (asked.new.nodes ≡ asked.old.nodes) }
     ensures next { OnOk result (asked.new.next ≡ asked.old.next) }
-    ensures applied { OnOk result
-        (asked.new.placed.items ≡ after_change nodes asked.old.placed.items asked.old.next change.now) }
+    ensures applied { OnOk result (asked.new.placed.items
+        ≡ after_change asked.old.nodes asked.old.placed.items asked.old.next change.now) }
 {
     if change.start < asked.next {
         return Ok(());
     }
-    match apply(alloc, asked.placed.as_slice(), nodes, change) {
+    match apply(alloc, asked.placed.as_slice(), asked.nodes, change) {
         Ok(list) => {
             asked.placed = list;
             Ok(())
@@ -38,25 +41,40 @@ fn ask(asked: &mut Asked, alloc: Global, nodes: u8, change: &Change) -> Result<(
     }
 }
 
-/// Takes a step into account.
-fn take_step(asked: &mut Asked, alloc: Global, nodes: u8, step: &Step) -> Result<(), AllocError>
-    requires well_placed { IsWellPlaced asked.old.placed.items }
-    requires few { asked.old.next + count_of step.now ≤ 20000 }
-    ensures well_placed { OnOk result (IsWellPlaced asked.new.placed.items) }
-    ensures table { OnOk result (record { placed = asked.new.placed.items; next = asked.new.next }
-        ≡ after_step nodes (record { placed = asked.old.placed.items; next = asked.old.next }) step.now) }
-{
-    match step {
-        Step::Cycle { count } => {
-            asked.next += *count;
-            Ok(())
-        }
-        Step::Act {
-            act: Act::Ask { change },
-            ..
-        } => ask(asked, alloc, nodes, change),
-        Step::Act { act: Act::Look, .. } => Ok(()),
+impl Driven for Asked {
+    ghost use Rattle.std.specs.Prelude.{⊤};
+    ghost use Rattle.requirement_table.specs.Table.{IsWellPlaced};
+    ghost use Rattle.replay_run.specs.Asked.{GoesOn, on-nothing, on-more};
+
+    type Stop = AllocError;
+
+    ghost is_ready = { λ asked. IsWellPlaced asked.placed.items };
+
+    ghost cycles = { λ asked. asked.next };
+
+    ghost goes_on = { GoesOn };
+
+    ghost stops = { λ old calls new why. ⊤ };
+
+    fn open_cycle(&mut self, _alloc: Global) -> Result<(), AllocError> {
+        self.next += 1;
+        Ok(())
     }
+
+    fn answer(&mut self, alloc: Global, _caller: u8, act: &Act) -> Result<(), AllocError> {
+        match act {
+            Act::Ask { change } => ask(self, alloc, change),
+            Act::Look => Ok(()),
+        }
+    }
+
+    ghost at_once = { on-nothing };
+
+    ghost in_turn = { on-more };
+
+    ghost ready_still = { λ one other calls ready on. on.well_placed ready };
+
+    ghost stops_later = { λ one other third calls later more why on stopped. tt };
 }
 
 /// The placed entries that the steps of a file ask for, on a bus of so many nodes, where no admission is asked: each
@@ -71,11 +89,10 @@ pub fn asked_table(alloc: Global, nodes: u8, steps: &[Step]) -> Result<Vec<Place
     ensures well_placed { IfOk result (λ placed. IsWellPlaced placed.items) }
 {
     let mut asked = Asked {
+        nodes,
         placed: Vec::new(alloc),
         next: 0,
     };
-    for step in steps {
-        take_step(&mut asked, alloc, nodes, step)?;
-    }
+    drive(&mut asked, alloc, steps)?;
     Ok(asked.placed)
 }

@@ -1,6 +1,6 @@
 //! Laws about runs of steps. Each function has an empty body but for calls of other laws, and its contract is the law.
 
-ghost use Rattle.std.specs.Prelude.{◌≡◌, ◌*◌, ◌≤◌, ◌++◌, List, All};
+ghost use Rattle.std.specs.Prelude.{◌≡◌, ℕ, ◌*◌, ◌≤◌, ◌++◌, [], List, All};
 ghost use Rattle.can_frame.specs.declared.data_frame.TimedFrame.{TimedFrame};
 ghost use Rattle.admission_rules.specs.declared.Rules.{Rules};
 ghost use Rattle.async_window.specs.declared.request.Request.{Request};
@@ -10,6 +10,7 @@ ghost use Rattle.input_text.specs.declared.steps.Step.{Step};
 ghost use Rattle.input_text.specs.declared.system.System.{System};
 ghost use Rattle.master_core.specs.declared.event.Event.{Event};
 ghost use Rattle.master_core.specs.History.{IsPlainlyLegal, next_of};
+ghost use Rattle.bus_trace.specs.Log.{events_rows, log_text};
 ghost use Rattle.kept_run.specs.Kept.{Kept};
 ghost use Rattle.kept_run.specs.Progress.{IsUnderWay};
 ghost use Rattle.replay_run.specs.Begun.{IsBegun};
@@ -18,8 +19,10 @@ ghost use Rattle.replay_run.specs.Run.{AnswersSteps, IsRun};
 
 use admission::laws::one_verdict;
 use bus_line::laws::trace_laws;
+use can_frame::laws::wire_lengths;
 use cycle_engine::laws::OpenedCycles;
 use kept_run::laws::{beginning, calls_between, cycles_run, requests_of_owners};
+use master_core::laws::opened_cycles;
 
 /// Steps have one history: two that answer them, each change planned when it is answered, are the same. So each verdict
 /// is the one that the rules give. And they have one run: with these requests there is one trace, too.
@@ -63,4 +66,18 @@ pub fn runs_under_way()
     cycles_run();
     requests_of_owners();
     trace_laws::<OpenedCycles>();
+}
+
+/// The rows of a run of the first calls of some steps begin the log of the run of all of them, with a system and
+/// requests that were read.
+pub fn rows_so_far()
+    ensures front { (system : System) (steps : List Step) (requests : List Request) (history whole : List Event)
+        (trace frames : List TimedFrame) → IsSystem system → AreLegal system.owners requests
+        → IsBegun system steps requests history trace → IsRun system steps requests whole frames
+        → (rest : List ℕ) × (log_text whole frames ≡ events_rows trace [] history ++ rest) }
+{
+    beginnings();
+    opened_cycles();
+    runs_under_way();
+    wire_lengths();
 }

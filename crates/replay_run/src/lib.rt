@@ -1,14 +1,21 @@
-//! The run of a steps file on a simulated bus: a master answers the steps, and each cycle that it opens is run by
-//! nodes.
+//! The run of a steps file. One driver takes the steps; it drives a master alone, the table that is asked for, or a
+//! master with the nodes of a simulated bus, whose log is heard while the run goes on.
 //!
 //! Cycles are elementary cycles, counted from 0; times are bit times.
 #![tactic(auto)]
 
 mod answering;
 mod asked;
+mod bus;
+mod cut;
+mod driver;
 pub mod laws;
-mod stepping;
+mod listener;
+mod logging;
+mod replaying;
 
 pub use answering::answer;
 pub use asked::asked_table;
-pub use stepping::{Run, begin, replay};
+pub use cut::Cut;
+pub use driver::{Driven, drive};
+pub use replaying::{Run, Tailed, Written, replay, replay_tail, replay_to};

@@ -1,6 +1,6 @@
 use Rattle.std.proofs.Common.{◌≡◌, ◌++◌, map, take}
 use Rattle.live_master.specs.Passes.{IsPassOf}
-use Rattle.live_run.specs.Answers.{asked, call_of}
+use Rattle.master_core.specs.Calls.{asked, call_of}
 use Rattle.live_run.proofs.operating.operate.Given as goal
 
 abbrev pub invariant-loop-act : goal.invariant-loop-act

@@ -1,0 +1,56 @@
+use Rattle.std.proofs.Common.{◌≤◌, ◌++◌, length, subst, sym}
+use Rattle.replay_run.specs.Written.{KeepsFrames}
+use Rattle.replay_run.proofs.Going.{few, its-frames, ran}
+use Rattle.replay_run.proofs.bus.Bus.run_next.Goals as goal
+
+pub keep-requires-clause-few : goal.keep-requires-clause-few
+keep-requires-clause-few c =
+    subst (λ l. length l ≤ 2128) (sym c.frames.ensures.list)
+    (few c.wire_lengths.ensures.at_least
+    (record { before = c.orders.ensures.before; under_way = c.cycles_run.ensures.under_way; ready = c.cycles_run.ensures.ready })
+    c.args.self.now c.run_cycle_in.new.nodes c.open-order.result c.run_cycle_in.new.segment c.requires.going c.open-order.ensures.order
+    (record {
+      layout = c.run_cycle_in.ensures.layout;
+      heard = c.run_cycle_in.ensures.heard;
+      runs = c.run_cycle_in.ensures.runs;
+      stand = c.run_cycle_in.ensures.stand;
+    }))
+
+pub returns-clause-on : goal.returns-clause-on
+returns-clause-on c = λ setting trace going.
+    ran (record {
+      run = record { before = c.orders.ensures.before; under_way = c.cycles_run.ensures.under_way; ready = c.cycles_run.ensures.ready };
+      fits = c.orders.ensures.fits;
+      cycles = c.opened_cycles.ensures.cycles;
+      sends = c.next_cycle.ensures.runs;
+    })
+    setting trace c.args.self.now
+    (record c.args.self.now { master = c.open-order.new.self; nodes = c.run_cycle_in.new.nodes; segment = c.run_cycle_in.new.segment; trace = c.keep.new.trace })
+    c.open-order.result c.run_cycle_in.new.segment c.open-order.ensures.order
+    (record {
+      layout = c.run_cycle_in.ensures.layout;
+      heard = c.run_cycle_in.ensures.heard;
+      runs = c.run_cycle_in.ensures.runs;
+      stand = c.run_cycle_in.ensures.stand;
+    })
+    c.open-order.ensures.rules c.open-order.ensures.event c.open-order.ensures.plain
+    (λ kept. subst (λ l. KeepsFrames c.keep.new.trace (trace ++ l)) c.frames.ensures.list (c.keep.ensures.frames trace kept))
+    (c.run_cycle_in.ensures.spare c.args.self.now.spare)
+    going
+
+pub returns-clause-last : goal.returns-clause-last
+returns-clause-last c =
+    its-frames (record {
+      run = record { before = c.orders.ensures.before; under_way = c.cycles_run.ensures.under_way; ready = c.cycles_run.ensures.ready };
+      fits = c.orders.ensures.fits;
+      cycles = c.opened_cycles.ensures.cycles;
+      sends = c.next_cycle.ensures.runs;
+    })
+    c.args.self.now c.run_cycle_in.new.nodes c.open-order.result c.run_cycle_in.new.segment c.open-order.new.self.history c.requires.going c.open-order.ensures.order
+    (record {
+      layout = c.run_cycle_in.ensures.layout;
+      heard = c.run_cycle_in.ensures.heard;
+      runs = c.run_cycle_in.ensures.runs;
+      stand = c.run_cycle_in.ensures.stand;
+    })
+    c.open-order.ensures.event

@@ -1,0 +1,25 @@
+-- What a master is after it has answered calls.
+use Rattle.std.specs.Prelude.{ℕ}
+use Rattle.std.proofs.Common.{◌≡◌, List, [], ◌++◌, map, refl, sym, ap, ◌∙◌, append-nil, append_assoc}
+use Rattle.master_core.specs.Calls.{Call, call_of}
+use Rattle.master_core.specs.History.{IsPlainlyLegal}
+use Rattle.master_core.specs.Keeping.{MasterView}
+
+-- its history has one event more for each of these calls, in their order, each change planned when it is answered
+pub record Answered (old : MasterView) (calls : List Call) (new : MasterView) : Type 0 where
+  pub same_rules : new.rules ≡ old.rules
+  pub plain : IsPlainlyLegal old.rules old.history → IsPlainlyLegal new.rules new.history
+  pub answers : map call_of new.history ≡ map call_of old.history ++ calls
+
+-- For the master that is driven
+
+pub answered-nothing : (one : MasterView) → Answered one [] one
+answered-nothing one = record { same_rules = refl; plain = λ plain. plain; answers = sym (append-nil (map call_of one.history)) }
+
+pub answered-more : (one other third : MasterView) (calls later : List Call) → Answered one calls other → Answered other later third
+    → Answered one (calls ++ later) third
+answered-more one other third calls later first second = record {
+  same_rules = second.same_rules ∙ first.same_rules;
+  plain = λ plain. second.plain (first.plain plain);
+  answers = second.answers ∙ ap (λ l. l ++ later) first.answers ∙ append_assoc (map call_of one.history) calls later;
+}

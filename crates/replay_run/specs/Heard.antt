@@ -1,0 +1,67 @@
+-- What those who hear the rows of a run have heard.
+use Rattle.std.specs.Prelude.{ℕ, ◌≤◌}
+use Rattle.std.proofs.Common.{◌≡◌, List, [], ◌++◌, Option, refl, sym, ap, ◌∙◌, subst, arith, append-nil, append_assoc}
+use Rattle.ftt_io.specs.Counts.{Rose, next_count}
+use Rattle.ftt_io.specs.Puts.{Puts, PutsPrefix}
+use Rattle.ftt_io.proofs.Shared.{Puts-append, Puts-nothing, PutsPrefix-append, Stays-same}
+use Rattle.bus_trace.specs.LastRows.{HasLast}
+use Rattle.bus_trace.specs.Recent.{LastRows}
+
+-- A sink
+
+module _ {O : Type 0} (told_bytes : O → Option (List ℕ)) (faults : O → ℕ) where
+  -- it took these rows
+  pub record Takes (old : O) (rows : List ℕ) (new : O) : Type 0 where
+    pub faults_never_fall : faults old ≤ faults new
+    pub puts : Puts (told_bytes old) (told_bytes new) rows
+
+  -- it failed within them, and took the first bytes
+  pub record BreaksOff (old : O) (rows : List ℕ) (new : O) : Type 0 where
+    pub faults_never_fall : faults old ≤ faults new
+    pub rose : Rose (faults old) (faults new)
+    pub puts : PutsPrefix (told_bytes old) (told_bytes new) rows
+
+  pub takes-nothing : (one : O) → Takes one [] one
+  takes-nothing one = record {
+    faults_never_fall = omega arith;
+    puts = Puts-nothing (told_bytes one) (told_bytes one) (Stays-same (told_bytes one) (told_bytes one) refl);
+  }
+
+  pub takes-more : (one other third : O) (rows later : List ℕ) → Takes one rows other → Takes other later third
+      → Takes one (rows ++ later) third
+  takes-more one other third rows later first second =
+      let before = first.faults_never_fall in
+      let after = second.faults_never_fall in
+      record {
+        faults_never_fall = omega arith;
+        puts = Puts-append (told_bytes one) (told_bytes other) (told_bytes third) rows later first.puts second.puts;
+      }
+
+  pub breaks-later : (one other third : O) (rows later : List ℕ) → Takes one rows other → BreaksOff other later third
+      → BreaksOff one (rows ++ later) third
+  breaks-later one other third rows later first second =
+      let before = first.faults_never_fall in
+      let between = second.faults_never_fall in
+      let after = second.rose in
+      record {
+        faults_never_fall = omega (arith, before, between);
+        rose = omega arith;
+        puts = PutsPrefix-append (told_bytes one) (told_bytes other) (told_bytes third) rows first.puts second.puts;
+      }
+
+-- The last rows
+
+-- they are the last ones of a text, and then of the text with these rows behind it
+pub record Keeps (old : LastRows) (rows : List ℕ) (new : LastRows) : Type 0 where
+  pub most : new.most ≡ old.most
+  pub last : (past : List ℕ) → HasLast past old → HasLast (past ++ rows) new
+
+pub keeps-nothing : (one : LastRows) → Keeps one [] one
+keeps-nothing one = record { most = refl; last = λ past has. subst (λ text. HasLast text one) (sym (append-nil past)) has }
+
+pub keeps-more : (one other third : LastRows) (rows later : List ℕ) → Keeps one rows other → Keeps other later third
+    → Keeps one (rows ++ later) third
+keeps-more one other third rows later first second = record {
+  most = second.most ∙ first.most;
+  last = λ past has. subst (λ text. HasLast text third) (append_assoc past rows later) (second.last (past ++ rows) (first.last past has));
+}

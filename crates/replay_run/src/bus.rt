@@ -1,0 +1,252 @@
+//! A master with the nodes of its bus, call by call. All memory of a cycle is taken before it is opened, so that a cycle
+//! that was opened is run.
+
+ghost use Rattle.std.specs.Prelude.{◌≡◌, ◌+◌, ◌<◌, ◌≤◌, ◌++◌, ◌∷◌, []};
+ghost use Rattle.std.specs.Prelude.{List, OnOk, OnErr, IfOk, is_some, length, map};
+ghost use Rattle.can_frame.specs.declared.data_frame.TimedFrame.{TimedFrame};
+ghost use Rattle.change_protocol.specs.declared.operations.Act.TheVariants as act_of;
+ghost use Rattle.input_text.specs.SystemFile.{IsSystem};
+ghost use Rattle.input_text.specs.RequestsFile.{AreLegal};
+ghost use Rattle.master_core.specs.Calls.{asked, call_of, opens};
+ghost use Rattle.master_core.specs.History.{next_of};
+ghost use Rattle.kept_run.specs.Progress.{AreReady, IsSetting};
+ghost use Rattle.cycle_engine.specs.Nodes.{HaveSpare, KeepSpare, states_of};
+ghost use Rattle.replay_run.specs.Progress.{BringsOn, CanGo, CanTellLast, GoesStill, HasRoom, IsGoing, IsReady};
+ghost use Rattle.replay_run.specs.Progress.{setting_of};
+ghost use Rattle.replay_run.specs.Written.{KeepsFrames};
+
+use async_window::Request;
+use can_frame::TimedFrame;
+use can_frame::laws::wire_lengths;
+use change_protocol::{Act, Change};
+use cycle_engine::laws::next_cycle;
+use cycle_engine::{Nodes, Segment, run_cycle_in};
+use input_text::System;
+use kept_run::laws::{beginning, calls_between, cycles_run, orders, requests_of_owners};
+use master_core::Master;
+use master_core::laws::opened_cycles;
+use std::alloc::{AllocError, Global};
+
+/// The most frames that start in one cycle: the longest cycle has 100,000 bit times, and the shortest frame 47.
+const MOST_FRAMES: usize = 100_000 / 47 + 1;
+
+/// A master and the nodes of its bus, behind some calls.
+#[derive(Drop)]
+pub struct Bus {
+    /// The master, with all calls and their answers.
+    pub master: Master,
+    /// The nodes, with the requests that are not sent.
+    nodes: Nodes,
+    /// The nodes can learn a list of so many entries without memory.
+    spare: usize,
+    /// The frames of the cycle that was run last.
+    pub segment: Segment,
+    /// The frames on the bus, in the order of their starts, where they are kept.
+    pub trace: Option<Vec<TimedFrame>>,
+}
+
+/// These frames, where they are to be kept.
+fn kept_frames(frames: Vec<TimedFrame>, keeps: bool) -> Option<Vec<TimedFrame>>
+    ensures frames { KeepsFrames result frames.items }
+    ensures kept { is_some result ≡ keeps }
+{
+    if keeps { Some(frames) } else { None }
+}
+
+/// Makes room for the frames of one cycle, where they are kept.
+fn make_room(trace: &mut Option<Vec<TimedFrame>>) -> Result<(), AllocError>
+    ensures same { (past : List TimedFrame) → KeepsFrames trace.old past → KeepsFrames trace.new past }
+    ensures kept { is_some trace.new ≡ is_some trace.old }
+    ensures room { OnOk result (HasRoom trace.new) }
+{
+    match trace {
+        Some(kept) => kept.reserve(MOST_FRAMES),
+        None => Ok(()),
+    }
+}
+
+/// Appends the frames of a cycle, where they are kept. There is room for them.
+fn keep(trace: &mut Option<Vec<TimedFrame>>, frames: &[TimedFrame])
+    requires room { HasRoom trace.old }
+    requires few { length frames.now ≤ 2128 }
+    ensures frames { (past : List TimedFrame)
+        → KeepsFrames trace.old past → KeepsFrames trace.new (past ++ frames.now) }
+    ensures kept { is_some trace.new ≡ is_some trace.old }
+{
+    if let Some(kept) = trace {
+        kept.extend_from_slice(frames).unwrap();
+    }
+}
+
+/// Makes the nodes able to learn so many entries without memory, where `spare` is less.
+fn make_spare(
+    nodes: &mut Nodes,
+    spare: &mut usize,
+    alloc: Global,
+    entries: usize,
+) -> Result<(), AllocError>
+    requires spare { HaveSpare spare.old nodes.old.nodes }
+    ensures spare { HaveSpare spare.new nodes.new.nodes }
+    ensures layout { nodes.new.layout ≡ nodes.old.layout }
+    ensures same { states_of nodes.new.nodes ≡ states_of nodes.old.nodes }
+    ensures entries { OnOk result (entries ≤ spare.new) }
+{
+    if entries <= *spare {
+        return Ok(());
+    }
+    nodes.reserve(alloc, entries)?;
+    *spare = entries;
+    Ok(())
+}
+
+/// What the runs of a system with these requests stand on is in its ranges.
+pub fn in_ranges(system: &System, requests: &[Request])
+    requires system { IsSystem system.now }
+    requires requests { AreLegal system.now.owners requests.now }
+    ensures setting { IsSetting (setting_of system.now requests.now) }
+{
+    requests_of_owners();
+}
+
+/// The nodes of a system before cycle 0, with these requests.
+fn fresh_nodes(
+    alloc: Global,
+    system: &System,
+    requests: &[Request],
+) -> Result<Nodes, AllocError>
+    requires system { IsSystem system.now }
+    requires requests { AreLegal system.now.owners requests.now }
+    ensures ready { IfOk result (AreReady (setting_of system.now requests.now) [] []) }
+{
+    beginning();
+    let System {
+        layout,
+        rules,
+        owners,
+    } = system;
+    let nodes = Nodes::new(alloc, *layout, rules.nodes, owners.as_slice(), requests)?;
+    Ok(nodes)
+}
+
+impl Bus {
+    /// A run of no calls yet, on the bus of a system with these requests. The frames are kept where `keeps` says so.
+    ///
+    /// # Errors
+    ///
+    /// Only where memory runs out.
+    pub fn begin(
+        alloc: Global,
+        system: &System,
+        requests: &[Request],
+        keeps: bool,
+    ) -> Result<Bus, AllocError>
+        requires system { IsSystem system.now }
+        requires requests { AreLegal system.now.owners requests.now }
+        ensures going { IfOk result (IsGoing (setting_of system.now requests.now) []) }
+        ensures empty { IfOk result (λ bus. bus.master.history ≡ []) }
+        ensures kept { IfOk result (λ bus. is_some bus.trace ≡ keeps) }
+    {
+        beginning();
+        in_ranges(system, requests);
+        Ok(Bus {
+            master: Master::new(alloc, system.rules)?,
+            nodes: fresh_nodes(alloc, system, requests)?,
+            spare: 0,
+            segment: Segment::new(alloc, &system.layout)?,
+            trace: kept_frames(Vec::new(alloc), keeps),
+        })
+    }
+
+    /// Takes all memory that the next cycle needs.
+    ///
+    /// # Errors
+    ///
+    /// Only where memory runs out.
+    pub fn make_ready(&mut self, alloc: Global) -> Result<(), AllocError>
+        requires going { CanGo self.old }
+        ensures still { GoesStill self.old self.new }
+        ensures ready { OnOk result (IsReady self.new) }
+    {
+        self.master.reserve(alloc, 1)?;
+        make_room(&mut self.trace)?;
+        let entries = self.master.placed().len();
+        make_spare(&mut self.nodes, &mut self.spare, alloc, entries)
+    }
+
+    /// Opens the next cycle, and runs it on the bus. Its frames are the segment then. It takes no memory.
+    pub fn run_next(&mut self)
+        requires going { CanGo self.old }
+        requires ready { IsReady self.old }
+        requires few { next_of self.old.master.history < 20000 }
+        ensures on { BringsOn self.old self.new self.new.segment }
+        ensures last { CanTellLast self.new.master.history self.new.segment }
+        ensures calls { map call_of self.new.master.history ≡ map call_of self.old.master.history ++ opens ∷ [] }
+        ensures next { next_of self.new.master.history ≡ next_of self.old.master.history + 1 }
+        ensures kept { is_some self.new.trace ≡ is_some self.old.trace }
+    {
+        orders();
+        cycles_run();
+        next_cycle();
+        opened_cycles();
+        wire_lengths();
+        let order = self.master.open();
+        run_cycle_in(&order, &mut self.nodes, &mut self.segment);
+        keep(&mut self.trace, self.segment.frames());
+    }
+
+    /// Answers a change.
+    fn ask(&mut self, alloc: Global, caller: u8, change: &Change) -> Result<(), AllocError>
+        requires caller { (1 ≤ caller) × (caller ≤ 8) }
+        requires few { next_of self.old.master.history ≤ 20000 }
+        ensures on { OnOk result (BringsOn self.old self.new []) }
+        ensures last { OnOk result (CanTellLast self.new.master.history []) }
+        ensures calls { OnOk result (map call_of self.new.master.history
+            ≡ map call_of self.old.master.history ++ asked caller (act_of.Ask change.now) ∷ []) }
+        ensures next { OnOk result (next_of self.new.master.history ≡ next_of self.old.master.history) }
+        ensures kept { OnOk result (is_some self.new.trace ≡ is_some self.old.trace) }
+        ensures still { OnErr result (GoesStill self.old self.new) }
+    {
+        calls_between();
+        self.master.submit(alloc, caller, change)?;
+        Ok(())
+    }
+
+    /// Answers a look.
+    fn look(&mut self, alloc: Global, caller: u8) -> Result<(), AllocError>
+        requires caller { (1 ≤ caller) × (caller ≤ 8) }
+        ensures on { OnOk result (BringsOn self.old self.new []) }
+        ensures last { OnOk result (CanTellLast self.new.master.history []) }
+        ensures calls { OnOk result (map call_of self.new.master.history
+            ≡ map call_of self.old.master.history ++ asked caller act_of.Look ∷ []) }
+        ensures next { OnOk result (next_of self.new.master.history ≡ next_of self.old.master.history) }
+        ensures kept { OnOk result (is_some self.new.trace ≡ is_some self.old.trace) }
+        ensures still { OnErr result (GoesStill self.old self.new) }
+    {
+        calls_between();
+        self.master.reserve(alloc, 1)?;
+        self.master.look(caller);
+        Ok(())
+    }
+
+    /// Answers an act of operator `caller`, 1 to 8.
+    ///
+    /// # Errors
+    ///
+    /// Only where memory runs out. Then the act is not answered.
+    pub fn answer(&mut self, alloc: Global, caller: u8, act: &Act) -> Result<(), AllocError>
+        requires caller { (1 ≤ caller) × (caller ≤ 8) }
+        requires few { next_of self.old.master.history ≤ 20000 }
+        ensures on { OnOk result (BringsOn self.old self.new []) }
+        ensures last { OnOk result (CanTellLast self.new.master.history []) }
+        ensures calls { OnOk result (map call_of self.new.master.history
+            ≡ map call_of self.old.master.history ++ asked caller act.now ∷ []) }
+        ensures next { OnOk result (next_of self.new.master.history ≡ next_of self.old.master.history) }
+        ensures kept { OnOk result (is_some self.new.trace ≡ is_some self.old.trace) }
+        ensures still { OnErr result (GoesStill self.old self.new) }
+    {
+        match act {
+            Act::Ask { change } => self.ask(alloc, caller, change),
+            Act::Look => self.look(alloc, caller),
+        }
+    }
+}

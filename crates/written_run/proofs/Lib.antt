@@ -1,5 +1,0 @@
-mod Cutting
-mod EventRows
-mod Going
-mod RowsSoFar
-mod Whole
