@@ -11,7 +11,7 @@ use crate::layouts::layout;
 use crate::requests::{are_in_order, requests};
 use async_window::{Owner, Request};
 use can_frame::TimedFrame;
-use cycle_engine::{Nodes, Segment, run_cycle};
+use cycle_engine::{Nodes, Segment, run_cycle, run_cycle_in};
 use cycle_layout::Layout;
 use requirement_table::{Order, Placed, PlacedList, released_in, well_placed};
 use std::alloc::Global;
@@ -57,15 +57,16 @@ impl Table for Cycles {
                 self.requests = requests(alloc, list)?;
                 Ok(format!(in alloc; "{}", self.requests.len())?)
             }
-            ["run", l, count] => self.run(alloc, length(l)?, small(count)?),
+            ["run", l, count] => self.run(alloc, length(l)?, small(count)?, false),
+            ["run-in-place", l, count] => self.run(alloc, length(l)?, small(count)?, true),
             _ => Err(Fault::Unread),
         }
     }
 }
 
 impl Cycles {
-    /// The frames of the first cycles, and how many requests are left.
-    fn run(&self, alloc: Global, l: u32, count: u8) -> Result<String, Fault> {
+    /// The frames of the first cycles, and how many requests are left. In place, one segment serves all cycles.
+    fn run(&self, alloc: Global, l: u32, count: u8, in_place: bool) -> Result<String, Fault> {
         let Some(layout) = self.layout else {
             return Err(Fault::Unread);
         };
@@ -78,7 +79,7 @@ impl Cycles {
             return Err(Fault::Unread);
         }
         let mut nodes = three_nodes(alloc, layout, requests)?;
-        let trace = first_cycles(alloc, &mut nodes, placed, l, u64::from(count))?;
+        let trace = first_cycles(alloc, &mut nodes, placed, l, u64::from(count), in_place)?;
         told(alloc, trace.as_slice(), nodes.left())
     }
 }
@@ -101,6 +102,7 @@ fn are_owned(requests: &[Request]) -> bool
 fn list_if(alloc: Global, placed: &[Placed], wanted: bool) -> Result<Option<PlacedList>, Fault>
     requires well_placed { IsWellPlaced placed.now }
     ensures well_placed { IfOk result (λ list. IfSome list IsWellPlaced) }
+    ensures same { IfOk result (λ list. IfSome list (λ some. some ≡ placed.now)) }
 {
     if wanted {
         Ok(Some(PlacedList::of(Vec::from_slice(alloc, placed)?)))
@@ -134,6 +136,57 @@ fn one_cycle(
     Ok(run_cycle(alloc, &order, nodes)?)
 }
 
+/// The same with all memory taken before it. The frames take the place of those of the segment.
+fn one_cycle_in(
+    alloc: Global,
+    nodes: &mut Nodes,
+    placed: &[Placed],
+    l: u32,
+    cycle: u64,
+    segment: &mut Segment,
+) -> Result<(), Fault>
+    requires well_placed { IsWellPlaced placed.now }
+    requires window { l ≤ nodes.old.layout.window }
+    requires next { All (λ node. node.next ≡ cycle) (states_of nodes.old.nodes) }
+    requires few { cycle < 10 }
+    ensures layout { nodes.new.layout ≡ nodes.old.layout }
+    ensures next { OnOk result (All (λ node. node.next ≡ cycle + 1) (states_of nodes.new.nodes)) }
+{
+    let order = Order {
+        cycle,
+        mask: released_in(placed, cycle),
+        l,
+        learned: list_if(alloc, placed, cycle == 0)?,
+    };
+    nodes.reserve(alloc, placed.len())?;
+    run_cycle_in(&order, nodes, segment);
+    Ok(())
+}
+
+/// Runs one cycle in one way or the other, and puts its frames in place of those of the segment.
+fn next_cycle(
+    alloc: Global,
+    nodes: &mut Nodes,
+    placed: &[Placed],
+    l: u32,
+    cycle: u64,
+    in_place: bool,
+    segment: &mut Segment,
+) -> Result<(), Fault>
+    requires well_placed { IsWellPlaced placed.now }
+    requires window { l ≤ nodes.old.layout.window }
+    requires next { All (λ node. node.next ≡ cycle) (states_of nodes.old.nodes) }
+    requires few { cycle < 10 }
+    ensures layout { nodes.new.layout ≡ nodes.old.layout }
+    ensures next { OnOk result (All (λ node. node.next ≡ cycle + 1) (states_of nodes.new.nodes)) }
+{
+    if in_place {
+        return one_cycle_in(alloc, nodes, placed, l, cycle, segment);
+    }
+    *segment = one_cycle(alloc, nodes, placed, l, cycle)?;
+    Ok(())
+}
+
 /// The frames of the first cycles.
 fn first_cycles(
     alloc: Global,
@@ -141,6 +194,7 @@ fn first_cycles(
     placed: &[Placed],
     l: u32,
     count: u64,
+    in_place: bool,
 ) -> Result<Vec<TimedFrame>, Fault>
     requires well_placed { IsWellPlaced placed.now }
     requires window { l ≤ nodes.old.layout.window }
@@ -148,8 +202,9 @@ fn first_cycles(
     requires few { count ≤ 10 }
 {
     let mut trace = Vec::new(alloc);
+    let mut segment = Segment::new(alloc, nodes.layout())?;
     for cycle in 0..count {
-        let segment = one_cycle(alloc, nodes, placed, l, cycle)?;
+        next_cycle(alloc, nodes, placed, l, cycle, in_place, &mut segment)?;
         trace.extend_from_slice(segment.frames())?;
     }
     Ok(trace)

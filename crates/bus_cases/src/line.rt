@@ -3,7 +3,8 @@
 ghost use Rattle.std.specs.Prelude.{◌<◌, ◌^◌};
 
 use crate::compared::Table;
-use crate::fields::{Fault, hexadecimal, parts, push_behind, text_of_trace, time};
+use crate::fields::{Fault, bits, hexadecimal, parts, push_behind, text_of_trace, time};
+use crate::recordings::read;
 use crate::scripted::{Scripted, Station};
 use bus_line::run_until;
 use std::alloc::Global;
@@ -40,6 +41,7 @@ impl Table for Line {
                 Some(stations) => run(alloc, stations, time(from)?, time(until)?),
                 None => Err(Fault::Unread),
             },
+            ["read", line] => read(alloc, bits(alloc, line)?.as_slice()),
             _ => Err(Fault::Unread),
         }
     }

@@ -15,6 +15,7 @@ mod layouts;
 mod line;
 mod mailboxes;
 mod one_node;
+mod recordings;
 mod requests;
 mod scripted;
 mod senders;

@@ -1,7 +1,7 @@
 //! Three scripted stations on a bus line.
 
 ghost use Rattle.std.specs.Prelude.{◌≡◌, ◌==◌, ◌&&◌, ◌++◌, ◌∷◌, ◌^◌, ◌<◌, ◌≤◌, ℕ, []};
-ghost use Rattle.std.specs.Prelude.{Contains, length, nat_le, nat_lt, if◌then◌else◌};
+ghost use Rattle.std.specs.Prelude.{⊤, Contains, length, nat_le, nat_lt, if◌then◌else◌};
 ghost use Rattle.can_frame.specs.declared.data_frame.TimedFrame.{TimedFrame};
 ghost use Rattle.bus_line.specs.Stations.{IsWake, sooner};
 

@@ -3,3 +3,5 @@ mod Quiet
 mod Running
 mod Traces
 mod Sooner
+mod OneRecording
+mod Recordings

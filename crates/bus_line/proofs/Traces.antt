@@ -158,7 +158,7 @@ abbrev made : ℕ → ℕ → DataFrame → TimedFrame
 made start len frame = record { start = start; len = len; frame = frame }
 
 -- a timed frame is its start, its length and its frame
-same_sent : (one other : TimedFrame) → one.start ≡ other.start → one.len ≡ other.len → one.frame ≡ other.frame → one ≡ other
+pub same_sent : (one other : TimedFrame) → one.start ≡ other.start → one.len ≡ other.len → one.frame ≡ other.frame → one ≡ other
 same_sent one other start len frame =
     ap (λ at. made at one.len one.frame) start ∙ ap (λ n. made other.start n one.frame) len ∙ ap (λ x. made other.start other.len x) frame
 

@@ -1,12 +1,16 @@
 //! Laws of traces, for the crates whose contracts speak of them.
 
-ghost use Rattle.std.specs.Prelude.{◌≡◌, ◌↔◌, ◌<◌, ◌≤◌, ℕ, All, List, [], ◌++◌, Option, max};
+ghost use Rattle.std.specs.Prelude.{◌≡◌, ◌↔◌, ◌<◌, ◌≤◌, ◌⊎◌, ℕ, All, Bool, List, [], ◌++◌, Option, Result, Ok, Err, max};
 ghost use Rattle.can_frame.specs.declared.data_frame.TimedFrame.{TimedFrame};
 ghost use Rattle.bus_line.specs.Trace.{AgreeAlong, Follows, IsDetermined, IsOrdered, IsTrace, Offers, free_after};
 ghost use Rattle.bus_line.specs.Stations.{IsWake, offers_of, sooner};
+ghost use Rattle.can_frame.specs.declared.wire_fault.WireFault.{WireFault};
+ghost use Rattle.bus_line.specs.declared.line_fault.LineFault.{LineFault};
+ghost use Rattle.bus_line.specs.declared.line_fault.LineFault.TheVariants.{Memory};
+ghost use Rattle.bus_line.specs.Recording.{BreaksAt, IsRecording, ReadsLine, counted_from};
 
 use crate::stations::Stations;
-use can_frame::laws::wire_lengths;
+use can_frame::laws::{one_front, wire_lengths};
 use std::marker::PhantomData;
 
 /// A kind of offers on a bus, for the laws below: a crate that speaks of its own offers implements
@@ -81,3 +85,29 @@ pub fn sooner_wake()
         → IsWake one at first → IsWake other at second
         → IsWake (λ later. one later ++ other later) at (sooner first second) }
 {}
+
+/// What the bits of a line tell of its trace. The function does nothing.
+pub fn one_recording()
+    // A trace has one line.
+    ensures one_line { (trace : List TimedFrame) (from until : ℕ) (one other : List Bool)
+        → IsRecording trace from until one → IsRecording trace from until other → one ≡ other }
+
+    // Bits are the line of one trace.
+    ensures one_trace { (from until : ℕ) (bits : List Bool) (one other : List TimedFrame)
+        → IsRecording one from until bits → IsRecording other from until bits → one ≡ other }
+
+    // The line of a trace breaks nowhere, and bits that break do so at one place, with one fault.
+    ensures unbroken { (trace : List TimedFrame) (from until : ℕ) (bits : List Bool) (start : ℕ)
+        → (fault : WireFault) → IsRecording trace from until bits → BreaksAt bits start fault → ⊥ }
+    ensures one_break { (bits : List Bool) (start other : ℕ) (fault another : WireFault)
+        → BreaksAt bits start fault → BreaksAt bits other another
+        → (start ≡ other) × (fault ≡ another) }
+
+    // What is read from the line of a trace is that trace, its starts counted from the first bit.
+    ensures read_back { (trace : List TimedFrame) (from until : ℕ) (bits : List Bool)
+        → IsRecording trace from until bits → (answer : Result (List TimedFrame) LineFault)
+        → ReadsLine bits answer
+        → (answer ≡ Err Memory) ⊎ (answer ≡ Ok (counted_from from trace)) }
+{
+    one_front();
+}

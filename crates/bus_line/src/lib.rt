@@ -5,7 +5,11 @@
 
 pub mod laws;
 mod line;
+mod line_fault;
+mod recording;
 mod stations;
 
 pub use line::run_until;
+pub use line_fault::LineFault;
+pub use recording::{line_bits, read_line};
 pub use stations::Stations;

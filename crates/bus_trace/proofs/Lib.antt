@@ -1,3 +1,4 @@
+mod ByCycle
 mod EventByEvent
 mod LogTrace
 mod LogHistory

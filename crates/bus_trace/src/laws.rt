@@ -1,16 +1,16 @@
 //! Laws about logs. Each function has an empty body, and its contract is the law.
 
-ghost use Rattle.std.specs.Prelude.{◌≡◌, ℕ, ◌++◌, [], ◌∷◌, List};
+ghost use Rattle.std.specs.Prelude.{◌≡◌, ℕ, ◌+◌, ◌==◌, ◌++◌, [], ◌∷◌, List, filter, length};
 ghost use Rattle.std.specs.List.{flat_map};
 ghost use Rattle.can_frame.specs.declared.data_frame.TimedFrame.{TimedFrame};
 ghost use Rattle.master_core.specs.declared.event.Event.{Event};
 ghost use Rattle.master_core.specs.History.{AllAfter, next_of};
 ghost use Rattle.bus_trace.specs.EventRows.{SaysWidth, rows_of_event, told_of_event};
 ghost use Rattle.bus_trace.specs.LastRows.{AreRows};
-ghost use Rattle.bus_trace.specs.Log.{end_row, log_text};
+ghost use Rattle.bus_trace.specs.Log.{end_row, log_text, started_in};
 ghost use Rattle.bus_trace.specs.LogRows.{log_rows};
 ghost use Rattle.bus_trace.specs.Row.{text_of_rows};
-ghost use Rattle.bus_trace.specs.Logged.{frames_of_event};
+ghost use Rattle.bus_trace.specs.Logged.{frames_of_event, is_trigger};
 ghost use Rattle.bus_trace.specs.declared.row.LogRow.TheVariants.{End};
 
 /// Where each trigger says the length of its cycle's synchronous window, the rows of the events of a history, each with
@@ -28,6 +28,15 @@ pub fn events_make_the_log()
 pub fn logs_are_rows()
     ensures rows { (history : List Event) (trace : List TimedFrame)
         → log_text history trace ≡ text_of_rows (log_rows history trace) }
+{}
+
+/// Where the triggers up to each frame of a trace, itself included, are one more than the number of its cycle, the frames
+/// that start in a cycle are those of that number, in their order.
+pub fn frames_by_cycle()
+    ensures frames { (trace : List TimedFrame) (cycle_of : TimedFrame → ℕ)
+        → ((front later : List TimedFrame) (sent : TimedFrame) → trace ≡ front ++ sent ∷ later
+        → length (filter is_trigger (front ++ sent ∷ [])) ≡ cycle_of sent + 1)
+        → (cycle : ℕ) → started_in cycle 0 trace ≡ filter (λ sent. cycle_of sent == cycle) trace }
 {}
 
 /// The rows of an event, and the last row of a log, are whole rows.

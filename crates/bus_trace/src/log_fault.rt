@@ -9,7 +9,7 @@ pub enum LogFault {
     /// The text is not that of rows of a log.
     #[error("row {number}")]
     Row {
-        /// The first row, from 1, that has none of the forms. A row without its line feed has none.
+        /// The first row, from 1, that has none of the forms. A last row may do without its line feed.
         number: u64,
     },
     /// There was no memory for the rows.

@@ -4,10 +4,10 @@ use Rattle.std.specs.Bool.{beq}
 use Rattle.std.proofs.Math.Seq.{split_at}
 use Rattle.std.proofs.lemmas.List.{append-nil, length-append, take_all}
 use Rattle.stuff_bound.specs.Stuffing.{stuffed}
-use Rattle.can_frame.specs.declared.wire_fault.WireFault.TheVariants.{Form, Short, Tail}
+use Rattle.can_frame.specs.declared.wire_fault.WireFault.TheVariants.{Form, Short}
 use Rattle.can_frame.specs.DataFrame.{DataFrame, IsFrame}
 use Rattle.can_frame.specs.Wire.{plain, trailer, wire_of}
-use Rattle.can_frame.specs.Reading.{Reads}
+use Rattle.can_frame.specs.Reading.{Reads, ReadsFront}
 use Rattle.can_frame.specs.Progress.{Progress, all_bits}
 use Rattle.can_frame.proofs.OneAnswer.{length-wire}
 
@@ -64,26 +64,16 @@ wrong_end_found old at frame count place bit legal is h below next differ here =
       wrong = split_at trailer count false below ∙ ap (λ b. take count trailer ++ b ∷ drop (suc count) trailer) (opposite bit _ differ);
     })
 
--- a bit is left behind all of them
-pub more_found : (old at : Progress) (frame : DataFrame) (count place : ℕ) (bit : Bool) → IsFrame frame → old.read ≡ stuffed (plain frame) → Trailed old at count → 13 ≤ count
-    → at.rest ≡ bit ∷ drop 1 at.rest → place ≡ length at.read → Reads (all_bits old) (Err (Tail place))
+-- all of them were read
+pub front_found : (old at : Progress) (frame : DataFrame) (count place : ℕ) → IsFrame frame → old.read ≡ stuffed (plain frame) → Trailed old at count → 13 ≤ count → place ≡ length at.read
+    → ReadsFront (all_bits old) (Ok (record { frame = frame; end = place }))
 unfolding wire_of
-more_found old at frame count place bit legal is h all next here =
+front_found old at frame count place legal is h all here =
     let whole = take_all count trailer all in
     record {
-      frame = frame;
-      bit = bit;
-      after = drop 1 at.rest;
       legal = legal;
+      rest = at.rest;
       split =
-          given old at frame count is h ∙ ap (λ v. stuffed (plain frame) ++ (v ++ at.rest)) whole ∙ sym (append_assoc (stuffed (plain frame)) trailer at.rest)
-          ∙ ap (λ rest. stuffed (plain frame) ++ trailer ++ rest) next;
+          given old at frame count is h ∙ ap (λ v. stuffed (plain frame) ++ (v ++ at.rest)) whole ∙ sym (append_assoc (stuffed (plain frame)) trailer at.rest);
       here = here ∙ read_len old at frame count is h ∙ ap (λ v. length (stuffed (plain frame)) + length v) whole ∙ sym (length-wire frame);
     }
-
--- nothing is left
-pub wire_found : (old at : Progress) (frame : DataFrame) (count : ℕ) → IsFrame frame → old.read ≡ stuffed (plain frame) → Trailed old at count → 13 ≤ count → at.rest ≡ [] → Reads (all_bits old) (Ok frame)
-unfolding wire_of
-wire_found old at frame count legal is h all none =
-    let whole = take_all count trailer all in
-    (legal, given old at frame count is h ∙ ap (λ v. stuffed (plain frame) ++ (v ++ at.rest)) whole ∙ ap (λ rest. stuffed (plain frame) ++ (trailer ++ rest)) none ∙ ap (λ v. stuffed (plain frame) ++ v) (append-nil trailer))

@@ -3,6 +3,7 @@ mod Carried
 mod Expectations
 mod Fields
 mod Finish
+mod Fronts
 mod OneAnswer
 mod Plain
 mod PlainFields

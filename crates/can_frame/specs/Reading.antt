@@ -6,6 +6,7 @@
 use Rattle.std.specs.Prelude.{◌≡◌, ◌≢◌, ℕ, ◌+◌, ◌*◌, ◌^◌, ◌<◌, ◌≤◌, ◌⊎◌, Bool, not, List, [], ◌∷◌, ◌++◌}
 use Rattle.std.specs.Prelude.{length, take, drop, reverse, replicate, Result, Ok, Err}
 use Rattle.stuff_bound.specs.Stuffing.{run, HasNoSix, without_stuff, stuffed}
+use Rattle.can_frame.specs.declared.data_frame.Front.{Front}
 use Rattle.can_frame.specs.declared.wire_fault.WireFault.{WireFault}
 use Rattle.can_frame.specs.declared.wire_fault.WireFault.TheVariants.{Stuff, Form, Crc, Short, Tail, Memory}
 use Rattle.can_frame.specs.DataFrame.{DataFrame, IsFrame}
@@ -125,3 +126,22 @@ Reads bits (Err (Short have)) = (have ≡ length bits) × (EndsInside bits ⊎ E
 Reads bits (Err (Tail place)) = FindsMore bits place
 -- no memory is needed
 Reads bits (Err Memory) = ⊥
+
+-- a whole frame stands at the front of the bits, whatever is behind it
+pub record IsFront (bits : List Bool) (front : Front) : Type 0 where
+  pub legal : IsFrame front.frame
+  pub rest : List Bool
+  pub split : bits ≡ wire_of front.frame ++ rest
+  pub here : front.end ≡ wire_length front.frame
+
+-- the answer to bits of which a frame may be the front: that frame, or what is found in the bits before one is whole
+-- (`laws` says that there is one at most, and `read_front` gives it)
+abbrev pub ReadsFront : List Bool → Result Front WireFault → Type 0
+ReadsFront bits (Ok front) = IsFront bits front
+ReadsFront bits (Err (Stuff place)) = Reads bits (Err (Stuff place))
+ReadsFront bits (Err (Form place)) = Reads bits (Err (Form place))
+ReadsFront bits (Err (Crc sent computed)) = Reads bits (Err (Crc sent computed))
+ReadsFront bits (Err (Short have)) = Reads bits (Err (Short have))
+-- what is behind a frame is not looked at, and no memory is needed
+ReadsFront bits (Err (Tail place)) = ⊥
+ReadsFront bits (Err Memory) = ⊥

@@ -129,3 +129,13 @@ pub struct TimedFrame {
     /// The frame that is sent.
     pub frame: Frame,
 }
+
+/// A frame whose wire begins some bits.
+#[derive(Clone, Copy, Debug, PartialEq, Eq)]
+pub struct Front {
+    /// The frame.
+    pub frame: Frame,
+    /// The place of the first bit behind its wire: the number of bits of that wire, its intermission
+    /// included.
+    pub end: usize,
+}

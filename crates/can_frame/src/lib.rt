@@ -12,8 +12,8 @@ mod shares;
 mod wire_bits;
 mod wire_fault;
 
-pub use data_frame::{Frame, FrameFault, MAX_BYTES, MAX_IDENTIFIER, TimedFrame};
-pub use reader::read_wire;
+pub use data_frame::{Frame, FrameFault, Front, MAX_BYTES, MAX_IDENTIFIER, TimedFrame};
+pub use reader::{read_front, read_wire};
 pub use sequence::crc;
 pub use wire_bits::{wire, wire_len};
 pub use wire_fault::WireFault;

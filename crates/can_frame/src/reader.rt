@@ -4,14 +4,15 @@ ghost use Rattle.std.specs.Prelude.{◌≡◌, ◌+◌, ◌*◌, ◌<◌, ◌≤
 ghost use Rattle.std.specs.Prelude.{length, take, drop, reverse, nat_le, Result, Err, IfOk, IfErr, OnOk, MatchOption};
 ghost use Rattle.std.specs.List.{flat_map};
 ghost use Rattle.stuff_bound.specs.Stuffing.{run, HasNoSix, at_stuff_place, stuffed};
+ghost use Rattle.can_frame.specs.declared.data_frame.Front.{Front};
 ghost use Rattle.can_frame.specs.declared.wire_fault.WireFault.{WireFault};
 ghost use Rattle.can_frame.specs.DataFrame.{DataFrame, IsFrame};
 ghost use Rattle.stuff_bound.specs.Fields.{bits};
 ghost use Rattle.can_frame.specs.Wire.{dominant, recessive, header, plain, with_sequence};
-ghost use Rattle.can_frame.specs.Reading.{carried, plain_length, IsMisplaced, IsPlaced, IsBegun, Reads};
+ghost use Rattle.can_frame.specs.Reading.{carried, plain_length, IsMisplaced, IsPlaced, IsBegun, Reads, ReadsFront};
 ghost use Rattle.can_frame.specs.Progress.{all_bits, Expects, Went, EndsPlain};
 
-use crate::data_frame::{Frame, MAX_BYTES};
+use crate::data_frame::{Frame, Front, MAX_BYTES};
 use crate::sequence::crc;
 use crate::wire_bits::TRAILER;
 use crate::wire_fault::WireFault;
@@ -118,7 +119,7 @@ impl<'a> Reader<'a> {
         requires begun { IsBegun self.old.read }
         ensures ok { OnOk result (Went self.old self.new []) }
         ensures no_stuff_place { OnOk result (run (reverse self.new.read) < 5) }
-        ensures fault { IfErr result (λ fault. Reads (all_bits self.old) (Err fault)) }
+        ensures fault { IfErr result (λ fault. ReadsFront (all_bits self.old) (Err fault)) }
     {
         if !self.is_at_stuff_place() {
             return Ok(());
@@ -140,7 +141,7 @@ impl<'a> Reader<'a> {
         requires expects { Expects self.old 1 }
         ensures ok { IfOk result (λ bit. Went self.old self.new (bit ∷ [])) }
         ensures last { OnOk result (EndsPlain self.new.read) }
-        ensures fault { IfErr result (λ fault. Reads (all_bits self.old) (Err fault)) }
+        ensures fault { IfErr result (λ fault. ReadsFront (all_bits self.old) (Err fault)) }
     {
         self.stuff_bit()?;
         let Some(bit) = self.peek() else {
@@ -155,7 +156,7 @@ impl<'a> Reader<'a> {
         requires expects { Expects self.old 1 }
         requires fixed { IsMisplaced (carried self.old.read) recessive }
         ensures ok { OnOk result (Went self.old self.new (dominant ∷ [])) }
-        ensures fault { IfErr result (λ fault. Reads (all_bits self.old) (Err fault)) }
+        ensures fault { IfErr result (λ fault. ReadsFront (all_bits self.old) (Err fault)) }
     {
         if self.bit()? {
             return Err(WireFault::Form {
@@ -173,7 +174,7 @@ impl<'a> Reader<'a> {
         ensures ok { IfOk result (λ value. Went self.old self.new (bits width value)) }
         ensures range { IfOk result (λ value. value < 2 ^ width) }
         ensures last { OnOk result (EndsPlain self.new.read) }
-        ensures fault { IfErr result (λ fault. Reads (all_bits self.old) (Err fault)) }
+        ensures fault { IfErr result (λ fault. ReadsFront (all_bits self.old) (Err fault)) }
     {
         let mut value = 0;
         for _ in 0..width {
@@ -188,7 +189,7 @@ impl<'a> Reader<'a> {
         requires at { carried self.old.read ≡ dominant ∷ [] }
         ensures ok { IfOk result (λ id. Went self.old self.new (bits 11 id)) }
         ensures range { IfOk result (λ id. id ≤ 0x7EF) }
-        ensures fault { IfErr result (λ fault. Reads (all_bits self.old) (Err fault)) }
+        ensures fault { IfErr result (λ fault. ReadsFront (all_bits self.old) (Err fault)) }
     {
         let high = self.field(7)?;
         if high == ALL_RECESSIVE {
@@ -207,7 +208,7 @@ impl<'a> Reader<'a> {
         requires at { length (carried self.old.read) ≡ 15 }
         ensures ok { IfOk result (λ code. Went self.old self.new (bits 4 code)) }
         ensures range { IfOk result (λ code. code ≤ 8) }
-        ensures fault { IfErr result (λ fault. Reads (all_bits self.old) (Err fault)) }
+        ensures fault { IfErr result (λ fault. ReadsFront (all_bits self.old) (Err fault)) }
     {
         let code = self.field(4)?;
         if code > MAX_CODE {
@@ -224,7 +225,7 @@ impl<'a> Reader<'a> {
         ensures ok { IfOk result (λ fields. Went self.old self.new (header fields.0 fields.1)) }
         ensures id { IfOk result (λ fields. fields.0 ≤ 0x7EF) }
         ensures code { IfOk result (λ fields. fields.1 ≤ 8) }
-        ensures fault { IfErr result (λ fault. Reads (all_bits self.old) (Err fault)) }
+        ensures fault { IfErr result (λ fault. ReadsFront (all_bits self.old) (Err fault)) }
     {
         self.dominant()?; // start of frame
         let id = self.identifier()?;
@@ -241,7 +242,7 @@ impl<'a> Reader<'a> {
         requires expects { Expects self.old (8 * len) }
         ensures ok { IfOk result (λ bytes. Went self.old self.new (flat_map (bits 8) (take len bytes))) }
         ensures room { IfOk result (λ bytes. length bytes ≡ 8) }
-        ensures fault { IfErr result (λ fault. Reads (all_bits self.old) (Err fault)) }
+        ensures fault { IfErr result (λ fault. ReadsFront (all_bits self.old) (Err fault)) }
     {
         let mut bytes = [0; MAX_BYTES];
         for place in 0..usize::from(len) {
@@ -257,7 +258,7 @@ impl<'a> Reader<'a> {
         ensures ok { IfOk result (λ part. self.new.read ≡ stuffed (with_sequence part.0 part.1)) }
         ensures legal { IfOk result (λ part. IsFrame part.0) }
         ensures narrow { IfOk result (λ part. part.1 < 2 ^ 15) }
-        ensures fault { IfErr result (λ fault. Reads (all_bits self.old) (Err fault)) }
+        ensures fault { IfErr result (λ fault. ReadsFront (all_bits self.old) (Err fault)) }
     {
         let (id, len) = self.header()?;
         let bytes = self.data(len)?;
@@ -269,11 +270,12 @@ impl<'a> Reader<'a> {
         }
     }
 
-    /// The frame whose stuffed part was read, if the bits behind it are right.
-    fn finish(&mut self, frame: Frame) -> Result<Frame, WireFault>
+    /// The frame whose stuffed part was read, and where its wire ends, if the bits behind that part
+    /// are right.
+    fn finish(&mut self, frame: Frame) -> Result<Front, WireFault>
         requires legal { IsFrame frame }
         requires stuffed { self.old.read ≡ stuffed (plain frame) }
-        ensures reads { Reads (all_bits self.old) result }
+        ensures reads { ReadsFront (all_bits self.old) result }
     {
         for due in TRAILER {
             let Some(bit) = self.peek() else {
@@ -286,18 +288,16 @@ impl<'a> Reader<'a> {
             }
             self.advance(bit);
         }
-        match self.peek() {
-            Some(_) => Err(WireFault::Tail {
-                place: self.place(),
-            }),
-            None => Ok(frame),
-        }
+        Ok(Front {
+            frame,
+            end: self.place(),
+        })
     }
 }
 
-/// What is found in the bits, from left to right.
-fn read(bits: &[bool]) -> Result<Frame, WireFault>
-    ensures reads { Reads bits.now result }
+/// What is found at the front of the bits, from left to right.
+fn find_front(bits: &[bool]) -> Result<Front, WireFault>
+    ensures reads { ReadsFront bits.now result }
 {
     let mut reader = Reader::new(bits);
     let (frame, sent) = reader.stuffed_part()?;
@@ -306,6 +306,29 @@ fn read(bits: &[bool]) -> Result<Frame, WireFault>
         return Err(WireFault::Crc { sent, computed });
     }
     reader.finish(frame)
+}
+
+/// The frame that stands at the front of the bits, and where its wire ends; what is behind it is not
+/// read.
+///
+/// The first wrong place decides, as `read_wire` says, and `Short` tells of bits that end before the
+/// frame does. No answer is `Tail`. It takes no memory, and so never answers `Memory`.
+pub fn read_front(bits: &[bool]) -> Result<Front, WireFault>
+    ensures reads { ReadsFront bits.now result }
+    ensures only { (answer : Result Front WireFault) → ReadsFront bits.now answer → result ≡ answer }
+{
+    find_front(bits)
+}
+
+/// What is found in the bits, from left to right.
+fn read(bits: &[bool]) -> Result<Frame, WireFault>
+    ensures reads { Reads bits.now result }
+{
+    let front = find_front(bits)?;
+    if front.end < bits.len() {
+        return Err(WireFault::Tail { place: front.end });
+    }
+    Ok(front.frame)
 }
 
 /// The frame whose wire these bits are.

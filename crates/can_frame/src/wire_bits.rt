@@ -2,6 +2,7 @@
 
 ghost use Rattle.std.specs.Prelude.{◌≡◌, ◌+◌, ◌*◌, ◌≤◌, length, IfOk};
 ghost use Rattle.stuff_bound.specs.Stuffing.{worst};
+ghost use Rattle.can_frame.specs.DataFrame.{IsFrame};
 ghost use Rattle.can_frame.specs.Wire.{covered, plain, wire_of, wire_length};
 
 use crate::bit_list::BitList;
@@ -24,6 +25,7 @@ pub const TRAILER: [bool; 13] = [
 fn covered_bits(frame: &Frame) -> BitList
     ensures value { result ≡ covered frame.now }
     ensures len { length result ≡ 19 + 8 * length frame.now.bytes }
+    ensures legal { IsFrame frame.now }
     ensures few { length result ≤ 83 }
 {
     let mut list = BitList::new();
@@ -43,6 +45,7 @@ fn covered_bits(frame: &Frame) -> BitList
 fn plain_bits(frame: &Frame) -> BitList
     ensures value { result ≡ plain frame.now }
     ensures len { length result ≡ 34 + 8 * length frame.now.bytes }
+    ensures legal { IsFrame frame.now }
     ensures few { length result ≤ 98 }
 {
     let mut list = covered_bits(frame);
@@ -64,6 +67,7 @@ pub fn wire_len(frame: &Frame) -> u32
 /// The bits of a frame on the wire, in the order of sending, its three bits of intermission included.
 pub fn wire(alloc: Global, frame: &Frame) -> Result<Vec<bool>, AllocError>
     ensures value { IfOk result (λ bits. bits.items ≡ wire_of frame.now) }
+    ensures legal { IsFrame frame.now }
 {
     let list = plain_bits(frame);
     let mut bits = stuff(alloc, list.as_slice())?;

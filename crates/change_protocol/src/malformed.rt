@@ -73,7 +73,9 @@ impl fmt::Display for Why {
             Why::LengthRange => f.write_str("a length above 8"),
             Why::PeriodZero => f.write_str("a period of 0"),
             Why::DeadlineRange => f.write_str("a deadline of 0 or above the period"),
-            Why::SlotBusy { until: Some(until) } => write!(f, "a slot in use until cycle {until}"),
+            Why::SlotBusy { until: Some(until) } => {
+                write!(f, "a slot that allows it only from cycle {until} on")
+            }
             Why::SlotBusy { until: None } => f.write_str("a slot with a live entry"),
             Why::SlotEmpty => f.write_str("a slot with no live entry"),
         }

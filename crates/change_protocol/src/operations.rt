@@ -85,6 +85,6 @@ pub struct Change {
 pub enum Act {
     /// That the table is changed.
     Ask { change: Change },
-    /// What entries are placed.
+    /// Which cycle is opened next.
     Look,
 }

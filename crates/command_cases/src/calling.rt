@@ -41,7 +41,8 @@ fn answer(folder: &Folder<'_>, words: &[String]) -> Result<Answer, CaseFault> {
     let alloc = folder.rt.alloc();
     let room = folder.number("room", ROOM)?;
     let mut out = MemSink::new(alloc, room as usize, folder.numbers("failing-puts")?)?;
-    let mut err = MemSink::new(alloc, ROOM as usize, Vec::new(alloc))?;
+    let failing = folder.numbers("failing-error-puts")?;
+    let mut err = MemSink::new(alloc, ROOM as usize, failing)?;
     let status = status_of(alloc, words, &mut shelf, &mut out, &mut err);
     Ok(Answer {
         status,
@@ -52,7 +53,7 @@ fn answer(folder: &Folder<'_>, words: &[String]) -> Result<Answer, CaseFault> {
 }
 
 /// The exit status of a call. It has no clause, so that no proof here takes up those of `plain`.
-fn status_of(
+pub fn status_of(
     alloc: Global,
     words: &[String],
     shelf: &mut MemShelf,

@@ -1,5 +1,6 @@
 mod Along
 mod Belongs
+mod FewFrames
 mod FreshNodes
 mod Least
 mod Left

@@ -1,6 +1,7 @@
 //! The run of one cycle on the bus.
 
-ghost use Rattle.std.specs.Prelude.{◌≡◌, ℕ, ◌+◌, ◌*◌, ◌^◌, ◌<◌, ◌≤◌, ◌++◌, All, IfOk, IfSome, List, OnErr, OnOk};
+ghost use Rattle.std.specs.Prelude.{◌≡◌, ℕ, ◌+◌, ◌*◌, ◌/◌, ◌^◌, ◌<◌, ◌≤◌, ◌++◌, All, IfOk, IfSome, List, OnErr, OnOk};
+ghost use Rattle.std.specs.Prelude.{length};
 ghost use Rattle.can_frame.specs.declared.data_frame.TimedFrame.{TimedFrame};
 ghost use Rattle.requirement_table.specs.declared.entries.Placed.{Placed};
 ghost use Rattle.requirement_table.specs.Table.{IsWellPlaced};
@@ -58,7 +59,8 @@ pub fn run_cycle(alloc: Global, order: &Order, nodes: &mut Nodes) -> Result<Segm
 }
 
 /// The same without memory, where the nodes can learn the list of the order without memory. The frames of the cycle
-/// take the place of those of the segment. Nothing refuses it.
+/// take the place of those of the segment: no more than one for every 47 bit times of the cycle, and one. Nothing
+/// refuses it.
 pub fn run_cycle_in(order: &Order, nodes: &mut Nodes, segment: &mut Segment)
     requires cycle { order.now.cycle < 2 ^ 42 }
     requires next { All (λ node. node.next ≡ order.now.cycle) (states_of nodes.old.nodes) }
@@ -70,6 +72,7 @@ pub fn run_cycle_in(order: &Order, nodes: &mut Nodes, segment: &mut Segment)
         ≡ heard_by segment.new (learnt_by order.now.learned (states_of nodes.old.nodes)) }
     ensures next { All (λ node. node.next ≡ order.now.cycle + 1) (states_of nodes.new.nodes) }
     ensures spare { KeepSpare nodes.old.nodes nodes.new.nodes }
+    ensures few { length segment.new ≤ nodes.old.layout.cycle / 47 + 1 }
     ensures runs { (owners : List Owner) (requests : List Request) (placed : List Placed) (past : List TimedFrame)
         → IsBefore nodes.old.layout owners requests placed past order.now
         (learnt_by order.now.learned (states_of nodes.old.nodes))

@@ -8,3 +8,4 @@ mod Ready
 mod Served
 pub mod Shared
 mod Steps
+mod Triggers

@@ -32,7 +32,7 @@ IsLaterFrame layout opening sent = IsRequestFrame layout opening sent ⊎ IsSlot
 
 module _ (layout : CycleLayout) (opening : Opening) (frames : List TimedFrame) (runs : RunsCycle layout opening frames) where
   -- the trigger has identifier 0
-  trigger_identifier : runs.trigger.frame.identifier ≡ 0
+  pub trigger_identifier : runs.trigger.frame.identifier ≡ 0
   trigger_identifier = ap (λ f. f.identifier) runs.is_trigger
 
   -- a frame of the cycle is its trigger, or one behind it

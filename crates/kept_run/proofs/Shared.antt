@@ -1,17 +1,17 @@
 -- What proofs of the crates above may take from here: what the laws of this crate say of a run, as records of what they
 -- ensure; that each step of a run keeps it on the way by them; and lemmas about lists and histories.
-use Rattle.std.proofs.Common.{◌≡◌, ◌+◌, ◌*◌, ◌++◌, List, [], ◌∷◌, All, false}
+use Rattle.std.proofs.Common.{◌≡◌, ◌+◌, ◌*◌, ◌++◌, ◌∙◌, List, [], ◌∷◌, All, false, subst, sym}
 use Rattle.can_frame.specs.declared.data_frame.TimedFrame.{TimedFrame}
 use Rattle.async_window.specs.declared.request.Owner.{Owner}
 use Rattle.async_window.specs.declared.request.Request.{Request}
 use Rattle.requirement_table.specs.declared.entries.Order.{Order}
 use Rattle.requirement_table.specs.declared.entries.Placed.{Placed}
 use Rattle.bus_line.specs.Trace.{Follows}
-use Rattle.cycle_engine.specs.Nodes.{IsBefore, IsBus, NodesView, heard_by, learnt_by, opening_of, states_of}
+use Rattle.cycle_engine.specs.Nodes.{IsBefore, IsBus, IsNumber, NodesView, heard_by, learnt_by, opening_of, states_of}
 use Rattle.cycle_engine.specs.Offered.{offered_in}
 use Rattle.master_core.specs.declared.event.Event.{Event}
 use Rattle.master_core.specs.declared.event.Event.TheVariants.{Open}
-use Rattle.master_core.specs.History.{IsLegal, is_open, placed_of}
+use Rattle.master_core.specs.History.{IsLegal, is_open, next_of, placed_of}
 use Rattle.master_core.specs.Orders.{IsOrder}
 use Rattle.kept_run.specs.Kept.{Kept}
 use Rattle.kept_run.specs.Progress.{AreReady, IsOnTheWay, IsSetting, IsUnderWay, Setting}
@@ -40,6 +40,23 @@ way-called laws setting history calls trace nodes closed legal way = record {
   under_way = laws.under_way setting history calls trace closed legal way.under_way;
   ready = laws.ready setting history calls trace nodes closed legal way.ready;
 }
+
+-- and it is so with nodes that know the same, whatever memory they took
+pub way-same : (setting : Setting) (history : List Event) (trace : List TimedFrame) (nodes new : NodesView) → new.layout ≡ nodes.layout
+    → states_of new.nodes ≡ states_of nodes.nodes → IsOnTheWay setting history trace nodes → IsOnTheWay setting history trace new
+way-same setting history trace nodes new layout states way =
+    let ready = way.ready in
+    record {
+      known = way.known;
+      under_way = way.under_way;
+      ready = record {
+        same_layout = layout ∙ ready.same_layout;
+        numbers = λ number below. subst (λ known. IsNumber known number) (sym states) (ready.numbers number below);
+        known = ready.known;
+        bus = subst (λ known. IsBus setting.layout setting.owners setting.requests ready.known trace (next_of history) known) (sym states) ready.bus;
+        up_to_date = ready.up_to_date;
+      };
+    }
 
 -- a cycle that is run by the master's order keeps a run under way and leaves its nodes ready
 pub record CyclesRun : Type 0 where

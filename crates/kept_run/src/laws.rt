@@ -3,7 +3,8 @@
 //! A run keeps two things between its steps: its history and its trace are under way, and its nodes are ready. It
 //! begins so, each step keeps it, and whatever is under way keeps what is promised.
 
-ghost use Rattle.std.specs.Prelude.{◌≡◌, ℕ, ◌+◌, ◌*◌, ◌<◌, ◌≤◌, ◌↔◌, false, List, [], ◌∷◌, ◌++◌, All, Any, IfSome, length};
+ghost use Rattle.std.specs.Prelude.{◌≡◌, ℕ, ◌+◌, ◌*◌, ◌<◌, ◌≤◌, ◌↔◌, ◌==◌, false, List, [], ◌∷◌, ◌++◌, All, Any, IfSome};
+ghost use Rattle.std.specs.Prelude.{filter, length};
 ghost use Rattle.can_frame.specs.declared.data_frame.TimedFrame.{TimedFrame};
 ghost use Rattle.requirement_table.specs.declared.entries.Order.{Order};
 ghost use Rattle.requirement_table.specs.Table.{IsWellPlaced};
@@ -16,7 +17,7 @@ ghost use Rattle.async_window.specs.declared.request.Owner.{Owner};
 ghost use Rattle.async_window.specs.declared.request.Request.{Request};
 ghost use Rattle.async_window.specs.Owners.{AreOwners};
 ghost use Rattle.bus_line.specs.Trace.{Follows};
-ghost use Rattle.cycle_engine.specs.Cycle.{FitsWindow};
+ghost use Rattle.cycle_engine.specs.Cycle.{FitsWindow, cycle_of};
 ghost use Rattle.cycle_engine.specs.Nodes.{CanLearn, HaveSpare, IsBefore, IsBus, IsNumber, NodesView};
 ghost use Rattle.cycle_engine.specs.Nodes.{heard_by, learnt_by, opening_of, states_of};
 ghost use Rattle.cycle_engine.specs.Offered.{AreAsynchronous, offered_in};
@@ -147,4 +148,16 @@ pub fn cycles_run()
     planned_slots();
     states();
     valid_states();
+}
+
+/// In a run under way the triggers up to a frame, itself included, are one more than the number of the cycle in which it
+/// starts: its start divided by the length of a cycle.
+pub fn triggers_count_cycles()
+    ensures counted { (setting : Setting) (history : List Event) (trace : List TimedFrame)
+        → IsSetting setting → IsUnderWay setting history trace
+        → (front later : List TimedFrame) (sent : TimedFrame) → trace ≡ front ++ sent ∷ later
+        → length (filter (λ other. other.frame.identifier == 0) (front ++ sent ∷ []))
+        ≡ cycle_of setting.layout sent + 1 }
+{
+    opened_cycles();
 }

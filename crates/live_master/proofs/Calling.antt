@@ -1,15 +1,21 @@
 -- What a call does to a pass, from the steps that it makes on the turn.
-use Rattle.std.proofs.Common.{◌≡◌, ℕ, ◌+◌, ◌++◌, ◌∷◌, [], List, None, length, drop, add_assoc, arith, refl, sym, ap, ◌∙◌, subst}
+use Rattle.std.proofs.Common.{◌≡◌, ◌⊎◌, inr, ℕ, ◌+◌, ◌++◌, ◌∷◌, [], List, None, length, drop, add_assoc, arith, refl, sym, ap, ◌∙◌, subst}
 use mathlib.Core.List.{IsPrefix}
+use Rattle.std.proofs.lemmas.List.{append-nil}
 use Rattle.turn_lock.specs.History.{own}
 use Rattle.turn_lock.specs.Passes.{Facts, Known, knowing, granted, committed, refused}
+use Rattle.turn_lock.proofs.Shared.{prefix_trans}
 use Rattle.requirement_table.specs.declared.entries.Order.{Order}
+use Rattle.change_protocol.specs.declared.operations.Change.{Change}
+use Rattle.admission.specs.declared.verdict.Verdict.{Verdict}
 use Rattle.admission_rules.specs.declared.Rules.{Rules}
+use Rattle.master_core.specs.declared.apart.Snapshot.{Snapshot}
 use Rattle.master_core.specs.declared.event.Event.{Event}
-use Rattle.master_core.specs.declared.event.Event.TheVariants.{Open}
+use Rattle.master_core.specs.declared.event.Event.TheVariants.{Submit, Open}
+use Rattle.master_core.specs.Apart.{CanSettle, IsPlanOf, PlannedView, from_of, snapshot_of}
 use Rattle.master_core.specs.Orders.{IsOrder}
 use Rattle.live_master.specs.Callers.{number_of}
-use Rattle.live_master.specs.Calls.{Answered, IsRefused, Opened, Waited}
+use Rattle.live_master.specs.Calls.{AfterWaiting, Answered, GaveBack, InTurn, IsPlannedIn, IsRefused, Opened, Settled, Snapped, Submitted, Waited}
 use Rattle.live_master.proofs.Openings.{none_between}
 
 drop_found : (found : List Event) (event : Event) → drop (length found) (found ++ event ∷ []) ≡ event ∷ []
@@ -58,6 +64,77 @@ opened rules old new order found begins is ordered zeroth facts owned =
     (subst (λ (l : List Event). IsOrder rules l order) (sym split) ordered)
     zeroth facts
     (ap (λ (l : List Event). own number_of old.view.number l) split ∙ owned)
+
+settled_at : (old new : Known Event Rules) (change : Change) (planned : PlannedView) (verdict : Verdict) (trail : List ℕ) (between : List Event)
+    → new ≡ knowing old (committed ((old.view.seen ++ between) ++ Submit old.view.number change (from_of (old.view.seen ++ between) planned) verdict trail ∷ [])
+    (granted (old.view.seen ++ between) old.view))
+    → Settled old new change planned verdict
+unfolding answered
+settled_at old new change planned verdict trail between is = record {
+  from = from_of (old.view.seen ++ between) planned;
+  trail = trail;
+  answered = answered old new (Submit old.view.number change (from_of (old.view.seen ++ between) planned) verdict trail) between is;
+  planned_from = refl;
+}
+
+-- the operator's pass got the turn where this list was found, and let it go with a change more
+pub settled : (old new : Known Event Rules) (change : Change) (planned : PlannedView) (verdict : Verdict) (trail : List ℕ) (found : List Event)
+    → IsPrefix old.view.seen found
+    → new ≡ knowing old (committed (found ++ Submit old.view.number change (from_of found planned) verdict trail ∷ []) (granted found old.view))
+    → Settled old new change planned verdict
+settled old new change planned verdict trail found begins is =
+    settled_at old new change planned verdict trail begins.0
+    (is ∙ ap (λ (l : List Event). knowing old (committed (l ++ Submit old.view.number change (from_of l planned) verdict trail ∷ []) (granted l old.view)))
+    (sym begins.1))
+
+-- what was planned from a snapshot of what was seen can be settled where the turn is got
+pub can_settle : (rules : Rules) (seen found : List Event) (change : Change) (planned : PlannedView) → IsPlannedIn rules seen change planned
+    → IsPrefix seen found → CanSettle rules found change planned
+can_settle rules seen found change planned here begins = record {
+  snapshot = snapshot_of rules here.front;
+  plan = here.plan;
+  same_rules = refl;
+  place = λ same. (here.front, prefix_trans here.front seen found here.begins begins, refl);
+}
+
+-- a change that was planned from a snapshot can be settled by the pass that took it
+pub planned_here : (rules : Rules) (old new : Known Event Rules) (snapshot : Snapshot) (change : Change) (planned : PlannedView)
+    → Snapped rules old new snapshot → IsPlanOf snapshot change planned → IsPlannedIn rules new.view.seen change planned
+planned_here rules old new snapshot change planned taken plan = record {
+  front = new.view.seen;
+  begins = ([], append-nil new.view.seen);
+  plan = subst (λ (s : Snapshot). IsPlanOf s change planned) taken.is plan;
+}
+
+-- and so it can still, once the turn was refused and the plan was handed back
+pub still_planned : (rules : Rules) (old new : Known Event Rules) (change : Change) (plan back : PlannedView) (word : ℕ)
+    → IsPlannedIn rules old.view.seen change plan → IsRefused old new word → back ≡ plan → IsPlannedIn rules new.view.seen change back
+still_planned rules old new change plan back word planned refusal same =
+    subst (λ (p : PlannedView). IsPlannedIn rules new.view.seen change p) (sym same)
+    (subst (λ (l : List Event). IsPlannedIn rules l change plan) (sym (ap (λ (k : Known Event Rules). k.view.seen) refusal.is)) planned)
+
+-- the turn was waited for, and a snapshot taken
+pub looked_first : (rules : Rules) (old new : Known Event Rules) (snapshot : Snapshot) → AfterWaiting (λ one other. Snapped rules one other snapshot) old new
+    → AfterWaiting GaveBack old new
+looked_first rules old new snapshot taken = record { till = taken.till; waited = taken.waited; made = taken.made.gave_back }
+
+-- a change was planned from a snapshot and settled, and each turn was waited for
+pub submitted_waiting : (rules : Rules) (old between new : Known Event Rules) (snapshot : Snapshot) (change : Change) (planned : PlannedView) (verdict : Verdict)
+    → AfterWaiting (λ one other. Snapped rules one other snapshot) old between → IsPlanOf snapshot change planned
+    → AfterWaiting (λ one other. Settled one other change planned verdict) between new → Submitted AfterWaiting rules old new change verdict
+submitted_waiting rules old between new snapshot change planned verdict taken plan settled = record {
+  between = between;
+  looked = looked_first rules old between snapshot taken;
+  planned = planned;
+  plan = subst (λ (s : Snapshot). IsPlanOf s change planned) taken.made.is plan;
+  settled = settled;
+}
+
+-- and where memory ran out in the second turn
+pub faulted_waiting : (rules : Rules) (old between new : Known Event Rules) (snapshot : Snapshot)
+    → AfterWaiting (λ one other. Snapped rules one other snapshot) old between → AfterWaiting GaveBack between new
+    → AfterWaiting GaveBack old new ⊎ InTurn (AfterWaiting GaveBack) (AfterWaiting GaveBack) old new
+faulted_waiting rules old between new snapshot taken back = inr (record { between = between; earlier = looked_first rules old between snapshot taken; later = back })
 
 -- nothing was refused yet
 pub waited_none : (old : Known Event Rules) → Waited old old

@@ -1,3 +1,4 @@
 mod Calling
 mod Openings
 mod Standing
+mod Rooms

@@ -3,7 +3,7 @@ use Rattle.std.proofs.Common.{◌≡◌, List, Contains, Some, None, Bool, true,
 use Rattle.turn_lock.specs.declared.view.View.{View}
 use Rattle.turn_lock.specs.History.{own}
 use Rattle.turn_lock.specs.Passes.{Facts, IsCovered, IsOf, Known, Lock, joined, knowing, split_from, split_off}
-use Rattle.master_core.specs.History.{IsPlainlyLegal}
+use Rattle.master_core.specs.History.{IsLegal}
 use Rattle.admission_rules.specs.declared.Rules.{Rules}
 use Rattle.master_core.specs.declared.event.Event.{Event}
 use Rattle.live_master.specs.Callers.{number_of}
@@ -29,7 +29,7 @@ pub idle_as : (v w : View Event Rules) → IsIdle v → w.found ≡ None → w.f
 idle_as v w idle free fixed seen facts = record {
   free = free;
   facts = facts;
-  legal = λ rules shown. subst (λ (l : List Event). IsPlainlyLegal rules l) (sym seen) (idle.legal rules (sym fixed ∙ shown));
+  legal = λ rules shown. subst (λ (l : List Event). IsLegal rules l) (sym seen) (idle.legal rules (sym fixed ∙ shown));
 }
 
 pub split_from_idle : (old new : Known Event Rules) → IsIdle old.view → new ≡ knowing old (split_from old.view) → Facts number_of new.view → IsIdle new.view
@@ -46,7 +46,7 @@ split_off_idle old new idle is facts =
     (ap (λ (k : Known Event Rules). k.view.fixed) is)
     (ap (λ (k : Known Event Rules). k.view.seen) is) facts
 
-legal_longer : (rules : Rules) (xs ys : List Event) (b : Bool) → IsPlainlyLegal rules xs → IsPlainlyLegal rules ys → IsPlainlyLegal rules (cond b xs ys)
+legal_longer : (rules : Rules) (xs ys : List Event) (b : Bool) → IsLegal rules xs → IsLegal rules ys → IsLegal rules (cond b xs ys)
 legal_longer rules xs ys true here there = here
 legal_longer rules xs ys false here there = there
 
@@ -58,6 +58,6 @@ joined_idle shared old other new idle gone of there is facts = record {
   legal = λ rules shown.
       let same : old.view.fixed ≡ Some rules = sym (ap (λ (k : Known Event Rules). k.view.fixed) is) ∙ shown in
       let both : other.view.fixed ≡ Some rules = there.1 ∙ (sym of.1 ∙ same) in
-      subst (λ (l : List Event). IsPlainlyLegal rules l) (sym (ap (λ (k : Known Event Rules). k.view.seen) is))
+      subst (λ (l : List Event). IsLegal rules l) (sym (ap (λ (k : Known Event Rules). k.view.seen) is))
       (legal_longer rules old.view.seen other.view.seen (nat_le (length other.view.seen) (length old.view.seen)) (idle.legal rules same) (gone.legal rules both));
 }

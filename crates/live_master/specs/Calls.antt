@@ -1,14 +1,19 @@
 -- What a call of the shared master does to the pass that makes it.
-use Rattle.std.specs.Prelude.{◌≡◌, ◌≢◌, ℕ, ◌+◌, ◌*◌, ◌%◌, ◌≤◌, List, [], ◌∷◌, ◌++◌, length, None}
+use Rattle.std.specs.Prelude.{◌≡◌, ◌≢◌, ◌⊎◌, ℕ, ◌+◌, ◌*◌, ◌%◌, ◌≤◌, List, [], ◌∷◌, ◌++◌, length, None}
+use mathlib.Core.List.{IsPrefix}
 use Rattle.turn_lock.specs.Passes.{Known, knowing, refused}
 use Rattle.requirement_table.specs.declared.entries.Order.{Order}
 use Rattle.change_protocol.specs.declared.operations.Change.{Change}
 use Rattle.admission_rules.specs.declared.Rules.{Rules}
 use Rattle.admission.specs.declared.verdict.Verdict.{Verdict}
+use Rattle.master_core.specs.declared.apart.Snapshot.{Snapshot}
 use Rattle.master_core.specs.declared.event.Event.{Event}
 use Rattle.master_core.specs.declared.event.Event.TheVariants.{Submit, Look, Open}
+use Rattle.master_core.specs.Apart.{IsPlanOf, IsPlannable, PlannedView, from_of, snapshot_of}
 use Rattle.master_core.specs.History.{next_of}
 use Rattle.master_core.specs.Orders.{IsOrder}
+use Rattle.live_master.specs.declared.fault.SettleFault.{SettleFault}
+use Rattle.live_master.specs.declared.fault.SettleFault.TheVariants as fault
 use Rattle.live_master.specs.declared.fault.TryFault.{TryFault}
 use Rattle.live_master.specs.declared.fault.TryFault.TheVariants.{Busy, Memory}
 
@@ -41,11 +46,26 @@ pub record Answered (old new : Known Event Rules) (event : Event) : Type 0 where
     taken = old.view.taken ++ (old.view.number, length (old.view.seen ++ between)) ∷ [];
   })
 
--- a change was answered by this verdict: it was planned from some cycle, and left some trail
-pub record Submitted (old new : Known Event Rules) (change : Change) (verdict : Verdict) : Type 0 where
+-- a snapshot was taken: that of the history which the pass has seen then. Nothing else changed
+pub record Snapped (rules : Rules) (old new : Known Event Rules) (snapshot : Snapshot) : Type 0 where
+  pub gave_back : GaveBack old new
+  pub is : snapshot ≡ snapshot_of rules new.view.seen
+  pub plannable : IsPlannable snapshot
+
+-- a change was planned from the snapshot at some place of this history
+pub record IsPlannedIn (rules : Rules) (history : List Event) (change : Change) (planned : PlannedView) : Type 0 where
+  pub front : List Event
+  pub begins : IsPrefix front history
+  pub plan : IsPlanOf (snapshot_of rules front) change planned
+
+-- a change that was planned apart was answered by this verdict, from the cycle of its plan or from the next one, and
+-- left some trail
+pub record Settled (old new : Known Event Rules) (change : Change) (planned : PlannedView) (verdict : Verdict)
+    : Type 0 where
   pub from : ℕ
   pub trail : List ℕ
   pub answered : Answered old new (Submit old.view.number change from verdict trail)
+  pub planned_from : from ≡ from_of (old.view.seen ++ answered.between) planned
 
 -- a look was answered
 abbrev pub LookedAt : Known Event Rules → Known Event Rules → ℕ → Type 0
@@ -62,6 +82,40 @@ pub record Opened (rules : Rules) (old new : Known Event Rules) (order : Order) 
 abbrev pub Faulted : Known Event Rules → Known Event Rules → TryFault → Type 0
 Faulted old new (Busy word) = IsRefused old new word
 Faulted old new Memory = GaveBack old new
+
+-- a change that was planned apart was not settled: another pass held the turn, and the plan was handed back, or memory
+-- ran out once the turn was got
+abbrev pub SettleFaulted : Known Event Rules → Known Event Rules → PlannedView → SettleFault → Type 0
+SettleFaulted old new planned (fault.Busy word back) = IsRefused old new word × (back ≡ planned)
+SettleFaulted old new planned fault.Memory = GaveBack old new
+
+-- one call after the other
+pub record InTurn (first second : Known Event Rules → Known Event Rules → Type 0) (old new : Known Event Rules)
+    : Type 0 where
+  pub between : Known Event Rules
+  pub earlier : first old between
+  pub later : second between new
+
+-- a change was answered by this verdict, in two turns: it was planned from the snapshot that was taken in the first
+-- one, and settled in the second one. The turns are got in this way, at once or by waiting
+pub record Submitted (turn : (Known Event Rules → Known Event Rules → Type 0) → Known Event Rules → Known Event Rules
+    → Type 0) (rules : Rules) (old new : Known Event Rules) (change : Change) (verdict : Verdict) : Type 0 where
+  pub between : Known Event Rules
+  pub looked : turn GaveBack old between
+  pub planned : PlannedView
+  pub plan : IsPlanOf (snapshot_of rules between.view.seen) change planned
+  pub settled : turn (λ one other. Settled one other change planned verdict) between new
+
+-- the turn is got at once
+abbrev pub AtOnce : (Known Event Rules → Known Event Rules → Type 0) → Known Event Rules → Known Event Rules → Type 0
+AtOnce call = call
+
+-- a change was not answered: the first turn was refused, or the second one; or memory ran out in the first turn, or
+-- behind it, or in the second one
+abbrev pub SubmitFaulted : Known Event Rules → Known Event Rules → TryFault → Type 0
+SubmitFaulted old new (Busy word) =
+    IsRefused old new word ⊎ InTurn GaveBack (λ one other. IsRefused one other word) old new
+SubmitFaulted old new Memory = GaveBack old new ⊎ InTurn GaveBack GaveBack old new
 
 -- the turn was refused so many times. Nothing else changed
 pub record Waited (old new : Known Event Rules) : Type 0 where

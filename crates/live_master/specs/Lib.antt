@@ -1,4 +1,4 @@
 pub mod Callers
 pub mod Calls
 pub mod Passes
-pub mod Planned
+pub mod Within

@@ -2,21 +2,17 @@
 
 ghost use Rattle.std.specs.Prelude.{◌≡◌, ◌<◌, ◌^◌, [], length, IfOk};
 ghost use Rattle.admission.specs.Verdict.{IsRules};
-ghost use Rattle.master_core.specs.History.{IsPlainlyLegal};
-ghost use Rattle.live_master.specs.Planned.{ArePlannedNow, are_planned_now-prop};
 
 use admission_rules::Rules;
 use master_core::{Event, Master};
 use std::alloc::{AllocError, Global};
 use turn_lock::Stands;
 
-/// A master behind the turn. It stands for its history, and its rules are the same at every turn. Each change was
-/// planned when it was answered.
+/// A master behind the turn. It stands for its history, and its rules are the same at every turn.
 #[derive(Drop)]
 pub struct Desk {
     pub master: Master,
     ghost few: { length master.history < 2 ^ 62 },
-    ghost planned: { ArePlannedNow master.history } by { are_planned_now-prop master.history },
 }
 
 impl Stands for Desk {
@@ -44,12 +40,5 @@ impl Desk {
     {
         let master = Master::new(alloc, rules)?;
         Ok(Desk { master })
-    }
-
-    /// The history is plainly legal. This does nothing.
-    pub fn is_plainly_legal(&self)
-        ensures plain { IsPlainlyLegal self.now.master.rules self.now.master.history }
-    {
-        let _ = self.master.history();
     }
 }

@@ -15,7 +15,9 @@ mod pauses;
 mod tries;
 mod turns;
 mod waits;
+mod within;
 
-pub use fault::TryFault;
+pub use fault::{SettleFault, TryFault};
 pub use live::LiveMaster;
 pub use passes::{DispatcherPass, OperatorPass};
+pub use within::Opening;

@@ -2,7 +2,7 @@
 
 ghost use Rattle.std.specs.Prelude.{◌≡◌, IfOk};
 ghost use Rattle.admission.specs.Verdict.{IsRules};
-ghost use Rattle.master_core.specs.History.{IsPlainlyLegal};
+ghost use Rattle.master_core.specs.History.{IsLegal};
 ghost use Rattle.turn_lock.specs.Passes.{first_view, IsOf};
 ghost use Rattle.live_master.specs.Passes.{HasAllCalls, IsPassOf};
 
@@ -54,7 +54,7 @@ impl LiveMaster {
         requires retired { pass.view.out ≡ 0 }
         ensures rules { result.rules ≡ self.fixed }
         ensures history { result.history ≡ pass.view.seen }
-        ensures legal { IsPlainlyLegal result.rules result.history }
+        ensures legal { IsLegal result.rules result.history }
         ensures calls { HasAllCalls result.history pass.view }
     {
         let LiveMaster { turn } = self;

@@ -1,23 +1,26 @@
 //! The calls that try again until they get the turn.
 
-ghost use Rattle.std.specs.Prelude.{◌≡◌, ◌<◌, ◌^◌, IfOk, OnErr};
+ghost use Rattle.std.specs.Prelude.{◌≡◌, ◌⊎◌, ◌<◌, ◌^◌, IfOk, OnErr};
 ghost use Rattle.turn_lock.specs.Passes.{IsOf};
 ghost use Rattle.master_core.specs.History.{next_of};
-ghost use Rattle.live_master.specs.Calls.{AfterWaiting, GaveBack, LookedAt, Opened, Submitted};
+ghost use Rattle.live_master.specs.Calls.{AfterWaiting, GaveBack, InTurn, IsPlannedIn, LookedAt, Opened, Settled};
+ghost use Rattle.live_master.specs.Calls.{Snapped, Submitted};
 ghost use Rattle.live_master.specs.Passes.{IsPassOf};
 
-use crate::fault::TryFault;
+use crate::fault::{SettleFault, TryFault};
 use crate::live::LiveMaster;
 use crate::passes::{DispatcherPass, OperatorPass};
 use crate::pauses::Pauses;
 use admission::Verdict;
 use change_protocol::Change;
+use master_core::{Planned, Snapshot, plan_apart};
 use requirement_table::Order;
 use std::alloc::{AllocError, Global};
 use std::sync::Wait;
 
 impl LiveMaster {
-    /// Has a change answered, which this pass's operator asks for: tries again until it gets the turn.
+    /// Has a change answered, which this pass's operator asks for: takes a snapshot, plans the change with no turn held,
+    /// and settles it. It tries again until it gets each of the two turns.
     ///
     /// # Errors
     ///
@@ -31,16 +34,76 @@ impl LiveMaster {
     ) -> Result<Verdict, AllocError>
         requires of { IsOf self.now pass.old }
         ensures submitted { IfOk result (λ verdict.
-            AfterWaiting (λ old new. Submitted old new change.now verdict) pass.old pass.new) }
+            Submitted AfterWaiting self.now.fixed pass.old pass.new change.now verdict) }
+        ensures memory { OnErr result (AfterWaiting GaveBack pass.old pass.new
+            ⊎ InTurn (AfterWaiting GaveBack) (AfterWaiting GaveBack) pass.old pass.new) }
+        ensures standing { IsPassOf self.now pass.new }
+    {
+        let snapshot = self.snapshot(rt, alloc, pass)?;
+        let planned = plan_apart(alloc, &snapshot, change)?;
+        self.settle(rt, alloc, pass, change, planned)
+    }
+
+    /// Takes a snapshot, from which a change can be planned with no turn held: tries again until it gets the turn. It
+    /// leaves no event.
+    ///
+    /// # Errors
+    ///
+    /// Only where memory runs out.
+    pub fn snapshot<R: Wait>(
+        &self,
+        rt: &R,
+        alloc: Global,
+        pass: &mut OperatorPass,
+    ) -> Result<Snapshot, AllocError>
+        requires of { IsOf self.now pass.old }
+        ensures taken { IfOk result (λ snapshot.
+            AfterWaiting (λ old new. Snapped self.now.fixed old new snapshot) pass.old pass.new) }
         ensures memory { OnErr result (AfterWaiting GaveBack pass.old pass.new) }
         ensures standing { IsPassOf self.now pass.new }
     {
         let mut pauses = Pauses::new();
         for _ in rt.forever() {
-            match self.try_submit(alloc, pass, change) {
-                Ok(verdict) => return Ok(verdict),
+            match self.try_snapshot(alloc, pass) {
+                Ok(snapshot) => return Ok(snapshot),
                 Err(TryFault::Memory) => return Err(AllocError),
                 Err(TryFault::Busy { .. }) => pauses.pause(),
+            }
+        }
+        unreachable!()
+    }
+
+    /// Has a change answered that was planned apart, for this change and from a snapshot that this pass took: tries
+    /// again until it gets the turn. Where another change was accepted since, it is planned anew under the turn.
+    ///
+    /// # Errors
+    ///
+    /// Only where memory runs out. The plan is dropped then, and the call left no event.
+    pub fn settle<R: Wait>(
+        &self,
+        rt: &R,
+        alloc: Global,
+        pass: &mut OperatorPass,
+        change: &Change,
+        planned: Planned,
+    ) -> Result<Verdict, AllocError>
+        requires of { IsOf self.now pass.old }
+        requires planned { IsPlannedIn self.now.fixed pass.old.view.seen change.now planned }
+        ensures settled { IfOk result (λ verdict.
+            AfterWaiting (λ old new. Settled old new change.now planned verdict) pass.old pass.new) }
+        ensures memory { OnErr result (AfterWaiting GaveBack pass.old pass.new) }
+        ensures standing { IsPassOf self.now pass.new }
+    {
+        let mut plan = planned;
+        let mut pauses = Pauses::new();
+        for _ in rt.forever() {
+            match self.try_settle(alloc, pass, change, plan) {
+                Ok(verdict) => return Ok(verdict),
+                Err(SettleFault::Memory) => return Err(AllocError),
+                Err(SettleFault::Busy { word: _, planned }) => {
+                    plan = planned;
+                    pauses.pause();
+                }
             }
         }
         unreachable!()

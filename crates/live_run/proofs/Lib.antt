@@ -1,4 +1,6 @@
+mod Asking
 mod Crews
 mod Cycles
+mod Openings
 mod Runs
 mod Whole

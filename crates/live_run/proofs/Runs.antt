@@ -9,7 +9,7 @@ use Rattle.turn_lock.specs.declared.view.View.{View}
 use Rattle.turn_lock.specs.Passes.{Facts, Known, Lock}
 use Rattle.cycle_engine.specs.Nodes.{IsBus, IsNumber, NodesView, left_in, states_of}
 use Rattle.master_core.specs.declared.event.Event.{Event}
-use Rattle.master_core.specs.History.{IsLegal, IsPlainlyLegal, is_open, next_of}
+use Rattle.master_core.specs.History.{IsLegal, is_open, next_of}
 use Rattle.kept_run.specs.Progress.{AreReady, IsOnTheWay, IsSetting, IsUnderWay, Setting}
 use Rattle.kept_run.proofs.Shared.{CallsBetween, Promises, way-called}
 use Rattle.live_master.specs.Callers.{number_of}
@@ -59,7 +59,7 @@ filter-nil-step : (e : Event) (es : List Event) (b : Bool) → is_open e ≡ b �
 filter-nil-step e es true is none = absurd (cc)
 filter-nil-step e es false is none = (refl, none)
 
-all-closed : (calls : List Event) → filter is_open calls ≡ [] → All (λ call. is_open call ≡ false) calls
+pub all-closed : (calls : List Event) → filter is_open calls ≡ [] → All (λ call. is_open call ≡ false) calls
 all-closed [] none = All-nil (λ call. is_open call ≡ false)
 all-closed (e ∷ es) none =
     let parts = filter-nil-step e es (is_open e) refl none in
@@ -80,7 +80,7 @@ done-few shared (s ∷ scripts) operators same done k d within = let is = (done.
 done-few shared [] operators same done k d within = absurd (omega arith)
 
 -- between what the dispatcher saw last and the history, nothing was opened
-closed-behind : (seen later whole_history mine : List Event) → seen ++ later ≡ whole_history → filter is_open seen ≡ mine
+pub closed-behind : (seen later whole_history mine : List Event) → seen ++ later ≡ whole_history → filter is_open seen ≡ mine
     → filter is_open whole_history ≡ mine → All (λ call. is_open call ≡ false) later
 closed-behind seen later whole_history mine parts before after =
     all-closed later (append-cancel (filter is_open seen) (filter is_open later)
@@ -130,14 +130,13 @@ left-behind laws setting shared cycles scripts operators before after bus run kn
     let seen = before.view.seen in
     let openings = laws.openings after.view retired.facts last in
     let closed = closed-behind seen later after.view.seen after.view.mine begins.1 (laws.openings before.view stands.facts zeroth ∙ sym mine) openings in
-    let plain : IsPlainlyLegal setting.rules after.view.seen = subst (λ r. IsPlainlyLegal r after.view.seen) rules retired.legal in
-    let legal : IsLegal setting.rules (seen ++ later) = subst (λ h. IsLegal setting.rules h) (sym begins.1) plain.legal in
+    let whole : IsLegal setting.rules after.view.seen = subst (λ r. IsLegal r after.view.seen) rules retired.legal in
+    let legal : IsLegal setting.rules (seen ++ later) = subst (λ h. IsLegal setting.rules h) (sym begins.1) whole in
     let way : IsOnTheWay setting after.view.seen run.trace bus.nodes =
     subst (λ h. IsOnTheWay setting h run.trace bus.nodes) begins.1 (subst (λ t. IsOnTheWay setting (seen ++ later) t bus.nodes) (sym trace)
     (way-called laws.between setting seen later bus.trace.items bus.nodes closed legal running.way)) in
     let counted = retired.facts.counted in
     record {
-      plain = plain;
       kept = laws.promises.kept setting after.view.seen run.trace known way.under_way;
       opened = laws.cycles after.view retired.facts last ∙ (ap (λ (l : List Event). next_of l) mine ∙ count);
       dispatcher = last;

@@ -7,7 +7,7 @@ use Rattle.turn_lock.specs.Passes.{Known, Lock, first_view}
 use Rattle.change_protocol.specs.declared.operations.Act.{Act}
 use Rattle.cycle_engine.specs.Nodes.{IsBus, IsNumber, NodesView, left_in, states_of}
 use Rattle.master_core.specs.declared.event.Event.{Event}
-use Rattle.master_core.specs.History.{IsPlainlyLegal, is_open, next_of}
+use Rattle.master_core.specs.History.{is_open, next_of}
 use Rattle.kept_run.specs.Kept.{Kept}
 use Rattle.kept_run.specs.Progress.{AreReady, Setting}
 use Rattle.live_master.specs.Callers.{number_of}
@@ -41,12 +41,11 @@ pub record IsLeft (setting : Setting) (history : List Event) (run : Run) : Type 
   pub ready : AreReady setting history run.trace nodes
   pub left : run.left ≡ left_in (states_of nodes.nodes)
 
--- *The run*: what the dispatcher's pass has seen is plainly legal, and with the trace it keeps what is promised; it
--- opens so many cycles, and these openings are the pass's own calls; and it has the calls of each script, under the
--- number of its operator, which is one above its place, and of no other operator
+-- *The run*: what the dispatcher's pass has seen is legal, and with the trace it keeps what is promised; it opens so
+-- many cycles, and these openings are the pass's own calls; and it has the calls of each script, under the number of
+-- its operator, which is one above its place, and of no other operator
 pub record IsLiveRun (setting : Setting) (cycles : ℕ) (scripts : List Script) (v : View Event Rules) (run : Run)
     : Type 0 where
-  pub plain : IsPlainlyLegal setting.rules v.seen
   pub kept : Kept setting.rules setting.layout setting.requests v.seen run.trace
   pub opened : next_of v.seen ≡ cycles
   pub dispatcher : v.number ≡ 0

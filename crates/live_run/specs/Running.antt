@@ -1,9 +1,10 @@
 -- The dispatcher and its bus between two cycles.
-use Rattle.std.specs.Prelude.{◌≡◌, ◌++◌, ◌∷◌, [], false, List, All}
+use Rattle.std.specs.Prelude.{◌≡◌, ◌+◌, ◌/◌, ◌≤◌, ◌++◌, ◌∷◌, [], false, List, All, vec_capacity, vec_len}
 use Rattle.requirement_table.specs.declared.entries.Order.{Order}
 use Rattle.admission_rules.specs.declared.Rules.{Rules}
 use Rattle.turn_lock.specs.declared.view.View.{View}
 use Rattle.turn_lock.specs.Passes.{Lock}
+use Rattle.cycle_engine.specs.Nodes.{states_of}
 use Rattle.master_core.specs.declared.event.Event.{Event}
 use Rattle.master_core.specs.declared.event.Event.TheVariants.{Open}
 use Rattle.master_core.specs.History.{IsLegal, is_open}
@@ -33,6 +34,23 @@ pub record HasOpened (rules : Rules) (old new : List Event) (order : Order) : Ty
   pub seen : new ≡ (old ++ calls) ++ Open order.cycle order.mask ∷ []
   pub ordered : IsOrder rules (old ++ calls) order
   pub legal : IsLegal rules (old ++ calls)
+
+-- behind what a dispatcher had seen, others made calls that open no cycle, and nothing else
+pub record HasSeen (rules : Rules) (old new : List Event) : Type 0 where
+  pub calls : List Event
+  pub closed : All (λ call. is_open call ≡ false) calls
+  pub seen : new ≡ old ++ calls
+  pub legal : IsLegal rules new
+
+-- a bus has room for the frames of one cycle behind those that it has
+abbrev pub HasFrameRoom : Bus → Type 0
+HasFrameRoom bus = vec_len bus.trace + (bus.nodes.layout.cycle / 47 + 1) ≤ vec_capacity bus.trace
+
+-- two buses with the same frames and layout, whose nodes know the same
+pub record IsSameBus (old new : Bus) : Type 0 where
+  pub trace : new.trace.items ≡ old.trace.items
+  pub layout : new.nodes.layout ≡ old.nodes.layout
+  pub states : states_of new.nodes.nodes ≡ states_of old.nodes.nodes
 
 -- a pass has the same number as before, and made and retired no other
 pub record Stays (old new : View Event Rules) : Type 0 where

@@ -2,7 +2,7 @@
 use Rattle.std.specs.Prelude.{◌≡◌, ℕ, ◌+◌, ◌<◌, ◌≤◌, List, All, length, slice_index_or}
 use Rattle.turn_lock.specs.History.{own}
 use Rattle.master_core.specs.declared.event.Event.{Event}
-use Rattle.master_core.specs.History.{IsPlainlyLegal, next_of}
+use Rattle.master_core.specs.History.{next_of}
 use Rattle.kept_run.specs.Kept.{Kept}
 use Rattle.kept_run.specs.Progress.{Setting}
 use Rattle.live_master.specs.Callers.{number_of}
@@ -20,11 +20,10 @@ pub record AnswersScripts (cycles : ℕ) (scripts : List Script) (history : List
       → AnswersActs (k + 1) (slice_index_or scripts k d).acts (own number_of (k + 1) history)
   pub others : All (λ event. number_of event ≤ length scripts) history
 
--- the master's history is plainly legal, answers the scripts, and with the trace keeps what is promised; and so many
--- requests are not sent
+-- the master's history is legal, answers the scripts, and with the trace keeps what is promised; and so many requests
+-- are not sent
 pub record IsWholeRun (setting : Setting) (cycles : ℕ) (scripts : List Script) (ended : Ended) : Type 0 where
   pub rules : ended.master.rules ≡ setting.rules
-  pub plain : IsPlainlyLegal setting.rules ended.master.history
   pub kept : Kept setting.rules setting.layout setting.requests ended.master.history ended.run.trace
   pub answers : AnswersScripts cycles scripts ended.master.history
   pub left : IsLeft setting ended.master.history ended.run

@@ -1,6 +1,6 @@
 //! The dispatcher's part of a run.
 
-ghost use Rattle.std.specs.Prelude.{◌≡◌, ℕ, ◌+◌, ◌<◌, ◌^◌, ◌++◌, ◌∷◌, [], List, IfOk, OnOk};
+ghost use Rattle.std.specs.Prelude.{◌≡◌, ℕ, ◌+◌, ◌<◌, ◌^◌, ◌++◌, ◌∷◌, [], List, IfOk, OnErr, OnOk};
 ghost use Rattle.turn_lock.specs.Passes.{IsOf};
 ghost use Rattle.master_core.specs.declared.event.Event.{Event};
 ghost use Rattle.master_core.specs.declared.event.Event.TheVariants.{Open};
@@ -8,14 +8,16 @@ ghost use Rattle.master_core.specs.History.{next_of};
 ghost use Rattle.master_core.specs.Orders.{IsOrder};
 ghost use Rattle.kept_run.specs.Progress.{IsOnTheWay, Setting};
 ghost use Rattle.live_master.specs.Passes.{IsPassOf};
-ghost use Rattle.live_run.specs.Running.{CanRun, HasOpened, IsBeforeOrder, IsRunning, Stays};
+ghost use Rattle.cycle_engine.specs.Nodes.{CanLearn, HaveSpare, KeepSpare, states_of};
+ghost use Rattle.live_run.specs.Running.{CanRun, HasFrameRoom, HasOpened, HasSeen, IsBeforeOrder, IsRunning, IsSameBus};
+ghost use Rattle.live_run.specs.Running.{Stays};
 
 use crate::points::{Gate, Point};
 use can_frame::TimedFrame;
-use cycle_engine::{Nodes, run_cycle};
+use cycle_engine::{Nodes, Segment, run_cycle_in};
 use kept_run::laws::{calls_between, cycles_run, one_call_more, orders};
 use live_master::laws::openings_of_dispatchers;
-use live_master::{DispatcherPass, LiveMaster};
+use live_master::{DispatcherPass, LiveMaster, Opening};
 use requirement_table::Order;
 use std::alloc::{AllocError, Global};
 use std::sync::Wait;
@@ -29,74 +31,121 @@ pub struct Bus {
     pub trace: Vec<TimedFrame>,
 }
 
-/// Opens the next cycle.
+/// What a dispatcher keeps for its next cycles, besides its bus.
+#[derive(Drop)]
+pub struct Room {
+    /// The frames of the last cycle, with room for those of the next one.
+    pub segment: Segment,
+    /// The nodes can learn a list of so many entries without memory.
+    pub entries: usize,
+}
+
+/// The length of the shortest frame, in bit times.
+const SHORTEST_FRAME: u32 = 47;
+
+/// Makes room for the frames of one cycle behind those of the bus.
+fn reserve_frames(bus: &mut Bus) -> Result<(), AllocError>
+    ensures room { OnOk result (HasFrameRoom bus.new) }
+    ensures same { IsSameBus bus.old bus.new }
+    ensures spare { KeepSpare bus.old.nodes.nodes bus.new.nodes.nodes }
+{
+    let frames = bus.nodes.layout().cycle() / SHORTEST_FRAME + 1;
+    bus.trace.reserve(frames as usize)
+}
+
+/// Opens the next cycle, once the nodes of the bus can learn without memory what they are to learn with it. They could
+/// learn a list of so many entries before, which is counted anew.
 fn open_next<R: Wait>(
     rt: &R,
     alloc: Global,
     shared: &LiveMaster,
     pass: &mut DispatcherPass,
+    nodes: &mut Nodes,
+    entries: &mut usize,
 ) -> Result<Order, AllocError>
-    requires of { IsOf shared.now pass.old }
+    requires of { IsPassOf shared.now pass.old }
     requires dispatcher { pass.old.view.number ≡ 0 }
     requires cycles { next_of pass.old.view.mine < 2 ^ 41 }
+    requires spare { HaveSpare entries.old nodes.old.nodes }
     ensures opened { IfOk result (λ order. HasOpened shared.now.fixed pass.old.view.seen pass.new.view.seen order) }
     ensures early { IfOk result (λ order. order.cycle < 2 ^ 41) }
     ensures next { OnOk result (next_of pass.new.view.mine ≡ next_of pass.old.view.mine + 1) }
+    ensures memory { OnErr result (HasSeen shared.now.fixed pass.old.view.seen pass.new.view.seen) }
+    ensures can_learn { IfOk result (λ order. CanLearn order.learned nodes.new.nodes) }
+    ensures spare { HaveSpare entries.new nodes.new.nodes }
+    ensures layout { nodes.new.layout ≡ nodes.old.layout }
+    ensures same { states_of nodes.new.nodes ≡ states_of nodes.old.nodes }
     ensures stays { Stays pass.old.view pass.new.view }
     ensures standing { IsPassOf shared.now pass.new }
 {
     one_call_more();
     openings_of_dispatchers();
-    shared.open(rt, alloc, pass)
+    for _ in rt.forever() {
+        match shared.open_within(rt, alloc, pass, *entries)? {
+            Opening::Opened { order } => return Ok(order),
+            Opening::Short { needed } => {
+                nodes.reserve(alloc, needed)?;
+                *entries = needed;
+            }
+        }
+    }
+    unreachable!()
 }
 
-/// Runs the cycle of an order on the bus.
-fn run_order(alloc: Global, order: &Order, bus: &mut Bus) -> Result<(), AllocError>
+/// Runs the cycle of an order on the bus, without memory.
+fn run_order(order: &Order, bus: &mut Bus, segment: &mut Segment)
     requires early { order.now.cycle < 2 ^ 41 }
     requires before { (setting : Setting) × (history : List Event) × IsBeforeOrder setting history order.now bus.old }
-    ensures ran { OnOk result ((setting : Setting) (history : List Event)
+    requires can_learn { CanLearn order.now.learned bus.old.nodes.nodes }
+    requires room { HasFrameRoom bus.old }
+    ensures ran { (setting : Setting) (history : List Event)
         → IsBeforeOrder setting history order.now bus.old
-        → IsOnTheWay setting (history ++ Open order.now.cycle order.now.mask ∷ []) bus.new.trace.items bus.new.nodes) }
+        → IsOnTheWay setting (history ++ Open order.now.cycle order.now.mask ∷ []) bus.new.trace.items bus.new.nodes }
+    ensures spare { KeepSpare bus.old.nodes.nodes bus.new.nodes.nodes }
 {
     orders();
     cycles_run();
-    let segment = run_cycle(alloc, order, &mut bus.nodes)?;
-    bus.trace.extend_from_slice(segment.frames())?;
-    Ok(())
+    run_cycle_in(order, &mut bus.nodes, segment);
+    bus.trace.extend_from_slice(segment.frames()).unwrap();
 }
 
-/// Opens the next cycle, and runs it on the bus.
+/// Opens the next cycle, and runs it on the bus. All memory is taken first: after an error no cycle was opened.
 fn open_cycle<R: Wait, G: Gate>(
     rt: &R,
     alloc: Global,
     shared: &LiveMaster,
     pass: &mut DispatcherPass,
     bus: &mut Bus,
+    room: &mut Room,
     gate: &G,
 ) -> Result<(), AllocError>
-    requires of { IsOf shared.now pass.old }
+    requires of { IsPassOf shared.now pass.old }
     requires dispatcher { pass.old.view.number ≡ 0 }
     requires cycles { next_of pass.old.view.mine < 2 ^ 41 }
     requires running { CanRun shared.now pass.old.view.seen bus.old }
-    ensures running { OnOk result ((setting : Setting) → IsRunning setting shared.now pass.old.view.seen bus.old
-        → IsRunning setting shared.now pass.new.view.seen bus.new) }
+    requires spare { HaveSpare room.old.entries bus.old.nodes.nodes }
+    ensures running { (setting : Setting) → IsRunning setting shared.now pass.old.view.seen bus.old
+        → IsRunning setting shared.now pass.new.view.seen bus.new }
     ensures next { OnOk result (next_of pass.new.view.mine ≡ next_of pass.old.view.mine + 1) }
+    ensures spare { HaveSpare room.new.entries bus.new.nodes.nodes }
     ensures stays { Stays pass.old.view pass.new.view }
     ensures standing { IsPassOf shared.now pass.new }
 {
     calls_between();
-    let order = open_next(rt, alloc, shared, pass)?;
+    reserve_frames(bus)?;
+    let order = open_next(rt, alloc, shared, pass, &mut bus.nodes, &mut room.entries)?;
     gate.pass(Point::CycleOpen { cycle: order.cycle });
-    run_order(alloc, &order, bus)?;
+    run_order(&order, bus, &mut room.segment);
     gate.pass(Point::CycleDone { cycle: order.cycle });
     Ok(())
 }
 
-/// Opens `cycles` cycles, below 2^41, and runs each on the bus.
+/// Opens `cycles` cycles, below 2^41, and runs each on the bus, also where memory runs out: what a cycle needs is taken
+/// before it is opened.
 ///
 /// # Errors
 ///
-/// Only where memory runs out.
+/// Only where memory runs out. Each cycle that was opened was run then.
 pub fn dispatch<R: Wait, G: Gate>(
     rt: &R,
     alloc: Global,
@@ -111,14 +160,18 @@ pub fn dispatch<R: Wait, G: Gate>(
     requires none { next_of pass.old.view.mine ≡ 0 }
     requires cycles { cycles < 2 ^ 41 }
     requires running { CanRun shared.now pass.old.view.seen bus.old }
-    ensures running { OnOk result ((setting : Setting) → IsRunning setting shared.now pass.old.view.seen bus.old
-        → IsRunning setting shared.now pass.new.view.seen bus.new) }
+    ensures running { (setting : Setting) → IsRunning setting shared.now pass.old.view.seen bus.old
+        → IsRunning setting shared.now pass.new.view.seen bus.new }
     ensures cycles { OnOk result (next_of pass.new.view.mine ≡ cycles) }
     ensures stays { Stays pass.old.view pass.new.view }
     ensures standing { IsPassOf shared.now pass.new }
 {
+    let mut room = Room {
+        segment: Segment::new(alloc, bus.nodes.layout())?,
+        entries: 0,
+    };
     for _ in 0..cycles {
-        open_cycle(rt, alloc, shared, pass, bus, gate)?;
+        open_cycle(rt, alloc, shared, pass, bus, &mut room, gate)?;
     }
     Ok(())
 }

@@ -9,16 +9,18 @@ ghost use Rattle.master_core.specs.Calls.{asked, call_of};
 use crate::points::{Gate, Point};
 use change_protocol::{Act, Change};
 use live_master::{LiveMaster, OperatorPass};
+use master_core::plan_apart;
 use std::alloc::{AllocError, Global};
 use std::sync::Wait;
 
-/// Has a change answered.
-fn ask<R: Wait>(
+/// Has a change answered. It is planned with no turn held, behind a point of the gate.
+fn ask<R: Wait, G: Gate>(
     rt: &R,
     alloc: Global,
     shared: &LiveMaster,
     pass: &mut OperatorPass,
     change: &Change,
+    gate: &G,
 ) -> Result<(), AllocError>
     requires of { IsOf shared.now pass.old }
     ensures answered { OnOk result (map call_of pass.new.view.mine
@@ -26,7 +28,12 @@ fn ask<R: Wait>(
     ensures number { pass.new.view.number ≡ pass.old.view.number }
     ensures standing { IsPassOf shared.now pass.new }
 {
-    shared.submit(rt, alloc, pass, change)?;
+    let snapshot = shared.snapshot(rt, alloc, pass)?;
+    gate.pass(Point::Planning {
+        caller: pass.caller(),
+    });
+    let planned = plan_apart(alloc, &snapshot, change)?;
+    shared.settle(rt, alloc, pass, change, planned)?;
     Ok(())
 }
 
@@ -48,12 +55,13 @@ fn look<R: Wait>(
 }
 
 /// Has an act answered.
-fn answer<R: Wait>(
+fn answer<R: Wait, G: Gate>(
     rt: &R,
     alloc: Global,
     shared: &LiveMaster,
     pass: &mut OperatorPass,
     act: &Act,
+    gate: &G,
 ) -> Result<(), AllocError>
     requires of { IsOf shared.now pass.old }
     ensures answered { OnOk result (map call_of pass.new.view.mine
@@ -62,7 +70,7 @@ fn answer<R: Wait>(
     ensures standing { IsPassOf shared.now pass.new }
 {
     match act {
-        Act::Ask { change } => ask(rt, alloc, shared, pass, change),
+        Act::Ask { change } => ask(rt, alloc, shared, pass, change, gate),
         Act::Look => look(rt, alloc, shared, pass),
     }
 }
@@ -87,7 +95,7 @@ pub fn operate<R: Wait, G: Gate>(
     ensures standing { IsPassOf shared.now pass.new }
 {
     for act in acts {
-        answer(rt, alloc, shared, pass, act)?;
+        answer(rt, alloc, shared, pass, act, gate)?;
         gate.pass(Point::Answered {
             caller: pass.caller(),
         });

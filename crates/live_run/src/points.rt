@@ -7,7 +7,7 @@ pub enum Point {
     CycleOpen { cycle: u64 },
     /// A cycle was run on the bus.
     CycleDone { cycle: u64 },
-    /// A change of this operator, 1 to 8, is about to be planned outside the turn.
+    /// A change of this operator, 1 to 8, is about to be planned, with no turn held.
     Planning { caller: u8 },
     /// An act of this operator, 1 to 8, was answered.
     Answered { caller: u8 },

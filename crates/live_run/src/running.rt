@@ -25,7 +25,7 @@ use std::thread::Threads;
 ///
 /// `pass` and `nodes` are as they were made, in a setting with the shared master's rules: its largest window is that of
 /// the nodes' layout. Each cycle's opening passes the gate before the cycle is run and once it was run, and each act
-/// once it was answered.
+/// once it was answered. A change passes it besides before it is planned, with no turn held.
 ///
 /// Afterwards no operator is out, also after an error. What the pass has seen is then the history of the run: it has
 /// the calls of the dispatcher and of each script, in their orders, and with the trace it keeps what is promised of

@@ -1,6 +1,6 @@
 //! Scripts of operators.
 
-ghost use Rattle.std.specs.Prelude.{◌≡◌, [], ◌∷◌, ◌++◌, OnOk};
+ghost use Rattle.std.specs.Prelude.{◌≡◌, [], ◌∷◌, ◌++◌, OnErr, OnOk};
 
 use change_protocol::Act;
 use std::alloc::AllocError;
@@ -29,9 +29,10 @@ impl ActList {
         ActList { acts }
     }
 
-    /// Adds an act behind the others.
+    /// Adds an act behind the others. Where memory runs out the list is as before.
     pub fn push(&mut self, act: Act) -> Result<(), AllocError>
         ensures pushed { OnOk result (self.new ≡ self.old ++ act ∷ []) }
+        ensures same { OnErr result (self.new ≡ self.old) }
     {
         self.acts.push(act)?;
         Ok(())

@@ -63,8 +63,8 @@ pub fn share<T: Threads + Wait + Sync, G: Gate>(
     requires running { CanRun shared.now pass.old.view.seen bus.old }
     requires hired { AreHired shared.now operators.old }
     requires scripts { length scripts.now ≡ length operators.old }
-    ensures running { OnOk result ((setting : Setting) → IsRunning setting shared.now pass.old.view.seen bus.old
-        → IsRunning setting shared.now pass.new.view.seen bus.new) }
+    ensures running { (setting : Setting) → IsRunning setting shared.now pass.old.view.seen bus.old
+        → IsRunning setting shared.now pass.new.view.seen bus.new }
     ensures cycles { OnOk result (next_of pass.new.view.mine ≡ cycles) }
     ensures stays { Stays pass.old.view pass.new.view }
     ensures standing { IsPassOf shared.now pass.new }

@@ -10,7 +10,7 @@ use Rattle.input_text.specs.declared.steps.Step.TheVariants as step
 use Rattle.input_text.specs.declared.system.System.{System}
 use Rattle.kept_run.specs.Kept.{Kept}
 use Rattle.master_core.specs.declared.event.Event.{Event}
-use Rattle.master_core.specs.History.{IsPlainlyLegal, next_of}
+use Rattle.master_core.specs.History.{next_of}
 use Rattle.live_master.specs.Callers.{is_called_by, number_of}
 use Rattle.live_run.specs.Answers.{AnswersActs}
 
@@ -32,10 +32,8 @@ pub record AnswersOperators (history : List Event) (steps : List Step) : Type 0 
       → AnswersActs operator (acts_of operator steps) (filter (is_called_by operator) history)
   pub others : All (λ event. number_of event ≤ 8) history
 
--- *Live run*: the history answers the steps of each operator, each change planned when it is answered, and history and
--- trace keep what is promised
+-- *Live run*: the history answers the steps of each operator, and history and trace keep what is promised
 pub record IsLive (system : System) (steps : List Step) (requests : List Request)
     (history : List Event) (trace : List TimedFrame) : Type 0 where
   pub answers : AnswersOperators history steps
-  pub plain : IsPlainlyLegal system.rules history
   pub kept : Kept system.rules system.layout requests history trace

@@ -4,8 +4,9 @@ mod Earlier
 mod Events
 mod Histories
 mod Legal
+mod NextPlan
 mod Passing
-mod Planned
 mod Recurring
 mod Repeating
+mod Settling
 mod Unfelt

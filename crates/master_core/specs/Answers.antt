@@ -1,10 +1,17 @@
 -- Answers that are not in the history yet.
-use Rattle.std.specs.Prelude.{◌≡◌, false, true, List, Option, Some, None}
+use Rattle.std.specs.Prelude.{◌≡◌, ℕ, Bool, false, true, nat_lt, if◌then◌else◌, List, [], Option, Some, None, All}
+use Rattle.std.specs.Prelude.{option_map}
 use Rattle.requirement_table.specs.declared.entries.Placed.{Placed}
 use Rattle.requirement_table.specs.Table.{not_over}
 use Rattle.change_protocol.specs.Applied.{applied}
+use Rattle.change_protocol.specs.Operations.{HasTypes}
+use Rattle.planner_policies.specs.declared.Policy.{Policy}
+use Rattle.planner_policies.specs.declared.state.PlanState.{PlanState}
 use Rattle.admission_rules.specs.declared.Rules.{Rules}
-use Rattle.admission.specs.Verdict.{is_accepted}
+use Rattle.admission.specs.declared.decision.Decision.{Decision}
+use Rattle.admission.specs.declared.verdict.Verdict.{Verdict}
+use Rattle.admission.specs.declared.verdict.Verdict.TheVariants.{Malformed, Passed, Miss, Horizon, Accepted}
+use Rattle.admission.specs.Verdict.{IsDecision, is_accepted}
 use Rattle.master_core.specs.declared.answer.Answer.{Answer}
 use Rattle.master_core.specs.declared.answer.Made.{Made}
 use Rattle.master_core.specs.declared.event.Event.{Event}
@@ -30,6 +37,47 @@ IsMade rules history answer (Some made) = IsMadeOf rules history answer made
 pub record IsAnswer (rules : Rules) (history : List Event) (answer : Answer) : Type 0 where
   pub right : IsRightAnswer rules history answer.change answer.from answer.verdict answer.trail
   pub made : IsMade rules history answer answer.made
+
+-- what is made of a list that is planned from a cycle on: the table, and the list to be learned
+pub record IsTableOf (policy : Policy) (from : ℕ) (made : Made) : Type 0 where
+  pub placed : made.table.placed.items ≡ made.learned
+  pub since : made.table.since ≡ from
+  pub ranked : made.table.ranked ≡ record { placed = not_over from made.learned; policy = policy }
+
+abbrev pub AreTablesOf : Policy → ℕ → Option Made → Type 0
+AreTablesOf policy from None = Unit {0}
+AreTablesOf policy from (Some made) = IsTableOf policy from made
+
+-- the decision that an answer has
+abbrev pub decision_of : Answer → Decision
+decision_of answer = record {
+  verdict = answer.verdict;
+  placed = option_map (λ made. made.learned) answer.made;
+  trail = answer.trail;
+}
+
+-- an answer as it is planned from a list and a state, with all that is made of it
+pub record IsPlannedFrom (rules : Rules) (placed : List Placed) (state : PlanState) (answer : Answer) : Type 0 where
+  pub types : All HasTypes answer.change.ops
+  pub from : answer.from ≡ state.cycle
+  pub decided : IsDecision rules placed state.pending state.cycle answer.change (decision_of answer)
+  pub made : AreTablesOf rules.policy answer.from answer.made
+
+-- whether a verdict of this kind is given of no change whose start has passed when `next` is the next cycle
+abbrev pub is_passed_by : ℕ → ℕ → Verdict → Bool
+is_passed_by next start (Malformed op why) = false
+is_passed_by next start (Passed before opened) = nat_lt start next
+is_passed_by next start (Miss slot release cycle) = nat_lt start next
+is_passed_by next start (Horizon from walked) = nat_lt start next
+is_passed_by next start (Accepted first length) = nat_lt start next
+
+-- the answer when `next` is the next cycle: a change that breaks no rule and whose start has passed by then is refused
+-- for that, and makes nothing
+abbrev pub answer_at : ℕ → Answer → Answer
+answer_at next answer =
+    if is_passed_by next answer.change.start answer.verdict
+    then record answer { verdict = Passed answer.change.start next; trail = []; made = None }
+    else answer
 
 -- what was made stands in the place of the table and of the list to be learned; where nothing was made, both stay
 abbrev pub IsTakenOver : Option Made → Table → Table → Option (List Placed) → Option (List Placed) → Type 0

@@ -29,6 +29,10 @@ accepts (Submit caller change from verdict trail) = is_accepted verdict
 accepts (Look caller next) = false
 accepts (Open cycle mask) = false
 
+-- the number of changes that a history accepted
+abbrev pub accepted_of : List Event → ℕ
+accepted_of history = count_by accepts history
+
 -- the placed entries after an event: an accepted change is applied to those before it
 abbrev pub placed_after : List Placed → Event → List Placed
 placed_after placed (Submit caller change from verdict trail) =

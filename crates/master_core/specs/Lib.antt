@@ -1,4 +1,5 @@
 pub mod Answers
+pub mod Apart
 pub mod Calls
 pub mod Certificates
 pub mod History

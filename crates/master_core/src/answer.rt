@@ -1,14 +1,17 @@
 //! An answer that is not in the history yet.
 
-ghost use Rattle.std.specs.Prelude.{◌≡◌, IfOk};
-ghost use Rattle.requirement_table.specs.Table.{IsWellPlaced, not_over};
-ghost use Rattle.master_core.specs.Answers.{IsTakenOver};
+ghost use Rattle.std.specs.Prelude.{◌≡◌, ◌^◌, ◌≤◌, IfOk};
+ghost use Rattle.requirement_table.specs.Table.{IsWellPlaced};
+ghost use Rattle.change_protocol.specs.Applied.{applied};
+ghost use Rattle.planner_policies.specs.Plan.{IsValid};
+ghost use Rattle.admission.specs.Verdict.{IsInTime, IsRules, IsTakenWhereDue, plan_from};
+ghost use Rattle.master_core.specs.Answers.{IsPlannedFrom, IsTableOf, IsTakenOver, answer_at, is_passed_by};
 
-use crate::table::{Table, list_of};
-use admission::{Trail, Verdict};
+use crate::table::{Table, copy_of, list_of};
+use admission::{Decision, Rules, Trail, Verdict, decide};
 use change_protocol::Change;
-use planner_policies::Policy;
-use requirement_table::PlacedList;
+use planner_policies::{PlanState, Policy};
+use requirement_table::{Placed, PlacedList};
 use std::alloc::{AllocError, Global};
 
 /// An answer to a change, with all memory that a master needs to put it into its history.
@@ -34,18 +37,89 @@ pub struct Made {
     pub learned: PlacedList,
 }
 
-/// The table of a list that is planned from cycle `from` on, and the same list to be learned.
-pub fn made_of(
+impl Answer {
+    /// The same answer when `next` is the next cycle: a change that breaks no rule and whose start has passed by then
+    /// is refused for that. It takes no memory.
+    pub fn at_next(self, alloc: Global, next: u64) -> Answer
+        ensures same { result ≡ answer_at next self }
+    {
+        if !is_passed_by(&self.verdict, self.change.start, next) {
+            return self;
+        }
+        let Answer {
+            change,
+            from,
+            verdict: _,
+            trail: _,
+            made: _,
+        } = self;
+        let verdict = Verdict::Passed {
+            start: change.start,
+            next,
+        };
+        Answer {
+            change,
+            from,
+            verdict,
+            trail: Trail::of(Vec::new(alloc)),
+            made: None,
+        }
+    }
+}
+
+/// Whether a change with this verdict is refused when `next` is the next cycle, since its start has passed by then.
+fn is_passed_by(verdict: &Verdict, start: u64, next: u64) -> bool
+    ensures passed { result ≡ is_passed_by next start verdict.now }
+{
+    match verdict {
+        Verdict::Malformed { .. } => false,
+        _ => start < next,
+    }
+}
+
+/// Plans a change of a list from a state on, and takes all memory that its answer needs.
+pub fn answer_of(
     alloc: Global,
-    list: PlacedList,
-    from: u64,
-    policy: Policy,
-) -> Result<Made, AllocError>
+    rules: &Rules,
+    placed: &[Placed],
+    state: &PlanState,
+    change: &Change,
+) -> Result<Answer, AllocError>
+    requires rules { IsRules rules.now }
+    requires well_placed { IsWellPlaced placed.now }
+    requires valid { IsValid placed.now state.now.cycle state.now.pending }
+    requires next { state.now.cycle ≤ 2 ^ 41 }
+    ensures planned { IfOk result (IsPlannedFrom rules.now placed.now state.now) }
+    ensures change { IfOk result (λ answer. answer.change ≡ change.now) }
+    ensures complete { let plan = plan_from rules.now (applied placed.now change.now)
+        state.now.cycle state.now.pending in
+        IfOk result (λ answer. IsInTime rules.now placed.now state.now.cycle change.now
+        → IsTakenWhereDue rules.now plan answer.verdict) }
+{
+    let Decision {
+        verdict,
+        placed,
+        trail,
+    } = decide(alloc, rules, placed, state, change)?;
+    let change = copy_of(alloc, change)?;
+    let from = state.cycle;
+    let made = match placed {
+        None => None,
+        Some(list) => Some(made_of(alloc, list, from, rules.policy)?),
+    };
+    Ok(Answer {
+        change,
+        from,
+        verdict,
+        trail,
+        made,
+    })
+}
+
+/// The table of a list that is planned from cycle `from` on, and the same list to be learned.
+fn made_of(alloc: Global, list: PlacedList, from: u64, policy: Policy) -> Result<Made, AllocError>
     requires { IsWellPlaced list }
-    ensures placed { IfOk result (λ made. made.table.placed.items ≡ list) }
-    ensures since { IfOk result (λ made. made.table.since ≡ from) }
-    ensures ranked { IfOk result
-        (λ made. made.table.ranked ≡ record { placed = not_over from list; policy = policy }) }
+    ensures table { IfOk result (IsTableOf policy from) }
     ensures learned { IfOk result (λ made. made.learned ≡ list) }
 {
     let list = list.into_vec();

@@ -5,6 +5,7 @@
 #![tactic(auto)]
 
 mod answer;
+mod apart;
 mod event;
 pub mod laws;
 mod master;
@@ -13,5 +14,6 @@ mod planning;
 mod room;
 mod table;
 
+pub use apart::{Planned, Snapshot, plan_apart};
 pub use event::Event;
 pub use master::Master;

@@ -1,28 +1,31 @@
 //! The master, which answers calls and opens cycles.
 
-ghost use Rattle.std.specs.Prelude.{◌≡◌, ◌+◌, ◌^◌, ◌<◌, ◌≤◌, ◌++◌, ◌∷◌, [], List, ℕ, IfOk, OnErr, OnOk, length};
+ghost use Rattle.std.specs.Prelude.{◌≡◌, ◌+◌, ◌-◌, ◌^◌, ◌<◌, ◌≤◌, ◌++◌, ◌∷◌, [], List, ℕ};
+ghost use Rattle.std.specs.Prelude.{IfOk, OnErr, OnOk, length};
 ghost use Rattle.change_protocol.specs.Applied.{applied};
 ghost use Rattle.planner_policies.specs.Plan.{mask_at, pending_at};
 ghost use Rattle.plan_check.specs.PlanKept.{IsTaken};
 ghost use Rattle.admission.specs.Certified.{end_of};
 ghost use Rattle.admission.specs.Verdict.{IsInTime, IsRules, IsTakenWhereDue, plan_from};
 ghost use Rattle.master_core.specs.Answers.{IsAnswer};
+ghost use Rattle.master_core.specs.Apart.{CanSettle, IsPlannable, from_of, snapshot_of};
 ghost use Rattle.master_core.specs.Certificates.{IsCertificateOfPlan};
 ghost use Rattle.master_core.specs.declared.event.Event.TheVariants.{Submit, Look, Open};
-ghost use Rattle.master_core.specs.History.{IsLegal, IsPlainlyLegal, next_of, placed_of, plan_of};
+ghost use Rattle.master_core.specs.History.{IsLegal, IsPlainlyLegal, accepted_of, next_of, placed_of, plan_of};
 ghost use Rattle.master_core.specs.Orders.{IsOrder};
 
-use crate::answer::{Answer, made_of, take_over};
+use crate::answer::{Answer, answer_of, take_over};
+use crate::apart::{Planned, Snapshot};
 use crate::event::Event;
 use crate::opened::opened_masks;
 use crate::planning::plan_next;
 use crate::room::{make_room, put};
-use crate::table::{Table, copy_of};
-use admission::{CertifyFault, Decision, Rules, Verdict, certify, decide};
+use crate::table::{Table, list_of};
+use admission::{CertifyFault, Rules, Verdict, certify};
 use change_protocol::Change;
 use plan_check::Certificate;
 use planner_policies::laws::loops;
-use planner_policies::{PlanState, Planned, cycle_mask};
+use planner_policies::{PlanState, cycle_mask};
 use requirement_table::{Mask, Order, Placed, PlacedList};
 use std::alloc::{AllocError, Global};
 use std::marker::Model;
@@ -39,10 +42,13 @@ pub struct Master {
     state: PlanState,
     /// The placed entries as the nodes are to learn them, where they changed since the last opening.
     learned: Option<PlacedList>,
+    /// The number of changes that were accepted.
+    accepted: u64,
 }
 
 impl Model for Master {
-    ghost use Rattle.std.specs.Prelude.{length, vec_capacity};
+    ghost use Rattle.std.specs.Prelude.{◌≡◌, length, vec_capacity};
+    ghost use Rattle.master_core.specs.History.{accepted_of};
     ghost use Rattle.master_core.specs.Keeping.{HasRoom, IsKept, MasterView};
 
     ghost Value = { MasterView };
@@ -50,7 +56,8 @@ impl Model for Master {
     ghost view = { λ m. record { rules = m.rules; history = m.history.items; spare = m.spare } };
 
     ghost invariant = { λ m. IsKept m.rules m.history.items m.table.placed.items m.table.since m.table.ranked m.state.cycle m.state.pending m.learned
-        × HasRoom (length m.history.items) (vec_capacity m.history) m.spare };
+        × HasRoom (length m.history.items) (vec_capacity m.history) m.spare
+        × (m.accepted ≡ accepted_of m.history.items) };
 }
 
 impl Master {
@@ -75,6 +82,7 @@ impl Master {
                 pending: Mask::empty(),
             },
             learned: None,
+            accepted: 0,
         })
     }
 
@@ -89,6 +97,7 @@ impl Master {
         ensures room { OnOk result (events ≤ self.new.spare) }
         ensures kept { self.old.spare ≤ self.new.spare }
         ensures same { OnErr result (self.new.spare ≡ self.old.spare) }
+        ensures legal { IsLegal self.new.rules self.new.history }
         ensures few { length self.new.history + self.new.spare < 2 ^ 61 }
     {
         if events > self.spare {
@@ -131,6 +140,100 @@ impl Master {
         Ok(self.put_answer(caller, answer))
     }
 
+    /// What a change is planned from, apart from this master.
+    ///
+    /// # Errors
+    ///
+    /// Only where memory runs out.
+    pub fn snapshot(&self, alloc: Global) -> Result<Snapshot, AllocError>
+        ensures snapshot { IfOk result (λ snapshot. snapshot ≡ snapshot_of self.now.rules self.now.history) }
+        ensures plannable { IfOk result IsPlannable }
+        ensures legal { IsLegal self.now.rules self.now.history }
+        ensures few { length self.now.history + self.now.spare < 2 ^ 61 }
+    {
+        let placed = list_of(alloc, self.table.placed.as_slice())?;
+        Ok(Snapshot {
+            rules: self.rules,
+            placed,
+            state: self.state,
+            accepted: self.accepted,
+        })
+    }
+
+    /// Answers a change that operator `caller` asks for, 1 to 8, and that was planned apart, for this change and by
+    /// this master's rules.
+    ///
+    /// Where no change was accepted since its snapshot was taken, that plan decides, from its cycle on: the snapshot
+    /// was one of this master. Only a start that has passed since is refused. Where there is room, it takes no memory
+    /// then. Else the change is planned anew, from the next cycle on. The table changes only where the verdict is
+    /// `Accepted`. It uses one of the room, where there is any.
+    ///
+    /// # Errors
+    ///
+    /// Only where memory runs out. The plan is dropped then, and the master is as before.
+    pub fn settle(
+        &mut self,
+        alloc: Global,
+        caller: u8,
+        change: &Change,
+        planned: Planned,
+    ) -> Result<Verdict, AllocError>
+        requires caller { (1 ≤ caller) × (caller ≤ 8) }
+        requires planned { CanSettle self.old.rules self.old.history change.now planned }
+        ensures rules { self.new.rules ≡ self.old.rules }
+        ensures event { IfOk result (λ verdict. (trail : List ℕ) × (self.new.history
+            ≡ self.old.history ++ Submit caller change.now (from_of self.old.history planned) verdict trail ∷ [])) }
+        ensures same { OnErr result (self.new.history ≡ self.old.history) }
+        ensures room { OnErr result (self.new.spare ≡ self.old.spare) }
+        ensures answered { OnErr result (planned.accepted ≡ accepted_of self.old.history → 1 ≤ self.old.spare → ⊥) }
+        ensures spare { OnOk result (self.new.spare ≡ self.old.spare - 1) }
+        ensures legal { IsLegal self.new.rules self.new.history }
+        ensures few { length self.new.history + self.new.spare < 2 ^ 61 }
+    {
+        let answer = self.settled(alloc, change, planned)?;
+        self.make_room_for_one()?;
+        Ok(self.put_answer(caller, answer))
+    }
+
+    /// The answer to a change that was planned apart: by its plan where no change was accepted since, and else planned
+    /// from the next cycle on.
+    fn settled(
+        &self,
+        alloc: Global,
+        change: &Change,
+        planned: Planned,
+    ) -> Result<Answer, AllocError>
+        requires planned { CanSettle self.now.rules self.now.history change.now planned }
+        ensures answer { IfOk result (IsAnswer self.now.rules self.now.history) }
+        ensures change { IfOk result (λ answer. answer.change ≡ change.now) }
+        ensures from { IfOk result (λ answer. answer.from ≡ from_of self.now.history planned) }
+        ensures answered { OnErr result (planned.accepted ≡ accepted_of self.now.history → ⊥) }
+        ensures legal { IsLegal self.now.rules self.now.history }
+        ensures few { length self.now.history + self.now.spare < 2 ^ 61 }
+    {
+        if planned.accepted != self.accepted {
+            return self.plan_change(alloc, change);
+        }
+        let Planned { answer, .. } = planned;
+        Ok(answer.at_next(alloc, self.state.cycle))
+    }
+
+    /// Makes room for one event, where there is none. Where memory runs out, nothing is changed.
+    fn make_room_for_one(&mut self) -> Result<(), AllocError>
+        ensures rules { self.new.rules ≡ self.old.rules }
+        ensures history { self.new.history ≡ self.old.history }
+        ensures room { OnOk result (self.new.spare ≡ (self.old.spare - 1) + 1) }
+        ensures same { OnErr result (self.new.spare ≡ self.old.spare) }
+        ensures made { OnErr result (1 ≤ self.old.spare → ⊥) }
+        ensures legal { IsLegal self.new.rules self.new.history }
+        ensures few { length self.new.history + self.new.spare < 2 ^ 61 }
+    {
+        if self.spare > 0 {
+            return Ok(());
+        }
+        self.make_room()
+    }
+
     /// Plans a change from the next cycle on, and takes all memory that its answer needs.
     fn plan_change(&self, alloc: Global, change: &Change) -> Result<Answer, AllocError>
         ensures answer { IfOk result (IsAnswer self.now.rules self.now.history) }
@@ -144,30 +247,13 @@ impl Master {
         ensures legal { IsLegal self.now.rules self.now.history }
         ensures few { length self.now.history + self.now.spare < 2 ^ 61 }
     {
-        let Decision {
-            verdict,
-            placed,
-            trail,
-        } = decide(
+        answer_of(
             alloc,
             &self.rules,
             self.table.placed.as_slice(),
             &self.state,
             change,
-        )?;
-        let change = copy_of(alloc, change)?;
-        let from = self.state.cycle;
-        let made = match placed {
-            None => None,
-            Some(list) => Some(made_of(alloc, list, from, self.rules.policy)?),
-        };
-        Ok(Answer {
-            change,
-            from,
-            verdict,
-            trail,
-            made,
-        })
+        )
     }
 
     /// Makes room for one event more. Where memory runs out, nothing is changed.
@@ -208,6 +294,7 @@ impl Master {
             made,
         } = answer;
         take_over(made, &mut self.table, &mut self.learned);
+        self.accepted += u64::from(verdict.is_accepted());
         put(
             &mut self.history,
             Event::Submit {
@@ -257,7 +344,7 @@ impl Master {
     {
         let cycle = self.state.cycle;
         self.table.pass(cycle);
-        let Planned { mask, width, next } = plan_next(
+        let planner_policies::Planned { mask, width, next } = plan_next(
             &self.table.ranked,
             self.rules.window,
             &self.state,

@@ -9,14 +9,14 @@ use planner_policies::{PlanState, Policy};
 use requirement_table::{Mask, Placed, well_placed};
 use std::alloc::{AllocError, Global};
 
-/// The answer to a call with these numbers, which are those of rules: window and horizon.
+/// The answer to a call with these numbers, of which the first ones are those of rules: window and horizon.
 pub fn answer(
     alloc: Global,
     placed: &[Placed],
     word: &str,
     numbers: &[u64],
 ) -> Result<String, AllocError> {
-    let [window, horizon] = *numbers else {
+    let [window, horizon, ref rest @ ..] = *numbers else {
         return Ok(String::new(alloc));
     };
     if window > 16_383 {
@@ -28,10 +28,11 @@ pub fn answer(
         window: window as u32,
         horizon,
     };
-    if word == "certify" {
-        certified(alloc, &rules, placed)
-    } else {
-        master_calls::shown(alloc, rules, placed)
+    match (word, rest) {
+        ("certify", []) => certified(alloc, &rules, placed),
+        ("master", []) => master_calls::shown(alloc, rules, placed),
+        ("settle", [start, other]) => master_calls::settled(alloc, rules, placed, *start, *other),
+        _ => Ok(String::new(alloc)),
     }
 }
 

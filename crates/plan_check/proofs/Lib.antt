@@ -1,6 +1,7 @@
-mod Current
 mod BodyReads
+mod Current
 mod CycleSteps
+mod FirstBreach
 mod HeadReads
 mod Held
 mod PlanReads

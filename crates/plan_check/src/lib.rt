@@ -8,6 +8,7 @@
 mod breach;
 mod certificate;
 mod checking;
+pub mod laws;
 mod plan_reading;
 mod plan_text;
 mod rows;

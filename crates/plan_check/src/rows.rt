@@ -27,7 +27,7 @@ pub type Places = [usize; SLOTS as usize];
 /// For each slot what is kept of its instance that may be sent in a cycle.
 pub type Row = [Option<Due>; SLOTS as usize];
 
-/// Whether a placed entry is over by `cycle`: none of its instances may be sent in it or later.
+/// Whether a placed entry is over by `cycle`: its slot is free again, and none of its instances may be sent any more.
 fn is_over(p: &Placed, cycle: u64) -> bool
     requires in_range { IsInRange p.now }
     ensures over { result ≡ is_over cycle p.now }

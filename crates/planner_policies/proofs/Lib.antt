@@ -2,6 +2,7 @@ pub mod Shared
 mod Cycles
 mod Filtered
 mod Fits
+mod FrontExists
 mod Going
 mod Held
 mod Lines
@@ -12,3 +13,4 @@ mod Loops
 mod Pairs
 mod Rows
 mod Steps
+mod Waiting

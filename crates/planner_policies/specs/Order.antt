@@ -2,6 +2,7 @@
 use Rattle.std.specs.Prelude.{◌≡◌, ◌≢◌, ℕ, ◌<◌, ◌≤◌, Bool, true, ◌↔◌}
 use Rattle.std.specs.Prelude.{List, All, AllPairs, Contains, length, sum_by, take}
 use Rattle.requirement_table.specs.Slots.{slots}
+use Rattle.requirement_table.specs.Table.{worst_in}
 use Rattle.planner_policies.specs.Plan.{Planning, is_by, pending_in}
 
 -- the slots that are pending in a cycle, each once, in key order
@@ -16,3 +17,10 @@ pub record IsLongestFront (cost : ℕ → ℕ) (window : ℕ) (order : List ℕ)
   pub within : n ≤ length order
   pub fits : sum_by cost (take n order) ≤ window
   pub longest : (m : ℕ) → m ≤ length order → sum_by cost (take m order) ≤ window → m ≤ n
+
+-- there is such a list of the slots that are pending in the cycle, and such a number of its first ones
+pub record HasLongestFront (plan : Planning) (c : ℕ) (before : ℕ → Bool) : Type 0 where
+  pub order : List ℕ
+  pub number : ℕ
+  pub sorted : IsInKeyOrder plan c before order
+  pub front : IsLongestFront (worst_in plan.placed c) plan.window order number

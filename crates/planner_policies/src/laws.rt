@@ -1,18 +1,20 @@
-//! Laws about plans. Each function has an empty body, and its contract is the law.
+//! Laws about plans. Each function has an empty body but for calls of other laws, and its contract is the law.
 
 ghost use Rattle.std.specs.Prelude.{◌≡◌, ℕ, ◌+◌, ◌-◌, ◌<◌, ◌≤◌, ◌↔◌};
 ghost use Rattle.std.specs.Prelude.{Bool, true, false, IsSome, List, All, Contains, take, drop, filter};
 ghost use Rattle.requirement_table.specs.declared.entries.Placed.{Placed};
 ghost use Rattle.requirement_table.specs.Slots.{contains_slot, set_of, slots};
-ghost use Rattle.requirement_table.specs.Flags.{IsGoodCycle};
+ghost use Rattle.requirement_table.specs.Flags.{HasWaiting, HasWaitingBefore, IsGoodCycle};
 ghost use Rattle.requirement_table.specs.Table.{IsFreeAt, IsWellPlaced, held_before};
 ghost use Rattle.requirement_table.specs.Table.{instance_in, releases_in, width_in, worst_in};
 ghost use Rattle.planner_policies.specs.declared.Policy.{Policy};
 ghost use Rattle.planner_policies.specs.Loop.{RepeatsFrom};
-ghost use Rattle.planner_policies.specs.Order.{IsInKeyOrder, IsLongestFront};
+ghost use Rattle.planner_policies.specs.Order.{HasLongestFront, IsInKeyOrder, IsLongestFront};
 ghost use Rattle.planner_policies.specs.Plan.{HasNoMiss, HasNoMissIn, IsMissAt, IsMissIn, IsValid, NeverMisses};
 ghost use Rattle.planner_policies.specs.Plan.{Planning, flags_of, is_by, is_missed_at, is_missed_in, left_after};
 ghost use Rattle.planner_policies.specs.Plan.{mask_at, pending_at, pending_before, pending_in, planned_at, planned_in};
+
+use requirement_table::laws::waiting_slots;
 
 /// Key order is a total order of the slots.
 pub fn key_order()
@@ -27,7 +29,7 @@ pub fn key_order()
 {}
 
 /// What is planned in a cycle is the longest front of the pending slots, in key order, whose worst lengths fit the
-/// window together.
+/// window together. There always is one.
 pub fn longest_front()
     ensures planned { (plan : Planning) (c : ℕ) (before : ℕ → Bool) (order : List ℕ) (n slot : ℕ)
         → IsInKeyOrder plan c before order
@@ -37,6 +39,7 @@ pub fn longest_front()
         → IsInKeyOrder plan c before order
         → IsLongestFront (worst_in plan.placed c) plan.window order n → slot < slots
         → (left_after plan c before slot ≡ true) ↔ Contains (drop n order) slot }
+    ensures there { (plan : Planning) (c : ℕ) (before : ℕ → Bool) → HasLongestFront plan c before }
 {}
 
 /// The plan follows from the instances of the slots: two tables that have the same ones in the cycles of a planning
@@ -137,3 +140,19 @@ pub fn keeping()
     ensures good { (plan : Planning) (n m : ℕ) → HasNoMiss plan n → m < n
         → IsGoodCycle plan.placed (flags_of plan) plan.from (contains_slot plan.pending) m }
 {}
+
+/// As long as no instance is missed, from a valid state on: a slot is pending in the n-th cycle exactly where one of its
+/// instances is, which was released, is not over and was not planned before. It is pending before that cycle exactly
+/// where such an instance was released before it.
+pub fn pending_slots()
+    ensures before { (plan : Planning) (n : ℕ) → IsWellPlaced plan.placed
+        → IsValid plan.placed plan.from plan.pending → HasNoMiss plan n
+        → (slot : ℕ) → (pending_before plan n slot ≡ true)
+        ↔ HasWaitingBefore plan.placed (flags_of plan) plan.from (contains_slot plan.pending) (plan.from + n) slot }
+    ensures within { (plan : Planning) (n : ℕ) → IsWellPlaced plan.placed
+        → IsValid plan.placed plan.from plan.pending → HasNoMiss plan n
+        → (slot : ℕ) → (pending_in plan.placed (plan.from + n) (pending_before plan n) slot ≡ true)
+        ↔ HasWaiting plan.placed (flags_of plan) plan.from (contains_slot plan.pending) (plan.from + n) slot }
+{
+    waiting_slots();
+}

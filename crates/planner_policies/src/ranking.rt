@@ -29,7 +29,7 @@ impl Model for Ranked {
     ghost invariant = { λ r. IsWellPlaced r.placed.items × IsPermutation r.placed.items r.rows.items };
 }
 
-/// The entries ordered by a policy. The list is well placed.
+/// The entries, in their order, with the policy by which they are planned. The list is well placed.
 pub fn rank(alloc: Global, placed: &[Placed], policy: Policy) -> Result<Ranked, AllocError>
     requires well_placed { IsWellPlaced placed.now }
     ensures ranked { IfOk result (λ ranked. ranked ≡ record { placed = placed.now; policy = policy }) }

@@ -1,15 +1,12 @@
 -- Each instance of a table that is kept so far is flagged exactly once, from its release to its last cycle.
-use Rattle.std.proofs.Common.{◌≡◌, ◌≢◌, ℕ, zero, suc, ◌+◌, ◌-◌, ◌<◌, ◌≤◌, Bool, true, false, not, ◌&&◌, ◌||◌, nat_eq, Option, Some, None, List, Any, Contains, is_some, slice_get, get_or, length, refl, sym, ap, ◌∙◌, ⊎_elim, arith}
-use Rattle.std.specs.Option.{option_map_or}
-use Rattle.std.specs.List.{list_any}
+use Rattle.std.proofs.Common.{◌≡◌, ℕ, zero, suc, ◌+◌, ◌-◌, ◌<◌, ◌≤◌, Bool, true, false, not, ◌&&◌, ◌||◌, nat_eq, Option, Some, None, List, Contains, is_some, slice_get, get_or, length, refl, sym, ap, ◌∙◌, ⊎_elim, arith}
 use Rattle.std.proofs.lemmas.Option.{slice_get-get_or, slice_get_within, get_or_from_slice_get, same_Some}
 use Rattle.std.proofs.lemmas.Bool.{cases_lt, cases_order, eq-eqb, eqb-true, and_parts, and_from}
-use Rattle.std.proofs.lemmas.Bool.Decides.{nat_tests}
 use Rattle.std.proofs.lemmas.List.Folds.{Any-from_list_any, list_any-from_Any}
 use Rattle.requirement_table.specs.declared.entries.Placed.{Placed}
-use Rattle.requirement_table.specs.Instance.{Instance, Exists, IsLastCycle, IsReleasedIn, MaySend, deadline_of, release_of, released_by}
+use Rattle.requirement_table.specs.Instance.{Exists, IsLastCycle, IsReleasedIn, MaySend, deadline_of, release_of, released_by}
 use Rattle.requirement_table.specs.Slots.{slots}
-use Rattle.requirement_table.specs.Table.{IsInRange, IsWellPlaced, held_before, instance_in, is_last_in, releases_in}
+use Rattle.requirement_table.specs.Table.{IsInRange, IsWellPlaced, held_before, is_last_in, releases_in}
 use Rattle.requirement_table.specs.Flags.{IsFlaggedOnce, IsGoodCycle, waits}
 use Rattle.requirement_table.proofs.SlotInstances.{instance_in-found, one_instance}
 use Rattle.requirement_table.proofs.Latest.{IsReleasedIn-from_released_by, released_by-released}
@@ -18,22 +15,22 @@ use Rattle.requirement_table.proofs.Latest.{IsReleasedIn-from_released_by, relea
 not_held : (b r f : Bool) → b ≡ false → r ≡ false → (b || r) && not f ≡ false
 not_held b r f none nothing = rw (none, nothing) refl
 
-held_next : (b r f : Bool) → b || r ≡ true → f ≡ false → (b || r) && not f ≡ true
+pub held_next : (b r f : Bool) → b || r ≡ true → f ≡ false → (b || r) && not f ≡ true
 held_next b r f waiting unsent = rw (waiting, unsent) refl
 
 sent_next : (b r f : Bool) → f ≡ true → (b || r) && not f ≡ false
 sent_next b r f sent = rw sent (elim (b || r) as (λ v. v && not true ≡ false) [ true ↦ refl | false ↦ refl ])
 
-or_left : (b r : Bool) → b ≡ true → b || r ≡ true
+pub or_left : (b r : Bool) → b ≡ true → b || r ≡ true
 or_left b r holds = rw holds refl
 
-or_right : (b r : Bool) → r ≡ true → b || r ≡ true
+pub or_right : (b r : Bool) → r ≡ true → b || r ≡ true
 or_right b r holds = rw holds (elim b as (λ v. v || true ≡ true) [ true ↦ refl | false ↦ refl ])
 
 none_or : (b r : Bool) → b ≡ false → r ≡ false → b || r ≡ false
 none_or b r none nothing = rw (none, nothing) refl
 
-before-suc : (placed : List Placed) (flags : ℕ → ℕ → Bool) (from : ℕ) (held : ℕ → Bool) (n slot : ℕ)
+pub before-suc : (placed : List Placed) (flags : ℕ → ℕ → Bool) (from : ℕ) (held : ℕ → Bool) (n slot : ℕ)
     → held_before placed flags from held (suc n) slot
     ≡ ((held_before placed flags from held n slot || releases_in placed (from + n) slot) && not (flags (from + n) slot))
 unfolding held_before
@@ -60,16 +57,16 @@ number-in (Some k) is = (k, refl)
 number-in None is = absurd (cc)
 
 -- an entry of the list, of this slot, releases an instance in a cycle
-record IsRelease (placed : List Placed) (slot c : ℕ) : Type 0 where
-  place : ℕ
-  number : ℕ
-  entry : Placed
-  stands : slice_get placed place ≡ Some entry
-  of_slot : entry.entry.slot ≡ slot
-  released : IsReleasedIn entry number c
-  sends : MaySend entry number c
+pub record IsRelease (placed : List Placed) (slot c : ℕ) : Type 0 where
+  pub place : ℕ
+  pub number : ℕ
+  pub entry : Placed
+  pub stands : slice_get placed place ≡ Some entry
+  pub of_slot : entry.entry.slot ≡ slot
+  pub released : IsReleasedIn entry number c
+  pub sends : MaySend entry number c
 
-release-in : (placed : List Placed) (slot c : ℕ) → IsWellPlaced placed → releases_in placed c slot ≡ true → IsRelease placed slot c
+pub release-in : (placed : List Placed) (slot c : ℕ) → IsWellPlaced placed → releases_in placed c slot ≡ true → IsRelease placed slot c
 release-in placed slot c well test =
     let any = Any-from_list_any (λ q. nat_eq q.entry.slot slot && is_some (released_by q c)) placed test in
     let parts = and_parts (nat_eq any.1.entry.slot slot) (is_some (released_by any.1 c)) any.4 in

@@ -8,3 +8,4 @@ mod Rounds
 pub mod Shared
 mod SlotInstances
 mod SlotSets
+mod Waiting

@@ -2,13 +2,14 @@
 //! law.
 
 ghost use Rattle.std.specs.Prelude.{◌≡◌, ℕ, ◌+◌, ◌^◌, ◌<◌, ◌≤◌, ◌↔◌, ◌&&◌};
-ghost use Rattle.std.specs.Prelude.{Bool, nat_lt, IsTrue, Some, IfSome, List, Any, Contains, slice_get};
+ghost use Rattle.std.specs.Prelude.{Bool, true, nat_lt, IsTrue, Some, IfSome, IsSomeAnd, List, Any, Contains, slice_get};
 ghost use Rattle.requirement_table.specs.declared.entries.Placed.{Placed};
 ghost use Rattle.requirement_table.specs.Instance.{Exists, IsLastCycle, IsReleasedIn, MaySend};
 ghost use Rattle.requirement_table.specs.Instance.{instance_of, release_of, released_by};
-ghost use Rattle.requirement_table.specs.Flags.{IsFlaggedOnce, IsGoodCycle};
+ghost use Rattle.requirement_table.specs.Flags.{HasWaiting, HasWaitingBefore, IsFlaggedOnce, IsGoodCycle, waits};
 ghost use Rattle.requirement_table.specs.Slots.{contains_slot, set_of};
-ghost use Rattle.requirement_table.specs.Table.{IsWellPlaced, instance_in, not_over, released_in, releases_in};
+ghost use Rattle.requirement_table.specs.Table.{IsWellPlaced, held_before, instance_in, not_over};
+ghost use Rattle.requirement_table.specs.Table.{released_in, releases_in};
 
 /// A set of slots made of a test contains the slots below `n` that pass it, and no other.
 pub fn sets_of_slots()
@@ -52,6 +53,25 @@ pub fn flagged_once()
         → ((m : ℕ) → m < n → IsGoodCycle placed flags from held m)
         → (p : Placed) (k last : ℕ) → Contains placed p → Exists p (release_of p k) → from ≤ release_of p k
         → IsLastCycle p k last → last < from + n → IsFlaggedOnce flags p.entry.slot (release_of p k) last }
+{}
+
+/// Where the cycles from `from` to below `from + n` are good, and each slot that holds an instance before `from` has one
+/// that was released before it and may be sent in it: a slot waits in the cycle `from + n` exactly where one of its
+/// instances does, which was released, is not over and was not sent before. It holds an instance before that cycle
+/// exactly where such an instance was released before it.
+pub fn waiting_slots()
+    ensures before { (placed : List Placed) (flags : ℕ → ℕ → Bool) (from n : ℕ) (held : ℕ → Bool) → IsWellPlaced placed
+        → ((slot : ℕ) → held slot ≡ true
+        → IsSomeAnd (instance_in placed slot from) (λ i. release_of i.placed i.number < from))
+        → ((m : ℕ) → m < n → IsGoodCycle placed flags from held m)
+        → (slot : ℕ) → (held_before placed flags from held n slot ≡ true)
+        ↔ HasWaitingBefore placed flags from held (from + n) slot }
+    ensures within { (placed : List Placed) (flags : ℕ → ℕ → Bool) (from n : ℕ) (held : ℕ → Bool) → IsWellPlaced placed
+        → ((slot : ℕ) → held slot ≡ true
+        → IsSomeAnd (instance_in placed slot from) (λ i. release_of i.placed i.number < from))
+        → ((m : ℕ) → m < n → IsGoodCycle placed flags from held m)
+        → (slot : ℕ) → (waits placed flags from held n slot ≡ true)
+        ↔ HasWaiting placed flags from held (from + n) slot }
 {}
 
 /// The entries that are not over by a cycle are well placed where the whole list is, and from that cycle on

@@ -1,7 +1,7 @@
 //! Lists of placed entries.
 
-ghost use Rattle.std.specs.Prelude.{◌≡◌, ℕ, ◌+◌, ◌^◌, ◌<◌, ◌≤◌, ◌↔◌};
-ghost use Rattle.std.specs.Prelude.{IsTrue, false, Some, IsSomeAnd, IfOk, vec_capacity};
+ghost use Rattle.std.specs.Prelude.{◌≡◌, ℕ, ◌+◌, ◌-◌, ◌^◌, ◌<◌, ◌≤◌, ◌↔◌};
+ghost use Rattle.std.specs.Prelude.{IsTrue, true, false, Some, IsSomeAnd, IfOk, vec_capacity};
 ghost use Rattle.std.specs.List.{list_any};
 ghost use Rattle.requirement_table.specs.Table.{IsEntry, IsInRange, IsWellPlaced};
 ghost use Rattle.requirement_table.specs.Table.{free_from, is_over, not_over, released_in};
@@ -82,11 +82,11 @@ pub fn drop_over(placed: &mut Vec<Placed>, cycle: u64)
     placed.retain(|p| !is_over(p, cycle));
 }
 
-/// A cycle before which none of these entries is over: the least one by which one of them is, or the greatest number
-/// where none ends.
+/// The least cycle by which one of these entries is over, or the greatest number where none ends.
 pub fn first_over(placed: &[Placed]) -> u64
     requires { IsWellPlaced placed.now }
     ensures none_before { (cycle : ℕ) → cycle < result → list_any (is_over cycle) placed.now ≡ false }
+    ensures one { result < 2 ^ 64 - 1 → list_any (is_over result) placed.now ≡ true }
 {
     let mut first = u64::MAX;
     for p in placed {
@@ -99,12 +99,13 @@ pub fn first_over(placed: &[Placed]) -> u64
 fn over_from(p: &Placed) -> u64
     requires { IsInRange p.now }
     ensures not_before { (cycle : ℕ) → cycle < result → is_over cycle p.now ≡ false }
+    ensures from { result < 2 ^ 64 - 1 → is_over result p.now ≡ true }
 {
     free_after(p).unwrap_or(u64::MAX)
 }
 
-/// The placed entries that are not over by `cycle`, in their order: those with an instance that may be sent
-/// in it or later.
+/// The placed entries that are not over by `cycle`, in their order. Each one with an instance that may be sent in it or
+/// later is among them.
 pub fn not_over(alloc: Global, placed: &[Placed], cycle: u64) -> Result<Vec<Placed>, AllocError>
     requires { IsWellPlaced placed.now }
     ensures list { IfOk result (λ left. left.items ≡ not_over cycle placed.now) }

@@ -1,12 +1,9 @@
--- A frame with its own sequence was read.
-use Rattle.std.proofs.Common.{ap, ◌∙◌}
-use Rattle.stuff_bound.specs.Stuffing.{stuffed}
-use Rattle.can_frame.specs.Wire.{with_sequence, plain}
+-- The frame at the front, where nothing is behind it.
+use Rattle.can_frame.proofs.Fronts.{Reads-whole, Reads-more}
 use Rattle.can_frame.proofs.reader.read.Goals as goal
 
-pub finish-requires-clause-stuffed : goal.finish-requires-clause-stuffed
-unfolding plain
-finish-requires-clause-stuffed c =
-    c.in_ok-frame.ensures.ok
-    ∙ ap (λ sequence. stuffed (with_sequence c.in_ok-frame.frame sequence))
-    (c.if-sent-computed.false ∙ c.crc-computed.ensures.value)
+pub returns-then-front-bits : goal.returns-then-front-bits
+returns-then-front-bits c = record { reads = Reads-more c.args.bits.now c.in_ok-front.front c.in_ok-front.ensures.reads c.if-front-bits.true }
+
+pub returns : goal.returns
+returns c = record { reads = Reads-whole c.args.bits.now c.in_ok-front.front c.in_ok-front.ensures.reads c.if-front-bits.false }

@@ -1,9 +1,11 @@
-use Rattle.std.proofs.Common.{All, ap, arith, refl, subst, sym, ◌*◌, ◌++◌, ◌+◌, ◌<◌, ◌∙◌, ◌≡◌}
+use Rattle.std.proofs.Common.{[], All, ap, arith, refl, subst, sym, ◌*◌, ◌++◌, ◌+◌, ◌<◌, ◌∙◌, ◌≡◌}
 use Rattle.std.proofs.Math.Nat.{add-mul}
 use Rattle.node_model.specs.Node.{IsNode}
+use Rattle.bus_line.specs.Stations.{offers_of}
 use Rattle.trigger_codec.specs.Bytes.{trigger_frame}
 use Rattle.cycle_engine.specs.Nodes.{IsBus, heard_by, learnt_by, states_of}
-use Rattle.cycle_engine.specs.Stations.{announced}
+use Rattle.cycle_engine.specs.Stations.{announced, cycle_line}
+use Rattle.cycle_engine.proofs.FewFrames.{few-frames}
 use Rattle.cycle_engine.proofs.Along.{NodeLaws, told-heard}
 use Rattle.cycle_engine.proofs.NextCycle.{AtCycle-behind}
 use Rattle.cycle_engine.proofs.OneCycle.{Follows-same, announced-same, cycle_runs, cycle_stands, learnt_by-are, learnt_by-next}
@@ -78,3 +80,14 @@ returns-clause-next c =
     (order.cycle * length) order.cycle trigger longer refl are c.requires.cycle at c.run.ensures.runs in
     subst (λ nodes. All (λ node. node.next ≡ order.cycle + 1) nodes)
     (told-heard c.run.new.frames.items (announced learned.layout (order.cycle * length) trigger (states_of learned.nodes)) ∙ sym c.run.ensures.heard) behind
+
+pub returns-clause-few : goal.returns-clause-few
+returns-clause-few c =
+    let order = c.args.order.now in
+    let learned = c.learn.new.self in
+    let length = learned.layout.cycle in
+    let trigger = trigger_frame order.cycle order.l order.mask in
+    let few = few-frames (λ frame. omega (arith, c.wire_lengths.ensures.at_least frame))
+    (offers_of cycle_line (announced learned.layout (order.cycle * length) trigger (states_of learned.nodes)))
+    [] (order.cycle * length) ((order.cycle + 1) * length) c.run.new.frames.items c.run.ensures.runs in
+    omega (arith, few, add-mul order.cycle 1 length, ap (λ l. l.cycle) c.learn.ensures.layout)

@@ -2,7 +2,7 @@ use Rattle.std.proofs.Common.{◌≡◌, ◌∙◌, ◌+◌, List, length, slice
 use Rattle.turn_lock.specs.History.{own}
 use Rattle.turn_lock.specs.Passes.{first_view}
 use Rattle.master_core.specs.declared.event.Event.{Event}
-use Rattle.master_core.specs.History.{IsPlainlyLegal, next_of}
+use Rattle.master_core.specs.History.{next_of}
 use Rattle.kept_run.specs.Kept.{Kept}
 use Rattle.kept_run.specs.Progress.{IsSetting, Setting}
 use Rattle.live_master.specs.Callers.{number_of}
@@ -43,7 +43,6 @@ returns g c = record {
       let scripts = c.args.scripts.items in
       record {
         rules = c.close-master.ensures.rules ∙ (c.in_ok-shared.ensures.rules ∙ ap (λ (s : Setting). s.rules) (sym given));
-        plain = subst (λ (h : List Event). IsPlainlyLegal g.setting.rules h) (sym same) run.plain;
         kept = subst (λ (h : List Event). Kept g.setting.rules g.setting.layout g.setting.requests h c.in_ok-run.run'.trace) (sym same) run.kept;
         answers = record {
           opened = ap next_of same ∙ run.opened;

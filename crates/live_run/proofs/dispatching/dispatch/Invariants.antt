@@ -1,4 +1,5 @@
 use Rattle.std.proofs.Common.{◌≡◌}
+use Rattle.cycle_engine.specs.Nodes.{HaveSpare}
 use Rattle.master_core.specs.History.{next_of}
 use Rattle.kept_run.specs.Progress.{Setting}
 use Rattle.live_master.specs.Passes.{IsPassOf}
@@ -10,6 +11,7 @@ invariant-loop g l = record {
   can_run : CanRun l.shared l.pass.view.seen l.bus;
   running : (setting : Setting) → IsRunning setting l.shared l.initial.pass.view.seen l.initial.bus → IsRunning setting l.shared l.pass.view.seen l.bus;
   next : next_of l.pass.view.mine ≡ l.counter;
+  spare : HaveSpare l.room.entries l.bus.nodes.nodes;
   stays : Stays l.initial.pass.view l.pass.view;
   standing : IsPassOf l.shared l.pass;
 }

@@ -57,6 +57,5 @@ returns-clause-run g c =
     IfOk-weaker c.run_whole.result _ _ (λ ended run. record {
       answers = answers-operators c.args.steps.items c.in_ok-parts.parts.cycles c.in_ok-parts.parts.scripts.items ended.master.history
           c.events_in_histories.ensures.calls parted.cycles parted.scripts run.answers;
-      plain = run.plain;
       kept = run.kept;
     }) c.run_whole.ensures.run

@@ -1,5 +1,5 @@
 -- The bits behind the stuffed part, one after another.
-use Rattle.can_frame.proofs.Finish.{early_found, wrong_end_found, more_found, wire_found}
+use Rattle.can_frame.proofs.Finish.{early_found, wrong_end_found, front_found}
 use Rattle.can_frame.proofs.reader.Reader.finish.Goals as goal
 
 pub returns-in_default : goal.returns-in_default
@@ -16,16 +16,9 @@ returns-then-bit-due c = record {
       c.in-Some.ensures.value c.if-bit-due.true c.place.ensures.value;
 }
 
-pub returns-in-Some-peek : goal.returns-in-Some-peek
-returns-in-Some-peek c = record {
+pub returns : goal.returns
+returns c = record {
   reads =
-      more_found c.args.self.now c.loop-due.self c.args.frame c.loop-due.due-index _ c.in-Some-peek.field-0 c.requires.legal c.requires.stuffed c.loop-due.invariant c.loop-due-test.false
-      c.in-Some-peek.ensures.value c.place-in-Some-peek.ensures.value;
-}
-
-pub returns-in-None : goal.returns-in-None
-returns-in-None c = record {
-  reads =
-      wire_found c.args.self.now c.loop-due.self c.args.frame c.loop-due.due-index c.requires.legal c.requires.stuffed c.loop-due.invariant c.loop-due-test.false
-      c.in-None.ensures.value;
+      front_found c.args.self.now c.loop-due.self c.args.frame c.loop-due.due-index _ c.requires.legal c.requires.stuffed c.loop-due.invariant c.loop-due-test.false
+      c.place-2.ensures.value;
 }

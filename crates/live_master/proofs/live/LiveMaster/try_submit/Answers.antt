@@ -1,6 +1,5 @@
-use Rattle.std.proofs.Common.{rules}
-use Rattle.live_master.proofs.Standing.{pass_of}
+use Rattle.live_master.proofs.Calling.{planned_here}
 use Rattle.live_master.proofs.live.LiveMaster.try_submit.Goals as goal
 
-pub submit_once-requires-clause-standing : goal.submit_once-requires-clause-standing
-submit_once-requires-clause-standing c = pass_of _ _ c.pass.invariant.0 (search rules)
+pub try_settle-requires-clause-planned : goal.try_settle-requires-clause-planned
+try_settle-requires-clause-planned c = planned_here _ _ _ _ _ _ c.in_ok-snapshot.ensures.taken c.in-Ok.ensures.planned

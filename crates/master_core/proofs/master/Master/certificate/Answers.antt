@@ -1,6 +1,6 @@
 use Rattle.std.proofs.Common.{◌∙◌}
 use Rattle.master_core.proofs.Certificates.{kept-no_fault, kept-opened}
-use Rattle.master_core.proofs.Planned.{kept-in_time, kept-well_placed}
+use Rattle.master_core.proofs.NextPlan.{kept-in_time, kept-well_placed}
 use Rattle.master_core.proofs.master.Master.certificate.Goals as goal
 
 pub certify-requires-clause-well_placed : goal.certify-requires-clause-well_placed

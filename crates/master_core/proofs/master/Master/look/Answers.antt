@@ -1,7 +1,8 @@
-use Rattle.std.proofs.Common.{◌≡◌, ap, arith, subst, sym}
+use Rattle.std.proofs.Common.{◌≡◌, ap, arith, refl, subst, sym}
+use Rattle.master_core.specs.declared.event.Event.TheVariants.{Look}
 use Rattle.master_core.specs.History.{IsPlainlyLegal}
 use Rattle.master_core.specs.Keeping.{MasterView}
-use Rattle.master_core.proofs.Events.{kept-look, room-used}
+use Rattle.master_core.proofs.Events.{kept-look, not-counted, room-used}
 use Rattle.master_core.proofs.Histories.{plain-push}
 use Rattle.master_core.proofs.master.Master.look.Goals as goal
 
@@ -10,7 +11,7 @@ invariant_of-self c =
     let spare = c.requires.spare in
     let same : c.self.inside.spare ≡ c.args.self.now.spare = ap (λ (v : MasterView). v.spare) c.self.view_is in
     rw c.put.ensures.events
-    (kept-look _ _ _ _ _ _ _ _ c.self.invariant.0 c.args.caller, room-used _ _ _ _ _ c.self.invariant.1 (omega arith) c.put.ensures.room)
+    (kept-look _ _ _ _ _ _ _ _ c.self.invariant.0 c.args.caller, room-used _ _ _ _ _ c.self.invariant.1 (omega arith) c.put.ensures.room, not-counted c.self.inside.history.items (Look c.args.caller c.self.inside.state.cycle) c.self.inside.accepted refl c.self.invariant.2)
 
 pub returns-clause-legal : goal.returns-clause-legal
 returns-clause-legal c = rw c.put.ensures.events (kept-look _ _ _ _ _ _ _ _ c.self.invariant.0 c.args.caller).legal

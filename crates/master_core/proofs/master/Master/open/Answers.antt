@@ -1,11 +1,12 @@
-use Rattle.std.proofs.Common.{◌≡◌, ap, ◌∙◌, subst, sym, arith}
+use Rattle.std.proofs.Common.{◌≡◌, ap, ◌∙◌, refl, subst, sym, arith}
 use Rattle.planner_policies.specs.Plan.{Ranking}
+use Rattle.master_core.specs.declared.event.Event.TheVariants.{Open}
 use Rattle.master_core.specs.History.{IsPlainlyLegal, next_of}
 use Rattle.master_core.specs.Keeping.{MasterView}
 use Rattle.master_core.specs.Orders.{IsOrder}
-use Rattle.master_core.proofs.Events.{kept-open, kept-passed, room-used}
+use Rattle.master_core.proofs.Events.{kept-open, kept-passed, not-counted, room-used}
 use Rattle.master_core.proofs.Histories.{plain-push}
-use Rattle.master_core.proofs.Planned.{order-is, ranked-in_time, ranked-left, ranked-mask, ranked-valid}
+use Rattle.master_core.proofs.NextPlan.{order-is, ranked-in_time, ranked-left, ranked-mask, ranked-valid}
 use Rattle.master_core.proofs.master.Master.open.Goals as goal
 
 pub pass-requires-clause-left : goal.pass-requires-clause-left
@@ -32,6 +33,7 @@ invariant_of-self c =
       kept-open _ _ _ _ _ _ _ _ kept _ _ _ (omega arith) (c.plan_next-mask.ensures.mask ∙ ranked-mask _ _ _ _ _ _ _ _ kept) c.plan_next-mask.ensures.cycle
           (c.plan_next-mask.ensures.pending ∙ ranked-left _ _ _ _ _ _ _ _ kept),
       room-used _ _ _ _ _ c.self.invariant.1 (omega arith) c.put.ensures.room,
+      not-counted c.self.inside.history.items (Open c.self.inside.state.cycle c.plan_next-mask.result.mask) c.self.inside.accepted refl c.self.invariant.2,
     )
 
 pub returns-clause-order : goal.returns-clause-order

@@ -1,49 +1,42 @@
-use Rattle.std.proofs.Common.{subst}
-use Rattle.master_core.specs.Answers.{IsAnswer}
+use Rattle.std.proofs.Common.{◌≡◌, ◌∙◌, subst, IfOk}
+use Rattle.std.proofs.lemmas.Result.{IfOk-weaker}
+use Rattle.admission.specs.Verdict.{IsInTime, IsTakenWhereDue, plan_from}
+use Rattle.change_protocol.specs.Applied.{applied}
+use Rattle.master_core.specs.Answers.{IsAnswer, IsPlannedFrom}
+use Rattle.master_core.specs.History.{next_of}
 use Rattle.master_core.specs.Keeping.{MasterView}
 use Rattle.master_core.proofs.Certificates.{IsDue, kept-due}
-use Rattle.master_core.proofs.Events.{answer-refused, answer-taken, taken-well_placed}
-use Rattle.master_core.proofs.Planned.{kept-valid, kept-well_placed}
+use Rattle.master_core.proofs.NextPlan.{kept-valid, kept-well_placed}
+use Rattle.master_core.proofs.Settling.{kept-answer}
 use Rattle.master_core.proofs.master.Master.plan_change.Goals as goal
-use Rattle.master_core.proofs.master.Master.plan_change.Goals.{in-None, in-Some+in_ok-made_of-in-Some}
 
-pub decide-requires-clause-well_placed : goal.decide-requires-clause-well_placed
-decide-requires-clause-well_placed c = rw c.as_slice.ensures.value (kept-well_placed _ _ _ _ _ _ _ _ c.self.invariant.0)
+pub answer_of-requires-clause-well_placed : goal.answer_of-requires-clause-well_placed
+answer_of-requires-clause-well_placed c = rw c.as_slice.ensures.value (kept-well_placed _ _ _ _ _ _ _ _ c.self.invariant.0)
 
-pub decide-requires-clause-valid : goal.decide-requires-clause-valid
-decide-requires-clause-valid c = rw c.as_slice.ensures.value (kept-valid _ _ _ _ _ _ _ _ c.self.invariant.0)
-
-pub returns-clause-complete : goal.returns-clause-complete
-returns-clause-complete c =
-    let list = c.as_slice.ensures.value in
-    let due = rw list at c.in_ok-verdict.ensures.complete in
-    subst (λ (v : MasterView). IsDue v.rules v.history c.args.change.now c.in_ok-verdict.field-0.verdict) c.self.view_is
-    (kept-due _ _ _ _ _ _ _ _ c.self.invariant.0 c.args.change.now c.in_ok-verdict.field-0.verdict due)
-
-pub made_of-requires : goal.made_of-requires
-made_of-requires c =
-    let list = c.as_slice.ensures.value in
-    let decided = rw list at c.in_ok-verdict.ensures.decision in
-    taken-well_placed _ _ _ _ _ _ _ _ c.self.invariant.0 c.args.change.now c.in_ok-verdict.field-0 c.in_ok-change.ensures.types decided c.in-Some.list c.in-Some.is
+pub answer_of-requires-clause-valid : goal.answer_of-requires-clause-valid
+answer_of-requires-clause-valid c = rw c.as_slice.ensures.value (kept-valid _ _ _ _ _ _ _ _ c.self.invariant.0)
 
 pub returns-clause-answer : goal.returns-clause-answer
 returns-clause-answer c =
-    let list = c.as_slice.ensures.value in
-    let decided = rw list at c.in_ok-verdict.ensures.decision in
-    let types = c.in_ok-change.ensures.types in
-    let same = c.in_ok-change.ensures.same in
-    subst (λ (v : MasterView). IsAnswer v.rules v.history (record {
-      change = c.in_ok-change.change;
-      from = c.self.inside.state.cycle;
-      verdict = c.in_ok-verdict.field-0.verdict;
-      trail = c.in_ok-verdict.field-0.trail;
-      made = c.match-placed-2.made;
-    })) c.self.view_is
-    (elim c.match-placed-2.branch [
-      | in-None w ↦
-          answer-refused _ _ _ _ _ _ _ _ c.self.invariant.0 c.args.change.now c.in_ok-verdict.field-0 types decided _ _ same w.made-is w.in-None.is
-      | in-Some+in_ok-made_of-in-Some w ↦
-          answer-taken _ _ _ _ _ _ _ _ c.self.invariant.0 c.args.change.now c.in_ok-verdict.field-0 types decided w.in-Some.list w.in-Some.is _ _ _ _ same
-          w.made-is w.in_ok-made_of-in-Some.ensures.placed w.in_ok-made_of-in-Some.ensures.since w.in_ok-made_of-in-Some.ensures.ranked
-          w.in_ok-made_of-in-Some.ensures.learned
-    ])
+    let planned = rw c.as_slice.ensures.value at c.answer_of.ensures.planned in
+    subst (λ (v : MasterView). IfOk c.answer_of.result (IsAnswer v.rules v.history)) c.self.view_is
+    (IfOk-weaker c.answer_of.result (IsPlannedFrom c.self.inside.rules c.self.inside.table.placed.items c.self.inside.state)
+    (IsAnswer c.self.inside.rules c.self.inside.history.items) (λ answer is. kept-answer _ _ _ _ _ _ _ _ c.self.invariant.0 answer is) planned)
+
+pub returns-clause-from : goal.returns-clause-from
+returns-clause-from c =
+    let planned = rw c.as_slice.ensures.value at c.answer_of.ensures.planned in
+    subst (λ (v : MasterView). IfOk c.answer_of.result (λ answer. answer.from ≡ next_of v.history)) c.self.view_is
+    (IfOk-weaker c.answer_of.result (IsPlannedFrom c.self.inside.rules c.self.inside.table.placed.items c.self.inside.state)
+    (λ answer. answer.from ≡ next_of c.self.inside.history.items) (λ answer is. is.from ∙ c.self.invariant.0.next) planned)
+
+pub returns-clause-complete : goal.returns-clause-complete
+returns-clause-complete c =
+    let due = rw c.as_slice.ensures.value at c.answer_of.ensures.complete in
+    subst (λ (v : MasterView). IfOk c.answer_of.result (λ answer. IsDue v.rules v.history c.args.change.now answer.verdict)) c.self.view_is
+    (IfOk-weaker c.answer_of.result
+    (λ answer. IsInTime c.self.inside.rules c.self.inside.table.placed.items c.self.inside.state.cycle c.args.change.now
+    → IsTakenWhereDue c.self.inside.rules
+    (plan_from c.self.inside.rules (applied c.self.inside.table.placed.items c.args.change.now) c.self.inside.state.cycle c.self.inside.state.pending) answer.verdict)
+    (λ answer. IsDue c.self.inside.rules c.self.inside.history.items c.args.change.now answer.verdict)
+    (λ answer is. kept-due _ _ _ _ _ _ _ _ c.self.invariant.0 c.args.change.now answer.verdict is) due)

@@ -3,7 +3,7 @@ use Rattle.requirement_table.specs.declared.entries.Placed.{Placed}
 use Rattle.planner_policies.specs.Plan.{mask_at}
 use Rattle.master_core.specs.History.{next_of, placed_of, plan_of}
 use Rattle.master_core.specs.Keeping.{MasterView}
-use Rattle.master_core.proofs.Planned.{ranked-mask, ranked-valid}
+use Rattle.master_core.proofs.NextPlan.{ranked-mask, ranked-valid}
 use Rattle.master_core.proofs.master.Master.planned.Goals as goal
 
 pub cycle_mask-requires-clause-valid : goal.cycle_mask-requires-clause-valid

@@ -1,8 +1,9 @@
-use Rattle.std.proofs.Common.{◌≡◌, ap, arith, refl, subst, sym}
+use Rattle.std.proofs.Common.{◌≡◌, ◌∙◌, ap, arith, refl, subst, sym}
+use mir.Val.{bool_byte}
 use Rattle.master_core.specs.Answers.{IsAnswer}
 use Rattle.master_core.specs.History.{IsPlainlyLegal, next_of}
 use Rattle.master_core.specs.Keeping.{MasterView}
-use Rattle.master_core.proofs.Events.{kept-put, legal-put, room-used}
+use Rattle.master_core.proofs.Events.{counted, kept-put, legal-put, room-used}
 use Rattle.master_core.proofs.Histories.{plain-push}
 use Rattle.master_core.proofs.master.Master.put_answer.Goals as goal
 
@@ -14,6 +15,7 @@ invariant_of-self c =
     rw c.put.ensures.events (
       kept-put _ _ _ _ _ _ _ _ c.self.invariant.0 c.args.caller c.args.answer is.right c.args.answer.made _ _ _ _ is.made c.take_over.ensures refl refl refl refl,
       room-used _ _ _ _ _ c.self.invariant.1 (omega arith) c.put.ensures.room,
+      counted c.self.inside.history.items c.args.caller c.args.answer c.self.inside.accepted _ c.self.invariant.2 (c.from.ensures ∙ ap bool_byte c.is_accepted.ensures.test),
     )
 
 pub returns-clause-legal : goal.returns-clause-legal

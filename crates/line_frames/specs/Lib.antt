@@ -1,0 +1,4 @@
+pub mod BitsText
+pub mod Rows
+pub mod Listing
+pub mod Stops

@@ -1,0 +1,12 @@
+use Rattle.std.proofs.Common.{◌≡◌}
+use Rattle.turn_lock.specs.Passes.{IsOf}
+use Rattle.live_master.specs.Calls.{IsPlannedIn, Waited}
+use Rattle.live_master.proofs.live.LiveMaster.settle.Given as goal
+
+abbrev pub invariant-loop : goal.invariant-loop
+invariant-loop g l = record {
+  of : IsOf l.self l.pass;
+  waited : Waited l.initial.pass l.pass;
+  same : l.plan ≡ l.initial.plan;
+  planned : IsPlannedIn l.self.fixed l.pass.view.seen l.change l.plan;
+}

@@ -1,0 +1,15 @@
+use Rattle.std.proofs.Common.{rules, ◌≡◌}
+use Rattle.turn_lock.specs.Passes.{knowing, refused}
+use Rattle.live_master.proofs.Calling.{settled}
+use Rattle.live_master.proofs.turns.settle_once.Goals as goal
+
+pub returns-in-Err-clause-facts : goal.returns-in-Err-clause-facts
+returns-in-Err-clause-facts c =
+    let is : c.try_turn.follows.lender-at-none ≡ knowing c.args.pass.now (refused c.in-Err.busy.word c.args.pass.now.view) = search rules in
+    rw is c.in-Err.ensures.facts
+
+pub returns-in-Ok-settle-clause-settled : goal.returns-in-Ok-settle-clause-settled
+returns-in-Ok-settle-clause-settled c =
+    let (trail, event) = c.in-Ok-settle.ensures.event in
+    let caller = c.requires.caller.0 in
+    settled _ _ _ _ _ trail c.in-Ok.held.value.master.history c.in-Ok.ensures.begins (search rules)
