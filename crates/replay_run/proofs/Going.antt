@@ -1,5 +1,5 @@
 -- What keeps a run going.
-use Rattle.std.proofs.Common.{◌≡◌, ◌≢◌, ℕ, ◌+◌, ◌*◌, ◌^◌, ◌<◌, ◌≤◌, ◌⊎◌, false, cond, length, List, [], ◌∷◌, ◌++◌, map, All, sym, ap, ◌∙◌, subst, arith, inl, inr, add-zero}
+use Rattle.std.proofs.Common.{◌≡◌, ◌≢◌, ℕ, ◌+◌, ◌*◌, ◌/◌, ◌^◌, ◌<◌, ◌≤◌, ◌⊎◌, false, cond, length, List, [], ◌∷◌, ◌++◌, map, All, sym, ap, ◌∙◌, subst, arith, inl, inr, add-zero}
 use Rattle.std.specs.Prelude.{is_some}
 use Rattle.std.specs.List.{range_with_len}
 use Rattle.std.proofs.lemmas.List.{append-nil}
@@ -13,7 +13,7 @@ use Rattle.async_window.specs.declared.request.Request.{Request}
 use Rattle.admission_rules.specs.declared.Rules.{Rules}
 use Rattle.bus_line.specs.Trace.{Follows, end_of}
 use Rattle.cycle_engine.specs.Cycle.{FitsWindow, FollowsTrace, IsRequestFrame, IsSlotFrame, RunsCycle}
-use Rattle.cycle_engine.specs.Nodes.{HaveSpare, IsBus, IsNumber, NodesView, opening_of, states_of}
+use Rattle.cycle_engine.specs.Nodes.{HaveSpare, NodesView, opening_of, states_of}
 use Rattle.cycle_engine.specs.Offered.{AreAsynchronous, IsCanTrace, offered_in}
 use Rattle.master_core.specs.declared.event.Event.{Event}
 use Rattle.master_core.specs.declared.event.Event.TheVariants.{Open}
@@ -21,14 +21,13 @@ use Rattle.master_core.specs.History.{IsLegal, IsPlainlyLegal, is_open, next_of,
 use Rattle.master_core.specs.Openings.{openings_of}
 use Rattle.master_core.specs.Orders.{IsOrder}
 use Rattle.kept_run.specs.Progress.{AreReady, IsOnTheWay, IsSetting, IsUnderWay, Setting}
-use Rattle.kept_run.proofs.Shared.{CallsBetween, CyclesRun, RanOrder, next_of-push, number-below, way-called, way-run}
+use Rattle.kept_run.proofs.Shared.{CallsBetween, CyclesRun, RanOrder, next_of-push, number-below, way-called, way-run, way-same}
 use Rattle.node_model.specs.Node.{NodeView}
 use Rattle.bus_trace.specs.EventRows.{BeginsCycle, rows_of_event, width_told_in}
 use Rattle.bus_trace.specs.Log.{events_rows, triggers_in}
 use Rattle.replay_run.specs.declared.bus.Bus.{Bus}
 use Rattle.replay_run.specs.Progress.{CanGo, CanTellLast, GoesStill, IsBroughtOn, IsGoing}
 use Rattle.replay_run.specs.Written.{KeepsFrames}
-use Rattle.replay_run.proofs.FewFrames.{TakesTime, few-frames}
 use Rattle.replay_run.proofs.EventRows.{called-rows, opened-rows, triggers-more}
 
 -- a run whose master has answered a call that opens no cycle goes on
@@ -190,33 +189,14 @@ ran laws setting trace run after order frames right did same_rules history keeps
     }
 
 -- its frames are few
-pub few : TakesTime → CyclesRun → (run : Bus) (new : NodesView) (order : Order) (frames : List TimedFrame) → CanGo run
-    → IsOrder run.master.rules run.master.history order → RanOrder order run.nodes new frames → length frames ≤ 2128
-few long laws run new order frames can ordered did =
-    let setting = can.0 in
-    let going = can.2 in
-    let way = going.way in
-    let right = subst (λ r. IsOrder r run.master.history order) going.same_rules ordered in
-    let before = laws.before setting run.master.history can.1 run.nodes order way.under_way way.ready right in
-    let follows = did.runs setting.owners setting.requests (placed_of run.master.history) can.1 before in
-    let count = few-frames long _ can.1 (order.cycle * run.nodes.layout.cycle) ((order.cycle + 1) * run.nodes.layout.cycle) frames follows in
-    let same : run.nodes.layout.cycle ≡ setting.layout.cycle = ap (λ layout. layout.cycle) way.ready.same_layout in
+pub few : (run : Bus) (frames : List TimedFrame) → CanGo run → length frames ≤ run.nodes.layout.cycle / 47 + 1 → length frames ≤ 2128
+few run frames can count =
+    let way = can.2.way in
+    let same : run.nodes.layout.cycle ≡ can.0.layout.cycle = ap (λ layout. layout.cycle) way.ready.same_layout in
     let most = way.known.known.cycle_range.below in
-    let product : (order.cycle + 1) * run.nodes.layout.cycle ≡ order.cycle * run.nodes.layout.cycle + run.nodes.layout.cycle = omega arith in
-    omega arith
+    omega (arith, count, same, most)
 
 -- A run that only made room
-
--- nodes that show the same states are as ready
-still-ready : (setting : Setting) (history : List Event) (trace : List TimedFrame) (nodes new : NodesView) → new.layout ≡ nodes.layout
-    → states_of new.nodes ≡ states_of nodes.nodes → AreReady setting history trace nodes → AreReady setting history trace new
-still-ready setting history trace nodes new layout states ready = record {
-  same_layout = layout ∙ ready.same_layout;
-  numbers = λ number within. subst (λ s. IsNumber s number) (sym states) (ready.numbers number within);
-  known = ready.known;
-  bus = subst (IsBus setting.layout setting.owners setting.requests ready.known trace (next_of history)) (sym states) ready.bus;
-  up_to_date = ready.up_to_date;
-}
 
 pub still : (run after : Bus) → after.master.rules ≡ run.master.rules → after.master.history ≡ run.master.history
     → ((trace : List TimedFrame) → KeepsFrames run.trace trace → KeepsFrames after.trace trace) → is_some after.trace ≡ is_some run.trace
@@ -228,11 +208,8 @@ still run after rules history frames kept layout states spare = record {
   going = λ setting trace going. record {
     same_rules = rules ∙ going.same_rules;
     plain = subst (IsPlainlyLegal setting.rules) (sym history) going.plain;
-    way = subst (λ h. IsOnTheWay setting h trace after.nodes) (sym history) (record {
-      known = going.way.known;
-      under_way = going.way.under_way;
-      ready = still-ready setting run.master.history trace run.nodes after.nodes layout states going.way.ready;
-    });
+    way = subst (λ h. IsOnTheWay setting h trace after.nodes) (sym history)
+        (way-same setting run.master.history trace run.nodes after.nodes layout states going.way);
     triggers = going.triggers ∙ ap next_of (sym history);
     frames = frames trace going.frames;
     spare = spare setting trace going;

@@ -1,7 +1,6 @@
 mod Beginnings
 mod Cutting
 mod EventRows
-mod FewFrames
 mod Fronts
 mod Going
 mod Histories

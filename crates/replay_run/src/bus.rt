@@ -17,7 +17,6 @@ ghost use Rattle.replay_run.specs.Written.{KeepsFrames};
 
 use async_window::Request;
 use can_frame::TimedFrame;
-use can_frame::laws::wire_lengths;
 use change_protocol::{Act, Change};
 use cycle_engine::laws::next_cycle;
 use cycle_engine::{Nodes, Segment, run_cycle_in};
@@ -109,11 +108,7 @@ pub fn in_ranges(system: &System, requests: &[Request])
 }
 
 /// The nodes of a system before cycle 0, with these requests.
-fn fresh_nodes(
-    alloc: Global,
-    system: &System,
-    requests: &[Request],
-) -> Result<Nodes, AllocError>
+fn fresh_nodes(alloc: Global, system: &System, requests: &[Request]) -> Result<Nodes, AllocError>
     requires system { IsSystem system.now }
     requires requests { AreLegal system.now.owners requests.now }
     ensures ready { IfOk result (AreReady (setting_of system.now requests.now) [] []) }
@@ -188,7 +183,6 @@ impl Bus {
         cycles_run();
         next_cycle();
         opened_cycles();
-        wire_lengths();
         let order = self.master.open();
         run_cycle_in(&order, &mut self.nodes, &mut self.segment);
         keep(&mut self.trace, self.segment.frames());

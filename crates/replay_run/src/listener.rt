@@ -92,12 +92,7 @@ impl<'a, O: Sink> Listener for ToSink<'a, O> {
     ghost broke = { λ old rows new. (new.out.ghost_name ≡ old.out.ghost_name)
         × BreaksOff O.told_bytes O.faults old.out.now rows new.out.now };
 
-    fn hear(
-        &mut self,
-        _alloc: Global,
-        event: &Event,
-        frames: &[TimedFrame],
-    ) -> Result<(), Failed> {
+    fn hear(&mut self, _alloc: Global, event: &Event, frames: &[TimedFrame]) -> Result<(), Failed> {
         put_event_rows(self.out, event, frames)
     }
 
@@ -107,11 +102,15 @@ impl<'a, O: Sink> Listener for ToSink<'a, O> {
 
     ghost nothing = { λ one. (refl, takes-nothing O.told_bytes O.faults one.out.now) };
 
-    ghost more = { λ one other third rows later first second. (second.0 ∙ first.0,
-        takes-more O.told_bytes O.faults one.out.now other.out.now third.out.now rows later first.1 second.1) };
+    ghost more = { λ one other third rows later first second. (
+      second.0 ∙ first.0,
+      takes-more O.told_bytes O.faults one.out.now other.out.now third.out.now rows later first.1 second.1,
+    ) };
 
-    ghost broke_later = { λ one other third rows later first second. (second.0 ∙ first.0,
-        breaks-later O.told_bytes O.faults one.out.now other.out.now third.out.now rows later first.1 second.1) };
+    ghost broke_later = { λ one other third rows later first second. (
+      second.0 ∙ first.0,
+      breaks-later O.told_bytes O.faults one.out.now other.out.now third.out.now rows later first.1 second.1,
+    ) };
 }
 
 /// The last rows. It never holds more of the log than these and the rows of one event.
@@ -171,12 +170,7 @@ impl Listener for Tail {
 
     ghost broke = { λ old rows new. ⊤ };
 
-    fn hear(
-        &mut self,
-        alloc: Global,
-        event: &Event,
-        frames: &[TimedFrame],
-    ) -> Result<(), Failed> {
+    fn hear(&mut self, alloc: Global, event: &Event, frames: &[TimedFrame]) -> Result<(), Failed> {
         rows_are_whole();
         self.rows.text.clear();
         put_event_rows(&mut self.rows, event, frames)?;

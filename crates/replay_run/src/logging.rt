@@ -114,16 +114,21 @@ impl<'a, L: Listener> Driven for Logged<'a, L> {
 
     ghost at_once = { λ one. (refl, refl, goes-at_once L.heard one.bus.now one.listener.now) };
 
-    ghost in_turn = { λ one other third calls later first second. (second.0 ∙ first.0, second.1 ∙ first.1,
-        goes-in_turn L.heard one.bus.now other.bus.now third.bus.now
-        one.listener.now other.listener.now third.listener.now calls later first.2 second.2) };
+    ghost in_turn = { λ one other third calls later first second. (
+      second.0 ∙ first.0,
+      second.1 ∙ first.1,
+      goes-in_turn L.heard one.bus.now other.bus.now third.bus.now
+          one.listener.now other.listener.now third.listener.now calls later first.2 second.2,
+    ) };
 
     ghost ready_still = { λ one other calls ready on. (ready.0, on.2.logged ready.0 ready.1) };
 
-    ghost stops_later = { λ one other third calls later more why first second.
-        (second.0 ∙ first.0, second.1 ∙ first.1,
-        cut-later L.heard L.broke one.bus.now other.bus.now
-        one.listener.now other.listener.now third.listener.now calls later more why first.2 second.2) };
+    ghost stops_later = { λ one other third calls later more why first second. (
+      second.0 ∙ first.0,
+      second.1 ∙ first.1,
+      cut-later L.heard L.broke one.bus.now other.bus.now
+          one.listener.now other.listener.now third.listener.now calls later more why first.2 second.2,
+    ) };
 }
 
 /// Has the calls of steps answered on a bus, and their rows heard.

@@ -6,15 +6,7 @@ use Rattle.replay_run.proofs.bus.Bus.run_next.Goals as goal
 pub keep-requires-clause-few : goal.keep-requires-clause-few
 keep-requires-clause-few c =
     subst (λ l. length l ≤ 2128) (sym c.frames.ensures.list)
-    (few c.wire_lengths.ensures.at_least
-    (record { before = c.orders.ensures.before; under_way = c.cycles_run.ensures.under_way; ready = c.cycles_run.ensures.ready })
-    c.args.self.now c.run_cycle_in.new.nodes c.open-order.result c.run_cycle_in.new.segment c.requires.going c.open-order.ensures.order
-    (record {
-      layout = c.run_cycle_in.ensures.layout;
-      heard = c.run_cycle_in.ensures.heard;
-      runs = c.run_cycle_in.ensures.runs;
-      stand = c.run_cycle_in.ensures.stand;
-    }))
+    (few c.args.self.now c.run_cycle_in.new.segment c.requires.going c.run_cycle_in.ensures.few)
 
 pub returns-clause-on : goal.returns-clause-on
 returns-clause-on c = λ setting trace going.
