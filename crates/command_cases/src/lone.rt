@@ -34,7 +34,9 @@ fn run<T: Threads + Wait + Sync, G: Gate>(
     scripts.push(script)?;
     let (shared, mut pass) = LiveMaster::new(alloc, rules())?;
     let nodes = Nodes::new(alloc, layout, 1, &[], &[])?;
-    run_live(threads, alloc, &shared, &mut pass, nodes, cycles, scripts, gate)?;
+    run_live(
+        threads, alloc, &shared, &mut pass, nodes, cycles, scripts, gate,
+    )?;
     Ok(shared.close(pass))
 }
 
