@@ -2,7 +2,7 @@
 use Rattle.std.proofs.Common.{◌≡◌, ℕ, ◌+◌, ◌-◌, ◌%◌, ◌<◌, ◌≤◌, false, List, ◌++◌, All, length, sym, ap, ◌∙◌, subst, ⊎_elim, zero-add, arith}
 use Rattle.std.proofs.lemmas.Bool.{cases_lt}
 use Rattle.requirement_table.specs.declared.entries.Placed.{Placed}
-use Rattle.requirement_table.specs.Slots.{slots}
+use Rattle.requirement_table.specs.Slots.{most_slots}
 use Rattle.requirement_table.specs.Table.{IsWellPlaced}
 use Rattle.planner_policies.specs.declared.state.PlanState.{PlanState}
 use Rattle.planner_policies.specs.Loop.{RepeatsFrom}
@@ -45,10 +45,10 @@ module _ (rules : Rules) (placed : List Placed) (cycle pending : ℕ) (left : pe
 
   pub whole-pending : (n : ℕ) → pending_at whole (cycle + n) ≡ pending_at onward n
   whole-pending n =
-      set_of-same slots (pending_before whole (cycle + n)) (pending_before onward n)
+      set_of-same most_slots (pending_before whole (cycle + n)) (pending_before onward n)
       (λ slot known. on-pending whole cycle n slot known ∙ ap (λ (plan : Planning). pending_before plan n slot) onward-is)
 
-  whole-missed : (n slot : ℕ) → slot < slots → is_missed_at whole (cycle + n) slot ≡ is_missed_at onward n slot
+  whole-missed : (n slot : ℕ) → slot < most_slots → is_missed_at whole (cycle + n) slot ≡ is_missed_at onward n slot
   whole-missed n slot known = on-missed whole cycle n slot known ∙ ap (λ (plan : Planning). is_missed_at plan n slot) onward-is
 
   pub whole-never : HasNoMiss whole cycle → NeverMisses onward → NeverMisses whole

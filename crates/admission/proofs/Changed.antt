@@ -12,7 +12,7 @@ use Rattle.planner_policies.specs.declared.Policy.{Policy}
 use Rattle.planner_policies.specs.declared.Policy.TheVariants.{Rm, Dm, Edf}
 use Rattle.planner_policies.specs.Plan.{IsValid, by_number, key_in, key_of, mask_at, pending_at, priority_in}
 use Rattle.admission_rules.specs.declared.Rules.{Rules}
-use Rattle.admission.specs.Verdict.{plan_from}
+use Rattle.admission.specs.Verdict.{plan_from, ranking_by}
 use Rattle.admission.proofs.Cycles.{IsLike, same-mask, same-pending}
 
 endless-key : (policy : Policy) (o : Option Instance) → option_map_or (key_of policy) (option_map without_end o) 0 ≡ option_map_or (key_of policy) o 0
@@ -55,13 +55,13 @@ like-changed policy start c old new changed early =
 pub pending-unfelt : (rules : Rules) (placed : List Placed) (change : Change) (from pending n : ℕ) → IsWellPlaced placed → from + n ≤ change.start
     → pending_at (plan_from rules (applied placed change) from pending) n ≡ pending_at (plan_from rules placed from pending) n
 pending-unfelt rules placed change from pending n well early =
-    same-pending rules.policy rules.window (applied placed change) placed from pending n
+    same-pending (ranking_by rules (applied placed change)) placed rules.window from pending n
     (λ m below. like-changed rules.policy change.start (from + m) placed (applied placed change) (changed-applied placed change well.in_range) (omega arith))
 
 pub mask-unfelt : (rules : Rules) (placed : List Placed) (change : Change) (from pending n : ℕ) → IsWellPlaced placed → from + n < change.start
     → mask_at (plan_from rules (applied placed change) from pending) n ≡ mask_at (plan_from rules placed from pending) n
 mask-unfelt rules placed change from pending n well early =
-    same-mask rules.policy rules.window (applied placed change) placed from pending n
+    same-mask (ranking_by rules (applied placed change)) placed rules.window from pending n
     (λ m below. like-changed rules.policy change.start (from + m) placed (applied placed change) (changed-applied placed change well.in_range) (omega arith))
 
 -- what is pending before the start may still be sent

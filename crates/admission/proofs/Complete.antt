@@ -6,10 +6,10 @@ use Rattle.std.proofs.lemmas.Bool.{cases_Bool, cases_lt}
 use Rattle.std.proofs.lemmas.List.Elements.{All-contains}
 use Rattle.requirement_table.specs.declared.entries.Placed.{Placed}
 use Rattle.requirement_table.specs.Instance.{Instance, IsReleasedIn, MaySend, release_of}
-use Rattle.requirement_table.specs.Table.{IsInRange, IsWellPlaced, instance_in}
+use Rattle.requirement_table.specs.Table.{IsHeldFrom, IsInRange, IsWellPlaced, instance_in}
 use Rattle.requirement_table.proofs.Shared.{instance_in-sound}
 use Rattle.planner_policies.specs.Loop.{settled_at}
-use Rattle.planner_policies.specs.Plan.{HasNoMiss, IsHeldFrom, IsValid, NeverMisses, Planning, pending_at, pending_before}
+use Rattle.planner_policies.specs.Plan.{HasNoMiss, IsValid, NeverMisses, Planning, pending_at, pending_before}
 use Rattle.admission.specs.Recurrence.{AllRelease, AreAlike, HasNoRecurrence, IsCommonPeriod, IsLeastCommonPeriod, bound_of}
 use Rattle.admission.proofs.Cycles.{agree-set, set-none}
 use Rattle.admission.proofs.Divided.{parts-of}

@@ -16,7 +16,7 @@ use Rattle.admission.specs.Certified.{IsMissBehind}
 use Rattle.admission.specs.Course.{course_of, is_held_from}
 use Rattle.admission.specs.Period.{IsPeriodUpTo}
 use Rattle.admission.specs.Recurrence.{HasNoRecurrence, bound_of}
-use Rattle.admission.specs.Verdict.{IsDecisionOnPlan, IsMissDecision, IsPlannedUpTo, IsSafe, IsTakenWhereDue, IsVerdictOnPlan, masks_of, placed_with, plan_from, trail_of}
+use Rattle.admission.specs.Verdict.{IsDecisionOnPlan, IsMissDecision, IsPlannedUpTo, IsSafe, IsTakenWhereDue, IsVerdictOnPlan, masks_of, placed_with, plan_from, ranking_by, trail_of}
 use Rattle.admission.specs.WalkLaws.{GoesOn}
 use Rattle.admission.specs.Walked.{IsWalked}
 use Rattle.admission.proofs.Complete.{StaysValid, recurs}
@@ -27,7 +27,7 @@ use Rattle.admission.proofs.Same.{goes-on, held-tests}
 use Rattle.admission.proofs.States.{broken-missed, broken-none, came-to}
 
 abbrev ranking_of : Rules → List Placed → ℕ → Ranking
-ranking_of rules list from = record { placed = not_over from list; policy = rules.policy }
+ranking_of rules list from = ranking_by rules (not_over from list)
 
 on-plan : (horizon : ℕ) (plan : Planning) (verdict : Verdict) (decision : Decision) → decision.verdict ≡ verdict → IsVerdictOnPlan horizon plan verdict
     → decision.placed ≡ placed_with plan.placed verdict → decision.trail ≡ trail_of plan verdict → IsDecisionOnPlan horizon plan decision
@@ -79,7 +79,7 @@ module _ (rules : Rules) (list : List Placed) (from pending : ℕ) (walked : Ran
   pub accepted-never : LoopsOnce → (one other : ℕ) → IsLeastRepeat walk one other → NeverMisses whole
   accepted-never loops one other least =
       let here = to-reduced (λ course. IsLeastRepeat course one other) least in
-      never-after rules.policy rules.window list (not_over from list) from pending bound rules.horizon period is.known like is.bound_is is.period_is
+      never-after (ranking_of rules list from) list rules.window from pending bound rules.horizon period is.known like is.bound_is is.period_is
       loops is.well one other here.repeats
 
   -- what the repeat says of the planning
@@ -89,7 +89,7 @@ module _ (rules : Rules) (list : List Placed) (from pending : ℕ) (walked : Ran
       let here = to-reduced (λ course. IsLeastRepeat course number (number + length)) least in
       let never = accepted-never loops number (number + length) least in (
         (λ m slot below. never m slot),
-        is-recurrence rules.policy rules.window list (not_over from list) from pending bound rules.horizon period is.known like is.bound_is is.period_is
+        is-recurrence (ranking_of rules list from) list rules.window from pending bound rules.horizon period is.known like is.bound_is is.period_is
             never number length here,
         omega arith,
       )
@@ -105,13 +105,13 @@ module _ (rules : Rules) (list : List Placed) (from pending : ℕ) (walked : Ran
   repeated-none one other least =
       let here = to-reduced (λ course. IsLeastRepeat course one other) least in
       from-reduced_plan (λ plan. HasNoMiss plan other)
-      (came-to rules.policy rules.window (not_over from list) (not_over from list) from pending bound period is.known
+      (came-to (ranking_of rules list from) (not_over from list) rules.window from pending bound period is.known
       (λ n. like-refl rules.policy (not_over from list) (from + n)) other here.repeats.again here.repeats.again_is)
 
   pub planned-whole : (number : ℕ) (masks : List ℕ) (behind : PlanState) → IsPlannedUpTo walked_plan number masks behind → masks ≡ masks_of whole number
   planned-whole number masks behind planned =
       (to-reduced_plan (λ plan. IsPlannedUpTo plan number masks behind) planned).list
-      ∙ same-masks rules.policy rules.window (not_over from list) list from pending number (λ m below. like m)
+      ∙ same-masks (ranking_of rules list from) list rules.window from pending number (λ m below. like m)
 
   pub safe : LoopsOnce → (one other : ℕ) (placed : List Placed) → placed ≡ list → IsLeastRepeat walk one other → IsSafe rules placed from pending
   safe loops one other placed same least =
@@ -121,13 +121,13 @@ module _ (rules : Rules) (list : List Placed) (from pending : ℕ) (walked : Ran
   -- no repeat
   no-recurrence-whole : StaysNew walk rules.horizon → HasNoRecurrence whole rules.horizon
   no-recurrence-whole stays =
-      no-recurrence rules.policy rules.window list (not_over from list) from pending bound rules.horizon period is.known like is.bound_is is.period_is
+      no-recurrence (ranking_of rules list from) list rules.window from pending bound rules.horizon period is.known like is.bound_is is.period_is
       (to-reduced (λ course. StaysNew course rules.horizon) stays)
 
   pub stays-on : (number : ℕ) → number ≡ rules.horizon → StaysNew walk number → IsVerdictOnPlan rules.horizon whole (Horizon from number)
   stays-on number all stays =
       let here : StaysNew walk rules.horizon = subst (λ n. StaysNew walk n) all stays in (
-        none-within rules.policy rules.window list (not_over from list) from pending bound rules.horizon period is.known like is.bound_is is.period_is
+        none-within (ranking_of rules list from) list rules.window from pending bound rules.horizon period is.known like is.bound_is is.period_is
             (to-reduced (λ course. StaysNew course rules.horizon) here),
         no-recurrence-whole here,
         refl,
@@ -148,23 +148,23 @@ module _ (rules : Rules) (list : List Placed) (from pending : ℕ) (walked : Ran
   pub walked-none : (at : ℕ) → Breaks walk at → HasNoMiss walked_plan at
   walked-none at breaks =
       from-reduced_plan (λ plan. HasNoMiss plan at)
-      (broken-none rules.policy rules.window (not_over from list) (not_over from list) from pending bound period is.known
+      (broken-none (ranking_of rules list from) (not_over from list) rules.window from pending bound period is.known
       (λ n. like-refl rules.policy (not_over from list) (from + n)) at (to-reduced (λ course. Breaks course at) breaks))
 
   pub walked-missed : (at : ℕ) → Breaks walk at → ¬ HasNoMiss walked_plan (at + 1)
   walked-missed at breaks =
       from-reduced_plan (λ plan. ¬ HasNoMiss plan (at + 1))
-      (broken-missed rules.policy rules.window (not_over from list) (not_over from list) from pending bound period is.known
+      (broken-missed (ranking_of rules list from) (not_over from list) rules.window from pending bound period is.known
       (λ n. like-refl rules.policy (not_over from list) (from + n)) at (to-reduced (λ course. Breaks course at) breaks))
 
   whole-none : (at : ℕ) → Breaks walk at → HasNoMiss whole at
   whole-none at breaks =
-      broken-none rules.policy rules.window list (not_over from list) from pending bound period is.known like at
+      broken-none (ranking_of rules list from) list rules.window from pending bound period is.known like at
       (to-reduced (λ course. Breaks course at) breaks)
 
   whole-miss : (at : ℕ) (decision : Decision) → IsMissDecision walked_plan at decision → IsMissDecision whole at decision
   whole-miss at decision miss =
-      decision-reduced list rules.policy rules.window from pending at decision is.well
+      decision-reduced (ranking_by rules list) rules.window from pending at is.well decision
       (to-reduced_plan (λ plan. IsMissDecision plan at decision) miss)
 
   on-miss : (at : ℕ) (decision : Decision) → at < rules.horizon → HasNoMiss whole at → IsMissDecision whole at decision
@@ -195,7 +195,7 @@ module _ (rules : Rules) (list : List Placed) (from pending : ℕ) (walked : Ran
           number = at;
           at = cycle;
           none_before = whole-none at breaks;
-          miss = miss-reduced list rules.policy rules.window from pending at miss.slot miss.release is.well here.at;
+          miss = miss-reduced (ranking_by rules list) rules.window from pending at is.well miss.slot miss.release here.at;
         },
         omega arith,
       )
@@ -223,9 +223,8 @@ pub reduced-well_placed : (list left : List Placed) (from : ℕ) → left ≡ no
 reduced-well_placed list left from is well = subst IsWellPlaced (sym is) (not_over-well_placed from list well)
 
 pub ranked-is : (rules : Rules) (list left : List Placed) (from : ℕ) (walked : Ranking) → left ≡ not_over from list
-    → walked ≡ record { placed = left; policy = rules.policy } → walked ≡ record { placed = not_over from list; policy = rules.policy }
-ranked-is rules list left from walked is ranked =
-    ranked ∙ ap (λ (l : List Placed). record { placed = l; policy = rules.policy }) is
+    → walked ≡ ranking_by rules left → walked ≡ ranking_by rules (not_over from list)
+ranked-is rules list left from walked is ranked = ranked ∙ ap (ranking_by rules) is
 
 if-ok : {X E : Type 0} (r : Result X E) (P Q : X → Type 0) → ((x : X) → P x → Q x) → IfOk r P → IfOk r Q
 if-ok (Ok x) P Q weaker holds = weaker x holds

@@ -12,7 +12,7 @@ use Rattle.planner_policies.specs.Plan.{IsValid}
 use Rattle.admission_rules.specs.declared.Rules.{Rules}
 use Rattle.admission.specs.declared.verdict.Verdict.{Verdict}
 use Rattle.admission.specs.declared.verdict.Verdict.TheVariants.{Malformed, Passed, Miss, Horizon, Accepted}
-use Rattle.admission.specs.Verdict.{IsInTime, IsTakenWhereDue, IsVerdict, plan_from}
+use Rattle.admission.specs.Verdict.{IsInTime, IsRules, IsTakenWhereDue, IsVerdict, bounds_by, plan_from}
 use Rattle.admission.proofs.Changed.{held-changed}
 use Rattle.admission.proofs.Complete.{StaysValid, recurs}
 use Rattle.admission.proofs.Once.{no-fault}
@@ -21,12 +21,12 @@ both-none : {A : Type 0} (xs ys : List A) → xs ++ ys ≡ [] → (xs ≡ []) ×
 both-none [] ys e = (refl, e)
 both-none (x ∷ xs) ys e = absurd (cc)
 
-module _ (valid : StaysValid) (rules : Rules) (placed : List Placed) (pending from next : ℕ) (change : Change) (well : IsWellPlaced placed)
+module _ (valid : StaysValid) (rules : Rules) (ranges : IsRules rules) (placed : List Placed) (pending from next : ℕ) (change : Change) (well : IsWellPlaced placed)
     (types : All HasTypes change.ops) (held : IsValid placed from pending) (opened : from ≤ next) (in_time : IsInTime rules placed next change) where
   applied-well : IsWellPlaced (applied placed change)
   applied-well =
-      let formed = both-none (change_faults change.start change.ops) (op_faults placed rules.nodes change.start [] change.ops) in_time.well_formed in
-      well_placed-applied placed rules.nodes change well formed.0 formed.1 types
+      let formed = both-none (change_faults change.start change.ops) (op_faults placed (bounds_by rules) change.start [] change.ops) in_time.well_formed in
+      well_placed-applied placed (bounds_by rules) change ranges.few_slots well formed.0 formed.1 types
 
   applied-held : IsValid (applied placed change) from pending
   applied-held =
@@ -35,7 +35,7 @@ module _ (valid : StaysValid) (rules : Rules) (placed : List Placed) (pending fr
   pub taken-due : (verdict : Verdict) → IsVerdict rules placed pending from next change verdict
       → IsTakenWhereDue rules (plan_from rules (applied placed change) from pending) verdict
   taken-due (Malformed op why) is never c period settled releases least within =
-      absurd (no-fault (faults placed rules.nodes change) (broken op why) in_time.well_formed is)
+      absurd (no-fault (faults placed (bounds_by rules) change) (broken op why) in_time.well_formed is)
   taken-due (Passed start after) is never c period settled releases least within =
       let early = is.1 in
       let ahead = in_time.ahead in

@@ -3,7 +3,7 @@ use Rattle.std.proofs.Common.{◌≡◌, ℕ, zero, suc, ◌+◌, ◌<◌, ◌�
 use Rattle.std.proofs.Math.Seq.{get_or-append_seam}
 use Rattle.std.proofs.lemmas.Bool.{cases_lt}
 use Rattle.std.proofs.lemmas.List.{append-nil, append_assoc, get_or_append_left}
-use Rattle.requirement_table.specs.Slots.{slots}
+use Rattle.requirement_table.specs.Slots.{most_slots}
 use Rattle.requirement_table.proofs.Shared.{set_of-same}
 use Rattle.planner_policies.specs.Plan.{Planning, mask_at, pending_at, planned_at}
 use Rattle.planner_policies.proofs.Shared.{on-planned}
@@ -37,7 +37,7 @@ masks-at plan (suc n) i within =
 
 pub on-mask : (plan : Planning) (n m : ℕ) → mask_at plan (n + m) ≡ mask_at (later_plan plan n) m
 on-mask plan n m =
-    set_of-same slots (planned_at plan (n + m)) (planned_at (later_plan plan n) m) (λ slot known. on-planned plan n m slot known)
+    set_of-same most_slots (planned_at plan (n + m)) (planned_at (later_plan plan n) m) (λ slot known. on-planned plan n m slot known)
 
 pub on-masks : (plan : Planning) (n m : ℕ) → masks_of plan (n + m) ≡ masks_of plan n ++ masks_of (later_plan plan n) m
 on-masks plan n zero =

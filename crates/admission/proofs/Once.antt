@@ -14,7 +14,7 @@ use Rattle.admission_rules.specs.declared.Rules.{Rules}
 use Rattle.admission.specs.declared.verdict.Verdict.{Verdict}
 use Rattle.admission.specs.declared.verdict.Verdict.TheVariants.{Malformed, Passed, Miss, Horizon, Accepted}
 use Rattle.admission.specs.Recurrence.{AreAlike, HasNoRecurrence, IsRecurrence}
-use Rattle.admission.specs.Verdict.{IsInTime, IsVerdict, IsVerdictOnPlan, plan_from}
+use Rattle.admission.specs.Verdict.{IsInTime, IsVerdict, IsVerdictOnPlan, bounds_by, plan_from}
 use Rattle.admission.proofs.Repeats.{LoopsOnce, alike-never, least-same}
 
 pub no-fault : (xs : List Broken) (b : Broken) → xs ≡ [] → slice_get xs 0 ≡ Some b → ⊥
@@ -156,9 +156,9 @@ one-on-plan horizon plan (Accepted a b) (Accepted c d) first second = same-recur
 -- a change is malformed, has passed, or is planned
 
 pub data Kind (rules : Rules) (placed : List Placed) (pending from next : ℕ) (change : Change) (verdict : Verdict) : Type 0 where
-  faulty : (op : ℕ) (why : Why) → verdict ≡ Malformed op why → first_fault placed rules.nodes change ≡ Some (broken op why)
+  faulty : (op : ℕ) (why : Why) → verdict ≡ Malformed op why → first_fault placed (bounds_by rules) change ≡ Some (broken op why)
       → Kind rules placed pending from next change verdict
-  late : verdict ≡ Passed change.start next → IsWellFormed placed rules.nodes change → change.start < next
+  late : verdict ≡ Passed change.start next → IsWellFormed placed (bounds_by rules) change → change.start < next
       → Kind rules placed pending from next change verdict
   planned : IsInTime rules placed next change → IsVerdictOnPlan rules.horizon (plan_from rules (applied placed change) from pending) verdict
       → Kind rules placed pending from next change verdict
@@ -176,14 +176,14 @@ module _ (rules : Rules) (placed : List Placed) (pending from next : ℕ) (chang
   by-kind one other (faulty op why is fault) (faulty op' why' is' fault') =
       let same : broken op why ≡ broken op' why' = same_Some (broken op why) (broken op' why') (sym fault ∙ fault') in
       is ∙ ap (λ (b : Broken). Malformed b.op b.why) same ∙ sym is'
-  by-kind one other (faulty op why is fault) (late is' formed passed) = absurd (no-fault (faults placed rules.nodes change) (broken op why) formed fault)
+  by-kind one other (faulty op why is fault) (late is' formed passed) = absurd (no-fault (faults placed (bounds_by rules) change) (broken op why) formed fault)
   by-kind one other (faulty op why is fault) (planned in_time on) =
-      absurd (no-fault (faults placed rules.nodes change) (broken op why) in_time.well_formed fault)
-  by-kind one other (late is formed passed) (faulty op why is' fault) = absurd (no-fault (faults placed rules.nodes change) (broken op why) formed fault)
+      absurd (no-fault (faults placed (bounds_by rules) change) (broken op why) in_time.well_formed fault)
+  by-kind one other (late is formed passed) (faulty op why is' fault) = absurd (no-fault (faults placed (bounds_by rules) change) (broken op why) formed fault)
   by-kind one other (late is formed passed) (late is' formed' passed') = is ∙ sym is'
   by-kind one other (late is formed passed) (planned in_time on) = let ahead = in_time.ahead in absurd (omega arith)
   by-kind one other (planned in_time on) (faulty op why is fault) =
-      absurd (no-fault (faults placed rules.nodes change) (broken op why) in_time.well_formed fault)
+      absurd (no-fault (faults placed (bounds_by rules) change) (broken op why) in_time.well_formed fault)
   by-kind one other (planned in_time on) (late is formed passed) = let ahead = in_time.ahead in absurd (omega arith)
   by-kind one other (planned in_time on) (planned in_time' on') =
       one-on-plan rules.horizon (plan_from rules (applied placed change) from pending) one other on on'

@@ -1,7 +1,7 @@
 -- Cycles that are planned one after the other.
 use Rattle.std.proofs.Common.{◌≡◌, ℕ, suc, ◌+◌, ◌^◌, ◌<◌, ◌≤◌, false, None, List, [], ◌∷◌, ◌++◌, refl, sym, ap, ◌∙◌, subst, arith, ⊎_elim}
 use Rattle.std.proofs.lemmas.Bool.{cases_lt}
-use Rattle.requirement_table.specs.Slots.{contains_slot, set_of, slots}
+use Rattle.requirement_table.specs.Slots.{contains_slot, set_of, most_slots}
 use Rattle.requirement_table.proofs.Shared.{set_of-contains_slot, set_of-same}
 use Rattle.planner_policies.specs.declared.state.PlanState.{PlanState}
 use Rattle.planner_policies.specs.Plan.{HasNoMiss, HasNoMissIn, IsMissAt, IsMissIn, IsValid, Planning, Ranking, is_missed_at, is_missed_in, left_after, mask_at, pending_at, pending_before, planned_at, planned_in, planning_of}
@@ -14,11 +14,11 @@ use Rattle.admission.proofs.Cycles.{Agree, agree-set, like-left, like-missed, li
 -- what is planned, left and missed in a state
 abbrev pub planned_from : Ranking → ℕ → PlanState → ℕ
 planned_from ranking window state =
-    set_of slots (planned_in (planning_of ranking window state.cycle state.pending) state.cycle (contains_slot state.pending))
+    set_of most_slots (planned_in (planning_of ranking window state.cycle state.pending) state.cycle (contains_slot state.pending))
 
 abbrev pub remains_from : Ranking → ℕ → PlanState → ℕ
 remains_from ranking window state =
-    set_of slots (left_after (planning_of ranking window state.cycle state.pending) state.cycle (contains_slot state.pending))
+    set_of most_slots (left_after (planning_of ranking window state.cycle state.pending) state.cycle (contains_slot state.pending))
 
 state-parts : (x y : PlanState) → x.cycle ≡ y.cycle → x.pending ≡ y.pending → x ≡ y
 state-parts x y cycle pending =
@@ -28,11 +28,11 @@ module _ (ranking : Ranking) (window from pending : ℕ) where
   abbrev plan : Planning
   plan = planning_of ranking window from pending
 
-  pending-first : pending < 2 ^ slots → pending_at plan 0 ≡ pending
+  pending-first : pending < 2 ^ most_slots → pending_at plan 0 ≡ pending
   unfolding pending_before
-  pending-first known = sym (set_of-contains_slot slots pending known)
+  pending-first known = sym (set_of-contains_slot most_slots pending known)
 
-  pub planned-start : pending < 2 ^ slots → IsValid ranking.placed from pending
+  pub planned-start : pending < 2 ^ most_slots → IsValid ranking.placed from pending
       → IsPlannedUpTo plan 0 [] (record { cycle = from; pending = pending })
   planned-start known valid = record {
     state = state-parts (record { cycle = from; pending = pending }) (state_at plan 0)
@@ -43,23 +43,23 @@ module _ (ranking : Ranking) (window from pending : ℕ) where
 
   planned-at : (n : ℕ) → planned_from ranking window (state_at plan n) ≡ mask_at plan n
   planned-at n =
-      set_of-same slots (planned_in (planning_of ranking window (from + n) (pending_at plan n)) (from + n) (contains_slot (pending_at plan n)))
+      set_of-same most_slots (planned_in (planning_of ranking window (from + n) (pending_at plan n)) (from + n) (contains_slot (pending_at plan n)))
       (planned_at plan n)
-      (like-planned ranking.policy ranking.placed ranking.placed (from + n) (from + n) (like-refl ranking.policy ranking.placed (from + n)) window (from + n)
+      (like-planned ranking ranking.placed (from + n) (from + n) (like-refl ranking.policy ranking.placed (from + n)) window (from + n)
       from (pending_at plan n) pending (contains_slot (pending_at plan n)) (pending_before plan n) (agree-set (pending_before plan n)))
 
   left-before : (n : ℕ) → remains_from ranking window (state_at plan n) ≡ pending_at plan (suc n)
   unfolding pending_before
   left-before n =
-      set_of-same slots (left_after (planning_of ranking window (from + n) (pending_at plan n)) (from + n) (contains_slot (pending_at plan n)))
+      set_of-same most_slots (left_after (planning_of ranking window (from + n) (pending_at plan n)) (from + n) (contains_slot (pending_at plan n)))
       (left_after plan (from + n) (pending_before plan n))
-      (like-left ranking.policy ranking.placed ranking.placed (from + n) (from + n) (like-refl ranking.policy ranking.placed (from + n)) window (from + n)
+      (like-left ranking ranking.placed (from + n) (from + n) (like-refl ranking.policy ranking.placed (from + n)) window (from + n)
       from (pending_at plan n) pending (contains_slot (pending_at plan n)) (pending_before plan n) (agree-set (pending_before plan n)))
 
   missed-same : (n : ℕ)
       → Agree (is_missed_in (planning_of ranking window (from + n) (pending_at plan n)) (from + n) (contains_slot (pending_at plan n))) (is_missed_at plan n)
   missed-same n =
-      like-missed ranking.policy ranking.placed ranking.placed (from + n) (from + n) (like-refl ranking.policy ranking.placed (from + n)) window (from + n)
+      like-missed ranking ranking.placed (from + n) (from + n) (like-refl ranking.policy ranking.placed (from + n)) window (from + n)
       from (pending_at plan n) pending (contains_slot (pending_at plan n)) (pending_before plan n) (agree-set (pending_before plan n))
 
   pub planned-next : (n mask : ℕ) (masks : List ℕ) (state next : PlanState) → IsPlannedUpTo plan n masks state

@@ -10,7 +10,7 @@ use Rattle.requirement_table.specs.Table.{IsWellPlaced, instance_in, is_over, no
 use Rattle.requirement_table.proofs.Shared.{instance_in-not_over, releases_in-not_over}
 use Rattle.planner_policies.specs.declared.Policy.{Policy}
 use Rattle.planner_policies.specs.Loop.{RepeatsFrom, settled_at}
-use Rattle.planner_policies.specs.Plan.{IsMissAt, IsValid, by_number, key_in, key_of, priority_in}
+use Rattle.planner_policies.specs.Plan.{IsMissAt, IsValid, Ranking, by_number, key_in, key_of, planning_of, priority_in}
 use Rattle.admission.specs.declared.decision.Decision.{Decision}
 use Rattle.admission.specs.Recurrence.{IsCommonPeriod, bound_of}
 use Rattle.admission.specs.Period.{IsPeriodUpTo}
@@ -60,33 +60,37 @@ held-reduced placed from pending valid slot in' =
     }
 
 -- what is missed in the one planning is missed in the other
-pub miss-reduced : (placed : List Placed) (policy : Policy) (window from pending n slot release : ℕ) → IsWellPlaced placed
-    → IsMissAt (record { placed = not_over from placed; policy = policy; window = window; from = from; pending = pending }) n slot release
-    → IsMissAt (record { placed = placed; policy = policy; window = window; from = from; pending = pending }) n slot release
-miss-reduced placed policy window from pending n slot release well miss =
-    let same = same-missed policy window (not_over from placed) placed from pending n (λ m below. like-reduced policy placed from m well) in
-    let known = miss.known in
-    record {
-      known = known;
-      missed = sym (same slot known) ∙ miss.missed;
-      least = λ other less. sym (same other (omega arith)) ∙ miss.least other less;
-      instance = miss.instance;
-      found = sym (instance_in-not_over from placed slot (from + n) (omega arith)) ∙ miss.found;
-      released = miss.released;
-    }
+module _ (ranking : Ranking) (window from pending n : ℕ) (well : IsWellPlaced ranking.placed) where
+  abbrev fewer : Ranking
+  fewer = record ranking { placed = not_over from ranking.placed }
 
-pub decision-reduced : (placed : List Placed) (policy : Policy) (window from pending n : ℕ) (decision : Decision) → IsWellPlaced placed
-    → IsMissDecision (record { placed = not_over from placed; policy = policy; window = window; from = from; pending = pending }) n decision
-    → IsMissDecision (record { placed = placed; policy = policy; window = window; from = from; pending = pending }) n decision
-decision-reduced placed policy window from pending n decision well is = record {
-  slot = is.slot;
-  release = is.release;
-  answer = is.answer;
-  miss = miss-reduced placed policy window from pending n is.slot is.release well is.miss;
-  list = is.list;
-  plan = is.plan
-      ∙ same-masks policy window (not_over from placed) placed from pending (n + 1) (λ m below. like-reduced policy placed from m well);
-}
+  like-each : (m : ℕ) → IsLike ranking.policy (not_over from ranking.placed) ranking.placed (from + m) (from + m)
+  like-each m = like-reduced ranking.policy ranking.placed from m well
+
+  pub miss-reduced : (slot release : ℕ) → IsMissAt (planning_of fewer window from pending) n slot release
+      → IsMissAt (planning_of ranking window from pending) n slot release
+  miss-reduced slot release miss =
+      let same = same-missed fewer ranking.placed window from pending n (λ m below. like-each m) in
+      let known = miss.known in
+      record {
+        known = known;
+        missed = sym (same slot known) ∙ miss.missed;
+        least = λ other less. sym (same other (omega arith)) ∙ miss.least other less;
+        instance = miss.instance;
+        found = sym (instance_in-not_over from ranking.placed slot (from + n) (omega arith)) ∙ miss.found;
+        released = miss.released;
+      }
+
+  pub decision-reduced : (decision : Decision) → IsMissDecision (planning_of fewer window from pending) n decision
+      → IsMissDecision (planning_of ranking window from pending) n decision
+  decision-reduced decision is = record {
+    slot = is.slot;
+    release = is.release;
+    answer = is.answer;
+    miss = miss-reduced is.slot is.release is.miss;
+    list = is.list;
+    plan = is.plan ∙ same-masks fewer ranking.placed window from pending (n + 1) (λ m below. like-each m);
+  }
 
 -- each entry has settled by the bound
 

@@ -3,12 +3,11 @@ use Rattle.std.proofs.Common.{◌≡◌, ℕ, ◌+◌, ◌-◌, ◌%◌, ◌^◌
 use Rattle.std.proofs.lemmas.Bool.{cases_lt}
 use Rattle.std.proofs.lemmas.Nat.Gcd.{dvd_of_mod-eq-zero, le_of_dvd}
 use Rattle.requirement_table.specs.declared.entries.Placed.{Placed}
-use Rattle.requirement_table.specs.Slots.{slots}
+use Rattle.requirement_table.specs.Slots.{most_slots}
 use Rattle.requirement_table.specs.Table.{IsWellPlaced}
-use Rattle.planner_policies.specs.declared.Policy.{Policy}
 use Rattle.planner_policies.specs.declared.state.PlanState.{PlanState}
 use Rattle.planner_policies.specs.Loop.{RepeatsFrom}
-use Rattle.planner_policies.specs.Plan.{HasNoMiss, NeverMisses, Planning, pending_at}
+use Rattle.planner_policies.specs.Plan.{HasNoMiss, NeverMisses, Planning, Ranking, pending_at}
 use Rattle.recurrence_check.specs.Course.{IsLeastRepeat, IsRepeat, StaysNew, state_after}
 use Rattle.admission.specs.Course.{IsSame, state_at}
 use Rattle.admission.specs.Period.{IsPeriodUpTo}
@@ -47,14 +46,14 @@ least-same placed one other first second =
     let above = second.least one first.common in
     omega arith
 
-module _ (policy : Policy) (window : ℕ) (placed walked : List Placed) (from pending bound horizon : ℕ) (period : Option ℕ)
-    (known : pending < 2 ^ slots) (like : (n : ℕ) → IsLike policy walked placed (from + n) (from + n))
+module _ (ranking : Ranking) (placed : List Placed) (window from pending bound horizon : ℕ) (period : Option ℕ)
+    (known : pending < 2 ^ most_slots) (like : (n : ℕ) → IsLike ranking.policy ranking.placed placed (from + n) (from + n))
     (bound_is : bound ≡ bound_of from placed) (period_is : IsPeriodUpTo horizon placed period) where
   abbrev the_plan : Planning
-  the_plan = plan policy window placed walked from pending bound period known like
+  the_plan = plan ranking placed window from pending bound period known like
 
   abbrev TheRepeat : ℕ → ℕ → Type 0
-  TheRepeat one other = IsRepeat (course policy window placed walked from pending bound period known like) one other
+  TheRepeat one other = IsRepeat (course ranking placed window from pending bound period known like) one other
 
   -- the same states are alike
   alike-same : (length' one other : ℕ) → IsSame bound (Some length') (state_at the_plan one) (state_at the_plan other)
@@ -71,8 +70,8 @@ module _ (policy : Policy) (window : ℕ) (placed walked : List Placed) (from pe
 
   repeat-same : (one other : ℕ) → TheRepeat one other → IsSame bound period (state_at the_plan one) (state_at the_plan other)
   repeat-same one other repeat =
-      let before = state-is policy window placed walked from pending bound period known like one repeat.before repeat.before_is in
-      let again = state-is policy window placed walked from pending bound period known like other repeat.again repeat.again_is in
+      let before = state-is ranking placed window from pending bound period known like one repeat.before repeat.before_is in
+      let again = state-is ranking placed window from pending bound period known like other repeat.again repeat.again_is in
       subst (λ s. IsSame bound period s (state_at the_plan other)) before
       (subst (λ s. IsSame bound period repeat.before s) again repeat.same)
 
@@ -99,14 +98,14 @@ module _ (policy : Policy) (window : ℕ) (placed walked : List Placed) (from pe
     order = order;
     before = state_at the_plan one;
     again = state_at the_plan other;
-    before_is = comes-to policy window placed walked from pending bound period known like one (λ m slot below. none m slot (omega arith));
-    again_is = comes-to policy window placed walked from pending bound period known like other none;
+    before_is = comes-to ranking placed window from pending bound period known like one (λ m slot below. none m slot (omega arith));
+    again_is = comes-to ranking placed window from pending bound period known like other none;
     same = subst (λ o. IsSame bound o (state_at the_plan one) (state_at the_plan other)) (sym is) (same-alike length' one other alike);
   }
 
   no_miss-at : (n : ℕ) (state : PlanState)
-      → state_after (course policy window placed walked from pending bound period known like) n ≡ Some state → HasNoMiss the_plan n
-  no_miss-at n state there = came-to policy window placed walked from pending bound period known like n state there
+      → state_after (course ranking placed window from pending bound period known like) n ≡ Some state → HasNoMiss the_plan n
+  no_miss-at n state there = came-to ranking placed window from pending bound period known like n state there
 
   -- an accepted planning
   pub never-after : LoopsOnce → IsWellPlaced placed → (one other : ℕ) → TheRepeat one other → NeverMisses the_plan
@@ -115,7 +114,7 @@ module _ (policy : Policy) (window : ℕ) (placed walked : List Placed) (from pe
       alike-never loops the_plan some.0 one other well some.2.common repeat.order some.3 (no_miss-at other repeat.again repeat.again_is)
 
   pub is-recurrence : NeverMisses the_plan → (first length' : ℕ)
-      → IsLeastRepeat (course policy window placed walked from pending bound period known like) first (first + length')
+      → IsLeastRepeat (course ranking placed window from pending bound period known like) first (first + length')
       → IsRecurrence the_plan (from + first) length'
   is-recurrence never first length' least =
       let some = some-period horizon first (first + length') period period_is (repeat-same first (first + length') least.repeats) in
@@ -132,11 +131,11 @@ module _ (policy : Policy) (window : ℕ) (placed walked : List Placed) (from pe
       }
 
   -- a planning with no repeat up to the horizon
-  pub none-within : StaysNew (course policy window placed walked from pending bound period known like) horizon → HasNoMiss the_plan horizon
+  pub none-within : StaysNew (course ranking placed window from pending bound period known like) horizon → HasNoMiss the_plan horizon
   none-within stays = no_miss-at horizon stays.last stays.last_is
 
   no-repeat : (o : Option ℕ) → period ≡ o → IsPeriodUpTo horizon placed o
-      → StaysNew (course policy window placed walked from pending bound period known like) horizon
+      → StaysNew (course ranking placed window from pending bound period known like) horizon
       → (length' one other : ℕ) → IsLeastCommonPeriod placed length' → one < other → AreAlike the_plan length' one other → other ≤ horizon → ⊥
   no-repeat None is upto stays length' one other least order alike within =
       let above = upto length' least.common in
@@ -152,7 +151,7 @@ module _ (policy : Policy) (window : ℕ) (placed walked : List Placed) (from pe
       let here : AreAlike the_plan found one other = subst (λ n. AreAlike the_plan n one other) same alike in
       stays.new one other within (alike-repeat found one other is order none here)
 
-  pub no-recurrence : StaysNew (course policy window placed walked from pending bound period known like) horizon → HasNoRecurrence the_plan horizon
+  pub no-recurrence : StaysNew (course ranking placed window from pending bound period known like) horizon → HasNoRecurrence the_plan horizon
   no-recurrence stays length' one other least order alike =
       ⊎_elim
       (λ (past : horizon < other). past)

@@ -11,7 +11,7 @@ use Rattle.std.proofs.lemmas.Nat.{div-add-mod'}
 use Rattle.requirement_table.specs.declared.entries.Placed.{Placed}
 use Rattle.requirement_table.specs.Flags.{IsFlaggedOnce, IsGoodCycle}
 use Rattle.requirement_table.specs.Instance.{Exists, Instance, IsLastCycle, MaySend, release_of}
-use Rattle.requirement_table.specs.Slots.{contains_slot, slots}
+use Rattle.requirement_table.specs.Slots.{contains_slot, most_slots}
 use Rattle.requirement_table.specs.Table.{IsInRange, IsWellPlaced, held_before, instance_in, releases_in, width_in, worst_in}
 use Rattle.requirement_table.proofs.Shared.{contains_slot-none, instance_in-sound, sum_where-same}
 use Rattle.planner_policies.specs.Loop.{RepeatsFrom}
@@ -29,7 +29,7 @@ use Rattle.admission.proofs.Repeats.{LoopsOnce}
 pub record PlanLaws : Type 0 where
   pub never_missed : LoopsOnce
   pub round : (plan : Planning) (n m k slot : ℕ) → IsWellPlaced plan.placed → n < m
-      → All (RepeatsFrom (plan.from + n) (m - n)) plan.placed → pending_at plan n ≡ pending_at plan m → slot < slots
+      → All (RepeatsFrom (plan.from + n) (m - n)) plan.placed → pending_at plan n ≡ pending_at plan m → slot < most_slots
       → planned_at plan (m + k) slot ≡ planned_at plan (n + k) slot
   pub held : (plan : Planning) (n slot : ℕ)
       → held_before plan.placed (flags_planned plan) plan.from (contains_slot plan.pending) n slot ≡ pending_before plan n slot
@@ -101,14 +101,14 @@ module _ (laws : PlanLaws) (rules : Rules) (placed : List Placed) (b d : ℕ) (w
       (never : NeverMisses (plan_from rules placed 0 0)) where
     -- The row is the plan
 
-    plan-again : (k slot : ℕ) → slot < slots → planned_at plan (b + d + k) slot ≡ planned_at plan (b + k) slot
+    plan-again : (k slot : ℕ) → slot < most_slots → planned_at plan (b + d + k) slot ≡ planned_at plan (b + k) slot
     plan-again k slot known =
         let start : b ≡ 0 + b = omega arith in
         let gap : d ≡ b + d - b = omega arith in
         laws.round plan b (b + d) k slot well (omega arith)
         (subst (λ n. All (RepeatsFrom n (b + d - b)) placed) start (subst (λ n. All (RepeatsFrom b n) placed) gap repeats)) again known
 
-    plan-round : (q k slot : ℕ) → slot < slots → planned_at plan (b + (q * d + k)) slot ≡ planned_at plan (b + k) slot
+    plan-round : (q k slot : ℕ) → slot < most_slots → planned_at plan (b + (q * d + k)) slot ≡ planned_at plan (b + k) slot
     plan-round zero k slot known = let at : b + (0 * d + k) ≡ b + k = grind arith in ap (λ n. planned_at plan n slot) at
     plan-round (suc q) k slot known =
         let at : b + (suc q * d + k) ≡ b + d + (q * d + k) = grind arith in
@@ -126,14 +126,14 @@ module _ (laws : PlanLaws) (rules : Rules) (placed : List Placed) (b d : ℕ) (w
         let same : (c - b) % length_of row ≡ (c - b) % d = ap (λ n. (c - b) % n) row-length in
         omega arith
 
-    listed : (c place slot : ℕ) → place_of row c ≡ place → place < b + d → slot < slots → flags_of row c slot ≡ planned_at plan place slot
+    listed : (c place slot : ℕ) → place_of row c ≡ place → place < b + d → slot < most_slots → flags_of row c slot ≡ planned_at plan place slot
     unfolding flags_of
     listed c place slot is within known =
         ap (λ n. contains_slot (get_or (masks_of plan (b + d)) n 0) slot) is
         ∙ ap (λ mask. contains_slot mask slot) (masks-at plan (b + d) place within)
         ∙ agree-set (planned_at plan place) slot known
 
-    pub row-flags : (c slot : ℕ) → slot < slots → flags_of row c slot ≡ planned_at plan c slot
+    pub row-flags : (c slot : ℕ) → slot < most_slots → flags_of row c slot ≡ planned_at plan c slot
     row-flags c slot known =
         ⊎_elim
         (λ (before : c < b). listed c c slot (place-before c before) (omega arith) known)
@@ -146,10 +146,10 @@ module _ (laws : PlanLaws) (rules : Rules) (placed : List Placed) (b d : ℕ) (w
         ∙ ap (λ n. planned_at plan n slot) at)
         (cases_lt c b)
 
-    row-planned : (c slot : ℕ) → slot < slots → flags_of row c slot ≡ flags_planned plan c slot
+    row-planned : (c slot : ℕ) → slot < most_slots → flags_of row c slot ≡ flags_planned plan c slot
     row-planned c slot known = let at : c ≡ c - 0 = omega arith in row-flags c slot known ∙ ap (λ n. planned_at plan n slot) at
 
-    row-held : (n slot : ℕ) → slot < slots → is_held placed row n slot ≡ pending_before plan n slot
+    row-held : (n slot : ℕ) → slot < most_slots → is_held placed row n slot ≡ pending_before plan n slot
     row-held n slot known =
         held-same placed (flags_of row) (flags_planned plan) 0 (contains_slot 0) n slot (λ c. row-planned c slot known) ∙ laws.held plan n slot
 
@@ -195,7 +195,7 @@ module _ (laws : PlanLaws) (rules : Rules) (placed : List Placed) (b d : ℕ) (w
     valid-at c =
         valid-along plan c well (λ slot held. let none = contains_slot-none slot in absurd (cc)) (λ m slot below known. never m slot known)
 
-    only : (c slot : ℕ) → 0 ≤ c → slot < slots → flags_of row c slot ≡ true → IsOwedIn placed 0 (contains_slot 0) c slot
+    only : (c slot : ℕ) → 0 ≤ c → slot < most_slots → flags_of row c slot ≡ true → IsOwedIn placed 0 (contains_slot 0) c slot
     only c slot after known flagged =
         let planned : planned_in plan (0 + c) (contains_slot (pending_at plan c)) slot ≡ true =
         sym (agree-set (planned_in plan (0 + c) (contains_slot (pending_at plan c))) slot known)
@@ -221,7 +221,7 @@ module _ (laws : PlanLaws) (rules : Rules) (placed : List Placed) (b d : ℕ) (w
     fits : (c : ℕ) → 0 ≤ c → width_in placed c (flags_of row c) ≤ rules.window
     fits c after =
         let same : width_in placed c (flags_of row c) ≡ width_in placed c (planned_at plan c) =
-        sum_where-same slots (flags_of row c) (planned_at plan c) (worst_in placed c) (λ slot known. row-flags c slot known) in
+        sum_where-same most_slots (flags_of row c) (planned_at plan c) (worst_in placed c) (λ slot known. row-flags c slot known) in
         let planned = subst (λ n. width_in placed n (planned_in plan n (pending_before plan c)) ≤ rules.window) (zero-add c)
         (planned-fits plan (0 + c) (pending_before plan c)) in
         let start : planned_in plan (0 + c) (pending_before plan c) ≡ planned_in plan c (pending_before plan c)

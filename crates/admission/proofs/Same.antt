@@ -4,14 +4,14 @@ use Rattle.std.proofs.lemmas.Bool.{cases_lt, eq-eqb, ne_eqb}
 use Rattle.std.proofs.lemmas.Bool.Decides.{nat_tests}
 use Rattle.requirement_table.specs.declared.entries.Placed.{Placed}
 use Rattle.requirement_table.specs.Instance.{Instance, release_of}
-use Rattle.requirement_table.specs.Slots.{contains_slot, set_of, slots}
-use Rattle.requirement_table.specs.Table.{instance_in}
+use Rattle.requirement_table.specs.Slots.{contains_slot, set_of, most_slots}
+use Rattle.requirement_table.specs.Table.{IsHeldFrom, instance_in}
 use Rattle.requirement_table.proofs.Shared.{set_of-same}
 use Rattle.std.specs.Option.{option_map_or}
 use Rattle.planner_policies.specs.declared.Policy.{Policy}
 use Rattle.planner_policies.specs.declared.state.PlanState.{PlanState}
 use Rattle.planner_policies.specs.Loop.{RepeatsFrom}
-use Rattle.planner_policies.specs.Plan.{HasNoMissIn, IsHeldFrom, IsMissIn, IsValid, Ranking, is_missed_in, left_after, planning_of}
+use Rattle.planner_policies.specs.Plan.{HasNoMissIn, IsMissIn, IsValid, Ranking, is_missed_in, left_after, planning_of}
 use Rattle.admission.specs.Course.{is_held_from, left_from, missed_from, state_behind}
 use Rattle.admission.specs.WalkLaws.{GoesOn}
 use Rattle.admission.proofs.Cycles.{Agree, IsLike, like-left, like-missed, like-sym, none-set, set-none}
@@ -63,21 +63,21 @@ module _ (ranking : Ranking) (other : List Placed) (window c d pending has : ℕ
   other_state = record { cycle = d; pending = has }
 
   abbrev other_ranking : Ranking
-  other_ranking = record { placed = other; policy = ranking.policy }
+  other_ranking = record ranking { placed = other }
 
   pub missed-like : missed_from ranking window one_state ≡ missed_from other_ranking window other_state
   unfolding missed_from
   missed-like =
-      set_of-same slots (is_missed_in (planning_of ranking window c pending) c (contains_slot pending))
+      set_of-same most_slots (is_missed_in (planning_of ranking window c pending) c (contains_slot pending))
       (is_missed_in (planning_of other_ranking window d has) d (contains_slot has))
-      (like-missed ranking.policy ranking.placed other c d like window c d pending has (contains_slot pending) (contains_slot has) same)
+      (like-missed ranking other c d like window c d pending has (contains_slot pending) (contains_slot has) same)
 
   pub left-like : left_from ranking window one_state ≡ left_from other_ranking window other_state
   unfolding left_from
   left-like =
-      set_of-same slots (left_after (planning_of ranking window c pending) c (contains_slot pending))
+      set_of-same most_slots (left_after (planning_of ranking window c pending) c (contains_slot pending))
       (left_after (planning_of other_ranking window d has) d (contains_slot has))
-      (like-left ranking.policy ranking.placed other c d like window c d pending has (contains_slot pending) (contains_slot has) same)
+      (like-left ranking other c d like window c d pending has (contains_slot pending) (contains_slot has) same)
 
 -- so a walk goes on in the same way after states that are the same
 pub goes-on : (ranking : Ranking) (window bound : ℕ) (period : Option ℕ)
@@ -107,7 +107,7 @@ state-same x y cycle pending =
 pub behind-planned : (ranking : Ranking) (window : ℕ) (state next : PlanState)
     → HasNoMissIn (planning_of ranking window state.cycle state.pending) state.cycle (contains_slot state.pending)
     → next.cycle ≡ state.cycle + 1
-    → next.pending ≡ set_of slots (left_after (planning_of ranking window state.cycle state.pending) state.cycle (contains_slot state.pending))
+    → next.pending ≡ set_of most_slots (left_after (planning_of ranking window state.cycle state.pending) state.cycle (contains_slot state.pending))
     → Some next ≡ state_behind ranking window state
 unfolding missed_from left_from
 behind-planned ranking window state next none cycle pending =

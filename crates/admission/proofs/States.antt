@@ -3,9 +3,8 @@ use Rattle.std.proofs.Common.{◌≡◌, ℕ, zero, suc, ◌+◌, ◌^◌, ◌<�
 use Rattle.std.proofs.lemmas.Bool.{cases_lt, eq-eqb, eqb-true}
 use Rattle.std.proofs.lemmas.Option.{cond_some, same_Some}
 use Rattle.requirement_table.specs.declared.entries.Placed.{Placed}
-use Rattle.requirement_table.specs.Slots.{contains_slot, set_of, slots}
+use Rattle.requirement_table.specs.Slots.{contains_slot, set_of, most_slots}
 use Rattle.requirement_table.proofs.Shared.{set_of-contains_slot, set_of-same}
-use Rattle.planner_policies.specs.declared.Policy.{Policy}
 use Rattle.planner_policies.specs.declared.state.PlanState.{PlanState}
 use Rattle.planner_policies.specs.Plan.{HasNoMiss, Planning, Ranking, is_missed_at, is_missed_in, left_after, pending_at, pending_before, planning_of}
 use Rattle.recurrence_check.specs.Course.{Breaks, Course, state_after}
@@ -14,31 +13,28 @@ use Rattle.admission.specs.Course.{course_of, left_from, missed_from, state_at, 
 use Rattle.admission.proofs.Cycles.{IsLike, agree-set, like-left, like-missed, none-set, set-none}
 
 -- a walk over a list that is alike in each cycle to the one that is planned
-module _ (policy : Policy) (window : ℕ) (placed walked : List Placed) (from pending bound : ℕ) (period : Option ℕ)
-    (known : pending < 2 ^ slots) (like : (n : ℕ) → IsLike policy walked placed (from + n) (from + n)) where
-  abbrev pub ranking : Ranking
-  ranking = record { placed = walked; policy = policy }
-
+module _ (ranking : Ranking) (placed : List Placed) (window from pending bound : ℕ) (period : Option ℕ)
+    (known : pending < 2 ^ most_slots) (like : (n : ℕ) → IsLike ranking.policy ranking.placed placed (from + n) (from + n)) where
   abbrev pub plan : Planning
-  plan = record { placed = placed; policy = policy; window = window; from = from; pending = pending }
+  plan = planning_of (record ranking { placed = placed }) window from pending
 
   abbrev pub course : Course PlanState
   course = course_of ranking window (record { cycle = from; pending = pending }) bound period
 
-  missed-at : (n : ℕ) → missed_from ranking window (state_at plan n) ≡ set_of slots (is_missed_at plan n)
+  missed-at : (n : ℕ) → missed_from ranking window (state_at plan n) ≡ set_of most_slots (is_missed_at plan n)
   unfolding missed_from
   missed-at n =
-      set_of-same slots (is_missed_in (planning_of ranking window (from + n) (pending_at plan n)) (from + n) (contains_slot (pending_at plan n)))
+      set_of-same most_slots (is_missed_in (planning_of ranking window (from + n) (pending_at plan n)) (from + n) (contains_slot (pending_at plan n)))
       (is_missed_at plan n)
-      (like-missed policy walked placed (from + n) (from + n) (like n) window (from + n) from (pending_at plan n) pending
+      (like-missed ranking placed (from + n) (from + n) (like n) window (from + n) from (pending_at plan n) pending
       (contains_slot (pending_at plan n)) (pending_before plan n) (agree-set (pending_before plan n)))
 
-  left-at : (n : ℕ) → left_from ranking window (state_at plan n) ≡ set_of slots (left_after plan (from + n) (pending_before plan n))
+  left-at : (n : ℕ) → left_from ranking window (state_at plan n) ≡ set_of most_slots (left_after plan (from + n) (pending_before plan n))
   unfolding left_from
   left-at n =
-      set_of-same slots (left_after (planning_of ranking window (from + n) (pending_at plan n)) (from + n) (contains_slot (pending_at plan n)))
+      set_of-same most_slots (left_after (planning_of ranking window (from + n) (pending_at plan n)) (from + n) (contains_slot (pending_at plan n)))
       (left_after plan (from + n) (pending_before plan n))
-      (like-left policy walked placed (from + n) (from + n) (like n) window (from + n) from (pending_at plan n) pending
+      (like-left ranking placed (from + n) (from + n) (like n) window (from + n) from (pending_at plan n) pending
       (contains_slot (pending_at plan n)) (pending_before plan n) (agree-set (pending_before plan n)))
 
   pending-next : (n : ℕ) → left_from ranking window (state_at plan n) ≡ pending_at plan (n + 1)
@@ -47,7 +43,7 @@ module _ (policy : Policy) (window : ℕ) (placed walked : List Placed) (from pe
 
   pending-start : pending_at plan 0 ≡ pending
   unfolding pending_before
-  pending-start = sym (set_of-contains_slot slots pending known)
+  pending-start = sym (set_of-contains_slot most_slots pending known)
 
   next-state : (n : ℕ) → missed_from ranking window (state_at plan n) ≡ 0 → state_behind ranking window (state_at plan n) ≡ Some (state_at plan (n + 1))
   next-state n none =
@@ -73,7 +69,7 @@ module _ (policy : Policy) (window : ℕ) (placed walked : List Placed) (from pe
       let next : n + 1 ≡ suc n = omega arith in
       subst (λ k. state_after course k ≡ Some (state_at plan k)) next (state_after-next course n (state_at plan n) here ∙ next-state n clear)
 
-  no_miss-more : (n : ℕ) → HasNoMiss plan n → ((slot : ℕ) → slot < slots → is_missed_at plan n slot ≡ false) → HasNoMiss plan (n + 1)
+  no_miss-more : (n : ℕ) → HasNoMiss plan n → ((slot : ℕ) → slot < most_slots → is_missed_at plan n slot ≡ false) → HasNoMiss plan (n + 1)
   no_miss-more n before here m slot below known =
       ⊎_elim
       (λ (less : m < n). before m slot less known)
@@ -81,7 +77,7 @@ module _ (policy : Policy) (window : ℕ) (placed walked : List Placed) (from pe
       (cases_lt m n)
 
   goes-behind : (n : ℕ) (state : PlanState) → state_behind ranking window (state_at plan n) ≡ Some state
-      → (slot : ℕ) → slot < slots → is_missed_at plan n slot ≡ false
+      → (slot : ℕ) → slot < most_slots → is_missed_at plan n slot ≡ false
   goes-behind n state goes slot known =
       let test = cond_some (nat_eq (missed_from ranking window (state_at plan n)) 0)
       (record { cycle = from + n + 1; pending = left_from ranking window (state_at plan n) }) state goes in

@@ -2,13 +2,14 @@
 use Rattle.std.specs.Prelude.{◌≡◌, ℕ, zero, suc, ◌+◌, ◌-◌, ◌<◌, ◌≤◌}
 use Rattle.std.specs.Prelude.{Bool, true, false, List, [], ◌∷◌, ◌++◌, Option, Some, None}
 use Rattle.requirement_table.specs.declared.entries.Placed.{Placed}
+use Rattle.requirement_table.specs.Slots.{most_slots}
 use Rattle.requirement_table.specs.Table.{IsWellPlaced}
 use Rattle.change_protocol.specs.declared.operations.Change.{Change}
 use Rattle.change_protocol.specs.declared.malformed.ApplyFault.{ApplyFault}
 use Rattle.change_protocol.specs.declared.malformed.ApplyFault.TheVariants.{Memory, Malformed as Unapplied}
 use Rattle.change_protocol.specs.Applied.{applied}
-use Rattle.change_protocol.specs.Malformed.{IsWellFormed, broken, first_fault}
-use Rattle.planner_policies.specs.Plan.{HasNoMiss, IsFirstMiss, IsMissAt, IsValid, NeverMisses, Planning, mask_at}
+use Rattle.change_protocol.specs.Malformed.{Bounds, IsWellFormed, bounds_of, broken, first_fault}
+use Rattle.planner_policies.specs.Plan.{HasNoMiss, IsFirstMiss, IsMissAt, IsValid, NeverMisses, Planning, Ranking, mask_at, planning_of}
 use Rattle.planner_policies.specs.declared.state.PlanState.{PlanState}
 use Rattle.admission.specs.Course.{state_at}
 use Rattle.admission_rules.specs.declared.Rules.{Rules}
@@ -29,19 +30,27 @@ is_accepted (Accepted first length) = true
 pub record IsRules (rules : Rules) : Type 0 where
   pub some_nodes : 1 ≤ rules.nodes
   pub few_nodes : rules.nodes ≤ 30
+  pub few_slots : rules.slots ≤ most_slots
   pub least_window : 55 ≤ rules.window
   pub greatest_window : rules.window ≤ 16383
   pub some_cycles : 1 ≤ rules.horizon
   pub near_horizon : rules.horizon ≤ 100000
 
+-- the numbers of nodes and of slots of the rules, by which a change is tested
+abbrev pub bounds_by : Rules → Bounds
+bounds_by rules = bounds_of rules.nodes rules.slots
+
+-- a list as these rules order it and take of it
+abbrev pub ranking_by : Rules → List Placed → Ranking
+ranking_by rules placed = record { placed = placed; policy = rules.policy; fill = rules.fill }
+
 -- the planning of a list by these rules, from a cycle on before which these slots are pending
 abbrev pub plan_from : Rules → List Placed → ℕ → ℕ → Planning
-plan_from rules placed from pending =
-    record { placed = placed; policy = rules.policy; window = rules.window; from = from; pending = pending }
+plan_from rules placed from pending = planning_of (ranking_by rules placed) rules.window from pending
 
 -- the change breaks no rule, and its start has not passed when `next` is the next cycle to be opened
 pub record IsInTime (rules : Rules) (placed : List Placed) (next : ℕ) (change : Change) : Type 0 where
-  pub well_formed : IsWellFormed placed rules.nodes change
+  pub well_formed : IsWellFormed placed (bounds_by rules) change
   pub ahead : next ≤ change.start
 
 -- what is to be answered of a planning within a horizon: its first miss, where that lies within it; else there is none
@@ -60,9 +69,9 @@ IsVerdictOnPlan horizon plan (Accepted first length) =
 -- is the next cycle to be opened
 abbrev pub IsVerdict : Rules → List Placed → ℕ → ℕ → ℕ → Change → Verdict → Type 0
 IsVerdict rules placed pending from next change (Malformed op why) =
-    first_fault placed rules.nodes change ≡ Some (broken op why)
+    first_fault placed (bounds_by rules) change ≡ Some (broken op why)
 IsVerdict rules placed pending from next change (Passed start opened) =
-    IsWellFormed placed rules.nodes change × (change.start < next) × (start ≡ change.start) × (opened ≡ next)
+    IsWellFormed placed (bounds_by rules) change × (change.start < next) × (start ≡ change.start) × (opened ≡ next)
 IsVerdict rules placed pending from next change (Miss slot release cycle) =
     IsInTime rules placed next change
     × IsVerdictOnPlan rules.horizon (plan_from rules (applied placed change) from pending) (Miss slot release cycle)

@@ -1,13 +1,14 @@
 -- The walk over the planning of a list.
 use Rattle.std.specs.Prelude.{◌≡◌, ℕ, ◌^◌, ◌<◌, List, Option}
 use Rattle.requirement_table.specs.declared.entries.Placed.{Placed}
-use Rattle.requirement_table.specs.Slots.{slots}
+use Rattle.requirement_table.specs.Slots.{most_slots}
 use Rattle.requirement_table.specs.Table.{IsWellPlaced, not_over}
 use Rattle.planner_policies.specs.declared.state.PlanState.{PlanState}
 use Rattle.planner_policies.specs.Plan.{IsValid, Ranking}
 use Rattle.admission_rules.specs.declared.Rules.{Rules}
 use Rattle.admission.specs.Period.{IsPeriodUpTo}
 use Rattle.admission.specs.Recurrence.{bound_of}
+use Rattle.admission.specs.Verdict.{ranking_by}
 
 -- what is walked: a list without the entries that are over, by these rules and from this cycle on, with the bound and
 -- the period of the whole list
@@ -15,8 +16,8 @@ pub record IsWalked (rules : Rules) (list : List Placed) (from pending : ℕ) (w
     (window : ℕ) (first : PlanState) (bound : ℕ) (period : Option ℕ) : Type 0 where
   pub well : IsWellPlaced list
   pub valid : IsValid list from pending
-  pub known : pending < 2 ^ slots
-  pub walked_is : walked ≡ record { placed = not_over from list; policy = rules.policy }
+  pub known : pending < 2 ^ most_slots
+  pub walked_is : walked ≡ ranking_by rules (not_over from list)
   pub window_is : window ≡ rules.window
   pub first_is : first ≡ record { cycle = from; pending = pending }
   pub bound_is : bound ≡ bound_of from list

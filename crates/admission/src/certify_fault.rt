@@ -9,7 +9,7 @@ pub enum CertifyFault {
     /// An instance would miss its deadline.
     #[error("the instance of slot {slot} that is released in cycle {release} would be missed in cycle {cycle}")]
     Miss {
-        /// The slot, 0 to 39.
+        /// The slot, 0 to 95.
         slot: u8,
         /// The cycle of the instance's release.
         release: u64,

@@ -23,9 +23,9 @@ use std::alloc::{AllocError, Global};
 /// behind the state.
 ///
 /// `opened` are the masks of the cycles from 0 to below the state's cycle, at most 2^41: the plan of the placed
-/// entries, in which nothing is missed. `state` is the state behind them. The rules have 1 to 30 nodes, a window of 55
-/// to 16,383 bit times and a horizon of 1 to 100,000 cycles. It takes time for about twice the cycles that are walked
-/// times the entries that are not over, and memory for their states and for all masks.
+/// entries, in which nothing is missed. `state` is the state behind them. The rules have 1 to 30 nodes, 40 or 96 slots,
+/// a window of 55 to 16,383 bit times and a horizon of 1 to 100,000 cycles. It takes time for about twice the cycles
+/// that are walked times the entries that are not over, and memory for their states and for all masks.
 ///
 /// # Errors
 ///

@@ -25,9 +25,9 @@ use std::alloc::{AllocError, Global};
 /// Decides of a change of the table. `state` is the next cycle to be opened, from which the changed table is planned,
 /// and the slots that are pending before it.
 ///
-/// The state is valid, and its cycle is at most 2^41. The rules have 1 to 30 nodes, a window of 55 to 16,383 bit times
-/// and a horizon of 1 to 100,000 cycles. It takes time for about the cycles that are walked times the entries that are
-/// not over, and memory for the states.
+/// The state is valid, and its cycle is at most 2^41. The rules have 1 to 30 nodes, 40 or 96 slots, a window of 55 to
+/// 16,383 bit times and a horizon of 1 to 100,000 cycles. It takes time for about the cycles that are walked times the
+/// entries that are not over, and memory for the states.
 ///
 /// # Errors
 ///
@@ -51,7 +51,7 @@ pub fn decide(
     ensures safe { IfOk result (λ decision. IfSome decision.placed
         (λ list. IsSafe rules.now list state.now.cycle state.now.pending)) }
 {
-    let list = match apply(alloc, placed, rules.nodes, change) {
+    let list = match apply(alloc, placed, rules.nodes, rules.slots, change) {
         Ok(list) => list,
         Err(fault) => return malformed(alloc, fault),
     };
@@ -144,7 +144,7 @@ pub fn walk_over(
     state.pending.known();
     let left = not_over(alloc, list, state.cycle)?;
     Ok(PlanWalk {
-        ranked: rank(alloc, left.as_slice(), rules.policy)?,
+        ranked: rank(alloc, left.as_slice(), rules.policy, rules.fill)?,
         window: rules.window,
         first: *state,
         bound: bound(list, state.cycle),

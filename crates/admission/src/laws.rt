@@ -10,7 +10,7 @@ ghost use Rattle.planner_policies.specs.Plan.{HasNoMiss, IsValid, NeverMisses, P
 ghost use Rattle.admission_rules.specs.declared.Rules.{Rules};
 ghost use Rattle.admission.specs.declared.verdict.Verdict.{Verdict};
 ghost use Rattle.admission.specs.Recurrence.{IsRecurrence};
-ghost use Rattle.admission.specs.Verdict.{IsInTime, IsTakenWhereDue, IsVerdict, plan_from};
+ghost use Rattle.admission.specs.Verdict.{IsInTime, IsRules, IsTakenWhereDue, IsVerdict, plan_from};
 
 use planner_policies::laws::{loops, valid_states};
 
@@ -46,12 +46,12 @@ pub fn not_felt_before_its_start()
         ≡ mask_at (plan_from rules placed from pending) n }
 {}
 
-/// A change that is in time, and whose planning from a cycle on never misses a deadline, is accepted wherever there is
-/// a cycle by which all entries have settled, in which each live entry releases an instance, and which lies a whole
-/// common period within the horizon.
+/// A change that is in time by rules that are in range, and whose planning from a cycle on never misses a deadline, is
+/// accepted wherever there is a cycle by which all entries have settled, in which each live entry releases an instance,
+/// and which lies a whole common period within the horizon.
 pub fn taken_where_due()
     ensures taken { (rules : Rules) (placed : List Placed) (pending from next : ℕ)
-        (change : Change) (verdict : Verdict) → IsWellPlaced placed
+        (change : Change) (verdict : Verdict) → IsRules rules → IsWellPlaced placed
         → All HasTypes change.ops → IsValid placed from pending → from ≤ next → IsInTime rules placed next change
         → IsVerdict rules placed pending from next change verdict
         → IsTakenWhereDue rules (plan_from rules (applied placed change) from pending) verdict }

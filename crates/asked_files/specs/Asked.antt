@@ -2,7 +2,7 @@
 use Rattle.std.specs.Prelude.{◌≡◌, ℕ, Bool, List, [], length, if◌then◌else◌, nat_le, Option, Some, None, Result, Ok, Err}
 use Rattle.ftt_io.specs.Files.{NamedFiles}
 use Rattle.plan_check.specs.Certificate.{CertificateView}
-use Rattle.plan_check.specs.PlanText.{IsFirstWrongLine, IsReadable, plan_text}
+use Rattle.plan_check.specs.PlanText.{IsFirstWrongLine, IsPlanOf}
 use Rattle.async_window.specs.declared.request.Owner.{Owner}
 use Rattle.async_window.specs.declared.request.Request.{Request}
 use Rattle.input_text.specs.SystemFile.{system_of}
@@ -82,11 +82,6 @@ job_in files system_name steps_name requests_name =
 pub record IsFromStart (certificate : CertificateView) : Type 0 where
   pub from : certificate.from ≡ 0
   pub pending : certificate.pending ≡ 0
-
--- the certificate whose text these bytes are
-pub record IsPlanOf (bytes : List ℕ) (certificate : CertificateView) : Type 0 where
-  pub readable : IsReadable certificate
-  pub text : bytes ≡ plan_text certificate
 
 -- these bytes are the text of a plan that begins later, or with something pending
 pub record IsLaterPlan (bytes : List ℕ) : Type 0 where

@@ -7,6 +7,7 @@ use Rattle.input_text.specs.SystemFile.{IsSystem}
 use Rattle.input_text.specs.RequestsFile.{AreLegal}
 use Rattle.input_text.specs.StepsFile.{AreLegalSteps}
 use Rattle.plan_check.specs.Certificate.{CertificateView}
+use Rattle.plan_check.specs.declared.plan_runs.Version.TheVariants.{Two}
 use Rattle.plan_check.specs.PlanText.{IsReadable}
 use Rattle.command_words.specs.declared.words.WordsFault.{WordsFault}
 use Rattle.command_words.specs.declared.words.WordsFault.TheVariants as words
@@ -73,7 +74,7 @@ pub record IsJob (job : JobView) : Type 0 where
 
 -- what holds of each certificate that is to be checked
 pub record IsToCheck (certificate : CertificateView) : Type 0 where
-  pub readable : IsReadable certificate
+  pub readable : IsReadable Two certificate
   pub start : IsFromStart certificate
 
 -- what holds of each task

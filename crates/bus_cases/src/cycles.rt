@@ -1,6 +1,6 @@
 //! Calls of `cycle_engine`.
 
-ghost use Rattle.std.specs.Prelude.{◌≡◌, ◌⊎◌, ◌+◌, ◌<◌, ◌≤◌, true, All, AllPairs, IfOk, IfSome, OnOk};
+ghost use Rattle.std.specs.Prelude.{◌≡◌, ◌⊎◌, ◌+◌, ◌^◌, ◌<◌, ◌≤◌, true, All, AllPairs, IfOk, IfSome, OnOk};
 ghost use Rattle.requirement_table.specs.Table.{IsWellPlaced};
 ghost use Rattle.cycle_engine.specs.Nodes.{states_of};
 
@@ -13,7 +13,7 @@ use async_window::{Owner, Request};
 use can_frame::TimedFrame;
 use cycle_engine::{Nodes, Segment, run_cycle, run_cycle_in};
 use cycle_layout::Layout;
-use requirement_table::{Order, Placed, PlacedList, released_in, well_placed};
+use requirement_table::{Mask, Order, Placed, PlacedList, released_in, well_placed};
 use std::alloc::Global;
 
 /// Three nodes on a bus: node 0 owns 0x210, node 1 owns 0x200 and node 2 owns 0x201. The lines give a layout, entries
@@ -44,10 +44,10 @@ impl Table for Cycles {
     fn answer(&mut self, alloc: Global, fields: &[&str]) -> Result<String, Fault> {
         match fields {
             ["layout", cycle, turnaround, window] => {
-                self.layout = Some(layout(cycle, turnaround, window)?);
-                self.placed.clear();
-                self.requests.clear();
-                Ok(String::from_str(alloc, "no entries, no requests")?)
+                self.renew(alloc, layout(cycle, turnaround, window, 40)?)
+            }
+            ["96", "layout", cycle, turnaround, window] => {
+                self.renew(alloc, layout(cycle, turnaround, window, 96)?)
             }
             ["entries", list @ ..] => {
                 self.placed = entries(alloc, list)?;
@@ -65,6 +65,14 @@ impl Table for Cycles {
 }
 
 impl Cycles {
+    /// A layout, without entries and requests.
+    fn renew(&mut self, alloc: Global, layout: Layout) -> Result<String, Fault> {
+        self.layout = Some(layout);
+        self.placed.clear();
+        self.requests.clear();
+        Ok(String::from_str(alloc, "no entries, no requests")?)
+    }
+
     /// The frames of the first cycles, and how many requests are left. In place, one segment serves all cycles.
     fn run(&self, alloc: Global, l: u32, count: u8, in_place: bool) -> Result<String, Fault> {
         let Some(layout) = self.layout else {
@@ -111,6 +119,18 @@ fn list_if(alloc: Global, placed: &[Placed], wanted: bool) -> Result<Option<Plac
     }
 }
 
+/// Whether the slots of a set are below a layout's number of slots.
+fn fits(mask: Mask, layout: &Layout) -> bool
+    ensures slots { result ≡ true → mask < 2 ^ layout.now.slots }
+{
+    mask.known();
+    match layout.slots() {
+        40 => mask.bits() < 1 << 40,
+        96 => true,
+        _ => false,
+    }
+}
+
 /// Runs one cycle, in which the list is learnt where it is the first one, and each of its entries is flagged. Their worst
 /// lengths are `l` together.
 fn one_cycle(
@@ -127,9 +147,13 @@ fn one_cycle(
     ensures layout { nodes.new.layout ≡ nodes.old.layout }
     ensures next { OnOk result (All (λ node. node.next ≡ cycle + 1) (states_of nodes.new.nodes)) }
 {
+    let mask = released_in(placed, cycle);
+    if !fits(mask, nodes.layout()) {
+        return Err(Fault::Unread);
+    }
     let order = Order {
         cycle,
-        mask: released_in(placed, cycle),
+        mask,
         l,
         learned: list_if(alloc, placed, cycle == 0)?,
     };
@@ -152,9 +176,13 @@ fn one_cycle_in(
     ensures layout { nodes.new.layout ≡ nodes.old.layout }
     ensures next { OnOk result (All (λ node. node.next ≡ cycle + 1) (states_of nodes.new.nodes)) }
 {
+    let mask = released_in(placed, cycle);
+    if !fits(mask, nodes.layout()) {
+        return Err(Fault::Unread);
+    }
     let order = Order {
         cycle,
-        mask: released_in(placed, cycle),
+        mask,
         l,
         learned: list_if(alloc, placed, cycle == 0)?,
     };

@@ -3,7 +3,7 @@
 ghost use Rattle.std.specs.Prelude.{◌<◌, ◌^◌, IfOk};
 
 use can_frame::{Frame, TimedFrame};
-use requirement_table::{Mask, SLOTS};
+use requirement_table::{MOST_SLOTS, Mask};
 use std::alloc::{AllocError, AllocFailed, Global};
 
 /// Why a line has no answer.
@@ -122,7 +122,7 @@ pub fn mask(field: &str) -> Result<Mask, Fault> {
     }
     for slot in field.split('+') {
         let slot = small(slot)?;
-        if slot >= SLOTS {
+        if slot >= MOST_SLOTS {
             return Err(Fault::Unread);
         }
         mask = mask.with(slot);
@@ -155,7 +155,7 @@ pub fn text_of_frame(alloc: Global, frame: &Frame) -> Result<String, Fault> {
 /// The text of a set of slots.
 pub fn text_of_mask(alloc: Global, mask: Mask) -> Result<String, Fault> {
     let mut text = String::new(alloc);
-    for slot in 0..SLOTS {
+    for slot in 0..MOST_SLOTS {
         if mask.has(slot) {
             let one = format!(in alloc; "{slot}")?;
             push_behind(&mut text, '+', one.as_str())?;

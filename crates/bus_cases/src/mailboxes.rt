@@ -38,17 +38,28 @@ impl Table for Mail {
     ghost IsReady = { λ _. ⊤ };
 
     fn answer(&mut self, alloc: Global, fields: &[&str]) -> Result<String, Fault> {
-        if let ["new", cycle, turnaround, window, given @ ..] = fields {
-            let boxes = mailboxes(alloc, requests(alloc, given)?.as_slice())?;
-            let left = boxes.left();
-            let layout = layout(cycle, turnaround, window)?;
-            self.waiting = Some(Waiting { layout, boxes });
-            return Ok(format!(in alloc; "{left}")?);
+        match fields {
+            ["new", cycle, turnaround, window, given @ ..] => {
+                self.renew(alloc, layout(cycle, turnaround, window, 40)?, given)
+            }
+            ["96", "new", cycle, turnaround, window, given @ ..] => {
+                self.renew(alloc, layout(cycle, turnaround, window, 96)?, given)
+            }
+            _ => match &mut self.waiting {
+                Some(waiting) => waiting.answer(alloc, fields),
+                None => Err(Fault::Unread),
+            },
         }
-        match &mut self.waiting {
-            Some(waiting) => waiting.answer(alloc, fields),
-            None => Err(Fault::Unread),
-        }
+    }
+}
+
+impl Mail {
+    /// Requests that wait in a layout. The answer is how many there are.
+    fn renew(&mut self, alloc: Global, layout: Layout, given: &[&str]) -> Result<String, Fault> {
+        let boxes = mailboxes(alloc, requests(alloc, given)?.as_slice())?;
+        let left = boxes.left();
+        self.waiting = Some(Waiting { layout, boxes });
+        Ok(format!(in alloc; "{left}")?)
     }
 }
 

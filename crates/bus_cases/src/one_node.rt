@@ -1,6 +1,7 @@
 //! Calls of `node_model`.
 
 ghost use Rattle.std.specs.Prelude.{◌≡◌, ◌<◌, ◌^◌, IfSome, IfOk};
+ghost use Rattle.node_model.specs.Node.{opening_identifier};
 ghost use Rattle.bus_cases.specs.Ready.{CountsCycles};
 
 use crate::compared::Table;
@@ -16,13 +17,15 @@ use async_window::{Owner, Request};
 use can_frame::{Frame, TimedFrame, wire_len};
 use cycle_layout::Layout;
 use node_model::Node;
-use requirement_table::{Mask, Placed, SLOTS, well_placed};
+use requirement_table::{MOST_SLOTS, Mask, Placed, well_placed};
 use std::alloc::Global;
+use trigger_codec::encode_second;
 
-/// A node, and the number of cycles that were opened for it.
+/// A node, the identifier of the frames that open cycles for it, and how many of them it heard.
 #[derive(Drop)]
 pub struct Opened {
     node: Node,
+    opening: u16,
     cycles: u64,
 }
 
@@ -48,23 +51,50 @@ impl Table for OneNode {
     ghost IsReady = { λ table. IfSome table.opened CountsCycles };
 
     fn answer(&mut self, alloc: Global, fields: &[&str]) -> Result<String, Fault> {
-        if let ["new", cycle, turnaround, window, given @ ..] = fields {
-            let layout = layout(cycle, turnaround, window)?;
-            let node = node(alloc, layout, requests(alloc, given)?.as_slice())?;
-            let left = node.left();
-            self.opened = Some(Opened { node, cycles: 0 });
-            return Ok(format!(in alloc; "{left}")?);
+        match fields {
+            ["new", cycle, turnaround, window, given @ ..] => {
+                self.renew(alloc, layout(cycle, turnaround, window, 40)?, given, 0)
+            }
+            ["96", "new", cycle, turnaround, window, given @ ..] => {
+                self.renew(alloc, layout(cycle, turnaround, window, 96)?, given, 1)
+            }
+            _ => match &mut self.opened {
+                Some(opened) => opened.answer(alloc, fields),
+                None => Err(Fault::Unread),
+            },
         }
-        match &mut self.opened {
-            Some(opened) => opened.answer(alloc, fields),
-            None => Err(Fault::Unread),
-        }
+    }
+}
+
+impl OneNode {
+    /// A node in a layout, with requests; frames of an identifier open its cycles. The answer is how many of the requests
+    /// are its own.
+    fn renew(
+        &mut self,
+        alloc: Global,
+        layout: Layout,
+        given: &[&str],
+        opening: u16,
+    ) -> Result<String, Fault>
+        requires opening { opening ≡ opening_identifier layout.slots }
+        requires ready { IfSome self.old.opened CountsCycles }
+        ensures ready { IfSome self.new.opened CountsCycles }
+    {
+        let node = node(alloc, layout, requests(alloc, given)?.as_slice())?;
+        let left = node.left();
+        self.opened = Some(Opened {
+            node,
+            opening,
+            cycles: 0,
+        });
+        Ok(format!(in alloc; "{left}")?)
     }
 }
 
 /// Node 1 with these requests.
 fn node(alloc: Global, layout: Layout, requests: &[Request]) -> Result<Node, Fault>
     ensures next { IfOk result (λ node. node.state.next ≡ 0) }
+    ensures layout { IfOk result (λ node. node.state.layout ≡ layout) }
 {
     if !are_in_order(requests) {
         return Err(Fault::Unread);
@@ -87,6 +117,9 @@ impl Opened {
             ["trigger", cycle, l, slots] => {
                 let sent = trigger(time(cycle)?, length(l)?, mask(slots)?)?;
                 self.hear(alloc, sent)
+            }
+            ["second", cycle, slots] => {
+                self.hear(alloc, encode_second(time(cycle)?, mask(slots)?))
             }
             ["hear", sent] => self.hear(alloc, frame(alloc, sent)?),
             ["take", at, sent] => self.take(alloc, time(at)?, frame(alloc, sent)?),
@@ -114,7 +147,7 @@ impl Opened {
             len,
             frame,
         });
-        if frame.id() == 0 {
+        if frame.id() == self.opening {
             self.cycles += 1;
         }
         Ok(format!(in alloc; "{}", self.node.heard())?)
@@ -191,7 +224,7 @@ fn offered_frame(alloc: Global, node: &Node, at: u64) -> Result<String, Fault>
 
 /// The frame of a slot that the node is to send in the open cycle.
 fn frame_of_slot(alloc: Global, node: &Node, slot: u8) -> Result<String, Fault> {
-    if slot >= SLOTS {
+    if slot >= MOST_SLOTS {
         return Err(Fault::Unread);
     }
     match node.frame_due(slot) {

@@ -5,9 +5,9 @@ use crate::fields::{Fault, frame, length, mask, text_of_frame, text_of_mask, tim
 use can_frame::Frame;
 use requirement_table::Mask;
 use std::alloc::Global;
-use trigger_codec::{MAX_WINDOW, decode, encode};
+use trigger_codec::{MAX_WINDOW, decode, decode_second, encode, encode_second, flags_of_both};
 
-/// Trigger messages, in both directions.
+/// Trigger frames, in both directions.
 #[derive(Drop)]
 pub struct Triggers;
 
@@ -21,13 +21,20 @@ impl Table for Triggers {
             ["encode", cycle, l, slots] => {
                 text_of_frame(alloc, &trigger(time(cycle)?, length(l)?, mask(slots)?)?)
             }
+            ["encode-second", cycle, slots] => {
+                text_of_frame(alloc, &encode_second(time(cycle)?, mask(slots)?))
+            }
             ["decode", heard] => decoded(alloc, &frame(alloc, heard)?),
+            ["decode-second", heard] => decoded_second(alloc, &frame(alloc, heard)?),
+            ["both", first, second] => {
+                text_of_mask(alloc, flags_of_both(mask(first)?, mask(second)?))
+            }
             _ => Err(Fault::Unread),
         }
     }
 }
 
-/// The trigger message of a cycle.
+/// The first trigger frame of a cycle.
 pub fn trigger(cycle: u64, l: u32, mask: Mask) -> Result<Frame, Fault> {
     if l > MAX_WINDOW {
         return Err(Fault::Unread);
@@ -35,7 +42,18 @@ pub fn trigger(cycle: u64, l: u32, mask: Mask) -> Result<Frame, Fault> {
     Ok(encode(cycle, l, mask))
 }
 
-/// What a trigger message says, or the fault.
+/// What a second trigger frame says, or the fault.
+fn decoded_second(alloc: Global, heard: &Frame) -> Result<String, Fault> {
+    match decode_second(heard) {
+        Ok(second) => {
+            let slots = text_of_mask(alloc, second.mask)?;
+            Ok(format!(in alloc; "{} {slots}", second.low)?)
+        }
+        Err(fault) => Ok(format!(in alloc; "{fault}")?),
+    }
+}
+
+/// What a first trigger frame says, or the fault.
 fn decoded(alloc: Global, heard: &Frame) -> Result<String, Fault> {
     match decode(heard) {
         Ok(trigger) => {

@@ -13,7 +13,7 @@ use Rattle.change_protocol.specs.declared.operations.Change.{Change}
 use Rattle.admission_rules.specs.declared.Rules.{Rules}
 use Rattle.admission.specs.declared.verdict.Verdict.{Verdict}
 use Rattle.admission.specs.declared.verdict.Verdict.TheVariants.{Malformed, Passed, Miss, Horizon, Accepted}
-use Rattle.admission.specs.Verdict.{IsRules, IsVerdict, is_accepted}
+use Rattle.admission.specs.Verdict.{IsRules, IsVerdict, bounds_by, is_accepted}
 use Rattle.master_core.specs.declared.event.Event.{Event}
 use Rattle.master_core.specs.declared.event.Event.TheVariants.{Submit, Look, Open}
 use Rattle.master_core.specs.History.{AllAfter, IsLegal, IsRight, is_open, next_of, placed_after, placed_of}
@@ -104,7 +104,7 @@ formed-by rules placed pending from next change (Passed start opened) ranges ans
 formed-by rules placed pending from next change (Miss slot release cycle) ranges answer accepted = absurd (let none : ⊥ = cc in none)
 formed-by rules placed pending from next change (Horizon first walked) ranges answer accepted = absurd (let none : ⊥ = cc in none)
 formed-by rules placed pending from next change (Accepted first length) ranges answer accepted =
-    record { nodes = rules.nodes; few = ranges.few_nodes; well_formed = answer.0.well_formed }
+    record { bounds = bounds_by rules; few = ranges.few_nodes; room = ranges.few_slots; well_formed = answer.0.well_formed }
 
 formed : (rules : Rules) (before : List Event) (event : Event) → IsRules rules → IsRight rules before event
     → IsFormedIn (placed_of before) event

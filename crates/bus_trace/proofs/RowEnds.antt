@@ -9,7 +9,7 @@ use Rattle.master_core.specs.declared.event.Event.{Event}
 use Rattle.master_core.specs.declared.event.Event.TheVariants.{Submit, Look, Open}
 use Rattle.bus_trace.specs.EventRows.{opened_row, rows_of_event, width_told_in}
 use Rattle.bus_trace.specs.LastRows.{AreRows, last_byte}
-use Rattle.bus_trace.specs.Log.{end_row, frame_row, hex_digits, last_field, look_row, plan_row, plan_rows, submit_row, verdict_fields}
+use Rattle.bus_trace.specs.Log.{end_row, frame_row, hex_digits, look_row, mask_digits, plan_row, plan_rows, submit_row, verdict_fields}
 
 -- a line feed ends it, whatever stands before it
 record Ends (text : List ℕ) : Type 0 where
@@ -31,10 +31,10 @@ look-ends : (caller next : ℕ) → Ends (look_row caller next)
 look-ends caller next = behind (codes "look," ++ decimal caller ++ codes "," ++ decimal next) feed
 
 plan-ends : (cycle mask : ℕ) → Ends (plan_row cycle mask)
-plan-ends cycle mask = behind (codes "plan," ++ decimal cycle ++ codes "," ++ hex_digits 10 mask) feed
+plan-ends cycle mask = behind (codes "plan," ++ decimal cycle ++ codes "," ++ mask_digits mask) feed
 
 opened-ends : (cycle mask width : ℕ) → Ends (opened_row cycle mask width)
-opened-ends cycle mask width = behind (codes "open," ++ decimal cycle ++ codes "," ++ hex_digits 10 mask ++ codes "," ++ decimal width) feed
+opened-ends cycle mask width = behind (codes "open," ++ decimal cycle ++ codes "," ++ mask_digits mask ++ codes "," ++ decimal width) feed
 
 frame-ends : (sent : TimedFrame) → Ends (frame_row sent)
 frame-ends sent =

@@ -8,9 +8,10 @@ use Rattle.std.specs.List.{flat_map}
 use Rattle.std.specs.Str.{bytes_eq}
 use Rattle.can_frame.specs.DataFrame.{DataFrame, IsFrame}
 use Rattle.can_frame.specs.declared.data_frame.TimedFrame.{TimedFrame}
-use Rattle.bus_trace.specs.Log.{hex_digits}
+use Rattle.requirement_table.specs.Slots.{most_slots}
+use Rattle.bus_trace.specs.Log.{hex_digits, mask_digits}
 use Rattle.bus_trace.specs.Row.{IsLogRow, IsLogVerdict, fields_of_row, fields_of_verdict}
-use Rattle.bus_trace.specs.RowFields.{accepted_of, end_of, frame_at, frame_of, frame_with, hex_at, horizon_of, look_of, malformed_of, miss_of, number_at, open_of, passed_of, plan_of, row_by, row_of, submit_of, two_numbers, until_of, verdict_by, verdict_of}
+use Rattle.bus_trace.specs.RowFields.{accepted_of, end_of, frame_at, frame_of, frame_with, hex_at, horizon_of, look_of, malformed_of, miss_of, number_at, open_of, passed_of, plan_of, row_by, row_of, slots_at, submit_of, two_numbers, until_of, verdict_by, verdict_of}
 use Rattle.bus_trace.specs.declared.row.LogRow.{LogRow}
 use Rattle.bus_trace.specs.declared.row.LogRow.TheVariants as row
 use Rattle.bus_trace.specs.declared.row.LogVerdict.{LogVerdict}
@@ -18,7 +19,8 @@ use Rattle.bus_trace.specs.declared.row.LogVerdict.TheVariants as verdict
 use Rattle.text_fields.specs.ByteText.{data_of}
 use Rattle.text_fields.specs.Decimal.{decimal_of, within}
 use Rattle.text_fields.specs.Hexadecimal.{hex_of}
-use Rattle.text_fields.proofs.Shared.{data-read, data_of-data, decimal-read, decimal_of-decimal, digits-of_hex, hex_of-digits, if-some, within-found, within-is}
+use Rattle.text_fields.specs.MaskText.{mask_of}
+use Rattle.text_fields.proofs.Shared.{data-read, data_of-data, decimal-read, decimal_of-decimal, digits-of_hex, digits-of_mask, hex_of-digits, if-some, mask_of-digits, within-found, within-is}
 
 -- Choices
 
@@ -82,6 +84,17 @@ hex-read fields place count n read =
 hex-found : (fields : List (List ℕ)) (place count n : ℕ) → n < 16 ^ count → slice_get fields place ≡ Some (hex_digits count n)
     → hex_at fields place count ≡ Some n
 hex-found fields place count n small there = ap (option_and_then (hex_of count)) there ∙ hex_of-digits count n small
+
+slots-read : (fields : List (List ℕ)) (place mask : ℕ) → slots_at fields place ≡ Some mask
+    → (slice_get fields place ≡ Some (mask_digits mask)) × (mask < 2 ^ most_slots)
+slots-read fields place mask read =
+    option_and_then_some mask_of (slice_get fields place) mask read (λ field there writes.
+    let (is, small) = digits-of_mask field mask writes in
+    (there ∙ ap (λ f. Some f) is, small))
+
+slots-found : (fields : List (List ℕ)) (place mask : ℕ) → mask < 2 ^ most_slots → slice_get fields place ≡ Some (mask_digits mask)
+    → slots_at fields place ≡ Some mask
+slots-found fields place mask small there = ap (option_and_then mask_of) there ∙ mask_of-digits mask small
 
 -- what a frame's fields say
 record IsFrameAt (fields : List (List ℕ)) (frame : DataFrame) : Type 0 where
@@ -231,9 +244,9 @@ module _ (fields : List (List ℕ)) where
   plan-read read word found =
       let (count, rest) = if-some (length fields == 3) _ read found in
       option_and_then_some _ (number_at fields 1 (2 ^ 64 - 1)) read rest (λ cycle one more.
-      option_and_then_some _ (hex_at fields 2 10) read more (λ mask two made.
+      option_and_then_some _ (slots_at fields 2) read more (λ mask two made.
       let x = number-read fields 1 (2 ^ 64 - 1) cycle (omega arith) one in
-      let y = hex-read fields 2 10 mask two in
+      let y = slots-read fields 2 mask two in
       subst (HasForm fields) (same_Some (row.Plan cycle mask) read made) (record {
         legal = (omega (arith, x.1), omega (arith, y.1));
         is = same-places fields _ (eqb-true (length fields) 3 count) (word, (x.0, (y.0, tt)));
@@ -255,10 +268,10 @@ module _ (fields : List (List ℕ)) where
   open-read read word found =
       let (count, rest) = if-some (length fields == 4) _ read found in
       option_and_then_some _ (number_at fields 1 (2 ^ 64 - 1)) read rest (λ cycle one more.
-      option_and_then_some _ (hex_at fields 2 10) read more (λ mask two others.
+      option_and_then_some _ (slots_at fields 2) read more (λ mask two others.
       option_and_then_some _ (number_at fields 3 (2 ^ 32 - 1)) read others (λ width three made.
       let x = number-read fields 1 (2 ^ 64 - 1) cycle (omega arith) one in
-      let y = hex-read fields 2 10 mask two in
+      let y = slots-read fields 2 mask two in
       let z = number-read fields 3 (2 ^ 32 - 1) width (omega arith) three in
       subst (HasForm fields) (same_Some (row.Open cycle mask width) read made) (record {
         legal = (omega (arith, x.1), omega (arith, y.1), omega (arith, z.1));
@@ -342,7 +355,7 @@ module _ (fields : List (List ℕ)) where
   submit-said caller from said word one two three = rw (word, one, two, three)
 
   plan-said : (cycle mask : ℕ) → slice_get fields 0 ≡ Some (codes "plan") → (length fields == 3) ≡ true
-      → number_at fields 1 (2 ^ 64 - 1) ≡ Some cycle → hex_at fields 2 10 ≡ Some mask → row_of fields ≡ Some (row.Plan cycle mask)
+      → number_at fields 1 (2 ^ 64 - 1) ≡ Some cycle → slots_at fields 2 ≡ Some mask → row_of fields ≡ Some (row.Plan cycle mask)
   unfolding row_of
   plan-said cycle mask word count one two = rw (word, count, one, two)
 
@@ -352,7 +365,7 @@ module _ (fields : List (List ℕ)) where
   look-said caller next word count one two = rw (word, count, one, two)
 
   open-said : (cycle mask width : ℕ) → slice_get fields 0 ≡ Some (codes "open") → (length fields == 4) ≡ true
-      → number_at fields 1 (2 ^ 64 - 1) ≡ Some cycle → hex_at fields 2 10 ≡ Some mask → number_at fields 3 (2 ^ 32 - 1) ≡ Some width
+      → number_at fields 1 (2 ^ 64 - 1) ≡ Some cycle → slots_at fields 2 ≡ Some mask → number_at fields 3 (2 ^ 32 - 1) ≡ Some width
       → row_of fields ≡ Some (row.Open cycle mask width)
   unfolding row_of
   open-said cycle mask width word count one two three = rw (word, count, one, two, three)
@@ -419,7 +432,7 @@ row-found (row.Plan cycle mask) legal =
     let fields = fields_of_row (row.Plan cycle mask) in
     plan-said fields cycle mask refl refl
     (number-found fields 1 (2 ^ 64 - 1) cycle (omega arith) (omega (arith, legal.0)) refl)
-    (hex-found fields 2 10 mask (omega (arith, legal.1)) refl)
+    (slots-found fields 2 mask (omega (arith, legal.1)) refl)
 row-found (row.Look caller next) legal =
     let fields = fields_of_row (row.Look caller next) in
     look-said fields caller next refl refl
@@ -429,7 +442,7 @@ row-found (row.Open cycle mask width) legal =
     let fields = fields_of_row (row.Open cycle mask width) in
     open-said fields cycle mask width refl refl
     (number-found fields 1 (2 ^ 64 - 1) cycle (omega arith) (omega (arith, legal.0)) refl)
-    (hex-found fields 2 10 mask (omega (arith, legal.1)) refl)
+    (slots-found fields 2 mask (omega (arith, legal.1)) refl)
     (number-found fields 3 (2 ^ 32 - 1) width (omega arith) (omega (arith, legal.2)) refl)
 row-found (row.Frame timed) legal =
     let fields = fields_of_row (row.Frame timed) in

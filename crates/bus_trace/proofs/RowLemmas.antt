@@ -3,7 +3,8 @@ use Rattle.std.proofs.Common.{◌≡◌, ◌≢◌, ◌∙◌, ◌+◌, ◌-◌,
 use Rattle.std.proofs.lemmas.List.{length-append, length-drop, length-take-le, take-append-drop}
 use Rattle.std.proofs.Math.Seq.{drop-append-add}
 use Rattle.circular_buffer.specs.Buffer.{keep_last}
-use Rattle.bus_trace.specs.LastRows.{AreRows, begun_by, rows_in}
+use Rattle.bus_trace.specs.LastRows.{AreRows, ArePut, HasLast, begun_by, rows_in}
+use Rattle.bus_trace.specs.Recent.{LastRows}
 
 -- no line feed stands below the place
 abbrev pub NoFeedBelow : ℕ → List ℕ → Type 0
@@ -101,36 +102,31 @@ rows_in-append (byte ∷ next ∷ rest) second are =
 
 -- The last rows that are kept
 
--- these rows are kept while the rows of `rest` are read, the last bytes of `text`
-pub record IsKeeping (count : ℕ) (kept : List (List ℕ)) (rest text : List ℕ) : Type 0 where
-  pub whole : keep_last count kept ≡ kept
-  pub rows : keep_last count (kept ++ rows_in rest) ≡ keep_last count (rows_in text)
-
-kept_again : {A : Type 0} (count : ℕ) (xs : List A) → keep_last count (keep_last count xs) ≡ keep_last count xs
-kept_again count xs = ap (keep_last count) (sym (append-nil (keep_last count xs))) ∙ keep_last_again count xs [] ∙ ap (keep_last count) (append-nil xs)
-
--- before the first of them
-pub begins_keeping : (count : ℕ) (kept : List (List ℕ)) (past text : List ℕ) → AreRows past → kept ≡ keep_last count (rows_in past)
-    → IsKeeping count kept text (past ++ text)
-begins_keeping count kept past text are is = record {
-  whole = ap (keep_last count) is ∙ kept_again count (rows_in past) ∙ sym is;
-  rows = ap (λ rows. keep_last count (rows ++ rows_in text)) is ∙ keep_last_again count (rows_in past) (rows_in text)
-      ∙ ap (keep_last count) (sym (rows_in-append past text are));
+-- before the first row was put
+pub none_put : (old : LastRows) (rows : List (List ℕ)) → ArePut old old rows rows
+none_put old rows = record {
+  put = [];
+  split = refl;
+  behind = λ past has. has.rows ∙ ap (keep_last old.most) (sym (append-nil (rows_in past)));
 }
 
--- when one more row was read
-pub next_kept : (count : ℕ) (kept : List (List ℕ)) (text rest row later : List ℕ) (now : List (List ℕ)) → IsKeeping count kept rest text
-    → rows_in rest ≡ row ∷ rows_in later → now ≡ keep_last count (kept ++ row ∷ []) → IsKeeping count now later text
-next_kept count kept text rest row later now before first is = record {
-  whole = ap (keep_last count) is ∙ kept_again count (kept ++ row ∷ []) ∙ sym is;
-  rows = ap (λ rows. keep_last count (rows ++ rows_in later)) is
-      ∙ keep_last_again count (kept ++ row ∷ []) (rows_in later)
-      ∙ ap (keep_last count) (append_assoc kept (row ∷ []) (rows_in later) ∙ ap (λ rows. kept ++ rows) (sym first)) ∙ before.rows;
+-- when one row more was put
+pub one_put : (old now new : LastRows) (rows later : List (List ℕ)) (row : List ℕ) → ArePut old now rows (row ∷ later)
+    → new.rows ≡ keep_last old.most (now.rows ++ row ∷ []) → ArePut old new rows later
+one_put old now new rows later row are is = record {
+  put = are.put ++ row ∷ [];
+  split = are.split ∙ sym (append_assoc are.put (row ∷ []) later);
+  behind = λ past has.
+      is ∙ ap (λ kept. keep_last old.most (kept ++ row ∷ [])) (are.behind past has)
+      ∙ keep_last_again old.most (rows_in past ++ are.put) (row ∷ [])
+      ∙ ap (keep_last old.most) (append_assoc (rows_in past) are.put (row ∷ []));
 }
 
--- when all were read
-pub all_kept : (count : ℕ) (kept : List (List ℕ)) (text rest : List ℕ) → IsKeeping count kept rest text → length rest ≡ 0
-    → kept ≡ keep_last count (rows_in text)
-all_kept count kept text [] is none =
-    sym is.whole ∙ ap (keep_last count) (sym (append-nil kept)) ∙ ap (λ rows. keep_last count (kept ++ rows)) (sym no_rows) ∙ is.rows
-all_kept count kept text (byte ∷ rest) is none = absurd (omega arith)
+-- when all rows of a text were put
+pub all_put : (old new : LastRows) (text rest past : List ℕ) → ArePut old new (rows_in text) (rows_in rest) → length rest ≡ 0
+    → HasLast past old → new.rows ≡ keep_last old.most (rows_in (past ++ text))
+all_put old new text [] past are none has =
+    let all : rows_in text ≡ are.put = are.split ∙ ap (λ rows. are.put ++ rows) no_rows ∙ append-nil are.put in
+    are.behind past has ∙ ap (λ rows. keep_last old.most (rows_in past ++ rows)) (sym all)
+    ∙ ap (keep_last old.most) (sym (rows_in-append past text has.whole))
+all_put old new text (byte ∷ rest) past are none has = absurd (omega arith)

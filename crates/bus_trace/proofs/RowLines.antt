@@ -12,6 +12,7 @@ use Rattle.text_fields.specs.CsvReading.{records_left}
 use Rattle.text_fields.specs.CsvRows.{records_of}
 use Rattle.text_fields.specs.Hexadecimal.{is_hex_digit}
 use Rattle.text_fields.proofs.Shared.{ArePlain, IsPlainRecord, all-data, all-decimal, all-hex, is_plain, no-mark, no-mark-empty, none-next, plain-next}
+use Rattle.text_fields.specs.MaskText.{mask_digits, mask_width}
 use Rattle.bus_trace.specs.Log.{hex_digits}
 use Rattle.bus_trace.specs.Row.{IsLogRow, IsLogVerdict, fields_of_row, fields_of_verdict, text_of_rows}
 use Rattle.bus_trace.specs.declared.row.LogRow.{LogRow}
@@ -37,6 +38,10 @@ number-plain n small = all-plain is_ascii_digit plain-digit (decimal n) (all-dec
 hex-plain : (k n : ℕ) → list_all is_plain (hex_digits k n) ≡ true
 hex-plain k n = all-plain is_hex_digit plain-hex (hex_digits k n) (all-hex k n)
 
+mask-plain : (mask : ℕ) → list_all is_plain (mask_digits mask) ≡ true
+unfolding mask_digits
+mask-plain mask = hex-plain (mask_width mask) mask
+
 data-plain : (bytes : List ℕ) → list_all is_plain (flat_map (hex_digits 2) bytes) ≡ true
 data-plain bytes = all-plain is_hex_digit plain-hex (flat_map (hex_digits 2) bytes) (all-data bytes)
 
@@ -50,9 +55,9 @@ verdict-plain (verdict.Malformed op why (Some until)) legal = (refl, (number-pla
 
 row-plain : (read : LogRow) → IsLogRow read → ArePlain (fields_of_row read)
 row-plain (row.Submit caller from said) legal = (refl, (number-plain caller (omega (arith, legal.0)), (number-plain from legal.1, verdict-plain said legal.2)))
-row-plain (row.Plan cycle mask) legal = (refl, (number-plain cycle legal.0, (hex-plain 10 mask, tt)))
+row-plain (row.Plan cycle mask) legal = (refl, (number-plain cycle legal.0, (mask-plain mask, tt)))
 row-plain (row.Look caller next) legal = (refl, (number-plain caller (omega (arith, legal.0)), (number-plain next legal.1, tt)))
-row-plain (row.Open cycle mask width) legal = (refl, (number-plain cycle legal.0, (hex-plain 10 mask, (number-plain width (omega (arith, legal.2)), tt))))
+row-plain (row.Open cycle mask width) legal = (refl, (number-plain cycle legal.0, (mask-plain mask, (number-plain width (omega (arith, legal.2)), tt))))
 row-plain (row.Frame timed) legal = (refl, (number-plain timed.start legal.0, (number-plain timed.len (omega (arith, legal.1)), (hex-plain 3 timed.frame.identifier, (data-plain timed.frame.bytes, tt)))))
 row-plain (row.End next) legal = (refl, (number-plain next legal, tt))
 

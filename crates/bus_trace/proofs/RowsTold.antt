@@ -12,7 +12,7 @@ use Rattle.admission.specs.declared.verdict.Verdict.TheVariants.{Malformed, Pass
 use Rattle.master_core.specs.declared.event.Event.{Event}
 use Rattle.master_core.specs.declared.event.Event.TheVariants.{Submit, Look, Open}
 use Rattle.master_core.specs.History.{next_of, placed_of}
-use Rattle.bus_trace.specs.Log.{event_rows, events_rows, frame_row, hex_digits, last_field, log_text, look_row, plan_row, plan_rows, started_in, submit_row, until_of, verdict_fields}
+use Rattle.bus_trace.specs.Log.{event_rows, events_rows, frame_row, hex_digits, last_field, log_text, look_row, mask_digits, plan_row, plan_rows, started_in, submit_row, until_of, verdict_fields}
 use Rattle.bus_trace.specs.EventRows.{opened_row}
 use Rattle.bus_trace.specs.LogRows.{event_told, events_told, log_rows, plan_told, verdict_told}
 use Rattle.bus_trace.specs.Row.{field_of_until, fields_of_verdict, row_text, text_of_rows}
@@ -61,13 +61,13 @@ submit-text caller from verdict =
     ∙ ap (λ l. codes "submit," ++ (l ++ 10 ∷ [])) (sym (three (decimal caller) (decimal from) (verdict_fields verdict)))
 
 plan-text : (cycle mask : ℕ) → row_text (row.Plan cycle mask) ≡ plan_row cycle mask
-plan-text cycle mask = ap (λ l. codes "plan," ++ (l ++ 10 ∷ [])) (sym (two (decimal cycle) (hex_digits 10 mask)))
+plan-text cycle mask = ap (λ l. codes "plan," ++ (l ++ 10 ∷ [])) (sym (two (decimal cycle) (mask_digits mask)))
 
 look-text : (caller next : ℕ) → row_text (row.Look caller next) ≡ look_row caller next
 look-text caller next = ap (λ l. codes "look," ++ (l ++ 10 ∷ [])) (sym (two (decimal caller) (decimal next)))
 
 open-text : (cycle mask width : ℕ) → row_text (row.Open cycle mask width) ≡ opened_row cycle mask width
-open-text cycle mask width = ap (λ l. codes "open," ++ (l ++ 10 ∷ [])) (sym (three (decimal cycle) (hex_digits 10 mask) (decimal width)))
+open-text cycle mask width = ap (λ l. codes "open," ++ (l ++ 10 ∷ [])) (sym (three (decimal cycle) (mask_digits mask) (decimal width)))
 
 frame-text : (sent : TimedFrame) → row_text (row.Frame sent) ≡ frame_row sent
 frame-text sent =

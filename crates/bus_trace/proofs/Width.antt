@@ -7,7 +7,7 @@ use Rattle.std.proofs.lemmas.List.Elements.{All-contains}
 use Rattle.std.proofs.Math.Seq.{drop-cons}
 use Rattle.requirement_table.specs.declared.entries.Placed.{Placed}
 use Rattle.requirement_table.specs.Instance.{Instance, MaySend, instance_of, worst, worst_of}
-use Rattle.requirement_table.specs.Slots.{slots, sum_where}
+use Rattle.requirement_table.specs.Slots.{most_slots, sum_where}
 use Rattle.requirement_table.specs.Table.{IsInRange, IsWellPlaced, instance_in, sendable, width_in, worst_in}
 use Rattle.requirement_table.proofs.Shared.{MaySend-from_instance, instance_in-sound, one_instance}
 use Rattle.planner_policies.proofs.Shared.{sum_where-costs}
@@ -84,16 +84,16 @@ well-tail p rest well = record {
 pub well-head : (p : Placed) (rest : List Placed) → IsWellPlaced (p ∷ rest) → IsInRange p
 well-head p rest well = well.in_range 0 p (omega arith)
 
-worst-of : (o : Option Instance) → IfSome o (λ i. worst_of i ≤ 135) → option_map_or worst_of o 0 ≤ 135
+worst-of : (o : Option Instance) → IfSome o (λ i. worst_of i ≤ worst 8) → option_map_or worst_of o 0 ≤ worst 8
 worst-of None few = omega arith
 worst-of (Some i) few = few
 
-worst_in-le : (placed : List Placed) (c slot : ℕ) → IsWellPlaced placed → worst_in placed c slot ≤ 135
+worst_in-le : (placed : List Placed) (c slot : ℕ) → IsWellPlaced placed → worst_in placed c slot ≤ worst 8
 worst_in-le placed c slot well = by (instance_in placed slot c) (instance_in-sound placed slot c)
   where
     by : (o : Option Instance)
         → IfSome o (λ i. Contains placed i.placed × (i.placed.entry.slot ≡ slot) × MaySend i.placed i.number c)
-        → option_map_or worst_of o 0 ≤ 135
+        → option_map_or worst_of o 0 ≤ worst 8
     by None sound = omega arith
     by (Some i) sound =
         let range = All-contains IsInRange placed i.placed well.in_range sound.0 in
@@ -102,9 +102,9 @@ worst_in-le placed c slot well = by (instance_in placed slot c) (instance_in-sou
 
 -- the slots of a well placed list cost no more together than all slots do at most
 pub width-le : (placed : List Placed) (c : ℕ) (flagged : ℕ → Bool) → IsWellPlaced placed
-    → width_in placed c flagged ≤ 5400
+    → width_in placed c flagged ≤ most_slots * worst 8
 width-le placed c flagged well =
-    let all = sum_where-le slots 135 flagged (worst_in placed c) (λ s below. worst_in-le placed c s well) in
+    let all = sum_where-le most_slots (worst 8) flagged (worst_in placed c) (λ s below. worst_in-le placed c s well) in
     omega arith
 
 -- the cost of an entry, whichever slot it has
@@ -149,10 +149,10 @@ pub width-step : (p : Placed) (rest : List Placed) (c : ℕ) (flagged : ℕ → 
     → width_in (p ∷ rest) c flagged ≡ cost_in c flagged p + width_in rest c flagged
 width-step p rest c flagged well =
     let range = well-head p rest well in
-    let known : p.entry.slot < slots = range.entry.slot in
-    let split = sum_where-add slots flagged (λ s. cond (eqb p.entry.slot s) (own p c) 0) (worst_in rest c) (worst_in (p ∷ rest) c)
+    let known : p.entry.slot < most_slots = range.entry.slot in
+    let split = sum_where-add most_slots flagged (λ s. cond (eqb p.entry.slot s) (own p c) 0) (worst_in rest c) (worst_in (p ∷ rest) c)
     (λ s below. worst_in-step p rest c s well) in
-    let one = (sum_where-one slots p.entry.slot (own p c) flagged).1 known in
+    let one = (sum_where-one most_slots p.entry.slot (own p c) flagged).1 known in
     let cost = cond-and (flagged p.entry.slot) (is_some (instance_of p c)) (worst p.entry.length) in
     split ∙ ap (λ x. x + width_in rest c flagged) (one ∙ sym cost)
 
@@ -171,11 +171,11 @@ width-next placed i d c flagged within well =
     )
 
 pub width-none : (c : ℕ) (flagged : ℕ → Bool) → width_in [] c flagged ≡ 0
-width-none c flagged = let none = sum_where-le slots 0 flagged (worst_in [] c) (λ s below. omega arith) in omega arith
+width-none c flagged = let none = sum_where-le most_slots 0 flagged (worst_in [] c) (λ s below. omega arith) in omega arith
 
 -- lists with the same instances in a cycle
 pub width-same : (left placed : List Placed) (c : ℕ) (flagged : ℕ → Bool)
     → ((slot : ℕ) → instance_in left slot c ≡ instance_in placed slot c)
     → width_in left c flagged ≡ width_in placed c flagged
 width-same left placed c flagged same =
-    sum_where-costs slots flagged (worst_in left c) (worst_in placed c) (λ s below. ap (λ o. option_map_or worst_of o 0) (same s))
+    sum_where-costs most_slots flagged (worst_in left c) (worst_in placed c) (λ s below. ap (λ o. option_map_or worst_of o 0) (same s))

@@ -8,13 +8,13 @@ use Rattle.requirement_table.specs.Opening.{width_of}
 use Rattle.master_core.specs.declared.event.Event.{Event}
 use Rattle.master_core.specs.declared.event.Event.TheVariants.{Submit, Look, Open}
 use Rattle.master_core.specs.History.{placed_of}
-use Rattle.bus_trace.specs.Log.{frame_row, hex_digits, look_row, plan_rows, started_in, submit_row}
+use Rattle.bus_trace.specs.Log.{frame_row, look_row, mask_digits, plan_rows, started_in, submit_row}
 use Rattle.bus_trace.specs.LogRows.{plan_told, verdict_told}
 use Rattle.bus_trace.specs.declared.row.LogRow.{LogRow}
 use Rattle.bus_trace.specs.declared.row.LogRow.TheVariants as row
 
--- the frames of an opened cycle: first its trigger, which says some length of the synchronous window, and then no other
--- frame with identifier 0
+-- the frames of an opened cycle: first its first trigger frame, which says some length of the synchronous window, and
+-- then no other frame with identifier 0
 pub record BeginsCycle (cycle mask : ℕ) (frames : List TimedFrame) : Type 0 where
   pub trigger : TimedFrame
   pub later : List TimedFrame
@@ -38,7 +38,7 @@ width_told_in (trigger ∷ later) = width_told trigger.frame.bytes
 -- the row of an opened cycle, with the length of its synchronous window
 abbrev pub opened_row : ℕ → ℕ → ℕ → List ℕ
 opened_row cycle mask width =
-    codes "open," ++ decimal cycle ++ codes "," ++ hex_digits 10 mask ++ codes "," ++ decimal width ++ codes "\n"
+    codes "open," ++ decimal cycle ++ codes "," ++ mask_digits mask ++ codes "," ++ decimal width ++ codes "\n"
 
 -- the rows of an event and of these frames, where the synchronous window of the cycle that it opens has this length: a
 -- change that is refused for a miss is followed by its plan up to the miss

@@ -1,5 +1,5 @@
 -- The last rows of a text.
-use Rattle.std.specs.Prelude.{◌≡◌, ℕ, ◌==◌, List, [], ◌∷◌, Option, Some, None, fold, if◌then◌else◌}
+use Rattle.std.specs.Prelude.{◌≡◌, ℕ, ◌==◌, List, [], ◌∷◌, ◌++◌, Option, Some, None, fold, if◌then◌else◌}
 use Rattle.std.specs.List.{concat}
 use Rattle.circular_buffer.specs.Buffer.{keep_last}
 use Rattle.bus_trace.specs.Recent.{LastRows}
@@ -31,3 +31,9 @@ AreRows text = last_byte 10 text ≡ 10
 pub record HasLast (text : List ℕ) (recent : LastRows) : Type 0 where
   pub whole : AreRows text
   pub rows : recent.rows ≡ keep_last recent.most (rows_in text)
+
+-- of these rows the first ones were put behind the others, and the rest is left
+pub record ArePut (old new : LastRows) (rows rest : List (List ℕ)) : Type 0 where
+  pub put : List (List ℕ)
+  pub split : rows ≡ put ++ rest
+  pub behind : (past : List ℕ) → HasLast past old → new.rows ≡ keep_last old.most (rows_in past ++ put)

@@ -1,5 +1,5 @@
 -- *Log text*: the text of a history and a trace. Each row ends with one line feed; numbers are decimal without leading
--- zeros.
+-- zeros. A set of slots has ten hexadecimal digits where all its slots are below 40, and 24 otherwise.
 use Rattle.std.specs.Prelude.{ℕ, ◌+◌, ◌==◌, List, [], ◌∷◌, ◌++◌, Option, Some, None, if◌then◌else◌, codes, fold}
 use Rattle.std.specs.List.{flat_map}
 use Rattle.std.specs.Fmt.{decimal}
@@ -14,6 +14,7 @@ use Rattle.master_core.specs.declared.event.Event.TheVariants.{Submit, Look, Ope
 use Rattle.master_core.specs.History.{next_of, placed_of}
 use Rattle.requirement_table.specs.Opening.{Opening, width_of}
 unfoldable pub use Rattle.text_fields.specs.Hexadecimal.{hex_digits}
+unfoldable pub use Rattle.text_fields.specs.MaskText.{mask_digits}
 
 -- the cycle up to which a slot is in use, or in which its entry begins, where the reason of a refusal names one
 abbrev pub until_of : Why → Option ℕ
@@ -41,9 +42,9 @@ abbrev pub submit_row : ℕ → ℕ → Verdict → List ℕ
 submit_row caller from verdict =
     codes "submit," ++ decimal caller ++ codes "," ++ decimal from ++ codes "," ++ verdict_fields verdict ++ codes "\n"
 
--- the row of a planned cycle: `plan,CYCLE,MASK`, with the mask as ten hexadecimal digits
+-- the row of a planned cycle: `plan,CYCLE,MASK`, with the set of the flagged slots
 abbrev pub plan_row : ℕ → ℕ → List ℕ
-plan_row cycle mask = codes "plan," ++ decimal cycle ++ codes "," ++ hex_digits 10 mask ++ codes "\n"
+plan_row cycle mask = codes "plan," ++ decimal cycle ++ codes "," ++ mask_digits mask ++ codes "\n"
 
 -- the rows of the plan that a refusal shows: one for each cycle from the first one on
 abbrev pub plan_rows : ℕ → List ℕ → List ℕ
@@ -54,10 +55,10 @@ plan_rows cycle (mask ∷ later) = plan_row cycle mask ++ plan_rows (cycle + 1) 
 abbrev pub look_row : ℕ → ℕ → List ℕ
 look_row caller next = codes "look," ++ decimal caller ++ codes "," ++ decimal next ++ codes "\n"
 
--- the row of an opened cycle: `open,CYCLE,MASK,WIDTH`, with the mask as ten hexadecimal digits
+-- the row of an opened cycle: `open,CYCLE,MASK,WIDTH`, with the set of the flagged slots
 abbrev pub open_row : Opening → List ℕ
 open_row opening =
-    codes "open," ++ decimal opening.cycle ++ codes "," ++ hex_digits 10 opening.mask
+    codes "open," ++ decimal opening.cycle ++ codes "," ++ mask_digits opening.mask
     ++ codes "," ++ decimal (width_of opening) ++ codes "\n"
 
 -- the row of a frame: `frame,START,LEN,ID,DATA`, with three hexadecimal digits of the identifier and two for each byte
@@ -71,7 +72,8 @@ frame_row sent =
 abbrev pub end_row : ℕ → List ℕ
 end_row next = codes "end," ++ decimal next ++ codes "\n"
 
--- the number of triggers up to a frame, itself included, where `seen` came before it
+-- the number of triggers up to a frame, itself included, where `seen` came before it. A trigger is here the first
+-- trigger frame of a cycle, which alone has identifier 0
 abbrev pub triggers_with : ℕ → TimedFrame → ℕ
 triggers_with seen sent = if sent.frame.identifier == 0 then seen + 1 else seen
 

@@ -5,10 +5,10 @@ use Rattle.std.specs.Prelude.{Bool, true, is_some, if◌then◌else◌, List, []
 use Rattle.can_frame.specs.declared.data_frame.TimedFrame.{TimedFrame}
 use Rattle.requirement_table.specs.declared.entries.Placed.{Placed}
 use Rattle.requirement_table.specs.Instance.{instance_of, worst}
-use Rattle.requirement_table.specs.Slots.{contains_slot}
+use Rattle.requirement_table.specs.Slots.{contains_slot, most_slots}
 use Rattle.requirement_table.specs.Table.{IsWellPlaced, instance_in, width_in}
 use Rattle.change_protocol.specs.declared.operations.Change.{Change}
-use Rattle.change_protocol.specs.Malformed.{IsWellFormed}
+use Rattle.change_protocol.specs.Malformed.{Bounds, IsWellFormed}
 use Rattle.admission.specs.Verdict.{is_accepted}
 use Rattle.master_core.specs.declared.event.Event.{Event}
 use Rattle.master_core.specs.declared.event.Event.TheVariants.{Submit, Look, Open}
@@ -69,11 +69,12 @@ told_with placed frames event = told_at (width_with placed event) event frames
 
 -- The entries
 
--- the change breaks no rule, for some number of nodes that rules can have
+-- the change breaks no rule, for some numbers of nodes and slots that rules can have
 pub record IsFormed (placed : List Placed) (change : Change) : Type 0 where
-  pub nodes : ℕ
-  pub few : nodes ≤ 30
-  pub well_formed : IsWellFormed placed nodes change
+  pub bounds : Bounds
+  pub few : bounds.nodes ≤ 30
+  pub room : bounds.slots ≤ most_slots
+  pub well_formed : IsWellFormed placed bounds change
 
 -- where the event accepts a change, it is such a change
 abbrev pub IsFormedIn : List Placed → Event → Type 0

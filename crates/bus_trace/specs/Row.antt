@@ -5,9 +5,9 @@ use Rattle.std.specs.List.{flat_map, join_with_byte}
 use Rattle.std.specs.Fmt.{decimal}
 use Rattle.can_frame.specs.DataFrame.{IsFrame}
 use Rattle.can_frame.specs.declared.data_frame.TimedFrame.{TimedFrame}
-use Rattle.requirement_table.specs.Slots.{slots}
+use Rattle.requirement_table.specs.Slots.{most_slots}
 use Rattle.text_fields.specs.CsvRows.{records_of}
-use Rattle.bus_trace.specs.Log.{hex_digits}
+use Rattle.bus_trace.specs.Log.{hex_digits, mask_digits}
 use Rattle.bus_trace.specs.declared.log_fault.LogFault.{LogFault}
 use Rattle.bus_trace.specs.declared.log_fault.LogFault.TheVariants.{Row, Memory}
 use Rattle.bus_trace.specs.declared.row.LogRow.{LogRow}
@@ -37,9 +37,9 @@ fields_of_frame timed =
 -- the fields of a row
 abbrev pub fields_of_row : LogRow → List (List ℕ)
 fields_of_row (Submit caller from verdict) = codes "submit" ∷ decimal caller ∷ decimal from ∷ fields_of_verdict verdict
-fields_of_row (Plan cycle mask) = codes "plan" ∷ decimal cycle ∷ hex_digits 10 mask ∷ []
+fields_of_row (Plan cycle mask) = codes "plan" ∷ decimal cycle ∷ mask_digits mask ∷ []
 fields_of_row (Look caller next) = codes "look" ∷ decimal caller ∷ decimal next ∷ []
-fields_of_row (Open cycle mask l) = codes "open" ∷ decimal cycle ∷ hex_digits 10 mask ∷ decimal l ∷ []
+fields_of_row (Open cycle mask l) = codes "open" ∷ decimal cycle ∷ mask_digits mask ∷ decimal l ∷ []
 fields_of_row (Frame timed) = fields_of_frame timed
 fields_of_row (End next) = codes "end" ∷ decimal next ∷ []
 
@@ -67,9 +67,9 @@ IsLogVerdict (Horizon from walked) = (from < 2 ^ 64) × (walked < 2 ^ 64)
 -- so are those of a row, and what it says to be a set of slots or a frame is one
 abbrev pub IsLogRow : LogRow → Type 0
 IsLogRow (Submit caller from verdict) = (caller < 2 ^ 8) × (from < 2 ^ 64) × IsLogVerdict verdict
-IsLogRow (Plan cycle mask) = (cycle < 2 ^ 64) × (mask < 2 ^ slots)
+IsLogRow (Plan cycle mask) = (cycle < 2 ^ 64) × (mask < 2 ^ most_slots)
 IsLogRow (Look caller next) = (caller < 2 ^ 8) × (next < 2 ^ 64)
-IsLogRow (Open cycle mask l) = (cycle < 2 ^ 64) × (mask < 2 ^ slots) × (l < 2 ^ 32)
+IsLogRow (Open cycle mask l) = (cycle < 2 ^ 64) × (mask < 2 ^ most_slots) × (l < 2 ^ 32)
 IsLogRow (Frame timed) = (timed.start < 2 ^ 64) × (timed.len < 2 ^ 32) × IsFrame timed.frame
 IsLogRow (End next) = next < 2 ^ 64
 

@@ -6,6 +6,7 @@ use Rattle.can_frame.specs.DataFrame.{DataFrame}
 use Rattle.text_fields.specs.ByteText.{data_of}
 use Rattle.text_fields.specs.Decimal.{decimal_of, within}
 use Rattle.text_fields.specs.Hexadecimal.{hex_of}
+unfoldable use Rattle.text_fields.specs.MaskText.{mask_of}
 use Rattle.bus_trace.specs.declared.row.LogRow.{LogRow}
 use Rattle.bus_trace.specs.declared.row.LogRow.TheVariants as row
 use Rattle.bus_trace.specs.declared.row.LogVerdict.{LogVerdict}
@@ -25,6 +26,10 @@ number_at fields place most = slice_get fields place >>= decimal_of >>= within 0
 -- the number that so many hexadecimal digits in lower case write in the field at a place
 abbrev pub hex_at : List (List ℕ) → ℕ → ℕ → Option ℕ
 hex_at fields place count = slice_get fields place >>= hex_of count
+
+-- the set of slots that the field at a place writes
+abbrev pub slots_at : List (List ℕ) → ℕ → Option ℕ
+slots_at fields place = slice_get fields place >>= mask_of
 
 -- the frame of an identifier and its bytes
 abbrev pub frame_with : ℕ → List ℕ → DataFrame
@@ -111,7 +116,7 @@ submit_of fields = do
 abbrev pub plan_of : List (List ℕ) → Option LogRow
 plan_of fields = if are_fields fields 3 then (do
   cycle ← number_at fields 1 (2 ^ 64 - 1)
-  mask ← hex_at fields 2 10
+  mask ← slots_at fields 2
   Some (row.Plan cycle mask)) else None
 
 abbrev pub look_of : List (List ℕ) → Option LogRow
@@ -123,7 +128,7 @@ look_of fields = if are_fields fields 3 then (do
 abbrev pub open_of : List (List ℕ) → Option LogRow
 open_of fields = if are_fields fields 4 then (do
   cycle ← number_at fields 1 (2 ^ 64 - 1)
-  mask ← hex_at fields 2 10
+  mask ← slots_at fields 2
   width ← number_at fields 3 (2 ^ 32 - 1)
   Some (row.Open cycle mask width)) else None
 

@@ -1,6 +1,7 @@
 //! The placed entries at a place of a history, and what the flagged slots of a cycle cost. All lengths are bit times.
 
 ghost use Rattle.std.specs.Prelude.{◌≡◌, ◌≤◌, ◌<◌, [], IfOk, OnOk, length};
+ghost use Rattle.requirement_table.specs.Instance.{worst};
 ghost use Rattle.requirement_table.specs.Slots.{contains_slot};
 ghost use Rattle.requirement_table.specs.Table.{IsInRange, IsWellPlaced, width_in};
 ghost use Rattle.change_protocol.specs.Applied.{applied};
@@ -9,7 +10,7 @@ ghost use Rattle.bus_trace.specs.Logged.{HasEntries, IsFormed, cost_in};
 use change_protocol::laws::well_formed_changes;
 use change_protocol::{ApplyFault, Change, apply};
 use requirement_table::laws::entries_that_are_over;
-use requirement_table::{Mask, Placed, cost, current, not_over};
+use requirement_table::{MOST_SLOTS, Mask, Placed, cost, current, not_over};
 use std::alloc::{AllocError, Global};
 
 /// The greatest number of nodes that rules can have.
@@ -74,7 +75,7 @@ fn after_change(
     ensures well_placed { IfOk result (λ list. IsWellPlaced list.items) }
 {
     well_formed_changes();
-    match apply(alloc, placed, NODES, change) {
+    match apply(alloc, placed, NODES, MOST_SLOTS, change) {
         Ok(list) => Ok(list),
         Err(ApplyFault::Memory) => Err(AllocError),
         Err(ApplyFault::Malformed { .. }) => unreachable!(),
@@ -98,7 +99,7 @@ fn width(placed: &[Placed], cycle: u64, mask: Mask) -> u32
 fn cost_in(p: &Placed, cycle: u64, mask: Mask) -> u32
     requires range { IsInRange p.now }
     ensures cost { result ≡ cost_in cycle (contains_slot mask) p.now }
-    ensures range { result ≤ 135 }
+    ensures range { result ≤ worst 8 }
 {
     if mask.has(p.entry.slot) && current(p, cycle).is_some() {
         cost(p.entry.length)

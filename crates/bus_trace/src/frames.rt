@@ -1,4 +1,5 @@
-//! The frames of a trace, cycle by cycle: each cycle begins with its trigger.
+//! The frames of a trace, cycle by cycle: each cycle begins with its trigger. A trigger is here the first trigger frame
+//! of a cycle, which alone has identifier 0.
 
 ghost use Rattle.std.specs.Prelude.{◌≡◌, ℕ, ◌+◌, ◌≤◌, List, length, take, drop};
 ghost use Rattle.std.specs.List.{position_or_len};

@@ -1,9 +1,9 @@
 //! The last rows of a log.
 
-ghost use Rattle.std.specs.Prelude.{◌≡◌, ◌<◌, ◌≤◌, ◌++◌, ◌∷◌, [], List, ℕ, IfOk, OnOk, drop, length, take};
+ghost use Rattle.std.specs.Prelude.{◌≡◌, ◌<◌, ◌≤◌, ◌++◌, ◌∷◌, [], List, ℕ, IfOk, OnErr, OnOk, drop, length, take};
 ghost use Rattle.std.specs.List.{concat, flat_map};
 ghost use Rattle.circular_buffer.specs.Buffer.{keep_last};
-ghost use Rattle.bus_trace.specs.LastRows.{AreRows, HasLast, rows_in};
+ghost use Rattle.bus_trace.specs.LastRows.{AreRows, ArePut, HasLast, rows_in};
 ghost use Rattle.bus_trace.specs.Recent.{bytes_of};
 
 use circular_buffer::HeapCircularBuffer;
@@ -92,11 +92,13 @@ pub fn row_len(text: &[u8]) -> usize
 ///
 /// # Errors
 ///
-/// Only where memory runs out.
+/// Only where memory runs out. Then the first rows of the text were put, and no part of a row.
 pub fn push_rows(recent: &mut Recent, alloc: Global, text: &[u8]) -> Result<(), AllocError>
     requires whole { AreRows text.now }
     ensures last { OnOk result ((past : List ℕ)
         → HasLast past recent.old → HasLast (past ++ text.now) recent.new) }
+    ensures front { OnErr result
+        ((rest : List (List ℕ)) × ArePut recent.old recent.new (rows_in text.now) rest) }
     ensures most { recent.new.most ≡ recent.old.most }
 {
     let mut rest = text;

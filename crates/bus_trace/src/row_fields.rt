@@ -1,18 +1,17 @@
 //! The fields of a row of a log, each in the one form that the writer gives it.
 //!
-//! A number has decimal digits without leading zeros; a mask has ten hexadecimal digits in lower case, an identifier
-//! three, and data bytes two each. Nothing is trimmed.
+//! A number has decimal digits without leading zeros. A set of slots has ten hexadecimal digits in lower case where all
+//! its slots are below 40, and 24 otherwise; an identifier has three, and data bytes have two each. Nothing is trimmed.
 
 ghost use Rattle.std.specs.Prelude.{◌≡◌, ◌≤◌, IfSome, option_and_then};
 ghost use Rattle.csv.specs.Records.{fields_of};
 ghost use Rattle.text_fields.specs.Decimal.{within};
-ghost use Rattle.bus_trace.specs.RowFields.{frame_at, hex_at, number_at};
+ghost use Rattle.bus_trace.specs.RowFields.{frame_at, hex_at, number_at, slots_at};
 
-use crate::rows::MASK_DIGITS;
 use can_frame::{Frame, MAX_IDENTIFIER};
 use csv::ByteRecord;
 use requirement_table::Mask;
-use text_fields::{field_in, read_data, read_decimal, read_hex};
+use text_fields::{field_in, read_data, read_decimal, read_hex, read_mask};
 
 /// The number of digits of an identifier.
 const IDENTIFIER_DIGITS: usize = 3;
@@ -27,12 +26,12 @@ pub fn number(row: &ByteRecord, place: usize, most: u64) -> Option<u64>
     if number <= most { Some(number) } else { None }
 }
 
-/// The mask in the field at a place.
+/// The set of slots in the field at a place.
 pub fn mask(row: &ByteRecord, place: usize) -> Option<Mask>
-    ensures value { result ≡ hex_at (fields_of row.now) place 10 }
+    ensures value { result ≡ slots_at (fields_of row.now) place }
 {
     let field = field_in(row, place)?;
-    let bits = read_hex(field, usize::from(MASK_DIGITS))?;
+    let bits = read_mask(field)?;
     Some(Mask::from_bits(bits))
 }
 

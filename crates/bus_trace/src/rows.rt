@@ -15,11 +15,8 @@ use can_frame::TimedFrame;
 use change_protocol::Why;
 use requirement_table::Mask;
 use text_fields::{
-    ROOM, put_byte, put_data_bytes, put_decimal, put_hex, put_identifier, put_word, row_from,
+    ROOM, put_byte, put_data_bytes, put_decimal, put_identifier, put_mask, put_word, row_from,
 };
-
-/// The number of digits of a mask.
-pub const MASK_DIGITS: u8 = 10;
 
 /// The cycle that the reason of a refusal names, where it names one.
 fn until_of(why: &Why) -> Option<u64>
@@ -140,7 +137,7 @@ pub fn plan_row<'a>(row: &'a mut [u8; ROOM], cycle: u64, mask: Mask) -> &'a [u8]
     ensures in_range { IsLogRow (Plan cycle mask) }
 {
     let start = put_line_feed(row);
-    let start = put_hex(row, start, mask.bits(), MASK_DIGITS);
+    let start = put_mask(row, start, mask.bits());
     let start = put_byte(row, start, b',');
     let start = put_first(row, start, b"plan,", cycle);
     row_from(row, start)
@@ -164,7 +161,7 @@ pub fn open_row<'a>(row: &'a mut [u8; ROOM], cycle: u64, mask: Mask, width: u32)
 {
     let start = put_line_feed(row);
     let start = put_field(row, start, u64::from(width));
-    let start = put_hex(row, start, mask.bits(), MASK_DIGITS);
+    let start = put_mask(row, start, mask.bits());
     let start = put_byte(row, start, b',');
     let start = put_first(row, start, b"open,", cycle);
     row_from(row, start)

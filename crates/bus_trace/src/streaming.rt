@@ -43,8 +43,8 @@ fn width_told_in(frames: &[TimedFrame]) -> u32
 }
 
 /// Appends the rows of an event of a master's history, and those of the frames that were sent in the cycle that it
-/// opened: the trigger of the cycle first, and no other frame with identifier 0. An event that opens no cycle has no
-/// frames. The length of the cycle's synchronous window is the one that the trigger says.
+/// opened: its first trigger frame first, and no other frame with identifier 0. An event that opens no cycle has no
+/// frames. The length of the cycle's synchronous window is the one that the first trigger frame says.
 ///
 /// The change of an event was planned from a cycle below 2^63.
 ///

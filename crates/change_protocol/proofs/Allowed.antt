@@ -8,12 +8,13 @@ use Rattle.std.proofs.lemmas.List.Quantifiers.{all_pairs_push}
 use Rattle.std.proofs.lemmas.Bool.Decides.{nat_tests}
 use Rattle.requirement_table.specs.declared.entries.Entry.{Entry}
 use Rattle.requirement_table.specs.declared.entries.Placed.{Placed}
+use Rattle.requirement_table.specs.Slots.{most_slots}
 use Rattle.change_protocol.specs.declared.operations.Op.{Op}
 use Rattle.change_protocol.specs.declared.operations.Op.TheVariants.{Add, Remove, Change}
 use Rattle.change_protocol.specs.declared.malformed.Why.{Why}
 use Rattle.change_protocol.specs.Operations.{entry_of, slot_of}
 use Rattle.change_protocol.specs.Applied.{free_in, live_in}
-use Rattle.change_protocol.specs.Malformed.{Broken, add_busy_by, broken, deadline_range, end_busy_by, length_range, node_unknown, op_faults, period_zero, places, slot_busy, slot_empty, slot_range, slot_twice, where_holds, whys}
+use Rattle.change_protocol.specs.Malformed.{Bounds, Broken, add_busy_by, broken, deadline_range, end_busy_by, length_range, node_unknown, op_faults, period_zero, places, slot_busy, slot_empty, slot_range, slot_twice, where_holds, whys}
 
 -- the slot has a live entry that does not begin behind the start
 abbrev pub CanEnd : List Placed → ℕ → ℕ → Type 0
@@ -31,8 +32,8 @@ pub record IsSound (entry : Entry) : Type 0 where
   pub some_time : 1 ≤ entry.deadline
   pub deadline : entry.deadline ≤ entry.period
 
-pub record IsAllowed (placed : List Placed) (start : ℕ) (op : Op) : Type 0 where
-  pub slot : slot_of op < 40
+pub record IsAllowed (slots : ℕ) (placed : List Placed) (start : ℕ) (op : Op) : Type 0 where
+  pub slot : slot_of op < slots
   pub entry : IfSome (entry_of op) IsSound
   pub fits : FitsIn placed start op
 
@@ -85,49 +86,58 @@ known nodes None test = tt
 known nodes (Some entry) test = leb-false nodes entry.node test
 
 -- what no fault of an operation says of it
-allowed-at : (placed : List Placed) (nodes start : ℕ) (earlier : List Op) (op : Op) → whys placed nodes start earlier op ≡ [] → IsAllowed placed start op × All (λ other. Differ other op) earlier × IfSome (entry_of op) (λ entry. entry.node < nodes)
-allowed-at placed nodes start earlier op none =
-    let upto_busy = both-none (slot_range op ++ slot_twice earlier op ++ node_unknown nodes op ++ length_range op ++ period_zero op ++ deadline_range op ++ slot_busy placed start op) (slot_empty placed op) none in
-    let upto_deadline = both-none (slot_range op ++ slot_twice earlier op ++ node_unknown nodes op ++ length_range op ++ period_zero op ++ deadline_range op) (slot_busy placed start op) upto_busy.0 in
-    let upto_period = both-none (slot_range op ++ slot_twice earlier op ++ node_unknown nodes op ++ length_range op ++ period_zero op) (deadline_range op) upto_deadline.0 in
-    let upto_length = both-none (slot_range op ++ slot_twice earlier op ++ node_unknown nodes op ++ length_range op) (period_zero op) upto_period.0 in
-    let upto_node = both-none (slot_range op ++ slot_twice earlier op ++ node_unknown nodes op) (length_range op) upto_length.0 in
-    let upto_twice = both-none (slot_range op ++ slot_twice earlier op) (node_unknown nodes op) upto_node.0 in
-    let upto_range = both-none (slot_range op) (slot_twice earlier op) upto_twice.0 in
-    let range : nat_lt 39 (slot_of op) ≡ false = not-held _ _ upto_range.0 in (
+allowed-at : (placed : List Placed) (bounds : Bounds) (start : ℕ) (earlier : List Op) (op : Op) → whys placed bounds start earlier op ≡ [] → IsAllowed bounds.slots placed start op × All (λ other. Differ other op) earlier × IfSome (entry_of op) (λ entry. entry.node < bounds.nodes)
+allowed-at placed bounds start earlier op none =
+    let upto_busy = both-none (slot_range bounds.slots op ++ slot_twice earlier op ++ node_unknown bounds.nodes op ++ length_range op ++ period_zero op ++ deadline_range op ++ slot_busy placed start op) (slot_empty placed op) none in
+    let upto_deadline = both-none (slot_range bounds.slots op ++ slot_twice earlier op ++ node_unknown bounds.nodes op ++ length_range op ++ period_zero op ++ deadline_range op) (slot_busy placed start op) upto_busy.0 in
+    let upto_period = both-none (slot_range bounds.slots op ++ slot_twice earlier op ++ node_unknown bounds.nodes op ++ length_range op ++ period_zero op) (deadline_range op) upto_deadline.0 in
+    let upto_length = both-none (slot_range bounds.slots op ++ slot_twice earlier op ++ node_unknown bounds.nodes op ++ length_range op) (period_zero op) upto_period.0 in
+    let upto_node = both-none (slot_range bounds.slots op ++ slot_twice earlier op ++ node_unknown bounds.nodes op) (length_range op) upto_length.0 in
+    let upto_twice = both-none (slot_range bounds.slots op ++ slot_twice earlier op) (node_unknown bounds.nodes op) upto_node.0 in
+    let upto_range = both-none (slot_range bounds.slots op) (slot_twice earlier op) upto_twice.0 in
+    let range : nat_le bounds.slots (slot_of op) ≡ false = not-held _ _ upto_range.0 in (
       record {
-        slot = grind (arith, nat_tests);
+        slot = leb-false bounds.slots (slot_of op) range;
         entry = sound (entry_of op) (not-held _ _ upto_node.1) (not-held _ _ upto_period.1);
         fits = fits placed start op upto_deadline.1 upto_busy.1;
       },
       All-weaker (λ other. nat_eq (slot_of other) (slot_of op) ≡ false) (λ other. Differ other op) (λ other no. eqb-false (slot_of other) (slot_of op) no) earlier
           (none-passes (λ other. nat_eq (slot_of other) (slot_of op)) earlier (not-held _ _ upto_range.1)),
-      known nodes (entry_of op) (not-held _ _ upto_twice.1),
+      known bounds.nodes (entry_of op) (not-held _ _ upto_twice.1),
     )
 
 -- where no operation breaks a rule, each is allowed
-pub all-allowed : (placed : List Placed) (nodes start : ℕ) (earlier ops : List Op) → op_faults placed nodes start earlier ops ≡ [] → All (IsAllowed placed start) ops
-all-allowed placed nodes start earlier [] none = All-nil (IsAllowed placed start)
-all-allowed placed nodes start earlier (op ∷ ops) none =
-    let parts = both-none (map (broken (length earlier)) (whys placed nodes start earlier op)) (op_faults placed nodes start (earlier ++ op ∷ []) ops) none in
-    All-cons (IsAllowed placed start) op ops
-    (allowed-at placed nodes start earlier op (none-mapped (broken (length earlier)) (whys placed nodes start earlier op) parts.0)).0
-    (all-allowed placed nodes start (earlier ++ op ∷ []) ops parts.1)
+pub all-allowed : (placed : List Placed) (bounds : Bounds) (start : ℕ) (earlier ops : List Op) → op_faults placed bounds start earlier ops ≡ [] → All (IsAllowed bounds.slots placed start) ops
+all-allowed placed bounds start earlier [] none = All-nil (IsAllowed bounds.slots placed start)
+all-allowed placed bounds start earlier (op ∷ ops) none =
+    let parts = both-none (map (broken (length earlier)) (whys placed bounds start earlier op)) (op_faults placed bounds start (earlier ++ op ∷ []) ops) none in
+    All-cons (IsAllowed bounds.slots placed start) op ops
+    (allowed-at placed bounds start earlier op (none-mapped (broken (length earlier)) (whys placed bounds start earlier op) parts.0)).0
+    (all-allowed placed bounds start (earlier ++ op ∷ []) ops parts.1)
 
 -- and they have different slots
-pub all-differ : (placed : List Placed) (nodes start : ℕ) (earlier ops : List Op) → op_faults placed nodes start earlier ops ≡ [] → AllPairs Differ earlier → AllPairs Differ (earlier ++ ops)
-all-differ placed nodes start earlier [] none differ = rw (append-nil earlier) differ
-all-differ placed nodes start earlier (op ∷ ops) none differ =
-    let parts = both-none (map (broken (length earlier)) (whys placed nodes start earlier op)) (op_faults placed nodes start (earlier ++ op ∷ []) ops) none in
-    let others = (allowed-at placed nodes start earlier op (none-mapped (broken (length earlier)) (whys placed nodes start earlier op) parts.0)).1 in
+pub all-differ : (placed : List Placed) (bounds : Bounds) (start : ℕ) (earlier ops : List Op) → op_faults placed bounds start earlier ops ≡ [] → AllPairs Differ earlier → AllPairs Differ (earlier ++ ops)
+all-differ placed bounds start earlier [] none differ = rw (append-nil earlier) differ
+all-differ placed bounds start earlier (op ∷ ops) none differ =
+    let parts = both-none (map (broken (length earlier)) (whys placed bounds start earlier op)) (op_faults placed bounds start (earlier ++ op ∷ []) ops) none in
+    let others = (allowed-at placed bounds start earlier op (none-mapped (broken (length earlier)) (whys placed bounds start earlier op) parts.0)).1 in
     let more = all_pairs_push Differ earlier op differ (λ k d within. others k d within) in
-    rw append_assoc at (all-differ placed nodes start (earlier ++ op ∷ []) ops parts.1 more)
+    rw append_assoc at (all-differ placed bounds start (earlier ++ op ∷ []) ops parts.1 more)
 
 -- and their nodes are known
-pub all-known : (placed : List Placed) (nodes start : ℕ) (earlier ops : List Op) → op_faults placed nodes start earlier ops ≡ [] → All (λ op. IfSome (entry_of op) (λ entry. entry.node < nodes)) ops
-all-known placed nodes start earlier [] none = All-nil (λ op. IfSome (entry_of op) (λ entry. entry.node < nodes))
-all-known placed nodes start earlier (op ∷ ops) none =
-    let parts = both-none (map (broken (length earlier)) (whys placed nodes start earlier op)) (op_faults placed nodes start (earlier ++ op ∷ []) ops) none in
-    All-cons (λ op. IfSome (entry_of op) (λ entry. entry.node < nodes)) op ops
-    (allowed-at placed nodes start earlier op (none-mapped (broken (length earlier)) (whys placed nodes start earlier op) parts.0)).2
-    (all-known placed nodes start (earlier ++ op ∷ []) ops parts.1)
+pub all-known : (placed : List Placed) (bounds : Bounds) (start : ℕ) (earlier ops : List Op) → op_faults placed bounds start earlier ops ≡ [] → All (λ op. IfSome (entry_of op) (λ entry. entry.node < bounds.nodes)) ops
+all-known placed bounds start earlier [] none = All-nil (λ op. IfSome (entry_of op) (λ entry. entry.node < bounds.nodes))
+all-known placed bounds start earlier (op ∷ ops) none =
+    let parts = both-none (map (broken (length earlier)) (whys placed bounds start earlier op)) (op_faults placed bounds start (earlier ++ op ∷ []) ops) none in
+    All-cons (λ op. IfSome (entry_of op) (λ entry. entry.node < bounds.nodes)) op ops
+    (allowed-at placed bounds start earlier op (none-mapped (broken (length earlier)) (whys placed bounds start earlier op) parts.0)).2
+    (all-known placed bounds start (earlier ++ op ∷ []) ops parts.1)
+
+-- and where there are at most as many slots as a set of slots has room for, their slots have room
+pub allowed-most : (placed : List Placed) (bounds : Bounds) (start : ℕ) (ops : List Op) → bounds.slots ≤ most_slots → op_faults placed bounds start [] ops ≡ [] → All (IsAllowed most_slots placed start) ops
+allowed-most placed bounds start ops room none =
+    All-weaker (IsAllowed bounds.slots placed start) (IsAllowed most_slots placed start) (λ op allowed. record {
+      slot = let low = allowed.slot in omega arith;
+      entry = allowed.entry;
+      fits = allowed.fits;
+    }) ops (all-allowed placed bounds start [] ops none)

@@ -10,7 +10,7 @@ use Rattle.std.proofs.lemmas.List.Elements.{All-head, All-tail}
 use Rattle.requirement_table.specs.declared.entries.Entry.{Entry}
 use Rattle.requirement_table.specs.declared.entries.Placed.{Placed}
 use Rattle.requirement_table.specs.Instance.{Instance, deadline_of, exists, instance_of, latest, may_send, release_of, released_by, worst_of}
-use Rattle.requirement_table.specs.Slots.{slots}
+use Rattle.requirement_table.specs.Slots.{most_slots}
 use Rattle.requirement_table.specs.Table.{instance_in, is_last_in, released_in, releases_in, sendable, worst_in}
 use Rattle.requirement_table.proofs.Shared.{instance_in-sound, set_of-same}
 use Rattle.change_protocol.specs.Applied.{IsChangedAt, IsKept, IsNewFrom, without_end}
@@ -240,4 +240,4 @@ same-releases start slot c (p ∷ old) (q ∷ new) changed early =
 
 pub same-released : (start c : ℕ) (old new : List Placed) → IsChangedAt start old new → c < start → released_in new c ≡ released_in old c
 same-released start c old new changed early =
-    set_of-same slots (releases_in new c) (releases_in old c) (λ slot _. same-releases start slot c old new changed early)
+    set_of-same most_slots (releases_in new c) (releases_in old c) (λ slot _. same-releases start slot c old new changed early)

@@ -9,6 +9,7 @@ use Rattle.std.proofs.lemmas.List.{get_or-set_other, get_or-replicate}
 use Rattle.std.proofs.lemmas.List.Folds.{find-append}
 use Rattle.std.proofs.lemmas.List.Recursion.{max_push}
 use Rattle.requirement_table.specs.declared.entries.Placed.{Placed}
+use Rattle.requirement_table.specs.Slots.{most_slots}
 use Rattle.requirement_table.specs.Table.{free_from}
 use Rattle.change_protocol.specs.declared.slots.SlotUse.{SlotUse}
 use Rattle.change_protocol.specs.Applied.{freed_by, free_in, live_in, lives_in}
@@ -41,14 +42,14 @@ use-other placed p slot other =
     rw (live-push placed p slot, free-push placed p slot, ne_eqb p.entry.slot slot other) (rw (or_none (live_in placed slot), max-zero (free_in placed slot)) refl)
 
 -- the slots before any entry
-pub uses-none : (unused : SlotUse) → unused ≡ record { live = None; free = 0 } → AreUses [] (replicate 40 unused)
+pub uses-none : (unused : SlotUse) → unused ≡ record { live = None; free = 0 } → AreUses [] (replicate most_slots unused)
 uses-none unused e = record {
   room = refl;
-  each = λ slot d within. get_or-replicate {A = SlotUse} 40 slot unused d within ∙ e;
+  each = λ slot d within. get_or-replicate {A = SlotUse} most_slots slot unused d within ∙ e;
 }
 
 -- the slots after one entry more
-pub uses-more : (placed : List Placed) (p : Placed) (uses : List SlotUse) (held : SlotUse) → p.entry.slot < 40 → held ≡ use_of placed p.entry.slot → AreUses placed uses → AreUses (placed ++ p ∷ []) (set uses p.entry.slot (use_after p held))
+pub uses-more : (placed : List Placed) (p : Placed) (uses : List SlotUse) (held : SlotUse) → p.entry.slot < most_slots → held ≡ use_of placed p.entry.slot → AreUses placed uses → AreUses (placed ++ p ∷ []) (set uses p.entry.slot (use_after p held))
 uses-more placed p uses held within is kept = record {
   room = length-set uses p.entry.slot (use_after p held) ∙ kept.room;
   each = λ slot d below.

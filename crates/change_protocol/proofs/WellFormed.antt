@@ -18,7 +18,7 @@ use Rattle.change_protocol.specs.declared.malformed.Why.{Why}
 use Rattle.change_protocol.specs.declared.malformed.Why.TheVariants.{SlotEmpty}
 use Rattle.change_protocol.specs.Operations.{entry_of, slot_of}
 use Rattle.change_protocol.specs.Applied.{freed_by, free_in, live_in, lives_in}
-use Rattle.change_protocol.specs.Malformed.{IsWellFormed, add_busy_by, broken, change_faults, deadline_range, end_busy_by, length_range, no_ops, node_unknown, op_faults, period_zero, slot_busy, slot_empty, slot_range, slot_twice, start_range, too_many_ops, where_holds, whys}
+use Rattle.change_protocol.specs.Malformed.{Bounds, IsWellFormed, add_busy_by, broken, change_faults, deadline_range, end_busy_by, length_range, no_ops, node_unknown, op_faults, period_zero, slot_busy, slot_empty, slot_range, slot_twice, start_range, too_many_ops, where_holds, whys}
 use Rattle.change_protocol.specs.WellFormed.{BreaksNoRule, CanBePlaced, FindsSlot, HasLive, IsFreeSlot, KeepsRules}
 use Rattle.change_protocol.proofs.Allowed.{CanEnd, Differ, FitsIn, IsAllowed, IsSound, all-allowed, all-differ, all-known, both-none, none-mapped, not-held}
 use Rattle.change_protocol.proofs.First.{none_in_both}
@@ -92,40 +92,40 @@ free-low placed d slot start free =
 
 -- one operation
 
-placeable : (nodes : ℕ) (placed_entry : Option Entry) → IfSome placed_entry IsSound → IfSome placed_entry (λ entry. entry.node < nodes) → IfSome placed_entry (CanBePlaced nodes)
-placeable nodes None sound known = tt
-placeable nodes (Some entry) sound known = record { node = known; length = sound.length; some_time = sound.some_time; deadline = sound.deadline }
+placeable : (bounds : Bounds) (placed_entry : Option Entry) → IfSome placed_entry IsSound → IfSome placed_entry (λ entry. entry.node < bounds.nodes) → IfSome placed_entry (CanBePlaced bounds)
+placeable bounds None sound known = tt
+placeable bounds (Some entry) sound known = record { node = known; length = sound.length; some_time = sound.some_time; deadline = sound.deadline }
 
 finds : (placed : List Placed) (start : ℕ) (op : Op) → ((slot k : ℕ) (d : Placed) → k < length placed → freed_by slot (get_or placed k d) ≤ free_in placed slot) → FitsIn placed start op → FindsSlot placed start op
 finds placed start (Add entry) freed fits = free-slot placed entry.slot start fits.0 (λ k d within. let most = freed entry.slot k d within in let free = fits.1 in omega arith)
 finds placed start (Remove slot) freed fits = has-live placed slot start fits
 finds placed start (Change entry) freed fits = has-live placed entry.slot start fits
 
-keeps-rules : (placed : List Placed) (nodes start : ℕ) (op : Op) → IsAllowed placed start op → IfSome (entry_of op) (λ entry. entry.node < nodes) → KeepsRules placed nodes start op
-keeps-rules placed nodes start op allowed known = record {
+keeps-rules : (placed : List Placed) (bounds : Bounds) (start : ℕ) (op : Op) → IsAllowed bounds.slots placed start op → IfSome (entry_of op) (λ entry. entry.node < bounds.nodes) → KeepsRules placed bounds start op
+keeps-rules placed bounds start op allowed known = record {
   slot = allowed.slot;
-  entry = placeable nodes (entry_of op) allowed.entry known;
+  entry = placeable bounds (entry_of op) allowed.entry known;
   finds = finds placed start op (λ slot k d within. most placed slot k d within) allowed.fits;
 }
 
 held-not : (test : Bool) (why : Why) → test ≡ false → where_holds test why ≡ []
 held-not test why not = rw not refl
 
-known-node : (nodes : ℕ) (placed_entry : Option Entry) → IfSome placed_entry (CanBePlaced nodes) → option_map_or (λ entry. nat_le nodes entry.node) placed_entry false ≡ false
-known-node nodes None can = refl
-known-node nodes (Some entry) can = lt-leb nodes entry.node can.node
+known-node : (bounds : Bounds) (placed_entry : Option Entry) → IfSome placed_entry (CanBePlaced bounds) → option_map_or (λ entry. nat_le bounds.nodes entry.node) placed_entry false ≡ false
+known-node bounds None can = refl
+known-node bounds (Some entry) can = lt-leb bounds.nodes entry.node can.node
 
-short : (nodes : ℕ) (placed_entry : Option Entry) → IfSome placed_entry (CanBePlaced nodes) → option_map_or (λ entry. nat_lt 8 entry.length) placed_entry false ≡ false
-short nodes None can = refl
-short nodes (Some entry) can = let least = can.length in lt-leb 9 entry.length (omega arith)
+short : (bounds : Bounds) (placed_entry : Option Entry) → IfSome placed_entry (CanBePlaced bounds) → option_map_or (λ entry. nat_lt 8 entry.length) placed_entry false ≡ false
+short bounds None can = refl
+short bounds (Some entry) can = let least = can.length in lt-leb 9 entry.length (omega arith)
 
-some-period : (nodes : ℕ) (placed_entry : Option Entry) → IfSome placed_entry (CanBePlaced nodes) → option_map_or (λ entry. nat_eq entry.period 0) placed_entry false ≡ false
-some-period nodes None can = refl
-some-period nodes (Some entry) can = let time = can.some_time in let least = can.deadline in ne_eqb entry.period 0 (λ none. absurd (omega arith))
+some-period : (bounds : Bounds) (placed_entry : Option Entry) → IfSome placed_entry (CanBePlaced bounds) → option_map_or (λ entry. nat_eq entry.period 0) placed_entry false ≡ false
+some-period bounds None can = refl
+some-period bounds (Some entry) can = let time = can.some_time in let least = can.deadline in ne_eqb entry.period 0 (λ none. absurd (omega arith))
 
-timely : (nodes : ℕ) (placed_entry : Option Entry) → IfSome placed_entry (CanBePlaced nodes) → option_map_or (λ entry. nat_eq entry.deadline 0 || nat_lt entry.period entry.deadline) placed_entry false ≡ false
-timely nodes None can = refl
-timely nodes (Some entry) can =
+timely : (bounds : Bounds) (placed_entry : Option Entry) → IfSome placed_entry (CanBePlaced bounds) → option_map_or (λ entry. nat_eq entry.deadline 0 || nat_lt entry.period entry.deadline) placed_entry false ≡ false
+timely bounds None can = refl
+timely bounds (Some entry) can =
     let time = can.some_time in
     let least = can.deadline in
     or_from (nat_eq entry.deadline 0) (nat_lt entry.period entry.deadline) (ne_eqb entry.deadline 0 (λ none. absurd (omega arith))) (lt-leb (suc entry.period) entry.deadline (omega arith))
@@ -146,11 +146,11 @@ in-slot placed d start (Add entry) well find = (
 in-slot placed d start (Remove slot) well find = can-be-ended (live_in placed slot) start (can-end placed slot start well find)
 in-slot placed d start (Change entry) well find = can-be-ended (live_in placed entry.slot) start (can-end placed entry.slot start well find)
 
-no-whys : (placed : List Placed) (nodes start : ℕ) (earlier : List Op) (op : Op) → IsWellPlaced placed → KeepsRules placed nodes start op → All (λ other. Differ other op) earlier → whys placed nodes start earlier op ≡ []
-no-whys placed nodes start earlier op well keeps differ =
+no-whys : (placed : List Placed) (bounds : Bounds) (start : ℕ) (earlier : List Op) (op : Op) → IsWellPlaced placed → KeepsRules placed bounds start op → All (λ other. Differ other op) earlier → whys placed bounds start earlier op ≡ []
+no-whys placed bounds start earlier op well keeps differ =
     let slot = keeps.slot in
     let in_slot = in-slot placed no_entry start op well keeps.finds in
-    let range = held-not (nat_lt 39 (slot_of op)) _ (lt-leb 40 (slot_of op) slot) in
+    let range = held-not (nat_le bounds.slots (slot_of op)) _ (lt-leb bounds.slots (slot_of op) slot) in
     let twice = held-not (list_any (λ other. nat_eq (slot_of other) (slot_of op)) earlier) _
     (list_any_none (λ other. nat_eq (slot_of other) (slot_of op)) earlier
     (All-weaker (λ other. Differ other op) (λ other. nat_eq (slot_of other) (slot_of op) ≡ false) (λ other differs. ne_eqb (slot_of other) (slot_of op) differs) earlier differ)) in
@@ -160,23 +160,23 @@ no-whys placed nodes start earlier op well keeps differ =
     (none_in_both _ _
     (none_in_both _ _
     (none_in_both _ _
-    (none_in_both (slot_range op) (slot_twice earlier op) range twice)
-    (held-not _ _ (known-node nodes (entry_of op) keeps.entry)))
-    (held-not _ _ (short nodes (entry_of op) keeps.entry)))
-    (held-not _ _ (some-period nodes (entry_of op) keeps.entry)))
-    (held-not _ _ (timely nodes (entry_of op) keeps.entry)))
+    (none_in_both (slot_range bounds.slots op) (slot_twice earlier op) range twice)
+    (held-not _ _ (known-node bounds (entry_of op) keeps.entry)))
+    (held-not _ _ (short bounds (entry_of op) keeps.entry)))
+    (held-not _ _ (some-period bounds (entry_of op) keeps.entry)))
+    (held-not _ _ (timely bounds (entry_of op) keeps.entry)))
     in_slot.0)
     in_slot.1
 
 -- all operations
 
-no-op_faults : (placed : List Placed) (nodes start : ℕ) (earlier ops : List Op) → IsWellPlaced placed → All (KeepsRules placed nodes start) ops → AllPairs Differ ops
-    → All (λ op. All (λ other. Differ other op) earlier) ops → op_faults placed nodes start earlier ops ≡ []
-no-op_faults placed nodes start earlier [] well keeps pairs differ = refl
-no-op_faults placed nodes start earlier (op ∷ ops) well keeps pairs differ =
+no-op_faults : (placed : List Placed) (bounds : Bounds) (start : ℕ) (earlier ops : List Op) → IsWellPlaced placed → All (KeepsRules placed bounds start) ops → AllPairs Differ ops
+    → All (λ op. All (λ other. Differ other op) earlier) ops → op_faults placed bounds start earlier ops ≡ []
+no-op_faults placed bounds start earlier [] well keeps pairs differ = refl
+no-op_faults placed bounds start earlier (op ∷ ops) well keeps pairs differ =
     none_in_both _ _
-    (ap (map (broken (length earlier))) (no-whys placed nodes start earlier op well (All-head (KeepsRules placed nodes start) op ops keeps) (All-head (λ op. All (λ other. Differ other op) earlier) op ops differ)))
-    (no-op_faults placed nodes start (earlier ++ op ∷ []) ops well (All-tail (KeepsRules placed nodes start) op ops keeps) (pairs-tail Differ op ops pairs)
+    (ap (map (broken (length earlier))) (no-whys placed bounds start earlier op well (All-head (KeepsRules placed bounds start) op ops keeps) (All-head (λ op. All (λ other. Differ other op) earlier) op ops differ)))
+    (no-op_faults placed bounds start (earlier ++ op ∷ []) ops well (All-tail (KeepsRules placed bounds start) op ops keeps) (pairs-tail Differ op ops pairs)
     (λ k d within.
     All-push (λ other. Differ other (get_or ops k d)) earlier op
     (All-tail (λ op. All (λ other. Differ other op) earlier) op ops differ k d within)
@@ -187,33 +187,33 @@ no-op_faults placed nodes start earlier (op ∷ ops) well keeps pairs differ =
 some-ops : (n : ℕ) → nat_eq n 0 ≡ false → 1 ≤ n
 some-ops n test = let differs = eqb-false n 0 test in grind arith
 
-well_formed-kept : (placed : List Placed) (nodes : ℕ) (change : TableChange) → IsWellFormed placed nodes change → BreaksNoRule placed nodes change
-well_formed-kept placed nodes change formed =
+well_formed-kept : (placed : List Placed) (bounds : Bounds) (change : TableChange) → IsWellFormed placed bounds change → BreaksNoRule placed bounds change
+well_formed-kept placed bounds change formed =
     let ops = change.ops in
-    let parts = both-none (change_faults change.start ops) (op_faults placed nodes change.start [] ops) formed in
+    let parts = both-none (change_faults change.start ops) (op_faults placed bounds change.start [] ops) formed in
     let whole = both-none (map (broken 0) (no_ops ops) ++ map (broken 16) (too_many_ops ops)) (map (broken 0) (start_range change.start)) parts.0 in
     let counts = both-none (map (broken 0) (no_ops ops)) (map (broken 16) (too_many_ops ops)) whole.0 in
-    let allowed = all-allowed placed nodes change.start [] ops parts.1 in
-    let known = all-known placed nodes change.start [] ops parts.1 in
+    let allowed = all-allowed placed bounds change.start [] ops parts.1 in
+    let known = all-known placed bounds change.start [] ops parts.1 in
     record {
       some = some-ops (length ops) (not-held _ _ (none-mapped (broken 0) (no_ops ops) counts.0));
       few = ltb-false 16 (length ops) (not-held _ _ (none-mapped (broken 16) (too_many_ops ops) counts.1));
       start = early-start change.start ops parts.0;
-      each = λ k d within. keeps-rules placed nodes change.start (get_or ops k d) (allowed k d within) (known k d within);
-      distinct = all-differ placed nodes change.start [] ops parts.1 (pairs-nil Differ);
+      each = λ k d within. keeps-rules placed bounds change.start (get_or ops k d) (allowed k d within) (known k d within);
+      distinct = all-differ placed bounds change.start [] ops parts.1 (pairs-nil Differ);
     }
 
-kept-well_formed : (placed : List Placed) (nodes : ℕ) (change : TableChange) → IsWellPlaced placed → BreaksNoRule placed nodes change → IsWellFormed placed nodes change
-kept-well_formed placed nodes change well keeps =
+kept-well_formed : (placed : List Placed) (bounds : Bounds) (change : TableChange) → IsWellPlaced placed → BreaksNoRule placed bounds change → IsWellFormed placed bounds change
+kept-well_formed placed bounds change well keeps =
     let ops = change.ops in
     let some = keeps.some in
     let few = keeps.few in
     let none = ap (map (broken 0)) (held-not (nat_eq (length ops) 0) _ (ne_eqb (length ops) 0 (λ zero_ops. absurd (omega arith)))) in
     let many = ap (map (broken 16)) (held-not (nat_lt 16 (length ops)) _ (lt-leb 17 (length ops) (omega arith))) in
     let late = ap (map (broken 0)) (held-not (nat_le (2 ^ 40) change.start) _ (lt-leb (2 ^ 40) change.start keeps.start)) in
-    none_in_both (change_faults change.start ops) (op_faults placed nodes change.start [] ops)
+    none_in_both (change_faults change.start ops) (op_faults placed bounds change.start [] ops)
     (none_in_both _ _ (none_in_both (map (broken 0) (no_ops ops)) (map (broken 16) (too_many_ops ops)) none many) late)
-    (no-op_faults placed nodes change.start [] ops well keeps.each keeps.distinct (λ k d within. All-nil (λ other. Differ other (get_or ops k d))))
+    (no-op_faults placed bounds change.start [] ops well keeps.each keeps.distinct (λ k d within. All-nil (λ other. Differ other (get_or ops k d))))
 
-pub well_formed-both : (placed : List Placed) (nodes : ℕ) (change : TableChange) → IsWellPlaced placed → IsWellFormed placed nodes change ↔ BreaksNoRule placed nodes change
-well_formed-both placed nodes change well = (well_formed-kept placed nodes change, kept-well_formed placed nodes change well)
+pub well_formed-both : (placed : List Placed) (bounds : Bounds) (change : TableChange) → IsWellPlaced placed → IsWellFormed placed bounds change ↔ BreaksNoRule placed bounds change
+well_formed-both placed bounds change well = (well_formed-kept placed bounds change, kept-well_formed placed bounds change well)

@@ -10,14 +10,15 @@ use Rattle.std.proofs.lemmas.List.Folds.{list_any-from_Any}
 use Rattle.std.proofs.lemmas.List.Recursion.{max_bounds}
 use Rattle.requirement_table.specs.declared.entries.Entry.{Entry}
 use Rattle.requirement_table.specs.declared.entries.Placed.{Placed}
+use Rattle.requirement_table.specs.Slots.{most_slots}
 use Rattle.requirement_table.specs.Table.{GoesBefore, IsEntry, IsFreeAt, IsInRange, IsWellPlaced, free_from}
 use Rattle.change_protocol.specs.declared.operations.Op.{Op}
 use Rattle.change_protocol.specs.declared.operations.Op.TheVariants.{Add, Remove, Change}
 use Rattle.change_protocol.specs.declared.operations.Change.{Change as TableChange}
 use Rattle.change_protocol.specs.Operations.{HasTypes, IsTyped, ends}
 use Rattle.change_protocol.specs.Applied.{IsKept, applied, ended, free_in, freed_by, live_in, lives_in, origin_behind, placed_by}
-use Rattle.change_protocol.specs.Malformed.{broken, change_faults, no_ops, op_faults, start_range, too_many_ops}
-use Rattle.change_protocol.proofs.Allowed.{CanEnd, Differ, IsAllowed, IsSound, all-allowed, all-differ, both-none, none-mapped, not-held}
+use Rattle.change_protocol.specs.Malformed.{Bounds, broken, change_faults, no_ops, op_faults, start_range, too_many_ops}
+use Rattle.change_protocol.proofs.Allowed.{CanEnd, Differ, IsAllowed, IsSound, all-differ, allowed-most, both-none, none-mapped, not-held}
 use Rattle.change_protocol.proofs.Kept.{ended-kept, live-in_range, none-from_test}
 use Rattle.change_protocol.proofs.Live.{find-kept, find-none}
 use Rattle.change_protocol.proofs.Pairs.{all-filter_map, pairs-append, pairs-filter_map, pairs-head, pairs-map, pairs-nil, pairs-tail}
@@ -82,24 +83,24 @@ ended-low placed start pairs k d within none can =
     let p = get_or placed k d in
     low start p (live_in placed p.entry.slot) can none (λ live found. around-live placed p.entry.slot live pairs found k d within refl)
 
-ending-slot : (placed : List Placed) (start slot : ℕ) (op : Op) → IsAllowed placed start op → ends slot op ≡ true → CanEnd placed start slot
+ending-slot : (placed : List Placed) (start slot : ℕ) (op : Op) → IsAllowed most_slots placed start op → ends slot op ≡ true → CanEnd placed start slot
 ending-slot placed start slot (Add entry) allowed ending = absurd (cc)
 ending-slot placed start slot (Remove other) allowed ending = rw (eqb-true other slot ending) at allowed.fits
 ending-slot placed start slot (Change entry) allowed ending = rw (eqb-true entry.slot slot ending) at allowed.fits
 
-ending-fits : (placed : List Placed) (start slot : ℕ) (ops : List Op) → All (IsAllowed placed start) ops → list_any (ends slot) ops ≡ true → CanEnd placed start slot
+ending-fits : (placed : List Placed) (start slot : ℕ) (ops : List Op) → All (IsAllowed most_slots placed start) ops → list_any (ends slot) ops ≡ true → CanEnd placed start slot
 ending-fits placed start slot [] allowed ending = absurd (cc)
 ending-fits placed start slot (op ∷ ops) allowed ending =
     ⊎_elim
-    (λ (this : ends slot op ≡ true). ending-slot placed start slot op (All-head (IsAllowed placed start) op ops allowed) this)
-    (λ (other : list_any (ends slot) ops ≡ true). ending-fits placed start slot ops (All-tail (IsAllowed placed start) op ops allowed) other)
+    (λ (this : ends slot op ≡ true). ending-slot placed start slot op (All-head (IsAllowed most_slots placed start) op ops allowed) this)
+    (λ (other : list_any (ends slot) ops ≡ true). ending-fits placed start slot ops (All-tail (IsAllowed most_slots placed start) op ops allowed) other)
     (or_cases (ends slot op) (list_any (ends slot) ops) ending)
 
 range-if : (b : Bool) (start : ℕ) (p : Placed) → IsInRange p → start < 2 ^ 40 → (b ≡ true → p.origin ≤ start) → IsInRange (if b then record p { end = Some start } else p)
 range-if false start p range early below = range
 range-if true start p range early below = record { entry = range.entry; origin = range.origin; end = (below refl, omega arith) }
 
-ended-in_range : (placed : List Placed) (start : ℕ) (ops : List Op) → IsWellPlaced placed → start < 2 ^ 40 → All (IsAllowed placed start) ops → All (λ p. IsInRange (ended start ops p)) placed
+ended-in_range : (placed : List Placed) (start : ℕ) (ops : List Op) → IsWellPlaced placed → start < 2 ^ 40 → All (IsAllowed most_slots placed start) ops → All (λ p. IsInRange (ended start ops p)) placed
 ended-in_range placed start ops well early allowed k d within =
     let p = get_or placed k d in
     range-if (is_none p.end && list_any (ends p.entry.slot) ops) start p (well.in_range k d within) early
@@ -137,7 +138,7 @@ behind-low : (found : Option Placed) (start : ℕ) → IfSome found IsInRange �
 behind-low None start range early = omega arith
 behind-low (Some p) start range early = let deadline = range.entry.deadline in let period = range.entry.period in omega arith
 
-entry-in_range : (entry : Entry) → entry.slot < 40 → IsSound entry → IsTyped entry → IsEntry entry
+entry-in_range : (entry : Entry) → entry.slot < most_slots → IsSound entry → IsTyped entry → IsEntry entry
 entry-in_range entry slot sound typed = record {
   slot = slot;
   length = sound.length;
@@ -148,7 +149,7 @@ entry-in_range entry slot sound typed = record {
   deadline = sound.deadline;
 }
 
-placed-in_range : (placed : List Placed) (start : ℕ) (op : Op) → All IsInRange placed → start < 2 ^ 40 → IsAllowed placed start op → HasTypes op → IfSome (placed_by placed start op) IsInRange
+placed-in_range : (placed : List Placed) (start : ℕ) (op : Op) → All IsInRange placed → start < 2 ^ 40 → IsAllowed most_slots placed start op → HasTypes op → IfSome (placed_by placed start op) IsInRange
 placed-in_range placed start (Add entry) all early allowed typed = record { entry = entry-in_range entry allowed.slot allowed.entry typed; origin = omega arith; end = tt }
 placed-in_range placed start (Remove slot) all early allowed typed = tt
 placed-in_range placed start (Change entry) all early allowed typed = record {
@@ -220,7 +221,7 @@ change-behind placed start ops p entry (Some live) is known can around ending =
     rw is (before-changed start ops p live entry (around live refl) (lives-parts entry.slot live known.1).1 can some_time ending)
 
 -- an old entry, where the facts of the list are known of it, before the entry that an operation places
-before-placed : (placed : List Placed) (start : ℕ) (ops : List Op) (p : Placed) (op : Op) → IsWellPlaced placed → IsAllowed placed start op
+before-placed : (placed : List Placed) (start : ℕ) (ops : List Op) (p : Placed) (op : Op) → IsWellPlaced placed → IsAllowed most_slots placed start op
     → ((slot : ℕ) → live_in placed slot ≡ None → lives_in slot p ≡ false)
     → ((slot : ℕ) → freed_by slot p ≤ free_in placed slot)
     → ((slot : ℕ) (live : Placed) → live_in placed slot ≡ Some live → p.entry.slot ≡ slot → (p ≡ live) ⊎ IsFreeAt p live.origin)
@@ -242,7 +243,7 @@ any-at test xs k d within holds = list_any-from_Any test xs (k, get_or xs k d, w
 pub most : (placed : List Placed) (slot k : ℕ) (d : Placed) → k < length placed → freed_by slot (get_or placed k d) ≤ free_in placed slot
 most placed slot k d within = max_bounds (λ (ps : List Placed). free_in ps slot) (freed_by slot) refl (λ x xs. refl) placed k d within
 
-across : (placed : List Placed) (start : ℕ) (ops : List Op) → IsWellPlaced placed → All (IsAllowed placed start) ops
+across : (placed : List Placed) (start : ℕ) (ops : List Op) → IsWellPlaced placed → All (IsAllowed most_slots placed start) ops
     → All (λ p. All (GoesBefore (ended start ops p)) (filter_map (placed_by placed start) ops)) placed
 across placed start ops well allowed k d within =
     let p = get_or placed k d in
@@ -255,7 +256,7 @@ across placed start ops well allowed k d within =
     (λ slot ending. any-at (ends slot) ops j f below ending))
 
 -- the list after operations that are allowed and have different slots is well placed
-well_placed-after : (placed : List Placed) (start : ℕ) (ops : List Op) → IsWellPlaced placed → start < 2 ^ 40 → All (IsAllowed placed start) ops → AllPairs Differ ops → All HasTypes ops
+well_placed-after : (placed : List Placed) (start : ℕ) (ops : List Op) → IsWellPlaced placed → start < 2 ^ 40 → All (IsAllowed most_slots placed start) ops → AllPairs Differ ops → All HasTypes ops
     → IsWellPlaced (map (ended start ops) placed ++ filter_map (placed_by placed start) ops)
 well_placed-after placed start ops well early allowed differ typed =
     let behind = filter_map (placed_by placed start) ops in
@@ -278,10 +279,10 @@ early-start start ops none =
     grind (arith, nat_tests)
 
 -- a well formed change keeps a list well placed
-pub well_placed-applied : (placed : List Placed) (nodes : ℕ) (change : TableChange) → IsWellPlaced placed → change_faults change.start change.ops ≡ []
-    → op_faults placed nodes change.start [] change.ops ≡ [] → All HasTypes change.ops → IsWellPlaced (applied placed change)
-well_placed-applied placed nodes change well whole each typed =
+pub well_placed-applied : (placed : List Placed) (bounds : Bounds) (change : TableChange) → bounds.slots ≤ most_slots → IsWellPlaced placed → change_faults change.start change.ops ≡ []
+    → op_faults placed bounds change.start [] change.ops ≡ [] → All HasTypes change.ops → IsWellPlaced (applied placed change)
+well_placed-applied placed bounds change room well whole each typed =
     well_placed-after placed change.start change.ops well (early-start change.start change.ops whole)
-    (all-allowed placed nodes change.start [] change.ops each)
-    (all-differ placed nodes change.start [] change.ops each (pairs-nil Differ))
+    (allowed-most placed bounds change.start change.ops room each)
+    (all-differ placed bounds change.start [] change.ops each (pairs-nil Differ))
     typed

@@ -6,7 +6,6 @@ use Rattle.std.specs.List.{list_any}
 use Rattle.std.specs.Option.{option_map_or}
 use Rattle.requirement_table.specs.declared.entries.Entry.{Entry}
 use Rattle.requirement_table.specs.declared.entries.Placed.{Placed}
-use Rattle.requirement_table.specs.Slots.{slots}
 use Rattle.change_protocol.specs.declared.operations.Op.{Op}
 use Rattle.change_protocol.specs.declared.operations.Op.TheVariants.{Add, Remove, Change}
 use Rattle.change_protocol.specs.declared.operations.Change.{Change as TableChange}
@@ -18,6 +17,14 @@ use Rattle.change_protocol.specs.declared.malformed.ApplyFault.{ApplyFault}
 use Rattle.change_protocol.specs.declared.malformed.ApplyFault.TheVariants.{Malformed, Memory}
 use Rattle.change_protocol.specs.Operations.{entry_of, slot_of}
 use Rattle.change_protocol.specs.Applied.{free_in, live_in}
+
+-- the number of nodes and of slots of a bus; both are numbered from 0
+pub record Bounds : Type 0 where
+  pub nodes : ℕ
+  pub slots : ℕ
+
+abbrev pub bounds_of : ℕ → ℕ → Bounds
+bounds_of nodes slots = record { nodes = nodes; slots = slots }
 
 -- the operation places an entry that passes the test
 abbrev pub places : (Entry → Bool) → Op → Bool
@@ -40,8 +47,8 @@ start_range start = where_holds (nat_le (2 ^ 40) start) StartRange
 
 -- the rules of an operation; `earlier` are the operations of the change before it
 
-abbrev pub slot_range : Op → List Why
-slot_range op = where_holds (nat_le slots (slot_of op)) SlotRange
+abbrev pub slot_range : ℕ → Op → List Why
+slot_range slots op = where_holds (nat_le slots (slot_of op)) SlotRange
 
 abbrev pub slot_twice : List Op → Op → List Why
 slot_twice earlier op = where_holds (list_any (λ other. nat_eq (slot_of other) (slot_of op)) earlier) SlotTwice
@@ -87,11 +94,11 @@ slot_empty placed (Remove slot) = where_holds (is_none (live_in placed slot)) Sl
 slot_empty placed (Change entry) = where_holds (is_none (live_in placed entry.slot)) SlotEmpty
 
 -- the rules that an operation breaks, in their order
-abbrev pub whys : List Placed → ℕ → ℕ → List Op → Op → List Why
-whys placed nodes start earlier op =
-    slot_range op
+abbrev pub whys : List Placed → Bounds → ℕ → List Op → Op → List Why
+whys placed bounds start earlier op =
+    slot_range bounds.slots op
     ++ slot_twice earlier op
-    ++ node_unknown nodes op
+    ++ node_unknown bounds.nodes op
     ++ length_range op
     ++ period_zero op
     ++ deadline_range op
@@ -114,25 +121,25 @@ change_faults start ops =
     ++ map (broken 0) (start_range start)
 
 -- the rules that operations break which stand behind these earlier ones
-abbrev pub op_faults : List Placed → ℕ → ℕ → List Op → List Op → List Broken
-op_faults placed nodes start earlier [] = []
-op_faults placed nodes start earlier (op ∷ ops) =
-    map (broken (length earlier)) (whys placed nodes start earlier op)
-    ++ op_faults placed nodes start (earlier ++ op ∷ []) ops
+abbrev pub op_faults : List Placed → Bounds → ℕ → List Op → List Op → List Broken
+op_faults placed bounds start earlier [] = []
+op_faults placed bounds start earlier (op ∷ ops) =
+    map (broken (length earlier)) (whys placed bounds start earlier op)
+    ++ op_faults placed bounds start (earlier ++ op ∷ []) ops
 
--- all rules that a change breaks, for a table of these placed entries and for this number of nodes
-abbrev pub faults : List Placed → ℕ → TableChange → List Broken
-faults placed nodes change = change_faults change.start change.ops ++ op_faults placed nodes change.start [] change.ops
+-- all rules that a change breaks, for a table of these placed entries and for these numbers of nodes and slots
+abbrev pub faults : List Placed → Bounds → TableChange → List Broken
+faults placed bounds change = change_faults change.start change.ops ++ op_faults placed bounds change.start [] change.ops
 
 -- the first rule that a change breaks
-abbrev pub first_fault : List Placed → ℕ → TableChange → Option Broken
-first_fault placed nodes change = slice_get (faults placed nodes change) 0
+abbrev pub first_fault : List Placed → Bounds → TableChange → Option Broken
+first_fault placed bounds change = slice_get (faults placed bounds change) 0
 
 -- the change breaks no rule
-abbrev pub IsWellFormed : List Placed → ℕ → TableChange → Type 0
-IsWellFormed placed nodes change = faults placed nodes change ≡ []
+abbrev pub IsWellFormed : List Placed → Bounds → TableChange → Type 0
+IsWellFormed placed bounds change = faults placed bounds change ≡ []
 
 -- the fault of a change: the first rule that it breaks, or want of memory, where it breaks none
-abbrev pub IsFaultOf : List Placed → ℕ → TableChange → ApplyFault → Type 0
-IsFaultOf placed nodes change (Malformed op why) = first_fault placed nodes change ≡ Some (broken op why)
-IsFaultOf placed nodes change Memory = IsWellFormed placed nodes change
+abbrev pub IsFaultOf : List Placed → Bounds → TableChange → ApplyFault → Type 0
+IsFaultOf placed bounds change (Malformed op why) = first_fault placed bounds change ≡ Some (broken op why)
+IsFaultOf placed bounds change Memory = IsWellFormed placed bounds change

@@ -3,7 +3,7 @@ use Rattle.std.specs.Prelude.{◌≡◌, ℕ, ◌<◌}
 use Rattle.std.specs.Prelude.{max, if◌then◌else◌, Option, Some, None, is_none, List, length, slice_index_or}
 use Rattle.std.specs.Option.{option_map_or, option_or}
 use Rattle.requirement_table.specs.declared.entries.Placed.{Placed}
-use Rattle.requirement_table.specs.Slots.{slots}
+use Rattle.requirement_table.specs.Slots.{most_slots}
 use Rattle.requirement_table.specs.Table.{free_from}
 use Rattle.change_protocol.specs.declared.slots.SlotUse.{SlotUse}
 use Rattle.change_protocol.specs.Applied.{free_in, live_in}
@@ -21,5 +21,5 @@ use_after p held = record {
 
 -- these are the uses of all slots
 pub record AreUses (placed : List Placed) (uses : List SlotUse) : Type 0 where
-  pub room : length uses ≡ slots
-  pub each : (slot : ℕ) (d : SlotUse) → slot < slots → slice_index_or uses slot d ≡ use_of placed slot
+  pub room : length uses ≡ most_slots
+  pub each : (slot : ℕ) (d : SlotUse) → slot < most_slots → slice_index_or uses slot d ≡ use_of placed slot

@@ -3,16 +3,16 @@
 use Rattle.std.specs.Prelude.{◌≡◌, ◌≢◌, ℕ, ◌^◌, ◌<◌, ◌≤◌, None, IfSome, List, All, AllPairs, Any, length}
 use Rattle.requirement_table.specs.declared.entries.Entry.{Entry}
 use Rattle.requirement_table.specs.declared.entries.Placed.{Placed}
-use Rattle.requirement_table.specs.Slots.{slots}
 use Rattle.requirement_table.specs.Table.{IsFreeAt}
 use Rattle.change_protocol.specs.declared.operations.Op.{Op}
 use Rattle.change_protocol.specs.declared.operations.Op.TheVariants.{Add, Remove, Change}
 use Rattle.change_protocol.specs.declared.operations.Change.{Change as TableChange}
+use Rattle.change_protocol.specs.Malformed.{Bounds}
 use Rattle.change_protocol.specs.Operations.{entry_of, slot_of}
 
--- an entry can be placed where there are that many nodes
-pub record CanBePlaced (nodes : ℕ) (entry : Entry) : Type 0 where
-  pub node : entry.node < nodes
+-- an entry can be placed on a bus of this size
+pub record CanBePlaced (bounds : Bounds) (entry : Entry) : Type 0 where
+  pub node : entry.node < bounds.nodes
   pub length : entry.length ≤ 8
   pub some_time : 1 ≤ entry.deadline
   pub deadline : entry.deadline ≤ entry.period
@@ -32,15 +32,15 @@ FindsSlot placed start (Remove slot) = HasLive placed slot start
 FindsSlot placed start (Change entry) = HasLive placed entry.slot start
 
 -- the operation breaks no rule by itself
-pub record KeepsRules (placed : List Placed) (nodes start : ℕ) (op : Op) : Type 0 where
-  pub slot : slot_of op < slots
-  pub entry : IfSome (entry_of op) (CanBePlaced nodes)
+pub record KeepsRules (placed : List Placed) (bounds : Bounds) (start : ℕ) (op : Op) : Type 0 where
+  pub slot : slot_of op < bounds.slots
+  pub entry : IfSome (entry_of op) (CanBePlaced bounds)
   pub finds : FindsSlot placed start op
 
 -- the change breaks no rule
-pub record BreaksNoRule (placed : List Placed) (nodes : ℕ) (change : TableChange) : Type 0 where
+pub record BreaksNoRule (placed : List Placed) (bounds : Bounds) (change : TableChange) : Type 0 where
   pub some : 1 ≤ length change.ops
   pub few : length change.ops ≤ 16
   pub start : change.start < 2 ^ 40
-  pub each : All (KeepsRules placed nodes change.start) change.ops
+  pub each : All (KeepsRules placed bounds change.start) change.ops
   pub distinct : AllPairs (λ one other. slot_of one ≢ slot_of other) change.ops

@@ -1,12 +1,12 @@
 //! The application of a change.
 
-ghost use Rattle.std.specs.Prelude.{◌≡◌, ◌<◌, ◌^◌, ◌++◌, ◌&&◌, ◌||◌, ℕ, []};
+ghost use Rattle.std.specs.Prelude.{◌≡◌, ◌<◌, ◌≤◌, ◌^◌, ◌++◌, ◌&&◌, ◌||◌, ℕ, []};
 ghost use Rattle.std.specs.Prelude.{Some, None, All, IfErr, IfOk, OnOk, is_none, if◌then◌else◌, map};
 ghost use Rattle.std.specs.List.{cons_option, filter_map, list_any};
-ghost use Rattle.requirement_table.specs.Slots.{contains_slot, slots};
+ghost use Rattle.requirement_table.specs.Slots.{contains_slot, most_slots};
 ghost use Rattle.requirement_table.specs.Table.{IsWellPlaced};
 ghost use Rattle.change_protocol.specs.Applied.{IsChangedAt, applied, ended, origin_behind, placed_by};
-ghost use Rattle.change_protocol.specs.Malformed.{IsFaultOf, IsWellFormed};
+ghost use Rattle.change_protocol.specs.Malformed.{IsFaultOf, IsWellFormed, bounds_of};
 ghost use Rattle.change_protocol.specs.Operations.{HasTypes, IsTyped, ends, slot_of};
 ghost use Rattle.change_protocol.specs.declared.malformed.ApplyFault.TheVariants.{Memory};
 
@@ -19,7 +19,7 @@ use std::alloc::Global;
 
 /// The slots whose live entries the operations end.
 fn ended_slots(ops: &[Op]) -> Mask
-    requires { All (λ op. slot_of op < slots) ops.now }
+    requires { All (λ op. slot_of op < most_slots) ops.now }
     ensures { (slot : ℕ) → contains_slot result slot ≡ list_any (ends slot) ops.now }
 {
     let mut ended = Mask::empty();
@@ -31,7 +31,7 @@ fn ended_slots(ops: &[Op]) -> Mask
 
 /// The set with the slot in it whose live entry the operation ends.
 fn with_ended(ended: Mask, op: &Op) -> Mask
-    requires { slot_of op.now < slots }
+    requires { slot_of op.now < most_slots }
     ensures { (slot : ℕ) → contains_slot result slot ≡ (ends slot op.now || contains_slot ended slot) }
 {
     match op {
@@ -43,7 +43,7 @@ fn with_ended(ended: Mask, op: &Op) -> Mask
 
 /// A placed entry after operations at `start` that end the live entries of these slots.
 fn after(p: &Placed, ended: Mask, start: u64) -> Placed
-    requires { p.now.entry.slot < slots }
+    requires { p.now.entry.slot < most_slots }
     ensures { result ≡ (if is_none p.now.end && contains_slot ended p.now.entry.slot
         then record p.now { end = Some start } else p.now) }
 {
@@ -64,8 +64,8 @@ fn with_ends(
     start: u64,
     ops: &[Op],
 ) -> Result<Vec<Placed>, ApplyFault>
-    requires placed { All (λ p. p.entry.slot < slots) placed.now }
-    requires ops { All (λ op. slot_of op < slots) ops.now }
+    requires placed { All (λ p. p.entry.slot < most_slots) placed.now }
+    requires ops { All (λ op. slot_of op < most_slots) ops.now }
     ensures list { IfOk result (λ list. list.items ≡ map (ended start ops.now) placed.now) }
     ensures fault { IfErr result (λ fault. fault ≡ Memory) }
 {
@@ -91,7 +91,7 @@ fn live(entry: Entry, origin: u64) -> Placed
 
 /// The origin of the entry that follows the live entry of the slot, which ends at `start`.
 fn origin_behind(table: &Table, start: u64, slot: u8) -> u64
-    requires slot { slot < slots }
+    requires slot { slot < most_slots }
     requires start { start < 2 ^ 40 }
     ensures origin { result ≡ origin_behind table.now.placed.now start slot }
 {
@@ -106,7 +106,7 @@ fn origin_behind(table: &Table, start: u64, slot: u8) -> u64
 
 /// The entry that an operation places.
 fn placed_by(table: &Table, start: u64, op: &Op) -> Option<Placed>
-    requires slot { slot_of op.now < slots }
+    requires slot { slot_of op.now < most_slots }
     requires start { start < 2 ^ 40 }
     ensures placed { result ≡ placed_by table.now.placed.now start op.now }
     ensures types { HasTypes op.now }
@@ -131,7 +131,7 @@ fn put(list: &mut Vec<Placed>, p: Option<Placed>) -> Result<(), ApplyFault>
 
 /// Puts the entries behind the list that the operations place.
 fn place(list: &mut Vec<Placed>, table: &Table, start: u64, ops: &[Op]) -> Result<(), ApplyFault>
-    requires slots { All (λ op. slot_of op < slots) ops.now }
+    requires slots { All (λ op. slot_of op < most_slots) ops.now }
     requires start { start < 2 ^ 40 }
     ensures list { OnOk result
         (list.new.items ≡ list.old.items ++ filter_map (placed_by table.now.placed.now start) ops.now) }
@@ -148,7 +148,8 @@ fn place(list: &mut Vec<Placed>, table: &Table, start: u64, ops: &[Op]) -> Resul
 /// place stand behind, in the order of the operations. The new list is well placed, and below the change's start it has
 /// the same instances as the old one.
 ///
-/// `nodes` is the number of nodes. A change costs time linear in the placed entries.
+/// `nodes` is the number of nodes. `slots` is that of slots, 40 or 96, of which the contract needs only that a set of
+/// slots has room for so many. A change costs time linear in the placed entries.
 ///
 /// # Errors
 ///
@@ -158,19 +159,21 @@ pub fn apply(
     alloc: Global,
     placed: &[Placed],
     nodes: u8,
+    slots: u8,
     change: &Change,
 ) -> Result<Vec<Placed>, ApplyFault>
-    requires { IsWellPlaced placed.now }
+    requires well_placed { IsWellPlaced placed.now }
+    requires slots { slots ≤ most_slots }
     ensures ok { IfOk result (λ list. list.items ≡ applied placed.now change.now) }
-    ensures well_formed { IfOk result (λ _. IsWellFormed placed.now nodes change.now) }
-    ensures fault { IfErr result (IsFaultOf placed.now nodes change.now) }
+    ensures well_formed { IfOk result (λ _. IsWellFormed placed.now (bounds_of nodes slots) change.now) }
+    ensures fault { IfErr result (IsFaultOf placed.now (bounds_of nodes slots) change.now) }
     ensures well_placed { IfOk result (λ list. IsWellPlaced list.items) }
     ensures changed { IfOk result (λ list. IsChangedAt change.now.start placed.now list.items) }
 {
     let ops = change.ops.as_slice();
     check_change(change.start, ops)?;
     let table = Table::of(placed);
-    check_operations(&table, nodes, change.start, ops)?;
+    check_operations(&table, nodes, slots, change.start, ops)?;
     let mut list = with_ends(alloc, placed, change.start, ops)?;
     place(&mut list, &table, change.start, ops)?;
     Ok(list)

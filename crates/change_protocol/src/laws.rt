@@ -3,12 +3,13 @@
 ghost use Rattle.std.specs.Prelude.{◌≡◌, ℕ, ◌<◌, ◌≤◌, ◌↔◌, List, Some, All, IsSomeAnd, length, slice_get};
 ghost use Rattle.std.specs.Option.{option_map};
 ghost use Rattle.requirement_table.specs.declared.entries.Placed.{Placed};
+ghost use Rattle.requirement_table.specs.Slots.{most_slots};
 ghost use Rattle.requirement_table.specs.Instance.{Instance, release_of};
 ghost use Rattle.requirement_table.specs.Table.{IsWellPlaced, instance_in, is_last_in};
 ghost use Rattle.requirement_table.specs.Table.{released_in, releases_in, worst_in};
 ghost use Rattle.change_protocol.specs.declared.operations.Change.{Change};
 ghost use Rattle.change_protocol.specs.Applied.{IsChangedAt, IsKept, IsNewFrom, applied, without_end};
-ghost use Rattle.change_protocol.specs.Malformed.{IsWellFormed};
+ghost use Rattle.change_protocol.specs.Malformed.{Bounds, IsWellFormed};
 ghost use Rattle.change_protocol.specs.WellFormed.{BreaksNoRule};
 ghost use Rattle.change_protocol.specs.Operations.{HasTypes};
 
@@ -16,17 +17,17 @@ ghost use Rattle.change_protocol.specs.Operations.{HasTypes};
 /// its operations has a known slot, an entry that can be placed, and finds its slot as it needs it: free at the start,
 /// or with a live entry that does not begin behind it.
 pub fn well_formed_changes()
-    ensures formed { (placed : List Placed) (nodes : ℕ) (change : Change) → IsWellPlaced placed
-        → IsWellFormed placed nodes change ↔ BreaksNoRule placed nodes change }
+    ensures formed { (placed : List Placed) (bounds : Bounds) (change : Change) → IsWellPlaced placed
+        → IsWellFormed placed bounds change ↔ BreaksNoRule placed bounds change }
 {}
 
-/// What a change makes of a well placed list came from it by a change with that start, and it is well placed where the
-/// change is well formed.
+/// What a change makes of a well placed list came from it by a change with that start. It is well placed where the
+/// change is well formed, for at most as many slots as a set of slots has room for.
 pub fn lists_after_a_change()
     ensures changed { (placed : List Placed) (change : Change) → IsWellPlaced placed
         → IsChangedAt change.start placed (applied placed change) }
-    ensures well_placed { (placed : List Placed) (nodes : ℕ) (change : Change) → IsWellPlaced placed
-        → All HasTypes change.ops → IsWellFormed placed nodes change → IsWellPlaced (applied placed change) }
+    ensures well_placed { (placed : List Placed) (bounds : Bounds) (change : Change)
+        → bounds.slots ≤ most_slots → IsWellPlaced placed → All HasTypes change.ops → IsWellFormed placed bounds change → IsWellPlaced (applied placed change) }
 {}
 
 /// After a change each entry stands in its place, unchanged or with the start of the change as its end, where it was

@@ -17,7 +17,7 @@ pub enum Why {
     TooManyOps,
     /// The start is 2^40 or more.
     StartRange,
-    /// The slot is above 39.
+    /// The slot is not below the number of slots.
     SlotRange,
     /// An earlier operation of the change has the slot.
     SlotTwice,
@@ -67,7 +67,7 @@ impl fmt::Display for Why {
             Why::NoOps => f.write_str("no operation"),
             Why::TooManyOps => f.write_str("more than 16 operations"),
             Why::StartRange => f.write_str("a start of 2^40 or more"),
-            Why::SlotRange => f.write_str("a slot above 39"),
+            Why::SlotRange => f.write_str("a slot that is not there"),
             Why::SlotTwice => f.write_str("the slot of an earlier operation"),
             Why::NodeUnknown => f.write_str("a node that is not there"),
             Why::LengthRange => f.write_str("a length above 8"),

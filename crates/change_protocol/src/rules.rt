@@ -1,10 +1,10 @@
 //! The rules that a well formed change keeps, in the order in which they are tested.
 
-ghost use Rattle.std.specs.Prelude.{◌≡◌, ◌<◌, ◌++◌, List, [], IfErr, OnOk, map, length, nat_eq};
+ghost use Rattle.std.specs.Prelude.{◌≡◌, ◌<◌, ◌≤◌, ◌++◌, List, [], IfErr, OnOk, map, length, nat_eq};
 ghost use Rattle.std.specs.List.{list_any};
-ghost use Rattle.requirement_table.specs.Slots.{slots};
+ghost use Rattle.requirement_table.specs.Slots.{most_slots};
 ghost use Rattle.change_protocol.specs.Operations.{slot_of};
-ghost use Rattle.change_protocol.specs.Malformed.{add_busy, broken, change_faults, deadline_range, end_busy};
+ghost use Rattle.change_protocol.specs.Malformed.{add_busy, bounds_of, broken, change_faults, deadline_range, end_busy};
 ghost use Rattle.change_protocol.specs.Malformed.{length_range, no_ops, node_unknown, op_faults};
 ghost use Rattle.change_protocol.specs.Malformed.{period_zero, slot_busy, slot_empty, slot_range};
 ghost use Rattle.change_protocol.specs.Malformed.{slot_twice, start_range, too_many_ops, where_holds, whys};
@@ -14,7 +14,6 @@ ghost use Rattle.change_protocol.specs.declared.malformed.Why.{Why};
 use crate::malformed::{ApplyFault, Why};
 use crate::operations::Op;
 use crate::slots::Table;
-use requirement_table::SLOTS;
 
 /// A change has at most this many operations.
 const MOST_OPS: usize = 16;
@@ -80,12 +79,13 @@ pub fn check_change(start: u64, ops: &[Op]) -> Result<(), ApplyFault>
     at(0, start_range(start))
 }
 
-/// The slot is at most 39.
-fn slot_range(op: &Op) -> Result<(), Why>
-    ensures ok { OnOk result (slot_range op.now ≡ []) }
-    ensures fault { IfErr result (IsFirst (slot_range op.now)) }
+/// The slot is below the number of slots.
+fn slot_range(slots: u8, op: &Op) -> Result<(), Why>
+    ensures ok { OnOk result (slot_range slots op.now ≡ []) }
+    ensures fault { IfErr result (IsFirst (slot_range slots op.now)) }
+    ensures below { OnOk result (slot_of op.now < slots) }
 {
-    unless(op.slot() >= SLOTS, Why::SlotRange)
+    unless(op.slot() >= slots, Why::SlotRange)
 }
 
 /// No earlier operation has the slot.
@@ -152,7 +152,7 @@ fn deadline_range(op: &Op) -> Result<(), Why>
 
 /// For an added entry: no entry of the slot is live, and all are free at the start.
 fn add_busy(table: &Table, start: u64, slot: u8) -> Result<(), Why>
-    requires { slot < slots }
+    requires { slot < most_slots }
     ensures ok { OnOk result (add_busy table.now.placed.now start slot ≡ []) }
     ensures fault { IfErr result (IsFirst (add_busy table.now.placed.now start slot)) }
 {
@@ -170,7 +170,7 @@ fn add_busy(table: &Table, start: u64, slot: u8) -> Result<(), Why>
 
 /// For a removal or a change: the slot's live entry begins at or before the start, where there is one.
 fn end_busy(table: &Table, start: u64, slot: u8) -> Result<(), Why>
-    requires { slot < slots }
+    requires { slot < most_slots }
     ensures ok { OnOk result (end_busy table.now.placed.now start slot ≡ []) }
     ensures fault { IfErr result (IsFirst (end_busy table.now.placed.now start slot)) }
 {
@@ -187,7 +187,7 @@ fn end_busy(table: &Table, start: u64, slot: u8) -> Result<(), Why>
 
 /// The slot is not in use at the start.
 fn slot_busy(table: &Table, start: u64, op: &Op) -> Result<(), Why>
-    requires { slot_of op.now < slots }
+    requires { slot_of op.now < most_slots }
     ensures ok { OnOk result (slot_busy table.now.placed.now start op.now ≡ []) }
     ensures fault { IfErr result (IsFirst (slot_busy table.now.placed.now start op.now)) }
 {
@@ -200,7 +200,7 @@ fn slot_busy(table: &Table, start: u64, op: &Op) -> Result<(), Why>
 
 /// The slot has a live entry that can be ended.
 fn slot_empty(table: &Table, op: &Op) -> Result<(), Why>
-    requires { slot_of op.now < slots }
+    requires { slot_of op.now < most_slots }
     ensures ok { OnOk result (slot_empty table.now.placed.now op.now ≡ []) }
     ensures fault { IfErr result (IsFirst (slot_empty table.now.placed.now op.now)) }
 {
@@ -212,11 +212,20 @@ fn slot_empty(table: &Table, op: &Op) -> Result<(), Why>
 }
 
 /// The rules of one operation; `earlier` are the operations of the change before it.
-fn check_operation(table: &Table, nodes: u8, start: u64, earlier: &[Op], op: &Op) -> Result<(), Why>
-    ensures ok { OnOk result (whys table.now.placed.now nodes start earlier.now op.now ≡ []) }
-    ensures fault { IfErr result (IsFirst (whys table.now.placed.now nodes start earlier.now op.now)) }
+fn check_operation(
+    table: &Table,
+    nodes: u8,
+    slots: u8,
+    start: u64,
+    earlier: &[Op],
+    op: &Op,
+) -> Result<(), Why>
+    requires slots { slots ≤ most_slots }
+    ensures ok { OnOk result (whys table.now.placed.now (bounds_of nodes slots) start earlier.now op.now ≡ []) }
+    ensures fault { IfErr result
+        (IsFirst (whys table.now.placed.now (bounds_of nodes slots) start earlier.now op.now)) }
 {
-    slot_range(op)?;
+    slot_range(slots, op)?;
     slot_twice(earlier, op)?;
     node_unknown(nodes, op)?;
     length_range(op)?;
@@ -227,13 +236,21 @@ fn check_operation(table: &Table, nodes: u8, start: u64, earlier: &[Op], op: &Op
 }
 
 /// The rules of all operations.
-pub fn check_operations(table: &Table, nodes: u8, start: u64, ops: &[Op]) -> Result<(), ApplyFault>
-    requires { length ops.now < 17 }
-    ensures ok { OnOk result (op_faults table.now.placed.now nodes start [] ops.now ≡ []) }
-    ensures fault { IfErr result (NamesFirst (op_faults table.now.placed.now nodes start [] ops.now)) }
+pub fn check_operations(
+    table: &Table,
+    nodes: u8,
+    slots: u8,
+    start: u64,
+    ops: &[Op],
+) -> Result<(), ApplyFault>
+    requires few { length ops.now < 17 }
+    requires slots { slots ≤ most_slots }
+    ensures ok { OnOk result (op_faults table.now.placed.now (bounds_of nodes slots) start [] ops.now ≡ []) }
+    ensures fault { IfErr result
+        (NamesFirst (op_faults table.now.placed.now (bounds_of nodes slots) start [] ops.now)) }
 {
     for (place, op) in ops.iter().enumerate() {
-        if let Err(why) = check_operation(table, nodes, start, &ops[..place], op) {
+        if let Err(why) = check_operation(table, nodes, slots, start, &ops[..place], op) {
             return Err(ApplyFault::Malformed {
                 op: place as u8,
                 why,

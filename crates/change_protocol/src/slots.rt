@@ -2,11 +2,11 @@
 
 ghost use Rattle.std.specs.Prelude.{◌≡◌, ◌<◌, IfSome};
 ghost use Rattle.std.proofs.Props.{props};
-ghost use Rattle.requirement_table.specs.Slots.{slots};
+ghost use Rattle.requirement_table.specs.Slots.{most_slots};
 ghost use Rattle.requirement_table.specs.Table.{IsInRange, IsWellPlaced};
 ghost use Rattle.change_protocol.specs.Slots.{AreUses, use_after, use_of};
 
-use requirement_table::{Placed, SLOTS};
+use requirement_table::{MOST_SLOTS, Placed};
 
 /// What the placed entries make of a slot.
 #[derive(Clone, Copy)]
@@ -41,7 +41,7 @@ impl SlotUse {
 #[derive(Drop)]
 pub struct Table<'a> {
     pub placed: &'a [Placed],
-    uses: [SlotUse; SLOTS as usize],
+    uses: [SlotUse; MOST_SLOTS as usize],
     ghost well_placed: { IsWellPlaced placed.now } by { Prim.hlevel props },
     ghost counted: { AreUses placed.now uses },
 }
@@ -56,7 +56,7 @@ impl<'a> Table<'a> {
             live: None,
             free: 0,
         };
-        let mut uses = [unused; SLOTS as usize];
+        let mut uses = [unused; MOST_SLOTS as usize];
         for p in placed {
             let slot = usize::from(p.entry.slot);
             uses[slot] = uses[slot].after(p);
@@ -66,7 +66,7 @@ impl<'a> Table<'a> {
 
     /// What the placed entries make of this slot.
     pub fn slot(&self, slot: u8) -> SlotUse
-        requires { slot < slots }
+        requires { slot < most_slots }
         ensures held { result ≡ use_of self.now.placed.now slot }
         ensures live { IfSome result.live IsInRange }
     {

@@ -26,7 +26,7 @@ fn run<T: Threads + Wait + Sync, G: Gate>(
 ) -> Result<Master, AllocError>
     requires cycles { cycles < 2 ^ 41 }
 {
-    let Ok(layout) = Layout::new(1_000, 0, 135) else {
+    let Ok(layout) = Layout::new(1_000, 0, 135, 40) else {
         return Err(AllocError);
     };
     layout.is_in_range();

@@ -8,19 +8,22 @@ use admission_rules::Rules;
 use change_protocol::{Change, Op, Ops};
 use live_master::{DispatcherPass, LiveMaster, OperatorPass};
 use master_core::Event;
-use planner_policies::Policy;
+use planner_policies::{Fill, Policy};
 use requirement_table::Entry;
 use std::alloc::{AllocError, Global};
 
-/// Rules of one node, with windows of 135 bit times.
+/// Rules of one node and 40 slots, with windows of 135 bit times.
 pub fn rules() -> Rules
     ensures rules { IsRules result }
     ensures nodes { result.nodes ≡ 1 }
+    ensures slots { result.slots ≡ 40 }
     ensures window { result.window ≡ 135 }
 {
     Rules {
         nodes: 1,
+        slots: 40,
         policy: Policy::Rm,
+        fill: Fill::Prefix,
         window: 135,
         horizon: 10_000,
     }

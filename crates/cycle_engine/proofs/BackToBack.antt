@@ -1,6 +1,6 @@
 -- In a synchronous window the frames that the nodes are to send, in the order of their slots, are those that
 -- arbitration decides.
-use Rattle.std.proofs.Common.{◌≡◌, ◌≢◌, ℕ, zero, suc, ◌+◌, ◌-◌, ◌*◌, ◌<◌, ◌≤◌, ◌&&◌, Bool, true, false, not, cond, eqb, List, [], ◌∷◌, ◌++◌, All, Contains, map, length, length-append, take, drop, get_or, Option, None, Some, inl, inr, refl, sym, ap, ◌∙◌, subst, arith}
+use Rattle.std.proofs.Common.{◌≡◌, ◌≢◌, ℕ, zero, suc, ◌+◌, ◌-◌, ◌<◌, ◌≤◌, ◌&&◌, Bool, true, false, not, cond, List, [], ◌∷◌, ◌++◌, All, Contains, length, length-append, take, drop, get_or, Option, None, Some, inl, inr, refl, sym, ap, ◌∙◌, subst, arith}
 use Rattle.std.specs.Prelude.{◌==◌, MatchOption, nat_lt, find}
 use Rattle.std.specs.List.{cons_option, filter_map, range_with_len}
 use Rattle.std.specs.Option.{option_map_or}
@@ -13,8 +13,8 @@ use Rattle.can_frame.specs.DataFrame.{DataFrame}
 use Rattle.can_frame.specs.Wire.{wire_length}
 use Rattle.can_frame.specs.declared.data_frame.TimedFrame.{TimedFrame}
 use Rattle.cycle_layout.specs.Layout.{CycleLayout}
-use Rattle.requirement_table.specs.Slots.{slots}
-use Rattle.bus_line.specs.Trace.{Follows, end_of}
+use Rattle.requirement_table.specs.Slots.{most_slots}
+use Rattle.bus_line.specs.Trace.{Follows}
 use Rattle.bus_line.specs.Stations.{IsOffered, offers_of, told}
 use Rattle.node_model.specs.Opening.{first_identifier}
 use Rattle.node_model.specs.Node.{IsNode, NodeState, after_hearing, node_frame, node_offer}
@@ -27,18 +27,18 @@ use Rattle.cycle_engine.proofs.Lists.{Contains-filter_map, Contains-from_filter_
 pub record WindowLaws : Type 0 where
   pub long : (frame : DataFrame) → 0 < wire_length frame
   pub offers : (node : NodeState) (from until at : ℕ) → IsNode node → IsInWindow from until node → from ≤ at → at < until
-      → MatchOption (node_offer node at) ((slot : ℕ) → slot < slots → is_due_slot node slot ≡ false)
-      (λ id. (slot : ℕ) × (slot < slots) × (id ≡ first_identifier + slot) × (is_due_slot node slot ≡ true)
+      → MatchOption (node_offer node at) ((slot : ℕ) → slot < most_slots → is_due_slot node slot ≡ false)
+      (λ id. (slot : ℕ) × (slot < most_slots) × (id ≡ first_identifier + slot) × (is_due_slot node slot ≡ true)
       × ((other : ℕ) → other < slot → is_due_slot node other ≡ false))
   pub frames : (node : NodeState) (from until at slot : ℕ) → IsNode node → IsInWindow from until node → from ≤ at → at < until
-      → slot < slots → node_frame node at (first_identifier + slot) ≡ due_frame node slot
+      → slot < most_slots → node_frame node at (first_identifier + slot) ≡ due_frame node slot
   pub stays_in : (node : NodeState) (from until slot : ℕ) (sent : TimedFrame) → IsNode node → sent.frame.identifier ≡ first_identifier + slot
-      → slot < slots → IsInWindow from until node → IsInWindow from until (after_hearing node sent)
+      → slot < most_slots → IsInWindow from until node → IsInWindow from until (after_hearing node sent)
   pub same_frames : (node : NodeState) (slot other : ℕ) (sent : TimedFrame) → IsNode node → sent.frame.identifier ≡ first_identifier + slot
-      → slot < slots → due_frame (after_hearing node sent) other ≡ due_frame node other
+      → slot < most_slots → due_frame (after_hearing node sent) other ≡ due_frame node other
   pub takes : (node : NodeState) (slot other : ℕ) (sent : TimedFrame) → IsNode node → sent.frame.identifier ≡ first_identifier + slot
-      → slot < slots → other < slots → is_due_slot (after_hearing node sent) other ≡ (not (other == slot) && is_due_slot node other)
-  pub stays : (node : NodeState) (sent : TimedFrame) → (sent.frame.identifier ≡ 0 → ⊥) → IsNode node → IsNode (after_hearing node sent)
+      → slot < most_slots → other < most_slots → is_due_slot (after_hearing node sent) other ≡ (not (other == slot) && is_due_slot node other)
+  pub stays : (node : NodeState) (sent : TimedFrame) → 1 < sent.frame.identifier → IsNode node → IsNode (after_hearing node sent)
 
 -- no slot below this one is due
 abbrev pub IsDueFrom : ℕ → NodeState → Type 0
@@ -64,10 +64,10 @@ module _ (laws : WindowLaws) (from until : ℕ) where
     pub later : IsDueFrom k node
 
   offer-found : (node : NodeState) (k : ℕ) (o : Option ℕ)
-      → MatchOption o ((slot : ℕ) → slot < slots → is_due_slot node slot ≡ false)
-      (λ id. (slot : ℕ) × (slot < slots) × (id ≡ first_identifier + slot) × (is_due_slot node slot ≡ true)
+      → MatchOption o ((slot : ℕ) → slot < most_slots → is_due_slot node slot ≡ false)
+      (λ id. (slot : ℕ) × (slot < most_slots) × (id ≡ first_identifier + slot) × (is_due_slot node slot ≡ true)
       × ((other : ℕ) → other < slot → is_due_slot node other ≡ false))
-      → IsDueFrom k node → k < slots → is_due_slot node k ≡ true → o ≡ Some (first_identifier + k)
+      → IsDueFrom k node → k < most_slots → is_due_slot node k ≡ true → o ≡ Some (first_identifier + k)
   offer-found node k None nothing below within due = absurd (false≢true (sym (nothing k within) ∙ due))
   offer-found node k (Some id) (slot, inside, is, due_too, least) below within due = elim (cases_order slot k) [
     | inl same ↦ ap (λ n. Some n) (is ∙ ap (λ s. first_identifier + s) same)
@@ -77,18 +77,18 @@ module _ (laws : WindowLaws) (from until : ℕ) where
 
   -- an identifier that is offered is that of a slot that is due
   offer-due : (node : NodeState) (o : Option ℕ) (id : ℕ)
-      → MatchOption o ((slot : ℕ) → slot < slots → is_due_slot node slot ≡ false)
-      (λ id. (slot : ℕ) × (slot < slots) × (id ≡ first_identifier + slot) × (is_due_slot node slot ≡ true)
+      → MatchOption o ((slot : ℕ) → slot < most_slots → is_due_slot node slot ≡ false)
+      (λ id. (slot : ℕ) × (slot < most_slots) × (id ≡ first_identifier + slot) × (is_due_slot node slot ≡ true)
       × ((other : ℕ) → other < slot → is_due_slot node other ≡ false))
-      → o ≡ Some id → (slot : ℕ) × (slot < slots) × (id ≡ first_identifier + slot) × (is_due_slot node slot ≡ true)
+      → o ≡ Some id → (slot : ℕ) × (slot < most_slots) × (id ≡ first_identifier + slot) × (is_due_slot node slot ≡ true)
   offer-due node None id nothing is = absurd (none-some id is)
   offer-due node (Some own) id (slot, inside, same, due, least) is = (slot, inside, sym (same_Some own id is) ∙ same, due)
 
   offer-none : (node : NodeState) (o : Option ℕ)
-      → MatchOption o ((slot : ℕ) → slot < slots → is_due_slot node slot ≡ false)
-      (λ id. (slot : ℕ) × (slot < slots) × (id ≡ first_identifier + slot) × (is_due_slot node slot ≡ true)
+      → MatchOption o ((slot : ℕ) → slot < most_slots → is_due_slot node slot ≡ false)
+      (λ id. (slot : ℕ) × (slot < most_slots) × (id ≡ first_identifier + slot) × (is_due_slot node slot ≡ true)
       × ((other : ℕ) → other < slot → is_due_slot node other ≡ false))
-      → ((slot : ℕ) → slot < slots → is_due_slot node slot ≡ false) → o ≡ None
+      → ((slot : ℕ) → slot < most_slots → is_due_slot node slot ≡ false) → o ≡ None
   offer-none node None nothing none = refl
   offer-none node (Some id) (slot, inside, is, due, least) none = absurd (false≢true (sym (none slot inside) ∙ due))
 
@@ -96,7 +96,7 @@ module _ (laws : WindowLaws) (from until : ℕ) where
   offers_none None id never = refl
   offers_none (Some own) id never = ne_eqb own id (λ same. never (ap (λ n. Some n) same))
 
-  module _ (at k : ℕ) (begun : from ≤ at) (early : at < until) (within : k < slots) where
+  module _ (at k : ℕ) (begun : from ≤ at) (early : at < until) (within : k < most_slots) where
     offers-at : (node : NodeState) → IsAt k node → is_due_slot node k ≡ true → node_offer node at ≡ Some (first_identifier + k)
     offers-at node is due =
         offer-found node k (node_offer node at) (laws.offers node from until at is.known is.in_window begun early) is.later within due
@@ -148,7 +148,7 @@ module _ (laws : WindowLaws) (from until : ℕ) where
         ]
 
   -- nothing is offered where no slot is due
-  offers-nothing : (nodes : List NodeState) (at : ℕ) → from ≤ at → at < until → All (IsAt slots) nodes → offered_by_nodes nodes at ≡ []
+  offers-nothing : (nodes : List NodeState) (at : ℕ) → from ≤ at → at < until → All (IsAt most_slots) nodes → offered_by_nodes nodes at ≡ []
   offers-nothing nodes at begun early all =
       filter_map-none (λ n. node_offer n at) nodes (λ k d within.
       let is = all k d within in
@@ -156,13 +156,13 @@ module _ (laws : WindowLaws) (from until : ℕ) where
       offer-none node (node_offer node at) (laws.offers node from until at is.known is.in_window begun early) is.later)
 
   -- nodes that heard the frame of a slot
-  IsAt-heard : (k : ℕ) (sent : TimedFrame) (nodes : List NodeState) → sent.frame.identifier ≡ first_identifier + k → k < slots → All (IsAt k) nodes
+  IsAt-heard : (k : ℕ) (sent : TimedFrame) (nodes : List NodeState) → sent.frame.identifier ≡ first_identifier + k → k < most_slots → All (IsAt k) nodes
       → All (IsAt (k + 1)) (all_hear nodes sent)
   IsAt-heard k sent nodes is within all = All-map (IsAt (k + 1)) (λ node. after_hearing node sent) nodes (λ j d inside.
       let node = get_or nodes j d in
       let was = all j d inside in
       record {
-        known = laws.stays node sent (λ none. omega (arith, is, none)) was.known;
+        known = laws.stays node sent (omega (arith, is)) was.known;
         in_window = laws.stays_in node from until k sent was.known is within was.in_window;
         later = λ slot below. elim (cases_eq slot k) [
           | inl here ↦ laws.takes node k slot sent was.known is within (omega (arith, here, within))
@@ -185,7 +185,7 @@ module _ (laws : WindowLaws) (from until : ℕ) where
       }
 
   -- what the nodes are to send of the other slots stays
-  due_by-heard : (k : ℕ) (sent : TimedFrame) (slot : ℕ) (nodes : List NodeState) → sent.frame.identifier ≡ first_identifier + k → k < slots → slot < slots
+  due_by-heard : (k : ℕ) (sent : TimedFrame) (slot : ℕ) (nodes : List NodeState) → sent.frame.identifier ≡ first_identifier + k → k < most_slots → slot < most_slots
       → slot ≢ k → All (IsAt k) nodes → due_by (all_hear nodes sent) slot ≡ due_by nodes slot
   due_by-heard k sent slot [] is within inside other all = refl
   due_by-heard k sent slot (node ∷ later) is within inside other all =
@@ -216,12 +216,12 @@ module _ (laws : WindowLaws) (layout : CycleLayout) (from until : ℕ) (before :
   Goes k n = (nodes : List NodeState) (sofar : List TimedFrame) (at : ℕ) → told cycle_line before sofar ≡ nodes_alone layout nodes
       → All (IsAt laws from until k) nodes → from ≤ at → Decided sofar at (back_to_back (due_from nodes k n) at until)
 
-  one-sent : (n k : ℕ) → k + 1 + n ≡ slots → Goes (k + 1) n → (nodes : List NodeState) (sofar : List TimedFrame) (at : ℕ)
+  one-sent : (n k : ℕ) → k + 1 + n ≡ most_slots → Goes (k + 1) n → (nodes : List NodeState) (sofar : List TimedFrame) (at : ℕ)
       → told cycle_line before sofar ≡ nodes_alone layout nodes → All (IsAt laws from until k) nodes → from ≤ at → at < until
       → (frame : DataFrame) → due_by nodes k ≡ Some frame
       → Decided sofar at (sent_at at frame ∷ back_to_back (due_from nodes (k + 1) n) (at + wire_length frame) until)
   one-sent n k sum goes nodes sofar at now all begun early frame due =
-      let within : k < slots = omega (arith, sum) in
+      let within : k < most_slots = omega (arith, sum) in
       let sent = sent_at at frame in
       let first = frame-first laws from until at k begun early within nodes frame all due in
       let identifier : frame.identifier ≡ first_identifier + k = ap (λ f. f.identifier) (sym first.0) ∙ identifier_of nodes at (first_identifier + k) in
@@ -257,7 +257,7 @@ module _ (laws : WindowLaws) (layout : CycleLayout) (from until : ℕ) (before :
       identifier_of : (nodes : List NodeState) (at id : ℕ) → (frame_by_nodes nodes at id).identifier ≡ id
       identifier_of nodes at id = identifier-found at id (find (λ node. offers_this id (node_offer node at)) nodes)
 
-  one-slot : (n k : ℕ) → k + 1 + n ≡ slots → Goes (k + 1) n → (nodes : List NodeState) (sofar : List TimedFrame) (at : ℕ)
+  one-slot : (n k : ℕ) → k + 1 + n ≡ most_slots → Goes (k + 1) n → (nodes : List NodeState) (sofar : List TimedFrame) (at : ℕ)
       → told cycle_line before sofar ≡ nodes_alone layout nodes → All (IsAt laws from until k) nodes → from ≤ at
       → (o : Option DataFrame) → due_by nodes k ≡ o → Decided sofar at (back_to_back (cons_option o (due_from nodes (k + 1) n)) at until)
   one-slot n k sum goes nodes sofar at now all begun None due =
@@ -271,10 +271,10 @@ module _ (laws : WindowLaws) (layout : CycleLayout) (from until : ℕ) (before :
         (λ t other low high _. omega (arith, low, high, late))
   ]
 
-  goes-on : (n k : ℕ) → k + n ≡ slots → Goes k n
+  goes-on : (n k : ℕ) → k + n ≡ most_slots → Goes k n
   goes-on zero k sum nodes sofar at now all begun = λ t other low high offered.
       let its = subst (λ s. IsOffered cycle_line s t other) now offered in
-      let here : k ≡ slots = omega (arith, sum) in
+      let here : k ≡ most_slots = omega (arith, sum) in
       let none = offers-nothing laws from until nodes t (omega (arith, begun, low)) high (subst (λ j. All (IsAt laws from until j) nodes) here all) in
       contains_none (offered_by_nodes nodes t) other.identifier none its.contends
     where
@@ -290,12 +290,12 @@ pub Follows-due : (laws : WindowLaws) (layout : CycleLayout) (from until : ℕ) 
     → Follows (offers_of cycle_line (nodes_alone layout nodes)) [] from until (back_to_back (due_frames nodes) from until)
 unfolding by_slots
 Follows-due laws layout from until nodes are in_window =
-    goes-on laws layout from until (nodes_alone layout nodes) slots 0 refl nodes [] from refl
+    goes-on laws layout from until (nodes_alone layout nodes) most_slots 0 refl nodes [] from refl
     (λ j d within. record { known = are j d within; in_window = in_window j d within; later = λ slot below. absurd (omega arith) }) (omega arith)
 
 -- the identifiers of these frames are those of slots
 abbrev IsSlotId : ℕ → Type 0
-IsSlotId id = (first_identifier ≤ id) × (id < first_identifier + slots)
+IsSlotId id = (first_identifier ≤ id) × (id < first_identifier + most_slots)
 
 due_by-id : (nodes : List NodeState) (slot : ℕ) (frame : DataFrame) → due_by nodes slot ≡ Some frame → frame.identifier ≡ first_identifier + slot
 due_by-id [] slot frame due = absurd (none-some frame due)
@@ -304,13 +304,13 @@ due_by-id (node ∷ later) slot frame due = elim (cases_Bool (is_due_slot node s
   | inr other ↦ due_by-id later slot frame (due-cases node later slot false (Some frame) other due)
 ]
 
-one-id : (o : Option DataFrame) (k : ℕ) (fs : List DataFrame) → ((frame : DataFrame) → o ≡ Some frame → frame.identifier ≡ first_identifier + k) → k < slots
+one-id : (o : Option DataFrame) (k : ℕ) (fs : List DataFrame) → ((frame : DataFrame) → o ≡ Some frame → frame.identifier ≡ first_identifier + k) → k < most_slots
     → All (λ f. IsSlotId f.identifier) fs → All (λ f. IsSlotId f.identifier) (cons_option o fs)
 one-id None k fs is within all = all
 one-id (Some frame) k fs is within all =
     let same = is frame refl in All-cons (λ f. IsSlotId f.identifier) frame fs (omega (arith, same), omega (arith, same, within)) all
 
-due_from-ids : (nodes : List NodeState) (n k : ℕ) → k + n ≤ slots → All (λ f. IsSlotId f.identifier) (due_from nodes k n)
+due_from-ids : (nodes : List NodeState) (n k : ℕ) → k + n ≤ most_slots → All (λ f. IsSlotId f.identifier) (due_from nodes k n)
 due_from-ids nodes zero k few = λ j d within. absurd (omega arith)
 due_from-ids nodes (suc n) k few =
     one-id (due_by nodes k) k (due_from nodes (k + 1) n) (due_by-id nodes k) (omega (arith, few)) (due_from-ids nodes n (k + 1) (omega (arith, few)))
@@ -327,9 +327,9 @@ sent-ids (frame ∷ later) at until all = if-sent (nat_lt at until)
     if-sent false rest = λ j d within. absurd (omega arith)
 
 pub due-ids : (nodes : List NodeState) (from until : ℕ)
-    → All (λ sent. (first_identifier ≤ sent.frame.identifier) × (sent.frame.identifier < first_identifier + slots)) (back_to_back (due_frames nodes) from until)
+    → All (λ sent. (first_identifier ≤ sent.frame.identifier) × (sent.frame.identifier < first_identifier + most_slots)) (back_to_back (due_frames nodes) from until)
 unfolding by_slots
-due-ids nodes from until = sent-ids (due_frames nodes) from until (due_from-ids nodes slots 0 (omega arith))
+due-ids nodes from until = sent-ids (due_frames nodes) from until (due_from-ids nodes most_slots 0 (omega arith))
 
 -- what stands behind a front, as a slice of the whole
 pub behind-front : {X : Type 0} (front back all : List X) (n : ℕ) → all ≡ front ++ back → n ≡ length front → take (length all - n) (drop n all) ≡ back

@@ -6,7 +6,7 @@ use Rattle.std.proofs.lemmas.Bool.{cases_eq, eq-eqb, ne_eqb, lt-ltb, le-ltb, con
 use Rattle.can_frame.specs.DataFrame.{DataFrame}
 use Rattle.can_frame.specs.Wire.{wire_length}
 use Rattle.can_frame.specs.declared.data_frame.TimedFrame.{TimedFrame}
-use Rattle.requirement_table.specs.Slots.{contains_slot, slots}
+use Rattle.requirement_table.specs.Slots.{contains_slot, most_slots}
 use Rattle.node_model.specs.Node.{NodeState, least_where}
 use Rattle.node_model.proofs.Shared.{IsLeastBelow, least_where-least}
 use Rattle.cycle_engine.specs.SyncWindow.{back_to_back, by_slots, due_among, due_by, due_frames}
@@ -47,8 +47,8 @@ module _ {X : Type 0} where
   ]
 
 -- the least slot of a set
-pub least-of : (set slot : ℕ) → least_where slots (contains_slot set) ≡ Some slot → IsLeastBelow slots (contains_slot set) (Some slot)
-least-of set slot is = subst (IsLeastBelow slots (contains_slot set)) is (least_where-least slots (contains_slot set))
+pub least-of : (set slot : ℕ) → least_where most_slots (contains_slot set) ≡ Some slot → IsLeastBelow most_slots (contains_slot set) (Some slot)
+least-of set slot is = subst (IsLeastBelow most_slots (contains_slot set)) is (least_where-least most_slots (contains_slot set))
 
 among-not : (nodes : List NodeState) (set slot : ℕ) → contains_slot set slot ≡ false → due_among nodes set slot ≡ None
 among-not nodes set slot lacks = ap (λ b. cond b (due_by nodes slot) None) lacks
@@ -57,31 +57,31 @@ among-is : (nodes : List NodeState) (set slot : ℕ) → contains_slot set slot 
 among-is nodes set slot has = ap (λ b. cond b (due_by nodes slot) None) has
 
 -- a set that is empty has no frames
-pub among-none : (nodes : List NodeState) (set : ℕ) → least_where slots (contains_slot set) ≡ None → by_slots (due_among nodes set) ≡ []
+pub among-none : (nodes : List NodeState) (set : ℕ) → least_where most_slots (contains_slot set) ≡ None → by_slots (due_among nodes set) ≡ []
 unfolding by_slots
 among-none nodes set none =
-    let empty : IsLeastBelow slots (contains_slot set) None =
-    subst (IsLeastBelow slots (contains_slot set)) none (least_where-least slots (contains_slot set)) in
-    given-none (due_among nodes set) slots 0 (λ i low high. among-not nodes set i (empty i (omega (arith, high))))
+    let empty : IsLeastBelow most_slots (contains_slot set) None =
+    subst (IsLeastBelow most_slots (contains_slot set)) none (least_where-least most_slots (contains_slot set)) in
+    given-none (due_among nodes set) most_slots 0 (λ i low high. among-not nodes set i (empty i (omega (arith, high))))
 
 -- the frame of the least slot of a set stands before those of the others
-pub among-first : (nodes : List NodeState) (set rest slot : ℕ) (frame : DataFrame) → least_where slots (contains_slot set) ≡ Some slot
+pub among-first : (nodes : List NodeState) (set rest slot : ℕ) (frame : DataFrame) → least_where most_slots (contains_slot set) ≡ Some slot
     → ((s : ℕ) → contains_slot rest s ≡ (not (nat_eq s slot) && contains_slot set s)) → due_by nodes slot ≡ Some frame
     → by_slots (due_among nodes set) ≡ frame ∷ by_slots (due_among nodes rest)
 unfolding by_slots
 among-first nodes set rest slot frame is without due =
     let least = least-of set slot is in
-    given-first (due_among nodes set) (due_among nodes rest) frame slot slots 0 (omega arith) (omega (arith, least.0))
+    given-first (due_among nodes set) (due_among nodes rest) frame slot most_slots 0 (omega arith) (omega (arith, least.0))
     (λ i below. among-not nodes set i (least.2 i below))
     (among-is nodes set slot least.1 ∙ due)
     (among-not nodes rest slot (without slot ∙ ap (λ b. not b && contains_slot set slot) (eq-eqb slot slot refl)))
     (λ i other. ap (λ b. cond b (due_by nodes i) None) (without i ∙ ap (λ b. not b && contains_slot set i) (ne_eqb i slot other)))
 
 -- where a set has the slots that nodes are to send, its frames are all of theirs
-pub among-all : (nodes : List NodeState) (set : ℕ) → ((slot : ℕ) → slot < slots → contains_slot set slot ≡ is_some (due_by nodes slot))
+pub among-all : (nodes : List NodeState) (set : ℕ) → ((slot : ℕ) → slot < most_slots → contains_slot set slot ≡ is_some (due_by nodes slot))
     → by_slots (due_among nodes set) ≡ due_frames nodes
 unfolding by_slots
-among-all nodes set each = given-same (due_among nodes set) (due_by nodes) slots 0 (λ i low high.
+among-all nodes set each = given-same (due_among nodes set) (due_by nodes) most_slots 0 (λ i low high.
     ap (λ b. cond b (due_by nodes i) None) (each i (omega (arith, high))) ∙ where_some (due_by nodes i))
   where
     where_some : (o : Option DataFrame) → cond (is_some o) o None ≡ o

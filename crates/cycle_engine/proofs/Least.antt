@@ -1,5 +1,5 @@
 -- The least frame that the nodes of a bus offer within a cycle is the least one that is offered on the bus.
-use Rattle.std.proofs.Common.{◌≡◌, ℕ, ◌<◌, ◌≤◌, List, [], All, Contains, Option, None, Some, inl, inr, refl, sym, ap, subst, arith}
+use Rattle.std.proofs.Common.{◌≡◌, ℕ, ◌≤◌, List, [], All, Contains, Option, None, Some, inl, inr, refl, sym, ap, subst, arith}
 use Rattle.std.specs.Prelude.{MatchOption, find}
 use Rattle.std.specs.Option.{option_map_or}
 use Rattle.std.proofs.lemmas.List.Elements.{All-contains}
@@ -12,12 +12,13 @@ use Rattle.async_window.specs.declared.request.Request.{Request}
 use Rattle.bus_line.specs.Trace.{IsLeastOffered}
 use Rattle.bus_line.specs.Stations.{IsOffered}
 use Rattle.requirement_table.specs.Opening.{Opening}
-use Rattle.node_model.specs.Opening.{start_of}
 use Rattle.node_model.specs.Node.{NodeState, node_frame, node_offer}
+use Rattle.node_model.specs.Offered.{OffersTrigger}
 use Rattle.node_model.specs.Own.{OffersLeastOwn, OffersOwn}
 use Rattle.cycle_engine.specs.Nodes.{IsOwned}
 use Rattle.cycle_engine.specs.Offered.{offered_in}
-use Rattle.cycle_engine.specs.Stations.{Stationed, cycle_line, frame_by_nodes, offered_by_nodes, offers_this}
+use Rattle.cycle_engine.specs.SyncWindow.{nodes_alone}
+use Rattle.cycle_engine.specs.Stations.{cycle_line, frame_by_nodes, offered_by_nodes, offers_this}
 use Rattle.cycle_engine.proofs.Lists.{Contains-filter_map, find-offered}
 use Rattle.cycle_engine.proofs.Belongs.{HaveSenders, IsOwn, IsOwn-request, IsOwn-slot}
 
@@ -36,14 +37,11 @@ least_of_part : (Own : DataFrame → Type 0) (Is : ℕ → Type 0) (o : Option �
 least_of_part Own Is None frame own part = absurd (part frame own)
 least_of_part Own Is (Some id) frame own part = (id, refl, part.1 frame own)
 
--- nodes of which the trigger is sent
-abbrev pub alone : CycleLayout → List NodeState → Stationed
-alone layout nodes = record { layout = layout; trigger = None; nodes = nodes }
-
 -- the parts of the nodes at a time, which are together what is offered but for the trigger
 module _ (layout : CycleLayout) (owners : List Owner) (requests : List Request) (opening : Opening) (past : List TimedFrame) (at : ℕ) (nodes : List NodeState)
     (parts : All (OffersLeastOwn layout owners requests opening past at) nodes)
-    (senders : HaveSenders nodes opening) (owned : All (IsOwned owners nodes) requests) where
+    (senders : HaveSenders nodes opening) (owned : All (IsOwned owners nodes) requests)
+    (no_trigger : (frame : DataFrame) → OffersTrigger layout opening past at frame → ⊥) where
   own_is_offered : (frame : DataFrame) → IsOwn layout owners requests opening past at nodes frame
       → (id : ℕ) × Contains (offered_by_nodes nodes at) id × (id ≤ frame.identifier)
   own_is_offered frame (node, has, own) =
@@ -65,16 +63,16 @@ module _ (layout : CycleLayout) (owners : List Owner) (requests : List Request) 
       let same : frame_by_nodes nodes at id ≡ node_frame node at id = ap (λ o. option_map_or (λ n. node_frame n at id) o (record { identifier = id; bytes = [] })) found.3 in
       subst (offered_in layout requests opening past at) (sym same) (in_cycle node.number (node_frame node at id) part.0)
 
-  pub is_own : start_of layout opening < at → (frame : DataFrame) → offered_in layout requests opening past at frame → IsOwn layout owners requests opening past at nodes frame
-  is_own begun frame (inl trigger) = absurd (omega (arith, begun, trigger.time))
-  is_own begun frame (inr (inl request)) = IsOwn-request layout owners requests opening past at nodes owned frame request
-  is_own begun frame (inr (inr (slot, offers))) = IsOwn-slot layout owners requests opening past at nodes senders frame slot offers
+  pub is_own : (frame : DataFrame) → offered_in layout requests opening past at frame → IsOwn layout owners requests opening past at nodes frame
+  is_own frame (inl trigger) = absurd (no_trigger frame trigger)
+  is_own frame (inr (inl request)) = IsOwn-request layout owners requests opening past at nodes owned frame request
+  is_own frame (inr (inr (slot, offers))) = IsOwn-slot layout owners requests opening past at nodes senders frame slot offers
 
   -- where something is offered on the bus, a node offers an identifier that is not greater
-  pub some_by_nodes : start_of layout opening < at → (frame : DataFrame) → offered_in layout requests opening past at frame
-      → (one : DataFrame) × IsOffered cycle_line (alone layout nodes) at one × (one.identifier ≤ frame.identifier)
-  some_by_nodes begun frame offers =
-      let low = own_is_offered frame (is_own begun frame offers) in
+  pub some_by_nodes : (frame : DataFrame) → offered_in layout requests opening past at frame
+      → (one : DataFrame) × IsOffered cycle_line (nodes_alone layout nodes) at one × (one.identifier ≤ frame.identifier)
+  some_by_nodes frame offers =
+      let low = own_is_offered frame (is_own frame offers) in
       let id = low.0 in
       let own = frame_by_nodes-id nodes at id in (
         frame_by_nodes nodes at id,
@@ -85,10 +83,10 @@ module _ (layout : CycleLayout) (owners : List Owner) (requests : List Request) 
         subst (λ i. i ≤ frame.identifier) (sym own) low.2,
       )
 
-  pub least_by_nodes : start_of layout opening < at → (frame : DataFrame) → IsOffered cycle_line (alone layout nodes) at frame
-      → ((other : DataFrame) → IsOffered cycle_line (alone layout nodes) at other → frame.identifier ≤ other.identifier)
+  pub least_by_nodes : (frame : DataFrame) → IsOffered cycle_line (nodes_alone layout nodes) at frame
+      → ((other : DataFrame) → IsOffered cycle_line (nodes_alone layout nodes) at other → frame.identifier ≤ other.identifier)
       → IsLeastOffered (offered_in layout requests opening) past at frame
-  least_by_nodes begun frame offers least = record {
+  least_by_nodes frame offers least = record {
     offered = subst (offered_in layout requests opening past at) (sym offers.framed) (offered_is_own frame.identifier offers.contends);
-    least = λ other is. let one = some_by_nodes begun other is in omega (arith, least one.0 one.1, one.2);
+    least = λ other is. let one = some_by_nodes other is in omega (arith, least one.0 one.1, one.2);
   }

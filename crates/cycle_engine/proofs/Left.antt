@@ -12,11 +12,12 @@ use Rattle.async_window.specs.declared.request.Owner.{Owner}
 use Rattle.async_window.specs.declared.request.Request.{Request}
 use Rattle.async_window.specs.Waiting.{unsent_after}
 use Rattle.async_window.specs.Mailbox.{Mail, left, taken_from, without_first}
-use Rattle.node_model.specs.Node.{IsNode, NodeState, NodeView, after_hearing, identifiers_of, is_own_slot, learnt}
+use Rattle.node_model.specs.Node.{IsNode, NodeState, NodeView, after_hearing, identifiers_of, is_own_slot, learnt, opening_identifier}
 use Rattle.node_model.specs.Own.{AreApart}
 use Rattle.node_model.specs.Node.{fresh_node}
 use Rattle.cycle_engine.specs.Nodes.{heard_by, states_of}
 use Rattle.cycle_engine.specs.Stations.{AreNodes}
+use Rattle.cycle_engine.proofs.Hearing.{kept_by}
 use Rattle.cycle_engine.proofs.Lists.{AllPairs-cons, AllPairs-head, AllPairs-tail, AllPairs-map, All-from_contains}
 
 -- Sums
@@ -151,14 +152,10 @@ left-without id mail =
     let fewer = sum_by-le-sum_by (λ box. length (taken_from id box).unsent) (λ box. length box.unsent) mail (λ box. left-of (box.identifier == id) box) in
     omega (arith, taken, fewer)
 
-left-cond : (b c : Bool) (x y z : NodeState) (bound : ℕ) → left x.mail ≤ bound → left y.mail ≤ bound → left z.mail ≤ bound → left (cond b x (cond c y z)).mail ≤ bound
-left-cond true c x y z bound first second third = first
-left-cond false true x y z bound first second third = second
-left-cond false false x y z bound first second third = third
-
 left-hearing : (node : NodeState) (sent : TimedFrame) → left (after_hearing node sent).mail ≤ left node.mail
 left-hearing node sent =
-    left-cond (sent.frame.identifier == 0) (is_own_slot node.entries sent.frame.identifier) _ _ _ (left node.mail) (omega arith) (omega arith) (left-without sent.frame.identifier node.mail)
+    kept_by (λ n. left n.mail ≤ left node.mail) (sent.frame.identifier == opening_identifier node.layout.slots) (sent.frame.identifier == 0)
+    (is_own_slot node.entries sent.frame.identifier) _ _ _ _ (omega arith) (omega arith) (omega arith) (left-without sent.frame.identifier node.mail)
 
 left-hearing_all : (frames : List TimedFrame) (node : NodeState) → left (fold after_hearing node frames).mail ≤ left node.mail
 left-hearing_all [] node = omega arith

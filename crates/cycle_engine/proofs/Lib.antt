@@ -1,4 +1,7 @@
 mod Along
+mod Announced
+mod Hearing
+mod TriggerFrames
 mod Belongs
 mod FewFrames
 mod FreshNodes

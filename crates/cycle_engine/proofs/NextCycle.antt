@@ -1,85 +1,100 @@
 -- The next cycle of the nodes is one more behind a cycle.
-
-use Rattle.std.proofs.Common.{◌≡◌, ◌≢◌, ℕ, ◌+◌, ◌^◌, ◌<◌, ◌≤◌, Bool, true, false, cond, List, [], ◌∷◌, ◌++◌, All, None, Some, refl, sym, ap, ◌∙◌, subst, arith, get_or}
-use Rattle.std.specs.Prelude.{◌==◌}
-use Rattle.std.proofs.lemmas.Bool.{eq-eqb, eqb-true, false≢true}
+use Rattle.std.proofs.Common.{◌≡◌, ℕ, ◌+◌, ◌*◌, ◌^◌, ◌<◌, ◌≤◌, Bool, true, false, cond, List, [], ◌∷◌, ◌++◌, All, Some, length, map, get_or, refl, sym, ap, ◌∙◌, subst, arith}
+use Rattle.std.specs.Prelude.{fold, nat_eq}
 use Rattle.std.proofs.lemmas.List.Elements.{All-contains, All-map}
 use Rattle.std.proofs.lemmas.List.Sums.{fold-append}
 use Rattle.can_frame.specs.DataFrame.{DataFrame}
 use Rattle.can_frame.specs.declared.data_frame.TimedFrame.{TimedFrame}
 use Rattle.cycle_layout.specs.Layout.{CycleLayout}
+use Rattle.trigger_codec.specs.Bytes.{second_frame, trigger_frame, triggers_with}
 use Rattle.bus_line.specs.Trace.{Follows, end_of}
 use Rattle.bus_line.specs.Stations.{IsOffered, offers_of, told}
-use Rattle.node_model.specs.Node.{IsNode, NodeState, after_hearing, is_own_slot, node_offer}
-use Rattle.cycle_engine.specs.Stations.{Stationed, all_hear, announced, cycle_line, offered_by_nodes}
-use Rattle.cycle_engine.proofs.Least.{alone}
-use Rattle.cycle_engine.proofs.Along.{first_announced, offers_announced}
-use Rattle.cycle_engine.proofs.NodesApart.{offers_range}
+use Rattle.node_model.specs.Node.{IsNode, NodeState, after_hearing, node_offer, opening_identifier}
+use Rattle.cycle_engine.specs.Nodes.{heard_by}
+use Rattle.cycle_engine.specs.Stations.{DueTrigger, Stationed, all_hear, announced, cycle_line, offered_by_nodes, triggers_after}
+use Rattle.cycle_engine.specs.SyncWindow.{nodes_alone}
+use Rattle.cycle_engine.proofs.Hearing.{layout_kept, next_kept, next_opened}
+use Rattle.cycle_engine.proofs.Announced.{CanBeHeard, go-first, heard-first, heard-twice, map-same, offers_range}
+use Rattle.cycle_engine.proofs.Along.{opens_not}
 
-next_by : (id : ℕ) (b c : Bool) (x y z : NodeState) (next : ℕ) → (id == 0) ≡ b → id ≢ 0 → y.next ≡ next → z.next ≡ next → (cond b x (cond c y z)).next ≡ next
-next_by id true c x y z next is other second third = absurd (other (eqb-true id 0 is))
-next_by id false true x y z next is other second third = second
-next_by id false false x y z next is other second third = third
-
-next_kept : (node : NodeState) (sent : TimedFrame) → sent.frame.identifier ≢ 0 → (after_hearing node sent).next ≡ node.next
-next_kept node sent other =
-    next_by sent.frame.identifier (sent.frame.identifier == 0) (is_own_slot node.entries sent.frame.identifier) _ _ _ node.next refl other refl refl
-
-next_more : (b : Bool) (x y : NodeState) (next : ℕ) → b ≡ true → x.next ≡ next → (cond b x y).next ≡ next
-next_more true x y next is same = same
-next_more false x y next is same = absurd (false≢true is)
-
-next_opened : (node : NodeState) (sent : TimedFrame) → sent.frame.identifier ≡ 0 → (after_hearing node sent).next ≡ node.next + 1
-next_opened node sent zero = next_more (sent.frame.identifier == 0) _ _ (node.next + 1) (eq-eqb sent.frame.identifier 0 zero) refl
-
--- no trigger comes back
-told-alone : (frames : List TimedFrame) (before : Stationed) → before.trigger ≡ None → (told cycle_line before frames).trigger ≡ None
+-- no trigger frame comes back
+told-alone : (frames : List TimedFrame) (before : Stationed) → before.triggers ≡ [] → (told cycle_line before frames).triggers ≡ []
 told-alone [] before none = none
-told-alone (sent ∷ later) before none = told-alone later (cycle_line.next before sent) refl
+told-alone (sent ∷ later) before none = told-alone later (cycle_line.next before sent) (none_left sent.frame.identifier before.triggers none)
+  where
+    none_left : (id : ℕ) (triggers : List DueTrigger) → triggers ≡ [] → triggers_after id triggers ≡ []
+    none_left id [] none = refl
+    none_left id (due ∷ others) none = absurd (cc)
+
+-- the trigger frames of a cycle open it: the next one is one more
+last_opens : (layout : CycleLayout) (cycle l mask : ℕ) (node : NodeState) (sent : List TimedFrame) → node.layout ≡ layout → node.next ≡ cycle
+    → map (λ s. s.frame) sent ≡ triggers_with layout.slots cycle l mask → (fold after_hearing node sent).next ≡ cycle + 1
+last_opens layout cycle l mask node sent same at are = by (nat_eq layout.slots 40) sent refl are
+  where
+    opening : (b : Bool) → nat_eq layout.slots 40 ≡ b → (one : NodeState) → one.layout ≡ layout → opening_identifier one.layout.slots ≡ cond b 0 1
+    opening b is one here = ap (λ x. opening_identifier x.slots) here ∙ ap (λ c. cond c 0 1) is
+
+    by : (b : Bool) (sent : List TimedFrame) → nat_eq layout.slots 40 ≡ b → map (λ s. s.frame) sent ≡ trigger_frame cycle l mask ∷ cond b [] (second_frame cycle mask ∷ [])
+        → (fold after_hearing node sent).next ≡ cycle + 1
+    by b [] is are = absurd (cc)
+    by true (first ∷ []) is are =
+        let frame : first.frame ≡ trigger_frame cycle l mask = cc in
+        next_opened node first (ap (λ f. f.identifier) frame ∙ sym (opening true is node same)) ∙ ap (λ c. c + 1) at
+    by true (first ∷ second ∷ others) is are = absurd (cc)
+    by false (first ∷ []) is are = absurd (cc)
+    by false (first ∷ second ∷ []) is are =
+        let frame : first.frame ≡ trigger_frame cycle l mask = cc in
+        let other : second.frame ≡ second_frame cycle mask = cc in
+        let one = after_hearing node first in
+        let kept = next_kept node first (λ opens. absurd (omega (arith, opens, ap (λ f. f.identifier) frame, opening false is node same))) in
+        next_opened one second (ap (λ f. f.identifier) other ∙ sym (opening false is one (layout_kept node first ∙ same))) ∙ ap (λ c. c + 1) (kept ∙ at)
+    by false (first ∷ second ∷ third ∷ others) is are = absurd (cc)
 
 module _ (in_range : (node : NodeState) (at id : ℕ) → IsNode node → node_offer node at ≡ Some id → (0x100 ≤ id) × (id ≤ 0x7EF))
-    (stays : (node : NodeState) (sent : TimedFrame) → (sent.frame.identifier ≡ 0 → node.next < 2 ^ 42) → IsNode node → IsNode (after_hearing node sent))
+    (stays : (node : NodeState) (sent : TimedFrame) → (sent.frame.identifier ≡ opening_identifier node.layout.slots → node.next < 2 ^ 42) → IsNode node → IsNode (after_hearing node sent))
     (layout : CycleLayout) (until : ℕ) where
-  -- what each node keeps of what it knows, whatever it hears but a trigger, holds behind all frames without a trigger
-  module _ (P : NodeState → Type 0) (kept : (node : NodeState) (sent : TimedFrame) → sent.frame.identifier ≢ 0 → P node → P (after_hearing node sent)) where
+  -- what each node keeps of what it knows, whatever it hears but trigger frames, holds behind all other frames
+  module _ (P : NodeState → Type 0) (kept : (node : NodeState) (sent : TimedFrame) → 1 < sent.frame.identifier → P node → P (after_hearing node sent)) where
     All-nodes : (before : Stationed) (sofar : List TimedFrame) (nodes : List NodeState) (free : ℕ) (frames : List TimedFrame)
-        → told cycle_line before sofar ≡ alone layout nodes → All IsNode nodes → All P nodes
-        → Follows (offers_of cycle_line before) sofar free until frames → All P (told cycle_line (alone layout nodes) frames).nodes
-    All-nodes before sofar nodes free [] now are holds follows = holds
+        → told cycle_line before sofar ≡ nodes_alone layout nodes → All IsNode nodes → All P nodes
+        → Follows (offers_of cycle_line before) sofar free until frames → All P (heard_by frames nodes)
+    All-nodes before sofar nodes free [] now are holds follows = subst (All P) (sym (map-same nodes)) holds
     All-nodes before sofar nodes free (sent ∷ later) now are holds (is_next, follows) =
         let offered = subst (λ s. IsOffered cycle_line s sent.start sent.frame) now is_next.least.offered in
-        let other : sent.frame.identifier ≢ 0 = λ zero.
-        absurd (omega (arith, zero, (All-contains (λ n. (0x100 ≤ n) × (n ≤ 0x7EF)) (offered_by_nodes nodes sent.start) sent.frame.identifier (offers_range in_range nodes sent.start are) offered.contends).0)) in
-        All-nodes before (sofar ++ sent ∷ []) (all_hear nodes sent) (end_of sent) later
+        let other : 1 < sent.frame.identifier =
+        omega (arith, (All-contains (λ n. (0x100 ≤ n) × (n ≤ 0x7EF)) (offered_by_nodes nodes sent.start) sent.frame.identifier (offers_range in_range nodes sent.start are) offered.contends).0) in
+        subst (All P) (heard-first sent later nodes)
+        (All-nodes before (sofar ++ sent ∷ []) (all_hear nodes sent) (end_of sent) later
         (fold-append cycle_line.next before sofar (sent ∷ []) ∙ ap (λ s. cycle_line.next s sent) now)
-        (All-map IsNode (λ node. after_hearing node sent) nodes (λ k d within. stays (get_or nodes k d) sent (λ zero. absurd (other zero)) (are k d within)))
-        (All-map P (λ node. after_hearing node sent) nodes (λ k d within. kept (get_or nodes k d) sent other (holds k d within))) follows
+        (All-map IsNode (λ node. after_hearing node sent) nodes (λ k d within.
+        stays (get_or nodes k d) sent (λ opens. absurd (opens_not (get_or nodes k d).layout.slots sent.frame.identifier other opens)) (are k d within)))
+        (All-map P (λ node. after_hearing node sent) nodes (λ k d within. kept (get_or nodes k d) sent other (holds k d within))) follows)
 
-    -- the trigger is the first frame, and behind it only others come
-    pub All-behind : (nodes : List NodeState) (frames : List TimedFrame) (low cycle : ℕ) (trigger : DataFrame) → low < until → trigger.identifier ≡ 0
-        → All IsNode nodes → cycle < 2 ^ 42 → All (λ node. node.next ≡ cycle) nodes
-        → ((sent : TimedFrame) → sent.frame ≡ trigger → All P (all_hear nodes sent))
-        → Follows (offers_of cycle_line (announced layout low trigger nodes)) [] low until frames
-        → All P (told cycle_line (announced layout low trigger nodes) frames).nodes
-        × ((told cycle_line (announced layout low trigger nodes) frames).trigger ≡ None)
-    All-behind nodes [] low cycle trigger some zero are early at opens nothing =
-        absurd (nothing low trigger (omega arith) some (offers_announced layout low trigger nodes zero))
-    All-behind nodes (sent ∷ later) low cycle trigger some zero are early at opens (next, follows) =
-        let is = first_announced layout low trigger nodes zero until sent next in (
-          All-nodes (announced layout low trigger nodes) (sent ∷ []) (all_hear nodes sent) (end_of sent) later refl
-              (All-map IsNode (λ node. after_hearing node sent) nodes (λ k d within. stays (get_or nodes k d) sent (λ _. subst (λ c. c < 2 ^ 42) (sym (at k d within)) early) (are k d within)))
-              (opens sent is.1) follows,
-          told-alone later (alone layout (all_hear nodes sent)) refl,
+    -- the trigger frames go first, and behind them only others come
+    pub All-behind : (nodes : List NodeState) (frames : List TimedFrame) (low : ℕ) (triggers : List DataFrame) → low + length triggers * 135 ≤ until
+        → CanBeHeard layout triggers nodes
+        → ((sent : List TimedFrame) → map (λ s. s.frame) sent ≡ triggers → All P (heard_by sent nodes))
+        → Follows (offers_of cycle_line (announced layout low triggers nodes)) [] low until frames
+        → All P (heard_by frames nodes) × ((told cycle_line (announced layout low triggers nodes) frames).triggers ≡ [])
+    All-behind nodes frames low triggers room can opens follows =
+        let before = announced layout low triggers nodes in
+        let cut = go-first layout low in_range stays triggers nodes before [] low until frames (omega arith) room can refl follows in (
+          subst (λ fs. All P (heard_by fs nodes)) (sym cut.split)
+              (subst (All P) (heard-twice cut.sent cut.later nodes)
+              (All-nodes before cut.sent (heard_by cut.sent nodes) _ cut.later cut.now cut.known (opens cut.sent cut.are) cut.follows)),
+          ap (λ fs. (told cycle_line before fs).triggers) cut.split
+              ∙ ap (λ s. s.triggers) (fold-append cycle_line.next before cut.sent cut.later)
+              ∙ told-alone cut.later (told cycle_line before cut.sent) (ap (λ s. s.triggers) cut.now),
         )
 
   -- behind a cycle the next one is one more
-  pub AtCycle-behind : (nodes : List NodeState) (frames : List TimedFrame) (low cycle : ℕ) (trigger : DataFrame) → low < until → trigger.identifier ≡ 0
-      → All IsNode nodes → cycle < 2 ^ 42 → All (λ node. node.next ≡ cycle) nodes
-      → Follows (offers_of cycle_line (announced layout low trigger nodes)) [] low until frames
-      → All (λ node. node.next ≡ cycle + 1) (told cycle_line (announced layout low trigger nodes) frames).nodes
-  AtCycle-behind nodes frames low cycle trigger some zero are early at follows =
-      (All-behind (λ node. node.next ≡ cycle + 1) (λ node sent other is. next_kept node sent other ∙ is) nodes frames low cycle trigger some zero are early at
-      (λ sent is.
-      let opens : sent.frame.identifier ≡ 0 = ap (λ frame. frame.identifier) is ∙ zero in
-      All-map (λ node. node.next ≡ cycle + 1) (λ node. after_hearing node sent) nodes
-      (λ k d within. next_opened (get_or nodes k d) sent opens ∙ ap (λ c. c + 1) (at k d within))) follows).0
+  pub AtCycle-behind : (nodes : List NodeState) (frames : List TimedFrame) (low cycle l mask : ℕ) → low + length (triggers_with layout.slots cycle l mask) * 135 ≤ until
+      → CanBeHeard layout (triggers_with layout.slots cycle l mask) nodes → All (λ node. node.next ≡ cycle) nodes
+      → Follows (offers_of cycle_line (announced layout low (triggers_with layout.slots cycle l mask) nodes)) [] low until frames
+      → All (λ node. node.next ≡ cycle + 1) (heard_by frames nodes)
+  AtCycle-behind nodes frames low cycle l mask room can at follows =
+      (All-behind (λ node. node.next ≡ cycle + 1)
+      (λ node sent other is. next_kept node sent (λ opens. opens_not node.layout.slots sent.frame.identifier other opens) ∙ is)
+      nodes frames low (triggers_with layout.slots cycle l mask) room can
+      (λ sent are. All-map (λ node. node.next ≡ cycle + 1) (λ node. fold after_hearing node sent) nodes
+      (λ k d within. last_opens layout cycle l mask (get_or nodes k d) sent (can.layouts k d within) (at k d within) are)) follows).0

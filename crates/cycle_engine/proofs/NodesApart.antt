@@ -1,20 +1,24 @@
 -- The nodes of a bus stay what they are, and offer distinct identifiers.
-use Rattle.std.proofs.Common.{◌≡◌, ◌≢◌, ℕ, ◌^◌, ◌<◌, ◌≤◌, Bool, true, false, cond, List, [], ◌∷◌, ◌++◌, map, get_or, All, AllPairs, Contains, Option, None, Some, refl, sym, ap, ◌∙◌, subst, arith}
-use Rattle.std.specs.Prelude.{IfSome, IsSome, ◌==◌}
-use Rattle.std.proofs.lemmas.Bool.{false≢true}
+use Rattle.std.proofs.Common.{◌≡◌, ◌≢◌, ℕ, ◌^◌, ◌<◌, ◌≤◌, Bool, true, false, cond, List, [], ◌∷◌, ◌++◌, map, get_or, All, AllPairs, Contains, Some, inl, inr, refl, sym, ap, ◌∙◌, subst, arith}
+use Rattle.std.specs.Prelude.{◌==◌, nat_le}
+use Rattle.std.proofs.lemmas.Bool.{cases_lt, eq-eqb}
 use Rattle.std.proofs.lemmas.List.{length-map}
-use Rattle.std.proofs.lemmas.List.Elements.{All-cons, All-contains, All-head, All-map, All-tail}
+use Rattle.std.proofs.lemmas.List.Elements.{All-cons, All-contains, All-head, All-map, All-nil, All-tail, Contains-append_cases}
 use Rattle.arbitration.specs.Arbitration.{AreDistinct}
 use Rattle.can_frame.specs.declared.data_frame.TimedFrame.{TimedFrame}
 use Rattle.cycle_layout.specs.Layout.{CycleLayout}
 use Rattle.bus_line.specs.Stations.{told}
 use Rattle.requirement_table.specs.declared.entries.Placed.{Placed}
-use Rattle.node_model.specs.Node.{IsNode, NodeState, after_hearing, learnt, node_offer}
+use Rattle.node_model.specs.Node.{IsNode, NodeState, after_hearing, learnt, node_offer, opening_identifier}
+use Rattle.trigger_codec.specs.Bytes.{triggers_with}
 use Rattle.node_model.specs.Own.{AreApart}
-use Rattle.cycle_engine.specs.declared.stations.DueTrigger.{DueTrigger}
-use Rattle.cycle_engine.specs.Stations.{AreNodes, AreStations, Stationed, all_hear, cycle_line, offered_by_nodes, offered_trigger}
-use Rattle.cycle_engine.proofs.Lists.{AllPairs-cons, AllPairs-filter_map, AllPairs-map, All-from_contains, Contains-from_filter_map}
-use Rattle.cycle_engine.proofs.Along.{layout_kept, number_kept}
+use Rattle.cycle_engine.specs.Stations.{AreDue, AreNodes, AreStations, DueTrigger, Stationed, all_hear, cycle_line, due_from, offered_by_nodes, offered_trigger, triggers_after}
+use Rattle.cycle_engine.specs.SyncWindow.{nodes_alone}
+use Rattle.cycle_engine.proofs.Lists.{AllPairs-cons, AllPairs-filter_map, AllPairs-head, AllPairs-map, AllPairs-tail}
+use Rattle.cycle_engine.proofs.Hearing.{layout_kept, next_kept, number_kept}
+use Rattle.cycle_engine.proofs.Announced.{of_some, offers_range, only_id}
+use Rattle.cycle_engine.proofs.TriggerFrames.{low_ids, opens_last}
+use Rattle.cycle_engine.proofs.Along.{opens_not}
 
 -- nodes that change, and keep their numbers and layouts
 AreNodes-changed : (layout : CycleLayout) (nodes : List NodeState) (f : NodeState → NodeState) → AreNodes layout nodes → All (λ node. IsNode node → IsNode (f node)) nodes
@@ -37,56 +41,64 @@ AreNodes-learning layout nodes placed stays apart before =
     AreNodes-changed layout nodes (learnt placed) before (λ k d _. stays (get_or nodes k d)) (λ node. refl) (λ node. refl) apart
 
 pub AreNodes-hearing : (layout : CycleLayout) (nodes : List NodeState) (sent : TimedFrame)
-    → ((node : NodeState) → (sent.frame.identifier ≡ 0 → node.next < 2 ^ 42) → IsNode node → IsNode (after_hearing node sent))
+    → ((node : NodeState) → (sent.frame.identifier ≡ opening_identifier node.layout.slots → node.next < 2 ^ 42) → IsNode node → IsNode (after_hearing node sent))
     → ((one other : NodeState) → AreApart one other → AreApart (after_hearing one sent) (after_hearing other sent))
-    → (sent.frame.identifier ≡ 0 → All (λ node. node.next < 2 ^ 42) nodes)
+    → All (λ node. sent.frame.identifier ≡ opening_identifier node.layout.slots → node.next < 2 ^ 42) nodes
     → AreNodes layout nodes → AreNodes layout (all_hear nodes sent)
 AreNodes-hearing layout nodes sent stays apart next before =
-    AreNodes-changed layout nodes (λ node. after_hearing node sent) before (λ k d within. stays (get_or nodes k d) (λ zero. next zero k d within))
+    AreNodes-changed layout nodes (λ node. after_hearing node sent) before (λ k d within. stays (get_or nodes k d) (next k d within))
     (λ node. layout_kept node sent) (λ node. number_kept node sent) (λ one other _. apart one other)
 
--- the same behind frames without a trigger
+-- the same behind frames that are no trigger frames
 pub AreNodes-told : (layout : CycleLayout) (frames : List TimedFrame) (before : Stationed)
-    → ((node : NodeState) (sent : TimedFrame) → (sent.frame.identifier ≡ 0 → node.next < 2 ^ 42) → IsNode node → IsNode (after_hearing node sent))
+    → ((node : NodeState) (sent : TimedFrame) → (sent.frame.identifier ≡ opening_identifier node.layout.slots → node.next < 2 ^ 42) → IsNode node → IsNode (after_hearing node sent))
     → ((one other : NodeState) (sent also : TimedFrame) → AreApart one other → AreApart (after_hearing one sent) (after_hearing other also))
-    → All (λ sent. sent.frame.identifier ≢ 0) frames → AreNodes layout before.nodes → AreNodes layout (told cycle_line before frames).nodes
+    → All (λ sent. 1 < sent.frame.identifier) frames → AreNodes layout before.nodes → AreNodes layout (told cycle_line before frames).nodes
 AreNodes-told layout [] before stays apart none are = are
 AreNodes-told layout (sent ∷ later) before stays apart none are =
-    let other = All-head (λ one. one.frame.identifier ≢ 0) sent later none in
-    AreNodes-told layout later (cycle_line.next before sent) stays apart (All-tail (λ one. one.frame.identifier ≢ 0) sent later none)
-    (AreNodes-hearing layout before.nodes sent (λ node. stays node sent) (λ one two. apart one two sent sent) (λ zero. absurd (other zero)) are)
+    let other = All-head (λ one. 1 < one.frame.identifier) sent later none in
+    AreNodes-told layout later (cycle_line.next before sent) stays apart (All-tail (λ one. 1 < one.frame.identifier) sent later none)
+    (AreNodes-hearing layout before.nodes sent (λ node. stays node sent) (λ one two. apart one two sent sent)
+    (λ k d _ opens. absurd (opens_not (get_or before.nodes k d).layout.slots sent.frame.identifier other opens)) are)
 
--- no trigger is left
-pub AreStations-alone : (layout : CycleLayout) (nodes : List NodeState) → AreNodes layout nodes → AreStations (record { layout = layout; trigger = None; nodes = nodes })
-AreStations-alone layout nodes are = record { nodes = are; trigger = tt; next = λ some. absurd (false≢true some) }
+-- no trigger frame is left
+pub AreStations-alone : (layout : CycleLayout) (nodes : List NodeState) → AreNodes layout nodes → AreStations (nodes_alone layout nodes)
+AreStations-alone layout nodes are = record {
+  nodes = are;
+  triggers = record { low = All-nil (λ (due : DueTrigger). due.frame.identifier ≤ 1); last = λ i j d before within. absurd (omega arith) };
+  next = λ some. absurd (some refl);
+}
 
 module _ (in_range : (node : NodeState) (at id : ℕ) → IsNode node → node_offer node at ≡ Some id → (0x100 ≤ id) × (id ≤ 0x7EF)) where
-  pub offers_range : (nodes : List NodeState) (at : ℕ) → All IsNode nodes → All (λ id. (0x100 ≤ id) × (id ≤ 0x7EF)) (offered_by_nodes nodes at)
-  offers_range nodes at are =
-      All-from_contains (λ id. (0x100 ≤ id) × (id ≤ 0x7EF)) (offered_by_nodes nodes at) (λ id has.
-      let found = Contains-from_filter_map (λ node. node_offer node at) nodes id has in
-      in_range found.0 at id (All-contains IsNode nodes found.0 are found.1) found.2)
+  -- a frame with an identifier of a trigger frame is that of the first of them
+  first_offered : (b : Bool) (due : DueTrigger) (nodes : List NodeState) (at id : ℕ) → All IsNode nodes
+      → Contains (cond b (due.frame.identifier ∷ []) [] ++ offered_by_nodes nodes at) id → id ≤ 1 → due.frame.identifier ≡ id
+  first_offered b due nodes at id are has low = elim (Contains-append_cases (cond b (due.frame.identifier ∷ []) []) (offered_by_nodes nodes at) id has) [
+    | inl here ↦ only_id b due.frame.identifier id here
+    | inr there ↦ absurd (omega (arith, low, (All-contains (λ n. (0x100 ≤ n) × (n ≤ 0x7EF)) (offered_by_nodes nodes at) id (offers_range in_range nodes at are) there).0))
+  ]
 
-  -- a frame with identifier 0 is that of a trigger
-  pub is_trigger : (trigger : Option DueTrigger) (nodes : List NodeState) (at id : ℕ) → All IsNode nodes
-      → Contains (offered_trigger trigger at ++ offered_by_nodes nodes at) id → id ≡ 0 → IsSome trigger
-  is_trigger (Some trigger) nodes at id are has zero = refl
-  is_trigger None nodes at id are has zero =
-      absurd (omega (arith, zero, (All-contains (λ n. (0x100 ≤ n) × (n ≤ 0x7EF)) (offered_by_nodes nodes at) id (offers_range nodes at are) has).0))
+  pub is_first : (triggers : List DueTrigger) (nodes : List NodeState) (at id : ℕ) → All IsNode nodes
+      → Contains (offered_trigger triggers at ++ offered_by_nodes nodes at) id → id ≤ 1
+      → (due : DueTrigger) × (later : List DueTrigger) × (triggers ≡ due ∷ later) × (due.frame.identifier ≡ id)
+  is_first [] nodes at id are has low =
+      absurd (omega (arith, low, (All-contains (λ n. (0x100 ≤ n) × (n ≤ 0x7EF)) (offered_by_nodes nodes at) id (offers_range in_range nodes at are) has).0))
+  is_first (due ∷ later) nodes at id are has low = (due, later, refl, first_offered (nat_le due.at at) due nodes at id are has low)
 
-  trigger_alone : (b : Bool) (id : ℕ) (back : List ℕ) → id ≡ 0 → All (λ n. (0x100 ≤ n) × (n ≤ 0x7EF)) back → AreDistinct back
+  trigger_alone : (b : Bool) (id : ℕ) (back : List ℕ) → id ≤ 1 → All (λ n. (0x100 ≤ n) × (n ≤ 0x7EF)) back → AreDistinct back
       → AreDistinct (cond b (id ∷ []) [] ++ back) × All (λ n. n ≤ 0x7EF) (cond b (id ∷ []) [] ++ back)
-  trigger_alone true id back zero range distinct = (
-    AllPairs-cons (λ a b. a ≢ b) id back (λ k d within same. omega (arith, zero, same, (range k d within).0)) distinct,
-    All-cons (λ n. n ≤ 0x7EF) id back (omega (arith, zero)) (λ k d within. (range k d within).1),
+  trigger_alone true id back low range distinct = (
+    AllPairs-cons (λ a b. a ≢ b) id back (λ k d within same. omega (arith, low, same, (range k d within).0)) distinct,
+    All-cons (λ n. n ≤ 0x7EF) id back (omega (arith, low)) (λ k d within. (range k d within).1),
   )
-  trigger_alone false id back zero range distinct = (distinct, λ k d within. (range k d within).1)
+  trigger_alone false id back low range distinct = (distinct, λ k d within. (range k d within).1)
 
-  with_trigger : (trigger : Option DueTrigger) (at : ℕ) (back : List ℕ) → IfSome trigger (λ due. due.frame.identifier ≡ 0)
+  with_trigger : (triggers : List DueTrigger) (at : ℕ) (back : List ℕ) → All (λ due. due.frame.identifier ≤ 1) triggers
       → All (λ n. (0x100 ≤ n) × (n ≤ 0x7EF)) back → AreDistinct back
-      → AreDistinct (offered_trigger trigger at ++ back) × All (λ n. n ≤ 0x7EF) (offered_trigger trigger at ++ back)
-  with_trigger None at back zero range distinct = (distinct, λ k d within. (range k d within).1)
-  with_trigger (Some trigger) at back zero range distinct = trigger_alone (trigger.at == at) trigger.frame.identifier back zero range distinct
+      → AreDistinct (offered_trigger triggers at ++ back) × All (λ n. n ≤ 0x7EF) (offered_trigger triggers at ++ back)
+  with_trigger [] at back low range distinct = (distinct, λ k d within. (range k d within).1)
+  with_trigger (due ∷ later) at back low range distinct =
+      trigger_alone (nat_le due.at at) due.frame.identifier back (All-head (λ x. x.frame.identifier ≤ 1) due later low) range distinct
 
   pub offers-distinct : (stations : Stationed) (at : ℕ)
       → ((one other : NodeState) (id : ℕ) → one.layout ≡ other.layout → IsNode one → IsNode other → AreApart one other
@@ -104,7 +116,86 @@ module _ (in_range : (node : NodeState) (at id : ℕ) → IsNode node → node_o
       ) in
       let distinct = AllPairs-filter_map (λ node. node_offer node at) Pair
       (λ one other a b pair is also same. never_both one other a pair.0 pair.1 pair.2 pair.3 is (also ∙ ap (λ n. Some n) (sym same))) nodes pairs in
-      with_trigger stations.trigger at (offered_by_nodes nodes at) are.trigger (offers_range nodes at are.nodes.are) distinct
+      with_trigger stations.triggers at (offered_by_nodes nodes at) are.triggers.low (offers_range in_range nodes at are.nodes.are) distinct
+
+-- what is left of the trigger frames behind one frame
+module _ (layout : CycleLayout) where
+  left-due : (due : DueTrigger) (later : List DueTrigger) (id : ℕ) (b : Bool) → (due.frame.identifier == id) ≡ b → AreDue layout (due ∷ later)
+      → AreDue layout (cond b later (due ∷ later))
+  left-due due later id true is are = record {
+    low = All-tail (λ x. x.frame.identifier ≤ 1) due later are.low;
+    last = AllPairs-tail (λ one other. one.frame.identifier ≢ opening_identifier layout.slots) due later are.last;
+  }
+  left-due due later id false is are = are
+
+  pub AreDue-after : (triggers : List DueTrigger) (id : ℕ) → AreDue layout triggers → AreDue layout (triggers_after id triggers)
+  AreDue-after [] id are = are
+  AreDue-after (due ∷ later) id are = left-due due later id (due.frame.identifier == id) refl are
+
+  -- a trigger frame is left only where another one than the last was sent, and that one opens no cycle
+  left-some : (due : DueTrigger) (later : List DueTrigger) (id : ℕ) → due.frame.identifier ≡ id → AreDue layout (due ∷ later)
+      → triggers_after id (due ∷ later) ≢ [] → id ≢ opening_identifier layout.slots
+  left-some due later id same are some opens =
+      let left : triggers_after id (due ∷ later) ≡ later = ap (λ b. cond b later (due ∷ later)) (eq-eqb due.frame.identifier id same) in
+      of_some (due.frame.identifier ≢ opening_identifier layout.slots) later (λ none. some (left ∙ none))
+      (AllPairs-head (λ one other. one.frame.identifier ≢ opening_identifier layout.slots) due later are.last) (same ∙ opens)
+
+  some-before : (triggers : List DueTrigger) (id : ℕ) → triggers_after id triggers ≢ [] → triggers ≢ []
+  some-before [] id some none = some refl
+  some-before (due ∷ later) id some none = absurd (cc)
+
+  next-kept_all : (nodes : List NodeState) (sent : TimedFrame) → All (λ node. node.layout ≡ layout) nodes → sent.frame.identifier ≢ opening_identifier layout.slots
+      → All (λ node. node.next < 2 ^ 42) nodes → All (λ node. node.next < 2 ^ 42) (all_hear nodes sent)
+  next-kept_all nodes sent layouts other early =
+      All-map (λ node. node.next < 2 ^ 42) (λ node. after_hearing node sent) nodes (λ k d within.
+      subst (λ n. n < 2 ^ 42) (sym (next_kept (get_or nodes k d) sent (λ opens. other (opens ∙ ap (λ l. opening_identifier l.slots) (layouts k d within))))) (early k d within))
+
+  -- the nodes can hear it
+  pub can-hear : (triggers : List DueTrigger) (nodes : List NodeState) (sent : TimedFrame)
+      → ((node : NodeState) (at id : ℕ) → IsNode node → node_offer node at ≡ Some id → (0x100 ≤ id) × (id ≤ 0x7EF))
+      → Contains (offered_trigger triggers sent.start ++ offered_by_nodes nodes sent.start) sent.frame.identifier
+      → AreStations (record { layout = layout; triggers = triggers; nodes = nodes })
+      → All (λ node. sent.frame.identifier ≡ opening_identifier node.layout.slots → node.next < 2 ^ 42) nodes
+  can-hear triggers nodes sent in_range has are = λ k d within opens. elim (cases_lt 1 sent.frame.identifier) [
+    | inl high ↦ absurd (opens_not (get_or nodes k d).layout.slots sent.frame.identifier high opens)
+    | inr low ↦
+        let first = is_first in_range triggers nodes sent.start sent.frame.identifier are.nodes.are has low in
+        are.next (λ none. absurd (some_first first.0 first.1 (sym first.2 ∙ none))) k d within
+  ]
+    where
+      some_first : (due : DueTrigger) (later : List DueTrigger) → due ∷ later ≡ [] → ⊥
+      some_first due later none = cc
+
+  -- stations that are told of a frame that one of them offers
+  pub AreStations-told : (triggers : List DueTrigger) (nodes : List NodeState) (sent : TimedFrame)
+      → ((node : NodeState) (at id : ℕ) → IsNode node → node_offer node at ≡ Some id → (0x100 ≤ id) × (id ≤ 0x7EF))
+      → ((node : NodeState) → (sent.frame.identifier ≡ opening_identifier node.layout.slots → node.next < 2 ^ 42) → IsNode node → IsNode (after_hearing node sent))
+      → ((one other : NodeState) → AreApart one other → AreApart (after_hearing one sent) (after_hearing other sent))
+      → Contains (offered_trigger triggers sent.start ++ offered_by_nodes nodes sent.start) sent.frame.identifier
+      → AreStations (record { layout = layout; triggers = triggers; nodes = nodes })
+      → AreStations (record { layout = layout; triggers = triggers_after sent.frame.identifier triggers; nodes = all_hear nodes sent })
+  AreStations-told triggers nodes sent in_range stays apart has are = record {
+    nodes = AreNodes-hearing layout nodes sent stays apart (can-hear triggers nodes sent in_range has are) are.nodes;
+    triggers = AreDue-after triggers sent.frame.identifier are.triggers;
+    next = λ some. elim (cases_lt 1 sent.frame.identifier) [
+      | inl high ↦
+          next-kept_all nodes sent are.nodes.layouts (λ opens. opens_not layout.slots sent.frame.identifier high opens)
+          (are.next (some-before triggers sent.frame.identifier some))
+      | inr low ↦
+          let first = is_first in_range triggers nodes sent.start sent.frame.identifier are.nodes.are has low in
+          let other = left-some first.0 first.1 sent.frame.identifier first.3 (subst (AreDue layout) first.2 are.triggers)
+          (subst (λ ts. triggers_after sent.frame.identifier ts ≢ []) first.2 some) in
+          next-kept_all nodes sent are.nodes.layouts other (are.next (some-before triggers sent.frame.identifier some))
+    ];
+  }
+
+-- the trigger frames of a cycle may be the next ones
+pub AreDue-triggers : (layout : CycleLayout) (at cycle l mask : ℕ) → AreDue layout (due_from at (triggers_with layout.slots cycle l mask))
+AreDue-triggers layout at cycle l mask = record {
+  low = All-map (λ (due : DueTrigger). due.frame.identifier ≤ 1) (λ frame. record { at = at; frame = frame }) (triggers_with layout.slots cycle l mask) (low_ids layout.slots cycle l mask);
+  last = AllPairs-map (λ (one other : DueTrigger). one.frame.identifier ≢ opening_identifier layout.slots) (λ frame. record { at = at; frame = frame })
+      (triggers_with layout.slots cycle l mask) (opens_last layout.slots cycle l mask);
+}
 
 -- stations of which the nodes learn a list
 pub AreStations-learning : (stations : Stationed) (placed : List Placed)
@@ -113,6 +204,6 @@ pub AreStations-learning : (stations : Stationed) (placed : List Placed)
     → AreStations stations → AreStations (record stations { nodes = map (learnt placed) stations.nodes })
 AreStations-learning stations placed stays apart before = record {
   nodes = AreNodes-learning stations.layout stations.nodes placed stays apart before.nodes;
-  trigger = before.trigger;
+  triggers = before.triggers;
   next = λ some. All-map (λ node. node.next < 2 ^ 42) (learnt placed) stations.nodes (before.next some);
 }

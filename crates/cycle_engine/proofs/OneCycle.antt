@@ -1,41 +1,46 @@
 -- One cycle, as its order and the nodes make it.
-use Rattle.std.proofs.Common.{◌≡◌, ℕ, ◌+◌, ◌*◌, ◌^◌, ◌<◌, ◌≤◌, List, [], ◌++◌, All, Option, None, Some, ap, ◌∙◌, subst, get_or}
+use Rattle.std.proofs.Common.{◌≡◌, ℕ, ◌+◌, ◌*◌, ◌^◌, ◌<◌, ◌≤◌, List, [], ◌++◌, All, Option, None, Some, ap, ◌∙◌, subst, get_or, arith}
 use Rattle.std.specs.Prelude.{IfSome}
+use Rattle.std.proofs.Math.Nat.{add-mul}
 use Rattle.std.proofs.lemmas.List.Elements.{All-map, All-weaker}
 use Rattle.can_frame.specs.DataFrame.{DataFrame}
 use Rattle.can_frame.specs.declared.data_frame.TimedFrame.{TimedFrame}
 use Rattle.cycle_layout.specs.Layout.{CycleLayout, IsLayout}
-use Rattle.requirement_table.specs.Slots.{slots}
 use Rattle.requirement_table.specs.declared.entries.Order.{Order}
 use Rattle.requirement_table.specs.declared.entries.Placed.{Placed}
 use Rattle.requirement_table.specs.Table.{IsWellPlaced}
-use Rattle.trigger_codec.specs.Bytes.{trigger_frame}
+use Rattle.trigger_codec.specs.Bytes.{triggers_with}
 use Rattle.async_window.specs.declared.request.Owner.{Owner}
 use Rattle.async_window.specs.declared.request.Request.{Request}
 use Rattle.bus_line.specs.Trace.{Follows}
-use Rattle.bus_line.specs.Stations.{offers_of, told}
+use Rattle.bus_line.specs.Stations.{offers_of}
 use Rattle.node_model.specs.Node.{IsNode, NodeState, learnt}
 use Rattle.node_model.specs.Own.{Stands, StandsIn}
 use Rattle.cycle_engine.specs.Nodes.{IsBefore, IsBus, heard_by, learnt_by, opening_of}
 use Rattle.cycle_engine.specs.Offered.{offered_in}
-use Rattle.cycle_engine.specs.Stations.{Stationed, announced, cycle_line}
+use Rattle.cycle_engine.specs.Stations.{announced, cycle_line}
 use Rattle.cycle_engine.proofs.Belongs.{known-senders}
-use Rattle.cycle_engine.proofs.Along.{Follows-cycle, NodeLaws, Standing, Waiting, announcing, told-heard}
+use Rattle.cycle_engine.proofs.TriggerFrames.{frames_long}
+use Rattle.cycle_engine.proofs.Announced.{can-be-heard}
+use Rattle.cycle_engine.proofs.NextCycle.{AtCycle-behind}
+use Rattle.cycle_engine.proofs.Along.{Follows-cycle, NodeLaws, Standing, Waiting}
 
 -- what nodes announce, by its parts
-pub announced-same : (layout also : CycleLayout) (at later : ℕ) (frame other : DataFrame) (nodes others : List NodeState)
-    → layout ≡ also → at ≡ later → frame ≡ other → nodes ≡ others → announced layout at frame nodes ≡ announced also later other others
-announced-same layout also at later frame other nodes others a b c d =
-    ap (λ x. announced x at frame nodes) a ∙ ap (λ x. announced also x frame nodes) b ∙ ap (λ x. announced also later x nodes) c ∙ ap (λ x. announced also later other x) d
+pub announced-same : (layout also : CycleLayout) (at later : ℕ) (frames others : List DataFrame) (nodes same : List NodeState)
+    → layout ≡ also → at ≡ later → frames ≡ others → nodes ≡ same → announced layout at frames nodes ≡ announced also later others same
+announced-same layout also at later frames others nodes same a b c d =
+    ap (λ x. announced x at frames nodes) a ∙ ap (λ x. announced also x frames nodes) b ∙ ap (λ x. announced also later x nodes) c ∙ ap (λ x. announced also later others x) d
 
--- frames that follow, by the parts of what is said
-pub Follows-same : (before also : Stationed) (from low until high : ℕ) (frames others : List TimedFrame) → before ≡ also → from ≡ low → until ≡ high → frames ≡ others
-    → Follows (offers_of cycle_line before) [] from until frames → Follows (offers_of cycle_line also) [] low high others
-Follows-same before also from low until high frames others a b c d follows =
-    subst (λ x. Follows (offers_of cycle_line also) [] low high x) d
-    (subst (λ x. Follows (offers_of cycle_line also) [] low x frames) c
-    (subst (λ x. Follows (offers_of cycle_line also) [] x until frames) b
-    (subst (λ x. Follows (offers_of cycle_line x) [] from until frames) a follows)))
+-- the frames are those that arbitration decides between the nodes and the trigger frames of an order's cycle
+abbrev pub RunsOrder : Order → List TimedFrame → CycleLayout → List NodeState → Type 0
+RunsOrder order frames layout nodes =
+    Follows (offers_of cycle_line (announced layout (order.cycle * layout.cycle) (triggers_with layout.slots order.cycle order.l order.mask) nodes))
+    [] (order.cycle * layout.cycle) ((order.cycle + 1) * layout.cycle) frames
+
+pub RunsOrder-same : (order : Order) (frames : List TimedFrame) (layout also : CycleLayout) (nodes others : List NodeState) → layout ≡ also → nodes ≡ others
+    → RunsOrder order frames layout nodes → RunsOrder order frames also others
+RunsOrder-same order frames layout also nodes others same known runs =
+    subst (λ l. RunsOrder order frames l others) same (subst (RunsOrder order frames layout) known runs)
 
 -- what a list changes in no node
 pub learnt_by-next : (learned : Option (List Placed)) (cycle : ℕ) (nodes : List NodeState) → All (λ node. node.next ≡ cycle) nodes
@@ -50,30 +55,52 @@ learnt_by-are None nodes stays well_placed all = all
 learnt_by-are (Some placed) nodes stays well_placed all =
     All-map IsNode (learnt placed) nodes (λ k d within. stays placed (get_or nodes k d) well_placed (all k d within))
 
-module _ (laws : NodeLaws) (layout : CycleLayout) (order : Order) (nodes : List NodeState) (frames : List TimedFrame)
-    (is_layout : IsLayout layout) (cycle : order.cycle < 2 ^ 42) (window : order.l ≤ layout.window) (mask : order.mask < 2 ^ slots) (are : All IsNode nodes)
-    (follows : Follows (offers_of cycle_line (announced layout (order.cycle * layout.cycle) (trigger_frame order.cycle order.l order.mask) nodes))
-    [] (order.cycle * layout.cycle) ((order.cycle + 1) * layout.cycle) frames)
+pub learnt_by-layouts : (learned : Option (List Placed)) (layout : CycleLayout) (nodes : List NodeState) → All (λ node. node.layout ≡ layout) nodes
+    → All (λ node. node.layout ≡ layout) (learnt_by learned nodes)
+learnt_by-layouts None layout nodes all = all
+learnt_by-layouts (Some placed) layout nodes all = All-map (λ node. node.layout ≡ layout) (learnt placed) nodes all
+
+-- nodes before the cycle of an order, which is run
+pub record IsRun (layout : CycleLayout) (order : Order) (nodes : List NodeState) (frames : List TimedFrame) : Type 0 where
+  pub is_layout : IsLayout layout
+  pub early : order.cycle < 2 ^ 42
+  pub window : order.l ≤ layout.window
+  pub mask : order.mask < 2 ^ layout.slots
+  pub are : All IsNode nodes
+  pub layouts : All (λ node. node.layout ≡ layout) nodes
+  pub next : All (λ node. node.next ≡ order.cycle) nodes
+  pub runs : RunsOrder order frames layout nodes
+
+-- the next cycle of the nodes is one more behind it
+pub cycle_next : (laws : NodeLaws) (layout : CycleLayout) (order : Order) (nodes : List NodeState) (frames : List TimedFrame) → IsRun layout order nodes frames
+    → All (λ node. node.next ≡ order.cycle + 1) (heard_by frames nodes)
+cycle_next laws layout order nodes frames run =
+    let long = frames_long layout.slots order.cycle order.l order.mask in
+    AtCycle-behind laws.in_range laws.stays layout ((order.cycle + 1) * layout.cycle) nodes frames (order.cycle * layout.cycle) order.cycle order.l order.mask
+    (omega (arith, long, add-mul order.cycle 1 layout.cycle, run.is_layout.room))
+    (can-be-heard layout order.cycle order.l order.mask laws.at_most nodes run.early run.are run.layouts run.next) run.next run.runs
+
+module _ (laws : NodeLaws) (layout : CycleLayout) (order : Order) (nodes : List NodeState) (frames : List TimedFrame) (run : IsRun layout order nodes frames)
     (owners : List Owner) (requests : List Request) (placed : List Placed) (past : List TimedFrame) (before : IsBefore layout owners requests placed past order nodes) where
   is_waiting : Waiting layout owners requests (opening_of order placed) past nodes
   is_waiting = record {
-    is_layout = is_layout;
-    cycle = cycle;
-    width = subst (λ l. l ≤ layout.window) before.fits.width window;
-    mask = mask;
+    is_layout = run.is_layout;
+    cycle = run.early;
+    width = subst (λ l. l ≤ layout.window) before.fits.width run.window;
+    mask = run.mask;
     before = before.before;
-    are = are;
+    are = run.are;
     stand = before.bus.stand;
     senders = known-senders layout owners requests past order.cycle (opening_of order placed) nodes before.bus.well_placed before.bus.stand before.fits.present;
     owned = before.bus.owned;
   }
 
   both : Follows (offered_in layout requests (opening_of order placed)) past (order.cycle * layout.cycle) ((order.cycle + 1) * layout.cycle) frames
-      × Standing layout owners requests (opening_of order placed) (past ++ frames) (told cycle_line (announcing layout (opening_of order placed) nodes) frames).nodes
+      × Standing layout owners requests (opening_of order placed) (past ++ frames) (heard_by frames nodes)
   both =
       Follows-cycle laws layout owners requests (opening_of order placed) before.bus.are_owners before.bus.well_placed past nodes is_waiting frames
-      (subst (λ l. Follows (offers_of cycle_line (announced layout (order.cycle * layout.cycle) (trigger_frame order.cycle l order.mask) nodes))
-      [] (order.cycle * layout.cycle) ((order.cycle + 1) * layout.cycle) frames) before.fits.width follows)
+      (subst (λ l. Follows (offers_of cycle_line (announced layout (order.cycle * layout.cycle) (triggers_with layout.slots order.cycle l order.mask) nodes))
+      [] (order.cycle * layout.cycle) ((order.cycle + 1) * layout.cycle) frames) before.fits.width run.runs)
 
   pub cycle_runs : Follows (offered_in layout requests (opening_of order placed)) past (order.cycle * layout.cycle) ((order.cycle + 1) * layout.cycle) frames
   cycle_runs = both.0
@@ -81,7 +108,7 @@ module _ (laws : NodeLaws) (layout : CycleLayout) (order : Order) (nodes : List 
   pub cycle_stands : IsBus layout owners requests placed (past ++ frames) (order.cycle + 1) (heard_by frames nodes)
   cycle_stands =
       let opening = opening_of order placed in
-      let standing = subst (λ after. Standing layout owners requests opening (past ++ frames) after) (told-heard frames (announcing layout opening nodes)) both.1 in
+      let standing = both.1 in
       record {
         well_placed = before.bus.well_placed;
         are_owners = before.bus.are_owners;

@@ -135,10 +135,12 @@ module _ (layout : CycleLayout) (known : IsLayout layout) (requests : List Reque
   all-ended runs =
       let trigger : end_of runs.trigger ≤ ends = (let e = runs.ends in omega arith) in
       subst (All (λ sent. end_of sent ≤ ends)) (sym runs.all_frames)
-      (All-cons (λ sent. end_of sent ≤ ends) runs.trigger runs.later trigger (λ k d within. elim (runs.all k d within) [
+      (All-cons (λ sent. end_of sent ≤ ends) runs.trigger (runs.second ++ runs.later) trigger
+      (All-append (λ sent. end_of sent ≤ ends) runs.second runs.later (λ k d within. let e = runs.second_ends k d within in omega arith)
+      (λ k d within. elim (runs.all k d within) [
         | inl request ↦ let e = request.before in omega arith
         | inr slot ↦ slot.before
-      ]))
+      ])))
 
   pub more-ended : AreShort → AreAsynchronous requests → FitsWindow layout opening → All (λ sent. end_of sent ≤ ends) (trace ++ frames)
   more-ended short asynchronous fits =

@@ -10,11 +10,12 @@ use Rattle.cycle_layout.specs.Layout.{CycleLayout, IsLayout}
 use Rattle.async_window.specs.declared.request.Request.{Request}
 use Rattle.async_window.specs.Waiting.{requests_of, unsent_after, frames_with}
 use Rattle.bus_line.specs.Trace.{IsDetermined}
-use Rattle.requirement_table.specs.Opening.{Opening, bytes_in}
+use Rattle.requirement_table.specs.Opening.{Opening, bytes_in, width_of}
 use Rattle.node_model.specs.Opening.{start_of, end_of_cycle}
-use Rattle.node_model.specs.Offered.{OffersTrigger, OffersRequest, OffersSlot}
+use Rattle.node_model.specs.Offered.{OffersTrigger, OffersRequest, OffersSlot, trigger_frames}
 use Rattle.cycle_engine.specs.Offered.{AreAsynchronous, AreOfDistinctCycles, offered, offered_in}
 use Rattle.cycle_engine.proofs.Lists.{Contains-slice_get, same_by_number}
+use Rattle.cycle_engine.proofs.TriggerFrames.{low_ids, rising}
 
 same_frame : (one other : DataFrame) → one.identifier ≡ other.identifier → one.bytes ≡ other.bytes → one ≡ other
 same_frame one other id bytes =
@@ -43,17 +44,18 @@ module _ (layout : CycleLayout) (requests : List Request) where
       → offered_in layout requests opening past at frame → (start_of layout opening ≤ at) × (at < end_of_cycle layout opening)
   in_cycle is opening past at frame (inl trigger) =
       let longer = add-mul opening.cycle 1 layout.cycle in
-      (omega (arith, trigger.time), omega (arith, trigger.time, longer, is.cycle_range.above))
+      (trigger.begun, omega (arith, trigger.within, longer, is.room))
   in_cycle is opening past at frame (inr (inl request)) =
       let allowed = request.may_start.allowed in
       (omega (arith, allowed.opened), omega (arith, allowed.whole))
   in_cycle is opening past at frame (inr (inr (slot, offers))) = (offers.begun, offers.within)
 
-  -- a trigger has the identifier 0, a request an asynchronous one, and a slot one between them
-  trigger_id : (opening : Opening) (at : ℕ) (frame : DataFrame) → OffersTrigger layout opening at frame → frame.identifier ≡ 0
-  trigger_id opening at frame offers = ap (λ f. f.identifier) offers.trigger
+  -- a trigger frame has the identifier 0 or 1, a request an asynchronous one, and a slot one between them
+  trigger_id : (opening : Opening) (past : List TimedFrame) (at : ℕ) (frame : DataFrame) → OffersTrigger layout opening past at frame → frame.identifier ≤ 1
+  trigger_id opening past at frame offers =
+      All-contains (λ f. f.identifier ≤ 1) (trigger_frames layout opening) frame (low_ids layout.slots opening.cycle (width_of opening) opening.mask) offers.among
 
-  request_id : AreAsynchronous requests → (opening : Opening) (past : List TimedFrame) (at : ℕ) (frame : DataFrame)
+  pub request_id : AreAsynchronous requests → (opening : Opening) (past : List TimedFrame) (at : ℕ) (frame : DataFrame)
       → OffersRequest layout requests opening past at frame → 0x200 ≤ frame.identifier
   request_id all opening past at frame offers =
       let least = is_asynchronous requests past frame.identifier offers.request all offers.may_start.waiting.first in
@@ -61,6 +63,13 @@ module _ (layout : CycleLayout) (requests : List Request) where
       omega (arith, least, same)
 
   -- frames of one identifier that are offered in one cycle
+  same_trigger : (opening : Opening) (past : List TimedFrame) (at : ℕ) (one other : DataFrame) → OffersTrigger layout opening past at one
+      → OffersTrigger layout opening past at other → one.identifier ≡ other.identifier → one ≡ other
+  same_trigger opening past at one other is_one is_other same =
+      same_by_number (λ f. f.identifier) (trigger_frames layout opening) one other
+      (λ i j d before within equal. omega (arith, equal, rising layout.slots opening.cycle (width_of opening) opening.mask i j d before within))
+      is_one.among is_other.among same
+
   same_request : (opening : Opening) (past : List TimedFrame) (at : ℕ) (one other : DataFrame) → OffersRequest layout requests opening past at one
       → OffersRequest layout requests opening past at other → one.identifier ≡ other.identifier → one ≡ other
   same_request opening past at one other is_one is_other same =
@@ -78,18 +87,18 @@ module _ (layout : CycleLayout) (requests : List Request) where
 
   same_in_cycle : AreAsynchronous requests → (opening : Opening) (past : List TimedFrame) (at : ℕ) (one other : DataFrame)
       → offered_in layout requests opening past at one → offered_in layout requests opening past at other → one.identifier ≡ other.identifier → one ≡ other
-  same_in_cycle all opening past at one other (inl a) (inl b) same = a.trigger ∙ sym b.trigger
+  same_in_cycle all opening past at one other (inl a) (inl b) same = same_trigger opening past at one other a b same
   same_in_cycle all opening past at one other (inl a) (inr (inl b)) same =
-      absurd (omega (arith, same, trigger_id opening at one a, request_id all opening past at other b))
+      absurd (omega (arith, same, trigger_id opening past at one a, request_id all opening past at other b))
   same_in_cycle all opening past at one other (inl a) (inr (inr (slot, b))) same =
-      absurd (omega (arith, same, trigger_id opening at one a, b.identifier))
+      absurd (omega (arith, same, trigger_id opening past at one a, b.identifier))
   same_in_cycle all opening past at one other (inr (inl a)) (inl b) same =
-      absurd (omega (arith, same, trigger_id opening at other b, request_id all opening past at one a))
+      absurd (omega (arith, same, trigger_id opening past at other b, request_id all opening past at one a))
   same_in_cycle all opening past at one other (inr (inl a)) (inr (inl b)) same = same_request opening past at one other a b same
   same_in_cycle all opening past at one other (inr (inl a)) (inr (inr (slot, b))) same =
       absurd (omega (arith, same, request_id all opening past at one a, b.identifier, b.known))
   same_in_cycle all opening past at one other (inr (inr (slot, a))) (inl b) same =
-      absurd (omega (arith, same, trigger_id opening at other b, a.identifier))
+      absurd (omega (arith, same, trigger_id opening past at other b, a.identifier))
   same_in_cycle all opening past at one other (inr (inr (slot, a))) (inr (inl b)) same =
       absurd (omega (arith, same, request_id all opening past at other b, a.identifier, a.known))
   same_in_cycle all opening past at one other (inr (inr (slot, a))) (inr (inr (also, b))) same = same_slot opening past at one other slot also a b same

@@ -1,23 +1,27 @@
 -- A cycle in two parts: the bus runs over its stations up to the synchronous window, and then over the nodes in that
 -- window.
-use Rattle.std.proofs.Common.{◌≡◌, ◌≢◌, ℕ, ◌+◌, ◌-◌, ◌*◌, ◌^◌, ◌<◌, ◌≤◌, List, [], ◌∷◌, ◌++◌, All, None, Some, length, max, get_or, refl, sym, ap, ◌∙◌, subst, arith}
+use Rattle.std.proofs.Common.{◌≡◌, ℕ, ◌+◌, ◌*◌, ◌^◌, ◌<◌, ◌≤◌, List, [], ◌∷◌, ◌++◌, All, Some, length, map, max, get_or, refl, sym, ap, ◌∙◌, subst, arith}
+use Rattle.std.specs.Prelude.{fold}
 use Rattle.std.proofs.Math.Nat.{add-mul}
 use Rattle.std.proofs.lemmas.List.Elements.{All-map, All-weaker}
 use Rattle.std.proofs.lemmas.List.Sums.{fold-append}
 use Rattle.can_frame.specs.DataFrame.{DataFrame}
 use Rattle.can_frame.specs.Wire.{wire_length}
 use Rattle.can_frame.specs.declared.data_frame.TimedFrame.{TimedFrame}
-use Rattle.cycle_layout.specs.Layout.{CycleLayout, IsLayout, sync_start}
-use Rattle.requirement_table.specs.Slots.{slots}
-use Rattle.trigger_codec.specs.Bytes.{trigger_frame}
+use Rattle.cycle_layout.specs.Layout.{CycleLayout, IsLayout, sync_start, trigger_part}
+use Rattle.requirement_table.specs.Instance.{worst}
+use Rattle.trigger_codec.specs.Bytes.{triggers_with}
 use Rattle.bus_line.specs.Trace.{AgreeAlong, Follows, end_of, free_after}
 use Rattle.bus_line.specs.Stations.{IsOffered, Ran, offers_of, told}
-use Rattle.node_model.specs.Node.{IsNode, NodeState, after_hearing, node_offer}
+use Rattle.node_model.specs.Node.{IsNode, NodeState, after_hearing, node_offer, opening_identifier}
 use Rattle.node_model.specs.Window.{IsInWindow}
 use Rattle.cycle_engine.specs.Nodes.{heard_by}
-use Rattle.cycle_engine.specs.Stations.{AreNodes, Stationed, all_hear, announced, cycle_line}
+use Rattle.cycle_engine.specs.Stations.{AreNodes, Stationed, announced, cycle_line}
 use Rattle.cycle_engine.specs.SyncWindow.{IsBeforeWindow, nodes_alone}
-use Rattle.cycle_engine.proofs.Along.{layout_kept, told-heard, told-layout}
+use Rattle.cycle_engine.proofs.Hearing.{layout_kept_all}
+use Rattle.cycle_engine.proofs.TriggerFrames.{frames_long}
+use Rattle.cycle_engine.proofs.Announced.{CanBeHeard, can-be-heard}
+use Rattle.cycle_engine.proofs.Along.{told-heard, told-layout}
 use Rattle.cycle_engine.proofs.NextCycle.{All-behind}
 
 -- the laws of traces on which this stands
@@ -30,10 +34,10 @@ pub record PartLaws : Type 0 where
       → AgreeAlong (offers_of cycle_line one) (offers_of cycle_line other) past other_past free until frames
       → Follows (offers_of cycle_line one) past free until frames → Follows (offers_of cycle_line other) other_past free until frames
 
--- the stations behind some frames, once no trigger is left
-told-is : (s : Stationed) (layout : CycleLayout) → s.layout ≡ layout → s.trigger ≡ None → nodes_alone layout s.nodes ≡ s
+-- the stations behind some frames, once no trigger frame is left
+told-is : (s : Stationed) (layout : CycleLayout) → s.layout ≡ layout → s.triggers ≡ [] → nodes_alone layout s.nodes ≡ s
 told-is s layout same none =
-    ap (λ l. record { layout = l; trigger = None; nodes = s.nodes }) (sym same) ∙ ap (λ t. record { layout = s.layout; trigger = t; nodes = s.nodes }) (sym none)
+    ap (λ l. record { layout = l; triggers = []; nodes = s.nodes }) (sym same) ∙ ap (λ t. record { layout = s.layout; triggers = t; nodes = s.nodes }) (sym none)
 
 -- what follows among the stations behind some frames follows those frames
 Follows-told : PartLaws → (before : Stationed) (front back : List TimedFrame) (free until : ℕ)
@@ -47,7 +51,7 @@ Follows-told laws before front back free until follows =
 
 -- both parts together
 pub Follows-parts : PartLaws → (layout : CycleLayout) (before : Stationed) (start window end : ℕ) (front back : List TimedFrame) → window ≤ end
-    → before.layout ≡ layout → (told cycle_line before front).trigger ≡ None
+    → before.layout ≡ layout → (told cycle_line before front).triggers ≡ []
     → Follows (offers_of cycle_line before) [] start window front
     → Follows (offers_of cycle_line (nodes_alone layout (told cycle_line before front).nodes)) [] (max window (free_after start front)) end back
     → Follows (offers_of cycle_line before) [] start end (front ++ back)
@@ -56,13 +60,6 @@ Follows-parts laws layout before start window end front back early same none fir
     (Follows-told laws before front back (max window (free_after start front)) end
     (subst (λ s. Follows (offers_of cycle_line s) [] (max window (free_after start front)) end back)
     (told-is (told cycle_line before front) layout (told-layout front before ∙ same) none) second))
-
-pub heard-parts : (before : Stationed) (front back : List TimedFrame)
-    → heard_by back (told cycle_line before front).nodes ≡ heard_by (front ++ back) before.nodes
-heard-parts before front back =
-    sym (told-heard back (told cycle_line before front))
-    ∙ ap (λ s. s.nodes) (sym (fold-append cycle_line.next before front back))
-    ∙ told-heard (front ++ back) before
 
 -- no frame is shorter than 47 bit times
 pub few-frames : ((frame : DataFrame) → 47 ≤ wire_length frame) → (before : Stationed) (past : List TimedFrame) (free until : ℕ) (frames : List TimedFrame)
@@ -75,20 +72,20 @@ few-frames long before past free until (sent ∷ later) (next, follows) =
 
 -- the nodes behind the first part are in the window
 module _ (in_range : (node : NodeState) (at id : ℕ) → IsNode node → node_offer node at ≡ Some id → (0x100 ≤ id) × (id ≤ 0x7EF))
-    (stays : (node : NodeState) (sent : TimedFrame) → (sent.frame.identifier ≡ 0 → node.next < 2 ^ 42) → IsNode node → IsNode (after_hearing node sent))
-    (stays_in : (node : NodeState) (from until : ℕ) (sent : TimedFrame) → sent.frame.identifier ≢ 0
+    (stays : (node : NodeState) (sent : TimedFrame) → (sent.frame.identifier ≡ opening_identifier node.layout.slots → node.next < 2 ^ 42) → IsNode node → IsNode (after_hearing node sent))
+    (stays_in : (node : NodeState) (from until : ℕ) (sent : TimedFrame) → 1 < sent.frame.identifier
     → IsInWindow from until node → IsInWindow from until (after_hearing node sent))
-    (opens : (node : NodeState) (l mask : ℕ) (sent : TimedFrame) → l ≤ node.layout.window → node.layout.window ≤ 16383
-    → mask < 2 ^ slots → sent.frame ≡ trigger_frame node.next l mask
-    → (after_hearing node sent).opened ≡ Some (record { cycle = node.next; width = l; mask = mask; heard = 0 }))
-    (layout : CycleLayout) (cycle l mask : ℕ) (is_layout : IsLayout layout) (early : cycle < 2 ^ 42) (small : l ≤ layout.window) (few : mask < 2 ^ slots) where
-  -- a node that hears the trigger is in the window of that cycle
-  opened-by : (window end : ℕ) (node : NodeState) (sent : TimedFrame) → sync_start layout cycle l ≤ window → end ≤ (cycle + 1) * layout.cycle
-      → sent.frame ≡ trigger_frame cycle l mask → node.layout ≡ layout → node.next ≡ cycle → IsInWindow window end (after_hearing node sent)
-  opened-by window end node sent begun ends trigger same next =
-      let own = opens node l mask sent (subst (λ x. l ≤ x.window) (sym same) small) (subst (λ x. x.window ≤ 16383) (sym same) is_layout.window_range.below) few
-      (trigger ∙ ap (λ c. trigger_frame c l mask) (sym next)) in
-      let its : (after_hearing node sent).layout ≡ layout = layout_kept node sent ∙ same in
+    (opens : (node : NodeState) (l mask : ℕ) (sent : List TimedFrame) → IsLayout node.layout → l ≤ node.layout.window → mask < 2 ^ node.layout.slots
+    → map (λ one. one.frame) sent ≡ triggers_with node.layout.slots node.next l mask
+    → (fold after_hearing node sent).opened ≡ Some (record { cycle = node.next; width = l; mask = mask; heard = 0 }))
+    (layout : CycleLayout) (cycle l mask : ℕ) (is_layout : IsLayout layout) (early : cycle < 2 ^ 42) (small : l ≤ layout.window) (few : mask < 2 ^ layout.slots) where
+  -- a node that hears the trigger frames is in the window of that cycle
+  opened-by : (window end : ℕ) (node : NodeState) (sent : List TimedFrame) → sync_start layout cycle l ≤ window → end ≤ (cycle + 1) * layout.cycle
+      → map (λ one. one.frame) sent ≡ triggers_with layout.slots cycle l mask → node.layout ≡ layout → node.next ≡ cycle → IsInWindow window end (fold after_hearing node sent)
+  opened-by window end node sent begun ends triggers same next =
+      let own = opens node l mask sent (subst IsLayout (sym same) is_layout) (subst (λ x. l ≤ x.window) (sym same) small) (subst (λ x. mask < 2 ^ x.slots) (sym same) few)
+      (triggers ∙ ap (λ c. triggers_with layout.slots c l mask) (sym next) ∙ ap (λ x. triggers_with x.slots node.next l mask) (sym same)) in
+      let its : (fold after_hearing node sent).layout ≡ layout = layout_kept_all node sent ∙ same in
       record {
         opened = record { cycle = node.next; width = l; mask = mask; heard = 0 };
         is_open = own;
@@ -96,16 +93,16 @@ module _ (in_range : (node : NodeState) (at id : ℕ) → IsNode node → node_o
         ends = subst (λ x. end ≤ (node.next + 1) * x.cycle) (sym its) (subst (λ c. end ≤ (c + 1) * layout.cycle) (sym next) ends);
       }
 
-  pub in_window-behind : (start window end : ℕ) (nodes : List NodeState) (frames : List TimedFrame) → start < window → sync_start layout cycle l ≤ window
-      → end ≤ (cycle + 1) * layout.cycle → AreNodes layout nodes → All (λ node. node.next ≡ cycle) nodes
-      → Follows (offers_of cycle_line (announced layout start (trigger_frame cycle l mask) nodes)) [] start window frames
-      → All (IsInWindow window end) (told cycle_line (announced layout start (trigger_frame cycle l mask) nodes) frames).nodes
-      × ((told cycle_line (announced layout start (trigger_frame cycle l mask) nodes) frames).trigger ≡ None)
-  in_window-behind start window end nodes frames some begun ends are next follows =
+  pub in_window-behind : (start window end : ℕ) (nodes : List NodeState) (frames : List TimedFrame) → start + trigger_part layout ≤ window → sync_start layout cycle l ≤ window
+      → end ≤ (cycle + 1) * layout.cycle → CanBeHeard layout (triggers_with layout.slots cycle l mask) nodes → All (λ node. node.next ≡ cycle) nodes
+      → Follows (offers_of cycle_line (announced layout start (triggers_with layout.slots cycle l mask) nodes)) [] start window frames
+      → All (IsInWindow window end) (heard_by frames nodes)
+      × ((told cycle_line (announced layout start (triggers_with layout.slots cycle l mask) nodes) frames).triggers ≡ [])
+  in_window-behind start window end nodes frames some begun ends can next follows =
       All-behind in_range stays layout window (IsInWindow window end) (λ node sent other is. stays_in node window end sent other is)
-      nodes frames start cycle (trigger_frame cycle l mask) some refl are.are early next
-      (λ sent trigger. All-map (IsInWindow window end) (λ node. after_hearing node sent) nodes
-      (λ k d within. opened-by window end (get_or nodes k d) sent begun ends trigger (are.layouts k d within) (next k d within)))
+      nodes frames start (triggers_with layout.slots cycle l mask) (omega (arith, some, frames_long layout.slots cycle l mask)) can
+      (λ sent triggers. All-map (IsInWindow window end) (λ node. fold after_hearing node sent) nodes
+      (λ k d within. opened-by window end (get_or nodes k d) sent begun ends triggers (can.layouts k d within) (next k d within)))
       follows
 
 -- and so they are from any later time on
@@ -124,52 +121,45 @@ Ran-same before also after from low until high old new free a b c d ran =
     (subst (λ x. Ran cycle_line x after from until old new free) a ran)))
 
 -- what is known of the nodes and the frames when the bus has run up to the synchronous window
-pub before-window : PartLaws → ((frame : DataFrame) → 47 ≤ wire_length frame)
+pub before-window : PartLaws → ((frame : DataFrame) → 47 + 8 * length frame.bytes ≤ wire_length frame) → ((frame : DataFrame) → wire_length frame ≤ worst (length frame.bytes))
     → ((node : NodeState) (at id : ℕ) → IsNode node → node_offer node at ≡ Some id → (0x100 ≤ id) × (id ≤ 0x7EF))
-    → ((node : NodeState) (sent : TimedFrame) → (sent.frame.identifier ≡ 0 → node.next < 2 ^ 42) → IsNode node → IsNode (after_hearing node sent))
-    → ((node : NodeState) (from until : ℕ) (sent : TimedFrame) → sent.frame.identifier ≢ 0
+    → ((node : NodeState) (sent : TimedFrame) → (sent.frame.identifier ≡ opening_identifier node.layout.slots → node.next < 2 ^ 42) → IsNode node → IsNode (after_hearing node sent))
+    → ((node : NodeState) (from until : ℕ) (sent : TimedFrame) → 1 < sent.frame.identifier
     → IsInWindow from until node → IsInWindow from until (after_hearing node sent))
-    → ((node : NodeState) (l mask : ℕ) (sent : TimedFrame) → l ≤ node.layout.window → node.layout.window ≤ 16383
-    → mask < 2 ^ slots → sent.frame ≡ trigger_frame node.next l mask
-    → (after_hearing node sent).opened ≡ Some (record { cycle = node.next; width = l; mask = mask; heard = 0 }))
-    → (layout : CycleLayout) (cycle l mask : ℕ) → IsLayout layout → cycle < 2 ^ 42 → l ≤ layout.window → mask < 2 ^ slots
+    → ((node : NodeState) (l mask : ℕ) (sent : List TimedFrame) → IsLayout node.layout → l ≤ node.layout.window → mask < 2 ^ node.layout.slots
+    → map (λ one. one.frame) sent ≡ triggers_with node.layout.slots node.next l mask
+    → (fold after_hearing node sent).opened ≡ Some (record { cycle = node.next; width = l; mask = mask; heard = 0 }))
+    → (layout : CycleLayout) (cycle l mask : ℕ) → IsLayout layout → cycle < 2 ^ 42 → l ≤ layout.window → mask < 2 ^ layout.slots
     → (nodes : List NodeState) → AreNodes layout nodes → All (λ node. node.next ≡ cycle) nodes
     → (before after : Stationed) (from until : ℕ) (old new : List TimedFrame) (free : ℕ)
-    → before ≡ announced layout (cycle * layout.cycle) (trigger_frame cycle l mask) nodes → from ≡ cycle * layout.cycle
+    → before ≡ announced layout (cycle * layout.cycle) (triggers_with layout.slots cycle l mask) nodes → from ≡ cycle * layout.cycle
     → until ≡ sync_start layout cycle l → old ≡ [] → Ran cycle_line before after from until old new free
     → IsBeforeWindow layout cycle l mask nodes after.nodes new (max until free)
-before-window laws long in_range stays stays_in opens layout cycle l mask is_layout early small few nodes are next before after from until old new free a b c d first =
+before-window laws long at_most in_range stays stays_in opens layout cycle l mask is_layout early small few nodes are next before after from until old new free a b c d first =
     let start = cycle * layout.cycle in
     let window = sync_start layout cycle l in
     let end = (cycle + 1) * layout.cycle in
-    let waiting = announced layout start (trigger_frame cycle l mask) nodes in
+    let triggers = triggers_with layout.slots cycle l mask in
+    let waiting = announced layout start triggers nodes in
     let ran = Ran-same before waiting after from start until window old new free a b c d first in
     let front = ran.frames in
     let longer = add-mul cycle 1 layout.cycle in
-    let some : start < window = omega (arith, longer, small, is_layout.room) in
-    let behind = in_window-behind in_range stays stays_in opens layout cycle l mask is_layout early small few start window end nodes front some
-    (omega arith) (omega arith) are next ran.follows in
+    let room : start + trigger_part layout ≤ window = omega (arith, longer, small, is_layout.room) in
+    let can = can-be-heard layout cycle l mask at_most nodes early are.are are.layouts next in
+    let behind = in_window-behind in_range stays stays_in opens layout cycle l mask is_layout early small few start window end nodes front room
+    (omega arith) (omega arith) can next ran.follows in
     let told_of : after ≡ told cycle_line waiting front = ran.told_of in
+    let heard : after.nodes ≡ heard_by front nodes = ap (λ s. s.nodes) told_of ∙ told-heard front waiting in
     let sooner : max window (free_after start front) ≡ max until free = ap (max window) (sym ran.free_is) ∙ ap (λ n. max n free) (sym c) in
     let shown : window ≤ max until free = omega (arith, c) in
-    let sum = few-frames long waiting [] start window front ran.follows in
+    let sum = few-frames (λ frame. omega (arith, long frame)) waiting [] start window front ran.follows in
     record {
-      in_window = in_window-later window (max until free) end after.nodes shown
-          (subst (λ s. All (IsInWindow window end) s.nodes) (sym told_of) behind.0);
+      in_window = in_window-later window (max until free) end after.nodes shown (subst (All (IsInWindow window end)) (sym heard) behind.0);
       few = subst (λ fs. start + 47 * length fs ≤ max until free) (sym ran.appended) (omega (arith, sum, ran.free_is));
-      heard = ap (λ s. s.nodes) told_of ∙ told-heard front waiting ∙ ap (λ fs. heard_by fs nodes) (sym ran.appended);
+      heard = heard ∙ ap (λ fs. heard_by fs nodes) (sym ran.appended);
       whole = λ later follows.
           subst (λ fs. Follows (offers_of cycle_line waiting) [] start end (fs ++ later)) (sym ran.appended)
           (Follows-parts laws layout waiting start window end front later (omega arith) refl behind.1 ran.follows
           (subst (λ n. Follows (offers_of cycle_line (nodes_alone layout (told cycle_line waiting front).nodes)) [] n end later) (sym sooner)
           (subst (λ s. Follows (offers_of cycle_line (nodes_alone layout s.nodes)) [] (max until free) end later) told_of follows)));
     }
-
--- frames of the window behind those before it
-pub heard-later : (frames later : List TimedFrame) (nodes : List NodeState) → heard_by later (heard_by frames nodes) ≡ heard_by (frames ++ later) nodes
-heard-later frames later nodes =
-    let before : Stationed = nodes_alone any_layout nodes in
-    ap (heard_by later) (sym (told-heard frames before)) ∙ heard-parts before frames later
-  where
-    any_layout : CycleLayout
-    any_layout = record { cycle = 0; turnaround = 0; window = 0 }

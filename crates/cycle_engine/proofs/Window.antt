@@ -1,31 +1,33 @@
 -- What a cycle sends: frames of requests that end before its synchronous window, and in that window each pending slot,
 -- one after the other without a gap.
-use Rattle.std.proofs.Common.{◌≡◌, ℕ, zero, suc, ◌+◌, ◌<◌, ◌≤◌, ◌⊎◌, ◌&&◌, not, eqb, true, false, Option, Some, None, List, [], ◌∷◌, ◌++◌, length, refl, ap, sym, ◌∙◌, arith, subst, inl, inr}
+use Rattle.std.proofs.Common.{◌≡◌, ℕ, zero, suc, ◌+◌, ◌*◌, ◌<◌, ◌≤◌, ◌⊎◌, ◌&&◌, not, eqb, true, false, Option, Some, None, List, [], ◌∷◌, ◌++◌, length, map, append-nil, refl, ap, sym, ◌∙◌, arith, subst, inl, inr}
 use Rattle.std.specs.Prelude.{option_map}
 use Rattle.std.specs.Option.{option_map_or}
 use Rattle.std.specs.List.{All, AllByRecursion}
 use Rattle.std.proofs.Math.Bool.{and-true}
 use Rattle.std.proofs.lemmas.Bool.{cases_eq, cases_lt, both_ways, and_from, and_parts, not-true, not_from_false, eq-eqb, ne_eqb, cond-true, cond-false}
-use Rattle.std.proofs.lemmas.List.Elements.{All-from_recursion}
+use Rattle.std.proofs.lemmas.List.{length-map}
+use Rattle.std.proofs.lemmas.List.Elements.{All-append, All-cons, All-from_recursion, All-head, All-tail}
 use Rattle.std.proofs.lemmas.Option.{none-some, same_Some}
 use Rattle.can_frame.specs.DataFrame.{DataFrame}
 use Rattle.can_frame.specs.declared.data_frame.TimedFrame.{TimedFrame}
 use Rattle.can_frame.specs.Wire.{wire_length}
-use Rattle.cycle_layout.specs.Layout.{CycleLayout, async_open}
-use Rattle.requirement_table.specs.Slots.{contains_slot, slots}
+use Rattle.cycle_layout.specs.Layout.{CycleLayout, async_open, trigger_part}
+use Rattle.requirement_table.specs.Slots.{contains_slot, most_slots}
 use Rattle.requirement_table.specs.Instance.{Instance, bytes_of, payload, worst, worst_of}
 use Rattle.requirement_table.specs.Table.{instance_in, worst_in}
 use Rattle.requirement_table.proofs.Shared.{sum_where-same}
-use Rattle.trigger_codec.specs.Bytes.{trigger_frame}
 use Rattle.async_window.specs.declared.request.Request.{Request}
-use Rattle.bus_line.specs.Trace.{end_of, Follows, IsNext}
+use Rattle.bus_line.specs.Trace.{end_of, Follows, IsNext, free_after}
 use Rattle.requirement_table.specs.Opening.{Opening, bytes_in, width_of}
 use Rattle.node_model.specs.Opening.{first_identifier, start_of, end_of_cycle, window_start}
-use Rattle.node_model.specs.Offered.{OffersTrigger, OffersRequest, OffersSlot}
+use Rattle.node_model.specs.Offered.{OffersRequest, OffersSlot, trigger_frames}
 use Rattle.node_model.specs.Own.{was_sent}
 use Rattle.cycle_engine.specs.Cycle.{IsRequestFrame, IsSentOnce, IsSlotFrame, RunsCycle, of_slot}
 use Rattle.cycle_engine.specs.Offered.{AreAsynchronous, offered_in}
-use Rattle.cycle_engine.proofs.OneTrace.{is_asynchronous}
+use Rattle.cycle_engine.proofs.Lists.{All-from_map}
+use Rattle.cycle_engine.proofs.OneTrace.{is_asynchronous, request_id}
+use Rattle.cycle_engine.proofs.TriggerFrames.{AreLeft-all, AtOnce, NoTrigger, NoTrigger-more, NoTrigger-sent, cut-left, few_frames, frames_long, frames_short, free_after-later, low_ids}
 use Rattle.cycle_engine.proofs.Pending.{IsUnsent-from_test, is_pending, is_pending-other, is_pending-sent, pending_width, was_sent-from_unsent}
 use Rattle.cycle_engine.proofs.SlotSums.{sum_where-member, sum_where-without}
 
@@ -35,8 +37,8 @@ IsLaterFrame layout opening sent = IsRequestFrame layout opening sent ⊎ IsSlot
 
 -- these frames, after the frames `past`, send each pending slot once and no other slot
 record SendsPending (layout : CycleLayout) (opening : Opening) (past frames : List TimedFrame) : Type 0 where
-  each : (slot : ℕ) → slot < slots → is_pending layout opening past slot ≡ true → IsSentOnce layout opening frames slot
-  none : (slot : ℕ) → slot < slots → is_pending layout opening past slot ≡ false → of_slot slot frames ≡ []
+  each : (slot : ℕ) → slot < most_slots → is_pending layout opening past slot ≡ true → IsSentOnce layout opening frames slot
+  none : (slot : ℕ) → slot < most_slots → is_pending layout opening past slot ≡ false → of_slot slot frames ≡ []
   all : AllByRecursion (IsLaterFrame layout opening) frames
 
 -- what a frame's wire takes
@@ -47,12 +49,12 @@ pub record AreShort : Type 0 where
 -- what makes a cycle one in which each flagged slot has its frame and its time
 pub record IsFit (layout : CycleLayout) (opening : Opening) : Type 0 where
   pub short : AreShort
-  pub present : (slot : ℕ) → slot < slots → contains_slot opening.mask slot ≡ true → (i : Instance) × (instance_in opening.placed slot opening.cycle ≡ Some i)
-  pub room : start_of layout opening + 135 + width_of opening ≤ end_of_cycle layout opening
+  pub present : (slot : ℕ) → slot < most_slots → contains_slot opening.mask slot ≡ true → (i : Instance) × (instance_in opening.placed slot opening.cycle ≡ Some i)
+  pub room : start_of layout opening + trigger_part layout + width_of opening ≤ end_of_cycle layout opening
 
 -- a pending slot is offered at any time in the window
 offers_pending : (layout : CycleLayout) (opening : Opening) (past : List TimedFrame) (slot at : ℕ) → IsFit layout opening
-    → slot < slots → is_pending layout opening past slot ≡ true → window_start layout opening ≤ at → at < end_of_cycle layout opening
+    → slot < most_slots → is_pending layout opening past slot ≡ true → window_start layout opening ≤ at → at < end_of_cycle layout opening
     → (frame : DataFrame) × OffersSlot layout opening past at frame slot
 offers_pending layout opening past slot at fit known pending late early =
     let parts = and_parts (contains_slot opening.mask slot) _ pending in
@@ -78,21 +80,21 @@ pending-offered layout opening past at slot frame o =
 
 -- a pending slot takes at least 55 bit times of the width
 pending_width-positive : (layout : CycleLayout) (opening : Opening) (past : List TimedFrame) (slot : ℕ) → IsFit layout opening
-    → slot < slots → is_pending layout opening past slot ≡ true → 55 ≤ pending_width layout opening past
+    → slot < most_slots → is_pending layout opening past slot ≡ true → 55 ≤ pending_width layout opening past
 pending_width-positive layout opening past slot fit known pending =
     let flagged = (and_parts (contains_slot opening.mask slot) _ pending).0 in
     let p = fit.present slot known flagged in
     let cost : worst_in opening.placed opening.cycle slot ≡ worst_of p.0 = ap (λ o. option_map_or worst_of o 0) p.1 in
-    let member = sum_where-member slots slot (is_pending layout opening past) (worst_in opening.placed opening.cycle) known pending in
+    let member = sum_where-member most_slots slot (is_pending layout opening past) (worst_in opening.placed opening.cycle) known pending in
     omega arith
 
 -- one slot less
 pending_width-sent : (layout : CycleLayout) (opening : Opening) (past : List TimedFrame) (sent : TimedFrame) (slot : ℕ)
-    → slot < slots → is_pending layout opening past slot ≡ true
+    → slot < most_slots → is_pending layout opening past slot ≡ true
     → sent.frame.identifier ≡ first_identifier + slot → start_of layout opening ≤ sent.start
     → pending_width layout opening (past ++ sent ∷ []) + worst_in opening.placed opening.cycle slot ≡ pending_width layout opening past
 pending_width-sent layout opening past sent slot known pending same late =
-    sum_where-without slots slot (is_pending layout opening past) (is_pending layout opening (past ++ sent ∷ [])) (worst_in opening.placed opening.cycle) known pending
+    sum_where-without most_slots slot (is_pending layout opening past) (is_pending layout opening (past ++ sent ∷ [])) (worst_in opening.placed opening.cycle) known pending
     (is_pending-sent layout opening past sent slot same late)
     (λ x _ ne. is_pending-other layout opening past sent x (λ same_x. ne (omega arith)))
 
@@ -210,9 +212,9 @@ joined layout opening past sent slot later offer pending late ends rest =
 joined-asynchronous : (layout : CycleLayout) (opening : Opening) (past : List TimedFrame) (sent : TimedFrame) (later : List TimedFrame)
     → IsRequestFrame layout opening sent → SendsPending layout opening (past ++ sent ∷ []) later → SendsPending layout opening past (sent ∷ later)
 joined-asynchronous layout opening past sent later frame rest =
-    let other : (x : ℕ) → x < slots → sent.frame.identifier ≡ first_identifier + x → ⊥ =
-    λ x known same. let least = frame.identifier in let all : slots ≡ 40 = refl in omega arith in
-    let same : (x : ℕ) → x < slots → is_pending layout opening (past ++ sent ∷ []) x ≡ is_pending layout opening past x =
+    let other : (x : ℕ) → x < most_slots → sent.frame.identifier ≡ first_identifier + x → ⊥ =
+    λ x known same. let least = frame.identifier in let all : most_slots ≡ 96 = refl in omega arith in
+    let same : (x : ℕ) → x < most_slots → is_pending layout opening (past ++ sent ∷ []) x ≡ is_pending layout opening past x =
     λ x known. is_pending-other layout opening past sent x (other x known) in
     record {
       each = λ x known is_pending_x.
@@ -233,18 +235,18 @@ joined-asynchronous layout opening past sent later frame rest =
 pending_width-other : (layout : CycleLayout) (opening : Opening) (past : List TimedFrame) (sent : TimedFrame) → 0x200 ≤ sent.frame.identifier
     → pending_width layout opening (past ++ sent ∷ []) ≡ pending_width layout opening past
 pending_width-other layout opening past sent least =
-    sum_where-same slots (is_pending layout opening (past ++ sent ∷ [])) (is_pending layout opening past) (worst_in opening.placed opening.cycle)
-    (λ x known. is_pending-other layout opening past sent x (λ same. let all : slots ≡ 40 = refl in omega arith))
+    sum_where-same most_slots (is_pending layout opening (past ++ sent ∷ [])) (is_pending layout opening past) (worst_in opening.placed opening.cycle)
+    (λ x known. is_pending-other layout opening past sent x (λ same. let all : most_slots ≡ 96 = refl in omega arith))
 
--- the frames behind the trigger: from the time `now` on, at which the bus is free and the synchronous window has begun,
+-- the frames behind the trigger frames: from the time `now` on, at which the bus is free and the synchronous window has begun,
 -- the pending slots have room until the cycle's end, and so each is sent by then
 sends_pending : (layout : CycleLayout) (requests : List Request) (opening : Opening) (past : List TimedFrame) (free now : ℕ) (frames : List TimedFrame)
-    → IsFit layout opening → AreAsynchronous requests → start_of layout opening < free → free ≤ now → window_start layout opening ≤ now
+    → IsFit layout opening → AreAsynchronous requests → NoTrigger layout opening past → start_of layout opening ≤ free → free ≤ now → window_start layout opening ≤ now
     → (now ≡ free) ⊎ (now ≡ window_start layout opening)
     → now + pending_width layout opening past ≤ end_of_cycle layout opening
     → Follows (offered_in layout requests opening) past free (end_of_cycle layout opening) frames
     → SendsPending layout opening past frames
-sends_pending layout requests opening past free now [] fit asynchronous begun is_free in_window which room nothing = record {
+sends_pending layout requests opening past free now [] fit asynchronous no_trigger begun is_free in_window which room nothing = record {
   each = λ slot known pending.
       let wide = pending_width-positive layout opening past slot fit known pending in
       let offer = offers_pending layout opening past slot now fit known pending in_window (omega arith) in
@@ -252,12 +254,12 @@ sends_pending layout requests opening past free now [] fit asynchronous begun is
   none = λ slot known not_pending. refl;
   all = tt;
 }
-sends_pending layout requests opening past free now (sent ∷ later) fit asynchronous begun is_free in_window which room follows =
+sends_pending layout requests opening past free now (sent ∷ later) fit asynchronous no_trigger begun is_free in_window which room follows =
     let whole = follows.0.whole in
     let some_time = fit.short.some_time sent.frame in
     let later_start = follows.0.when_free in
     elim follows.0.least.offered as (λ _. SendsPending layout opening past (sent ∷ later)) [
-      | inl trigger ↦ absurd (let at = trigger.time in omega arith)
+      | inl trigger ↦ absurd (no_trigger sent.start sent.frame trigger)
       | inr choice ↦ elim choice as (λ _. SendsPending layout opening past (sent ∷ later)) [
         | inl request ↦
             let frame = request_frame layout requests opening past sent.start sent.frame fit.short asynchronous request in
@@ -265,7 +267,7 @@ sends_pending layout requests opening past free now (sent ∷ later) fit asynchr
             let at_window : now ≡ window_start layout opening = elim which [ inl e ↦ absurd (omega arith) | inr e ↦ e ] in
             let same = pending_width-other layout opening past sent frame.identifier in
             let rest = sends_pending layout requests opening (past ++ sent ∷ []) (end_of sent) now later fit asynchronous
-            (omega arith) (omega arith) in_window (inr at_window) (omega arith) follows.1 in
+            (NoTrigger-more layout opening past (sent ∷ []) no_trigger) (omega arith) (omega arith) in_window (inr at_window) (omega arith) follows.1 in
             joined-asynchronous layout opening past sent later
             (record { identifier = frame.identifier; after = frame.after; before = (let b = frame.before in omega arith) }) rest
         | inr of_slot ↦
@@ -278,40 +280,84 @@ sends_pending layout requests opening past free now (sent ∷ later) fit asynchr
             let less = pending_width-sent layout opening past sent slot offer.known pending offer.identifier late in
             let in_time = slot-in_time opening slot sent.frame fit.short offer.bytes in
             let rest = sends_pending layout requests opening (past ++ sent ∷ []) (end_of sent) (end_of sent) later fit asynchronous
-            (omega arith) (omega arith) (omega arith) (inl refl) (omega arith) follows.1 in
+            (NoTrigger-more layout opening past (sent ∷ []) no_trigger) (omega arith) (omega arith) (omega arith) (inl refl) (omega arith) follows.1 in
             joined layout opening past sent slot later offer pending late (omega arith) rest
       ]
     ]
 
--- a slot of which nothing was sent in the cycle is pending where it is flagged
-is_pending-at_start : (layout : CycleLayout) (opening : Opening) (past : List TimedFrame) (sent : TimedFrame) (slot : ℕ)
-    → All (λ x. x.start < start_of layout opening) past → sent.frame.identifier ≡ 0
-    → is_pending layout opening (past ++ sent ∷ []) slot ≡ contains_slot opening.mask slot
-is_pending-at_start layout opening past sent slot before trigger =
-    let unsent : was_sent layout opening past slot ≡ false = was_sent-from_unsent layout opening past slot (λ k d within _. before k d within) in
-    is_pending-other layout opening past sent slot (λ same. omega arith)
-    ∙ ap (λ b. contains_slot opening.mask slot && not b) unsent ∙ and-true _
+-- behind trigger frames that are sent first, a slot is pending where it is flagged
+is_pending-at_start : (layout : CycleLayout) (opening : Opening) (past sent : List TimedFrame) (slot : ℕ)
+    → All (λ x. x.start < start_of layout opening) past → All (λ x. x.frame.identifier ≤ 1) sent
+    → is_pending layout opening (past ++ sent) slot ≡ contains_slot opening.mask slot
+is_pending-at_start layout opening past sent slot before low =
+    let unsent : was_sent layout opening (past ++ sent) slot ≡ false = was_sent-from_unsent layout opening (past ++ sent) slot
+    (All-append (λ x. x.frame.identifier ≡ first_identifier + slot → x.start < start_of layout opening) past sent
+    (λ k d within _. before k d within) (λ k d within same. absurd (omega (arith, same, low k d within)))) in
+    ap (λ b. contains_slot opening.mask slot && not b) unsent ∙ and-true _
 
--- the first frame of a cycle is its trigger, at the cycle's start
-first_is_trigger : (layout : CycleLayout) (requests : List Request) (opening : Opening) (past : List TimedFrame) (sent : TimedFrame) → IsFit layout opening
-    → IsNext (offered_in layout requests opening) past (start_of layout opening) (end_of_cycle layout opening) sent
-    → (sent.start ≡ start_of layout opening) × (sent.frame ≡ trigger_frame opening.cycle (width_of opening) opening.mask)
-first_is_trigger layout requests opening past sent fit next =
-    let offer : OffersTrigger layout opening (start_of layout opening) (trigger_frame opening.cycle (width_of opening) opening.mask) =
-    record { time = refl; trigger = refl } in
-    let room = fit.room in
-    let when_free = next.when_free in
-    let at_once : sent.start ≤ start_of layout opening = elim (cases_lt (start_of layout opening) sent.start) [
-      | inl gap ↦ absurd (next.first (start_of layout opening) _ (omega arith) gap (inl offer))
-      | inr no_gap ↦ no_gap
-    ] in
-    elim next.least.offered [
-      | inl trigger ↦ (trigger.time, trigger.trigger)
-      | inr choice ↦ elim choice [
-        | inl request ↦ let late = request.may_start.allowed.opened in absurd (omega arith)
-        | inr of_slot ↦ let late = of_slot.1.late_enough in absurd (omega arith)
-      ]
-    ]
+-- when the trigger frames end, one at once behind the other
+ends-by : (free : ℕ) (sent : List TimedFrame) → AtOnce free sent → All (λ x. wire_length x.frame ≤ 135) sent → free_after free sent ≤ free + length sent * 135
+ends-by free [] at_once short = omega arith
+ends-by free (sent ∷ later) (starts, at_once) short =
+    let long = All-head (λ x. wire_length x.frame ≤ 135) sent later short in
+    omega (arith, starts.start, starts.whole, long, ends-by (end_of sent) later at_once (All-tail (λ x. wire_length x.frame ≤ 135) sent later short))
+
+each-ends : (free : ℕ) (sent : List TimedFrame) → AtOnce free sent → All (λ x. end_of x ≤ free_after free sent) sent
+each-ends free [] at_once = λ k d within. absurd (omega arith)
+each-ends free (sent ∷ later) (starts, at_once) =
+    All-cons (λ x. end_of x ≤ free_after (end_of sent) later) sent later (free_after-later (end_of sent) later at_once) (each-ends (end_of sent) later at_once)
+
+-- the second trigger frame starts at once behind the first one
+second-starts : (free : ℕ) (sent : TimedFrame) (later : List TimedFrame) → AtOnce free (sent ∷ later) → length later ≤ 1 → All (λ x. x.start ≡ end_of sent) later
+second-starts free sent [] at_once few = λ k d within. absurd (omega arith)
+second-starts free sent (second ∷ []) (starts, at_once) few = All-cons (λ x. x.start ≡ end_of sent) second [] at_once.0.start (λ k d within. absurd (omega arith))
+second-starts free sent (second ∷ third ∷ later) at_once few = absurd (omega arith)
+
+-- what holds of the frames that are sent
+of-sent : (P : DataFrame → Type 0) (sent : List TimedFrame) (frames : List DataFrame) → map (λ s. s.frame) sent ≡ frames → All P frames → All (λ s. P s.frame) sent
+of-sent P sent frames are all = All-from_map (λ s. s.frame) P sent (subst (All P) (sym are) all)
+
+-- what a cycle sends, by its frames behind the trigger frames
+cycle-of : (layout : CycleLayout) (requests : List Request) (opening : Opening) (past frames : List TimedFrame) → IsFit layout opening → AreAsynchronous requests
+    → All (λ x. x.start < start_of layout opening) past
+    → (sent later : List TimedFrame) → frames ≡ sent ++ later → map (λ s. s.frame) sent ≡ trigger_frames layout opening → AtOnce (start_of layout opening) sent
+    → NoTrigger layout opening (past ++ sent)
+    → Follows (offered_in layout requests opening) (past ++ sent) (free_after (start_of layout opening) sent) (end_of_cycle layout opening) later
+    → RunsCycle layout opening frames
+cycle-of layout requests opening past frames fit asynchronous before [] later split are at_once no_trigger follows = absurd (cc)
+cycle-of layout requests opening past frames fit asynchronous before (trigger ∷ second) later split are at_once no_trigger follows =
+    let sent : List TimedFrame = trigger ∷ second in
+    let start : ℕ = start_of layout opening in
+    let free : ℕ = free_after start sent in
+    let low = of-sent (λ f. f.identifier ≤ 1) sent (trigger_frames layout opening) are (low_ids layout.slots opening.cycle (width_of opening) opening.mask) in
+    let short = of-sent (λ f. wire_length f ≤ 135) sent (trigger_frames layout opening) are (frames_short layout.slots opening.cycle (width_of opening) opening.mask fit.short.in_time) in
+    let long : length sent ≡ length (trigger_frames layout opening) = sym (length-map sent (λ s. s.frame)) ∙ ap length are in
+    let few = few_frames layout.slots opening.cycle (width_of opening) opening.mask in
+    let room : free + width_of opening ≤ end_of_cycle layout opening =
+    omega (arith, ends-by start sent at_once short, ap (λ n. n * 135) long, frames_long layout.slots opening.cycle (width_of opening) opening.mask, fit.room) in
+    let ended : All (λ x. end_of x ≤ window_start layout opening) sent = λ k d within. omega (arith, each-ends start sent at_once k d within, room) in
+    let pending : (slot : ℕ) → is_pending layout opening (past ++ sent) slot ≡ contains_slot opening.mask slot =
+    λ slot. is_pending-at_start layout opening past sent slot before low in
+    let width : pending_width layout opening (past ++ sent) ≡ width_of opening =
+    sum_where-same most_slots (is_pending layout opening (past ++ sent)) (contains_slot opening.mask) (worst_in opening.placed opening.cycle) (λ slot _. pending slot) in
+    let late : start ≤ free = free_after-later start sent at_once in
+    let window = sends_pending layout requests opening (past ++ sent) free (window_start layout opening) later fit asynchronous no_trigger
+    late (omega (arith, room)) (omega arith) (inr refl) (omega (arith, width, room)) follows in
+    record {
+      trigger = trigger;
+      second = second;
+      later = later;
+      all_frames = split;
+      starts = at_once.0.start;
+      is_trigger = cc;
+      ends = All-head (λ x. end_of x ≤ window_start layout opening) trigger second ended;
+      are_triggers = are;
+      at_once = second-starts start trigger second at_once (omega (arith, long, few));
+      second_ends = All-tail (λ x. end_of x ≤ window_start layout opening) trigger second ended;
+      each = λ slot known flagged. window.each slot known (pending slot ∙ flagged);
+      none = λ slot known not_flagged. window.none slot known (pending slot ∙ not_flagged);
+      all = All-from_recursion (IsLaterFrame layout opening) later window.all;
+    }
 
 -- what a cycle sends
 pub runs_cycle : (layout : CycleLayout) (requests : List Request) (opening : Opening) (past frames : List TimedFrame) → IsFit layout opening
@@ -319,33 +365,12 @@ pub runs_cycle : (layout : CycleLayout) (requests : List Request) (opening : Ope
     → All (λ x. x.start < start_of layout opening) past
     → Follows (offered_in layout requests opening) past (start_of layout opening) (end_of_cycle layout opening) frames
     → RunsCycle layout opening frames
-runs_cycle layout requests opening past [] fit asynchronous before nothing =
-    let room = fit.room in
-    absurd (nothing (start_of layout opening) _ (omega arith) (omega arith) (inl (record { time = refl; trigger = refl })))
-runs_cycle layout requests opening past (sent ∷ later) fit asynchronous before follows =
-    let first = first_is_trigger layout requests opening past sent fit follows.0 in
-    let some_time = fit.short.some_time sent.frame in
-    let few : length sent.frame.bytes ≡ 8 = ap (λ f. length f.bytes) first.1 in
-    let short = fit.short.in_time sent.frame in
-    let in_time : wire_length sent.frame ≤ 135 = omega arith in
-    let no_slot : sent.frame.identifier ≡ 0 = ap (λ f. f.identifier) first.1 in
-    let whole = follows.0.whole in
-    let room = fit.room in
-    let starts = first.0 in
-    let pending : (slot : ℕ) → is_pending layout opening (past ++ sent ∷ []) slot ≡ contains_slot opening.mask slot =
-    λ slot. is_pending-at_start layout opening past sent slot before no_slot in
-    let width : pending_width layout opening (past ++ sent ∷ []) ≡ width_of opening =
-    sum_where-same slots (is_pending layout opening (past ++ sent ∷ [])) (contains_slot opening.mask) (worst_in opening.placed opening.cycle) (λ slot _. pending slot) in
-    let window = sends_pending layout requests opening (past ++ sent ∷ []) (end_of sent) (window_start layout opening) later fit asynchronous
-    (omega arith) (omega arith) (omega arith) (inr refl) (omega arith) follows.1 in
-    record {
-      trigger = sent;
-      later = later;
-      all_frames = refl;
-      starts = first.0;
-      is_trigger = first.1;
-      ends = omega arith;
-      each = λ slot known flagged. window.each slot known (pending slot ∙ flagged);
-      none = λ slot known not_flagged. window.none slot known (pending slot ∙ not_flagged);
-      all = All-from_recursion (IsLaterFrame layout opening) later window.all;
-    }
+runs_cycle layout requests opening past frames fit asynchronous before follows =
+    let high : (earlier : List TimedFrame) (at : ℕ) (other : DataFrame) → OffersRequest layout requests opening earlier at other → 1 < other.identifier =
+    λ earlier at other request. omega (arith, request_id layout requests asynchronous opening earlier at other request) in
+    let short = frames_short layout.slots opening.cycle (width_of opening) opening.mask fit.short.in_time in
+    let long = frames_long layout.slots opening.cycle (width_of opening) opening.mask in
+    let cut = cut-left layout opening requests high past [] (trigger_frames layout opening) (start_of layout opening) (end_of_cycle layout opening) frames
+    (AreLeft-all layout opening past before) (omega arith) (omega (arith, long)) (omega (arith, fit.room)) short
+    (subst (λ front. Follows (offered_in layout requests opening) front (start_of layout opening) (end_of_cycle layout opening) frames) (sym (append-nil past)) follows) in
+    cycle-of layout requests opening past frames fit asynchronous before cut.sent cut.later cut.split cut.are cut.at_once (NoTrigger-sent layout opening past cut.sent cut.sofar) cut.follows

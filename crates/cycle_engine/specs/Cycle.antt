@@ -1,15 +1,16 @@
 -- What an opened cycle sends on the bus, behind the cycles before it. Times are bit times.
 use Rattle.std.specs.Prelude.{◌≡◌, ℕ, ◌+◌, ◌/◌, ◌<◌, ◌≤◌, ◌⊎◌, ◌==◌}
-use Rattle.std.specs.Prelude.{true, false, List, [], ◌∷◌, All, filter, Some, IsSome}
+use Rattle.std.specs.Prelude.{true, false, List, [], ◌∷◌, ◌++◌, All, filter, map, Some, IsSome}
 use Rattle.can_frame.specs.declared.data_frame.TimedFrame.{TimedFrame}
 use Rattle.cycle_layout.specs.Layout.{CycleLayout, async_open}
-use Rattle.requirement_table.specs.Slots.{contains_slot, slots}
+use Rattle.requirement_table.specs.Slots.{contains_slot, most_slots}
 use Rattle.requirement_table.specs.Table.{instance_in}
 use Rattle.trigger_codec.specs.Bytes.{trigger_frame}
 use Rattle.async_window.specs.declared.request.Request.{Request}
 use Rattle.bus_line.specs.Trace.{Follows, end_of}
 use Rattle.requirement_table.specs.Opening.{Opening, bytes_in, width_of}
 use Rattle.node_model.specs.Opening.{first_identifier, start_of, end_of_cycle, window_start}
+use Rattle.node_model.specs.Offered.{trigger_frames}
 use Rattle.cycle_engine.specs.Offered.{IsCanTrace, offered_in}
 
 -- the cycle in which a frame starts
@@ -37,31 +38,35 @@ pub record IsSentOnce (layout : CycleLayout) (opening : Opening) (frames : List 
 -- a frame of a flagged slot, in the cycle's synchronous window
 pub record IsSlotFrame (layout : CycleLayout) (opening : Opening) (sent : TimedFrame) : Type 0 where
   pub slot : ℕ
-  pub known : slot < slots
+  pub known : slot < most_slots
   pub flagged : contains_slot opening.mask slot ≡ true
   pub identifier : sent.frame.identifier ≡ first_identifier + slot
   pub after : window_start layout opening ≤ sent.start
   pub before : end_of sent ≤ end_of_cycle layout opening
 
--- a frame of a request, within the cycle's asynchronous window: it touches neither the trigger's time nor the
--- synchronous window
+-- a frame of a request, within the cycle's asynchronous window: it touches neither the trigger part nor the synchronous
+-- window
 pub record IsRequestFrame (layout : CycleLayout) (opening : Opening) (sent : TimedFrame) : Type 0 where
   pub identifier : 0x200 ≤ sent.frame.identifier
   pub after : async_open layout opening.cycle ≤ sent.start
   pub before : end_of sent ≤ window_start layout opening
 
--- the frames of a cycle: its trigger at its start, ended before the synchronous window; behind it only frames of
--- requests in the asynchronous window and frames of flagged slots in the synchronous window, and of each flagged slot
--- exactly one
+-- the frames of a cycle: its trigger frames, the first at its start and the second, where there is one, at once behind
+-- that, ended before the synchronous window; behind them only frames of requests in the asynchronous window and frames
+-- of flagged slots in the synchronous window, and of each flagged slot exactly one
 pub record RunsCycle (layout : CycleLayout) (opening : Opening) (frames : List TimedFrame) : Type 0 where
   pub trigger : TimedFrame
+  pub second : List TimedFrame
   pub later : List TimedFrame
-  pub all_frames : frames ≡ trigger ∷ later
+  pub all_frames : frames ≡ trigger ∷ (second ++ later)
   pub starts : trigger.start ≡ start_of layout opening
   pub is_trigger : trigger.frame ≡ trigger_frame opening.cycle (width_of opening) opening.mask
   pub ends : end_of trigger ≤ window_start layout opening
-  pub each : (slot : ℕ) → slot < slots → contains_slot opening.mask slot ≡ true → IsSentOnce layout opening later slot
-  pub none : (slot : ℕ) → slot < slots → contains_slot opening.mask slot ≡ false → of_slot slot later ≡ []
+  pub are_triggers : map (λ sent. sent.frame) (trigger ∷ second) ≡ trigger_frames layout opening
+  pub at_once : All (λ sent. sent.start ≡ end_of trigger) second
+  pub second_ends : All (λ sent. end_of sent ≤ window_start layout opening) second
+  pub each : (slot : ℕ) → slot < most_slots → contains_slot opening.mask slot ≡ true → IsSentOnce layout opening later slot
+  pub none : (slot : ℕ) → slot < most_slots → contains_slot opening.mask slot ≡ false → of_slot slot later ≡ []
   pub all : All (λ sent. IsRequestFrame layout opening sent ⊎ IsSlotFrame layout opening sent) later
 
 -- in each of the opened cycles the frames of the trace are those of the cycle
@@ -72,7 +77,7 @@ RunsCycles layout openings trace =
 -- each flagged slot has an instance that may be sent in the cycle, and together they fit into the largest synchronous
 -- window
 pub record FitsWindow (layout : CycleLayout) (opening : Opening) : Type 0 where
-  pub present : (slot : ℕ) → slot < slots → contains_slot opening.mask slot ≡ true
+  pub present : (slot : ℕ) → slot < most_slots → contains_slot opening.mask slot ≡ true
       → IsSome (instance_in opening.placed slot opening.cycle)
   pub width : width_of opening ≤ layout.window
 

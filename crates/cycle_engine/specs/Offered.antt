@@ -7,11 +7,11 @@ use Rattle.bus_line.specs.Trace.{IsTrace, Offers}
 use Rattle.requirement_table.specs.Opening.{Opening}
 use Rattle.node_model.specs.Offered.{OffersTrigger, OffersRequest, OffersSlot}
 
--- what is offered in one opened cycle: its trigger, the requests that may start in its asynchronous window, and the
--- frames of its flagged slots in its synchronous window
+-- what is offered in one opened cycle: its trigger frames, the requests that may start in its asynchronous window, and
+-- the frames of its flagged slots in its synchronous window
 abbrev pub offered_in : CycleLayout → List Request → Opening → Offers
 offered_in layout requests opening past at frame =
-    OffersTrigger layout opening at frame
+    OffersTrigger layout opening past at frame
     ⊎ (OffersRequest layout requests opening past at frame
     ⊎ ((slot : ℕ) × OffersSlot layout opening past at frame slot))
 

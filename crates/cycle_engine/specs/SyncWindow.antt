@@ -1,17 +1,17 @@
 -- A synchronous window: the nodes are asked once for the frames that they are to send in it, and these leave in the
 -- order of their slots.
-use Rattle.std.specs.Prelude.{◌≡◌, ◌≢◌, ℕ, ◌+◌, ◌*◌, ◌≤◌, nat_lt, if◌then◌else◌, List, [], ◌∷◌, ◌++◌}
+use Rattle.std.specs.Prelude.{◌≡◌, ℕ, ◌+◌, ◌*◌, ◌<◌, ◌≤◌, nat_lt, if◌then◌else◌, List, [], ◌∷◌, ◌++◌}
 use Rattle.std.specs.Prelude.{All, filter_map, length, Option, None, Some}
 use Rattle.std.specs.List.{range_with_len}
 use Rattle.can_frame.specs.DataFrame.{DataFrame}
 use Rattle.can_frame.specs.Wire.{wire_length}
 use Rattle.can_frame.specs.declared.data_frame.TimedFrame.{TimedFrame}
 use Rattle.cycle_layout.specs.Layout.{CycleLayout}
-use Rattle.requirement_table.specs.Slots.{contains_slot, slots}
-use Rattle.trigger_codec.specs.Bytes.{trigger_frame}
+use Rattle.requirement_table.specs.Slots.{contains_slot, most_slots}
 use Rattle.bus_line.specs.Trace.{Follows}
 use Rattle.bus_line.specs.Stations.{offers_of}
 use Rattle.node_model.specs.Node.{NodeState}
+use Rattle.trigger_codec.specs.Bytes.{triggers_with}
 use Rattle.node_model.specs.Window.{IsInWindow, due_frame, is_due_slot}
 use Rattle.cycle_engine.specs.Nodes.{heard_by}
 use Rattle.cycle_engine.specs.Stations.{Stationed, announced, cycle_line}
@@ -24,7 +24,7 @@ due_by (node ∷ later) slot = if is_due_slot node slot then Some (due_frame nod
 
 -- what a function gives of the slots, in their order
 unfoldable pub by_slots : (ℕ → Option DataFrame) → List DataFrame
-by_slots given = filter_map given (range_with_len 0 slots)
+by_slots given = filter_map given (range_with_len 0 most_slots)
 
 -- the frames that nodes are to send, in the order of their slots
 abbrev pub due_frames : List NodeState → List DataFrame
@@ -44,16 +44,16 @@ back_to_back [] at until = []
 back_to_back (frame ∷ later) at until =
     if nat_lt at until then sent_at at frame ∷ back_to_back later (at + wire_length frame) until else []
 
--- the nodes without a trigger
+-- the nodes without trigger frames
 abbrev pub nodes_alone : CycleLayout → List NodeState → Stationed
-nodes_alone layout nodes = record { layout = layout; trigger = None; nodes = nodes }
+nodes_alone layout nodes = record { layout = layout; triggers = []; nodes = nodes }
 
 -- what arbitration decides between the nodes from one time to another was put behind `old`, and the nodes heard it
 pub record IsSentBy (before after : List NodeState) (from until : ℕ) (old new : List TimedFrame) : Type 0 where
   pub frames : List TimedFrame
   pub appended : new ≡ old ++ frames
   pub heard : after ≡ heard_by frames before
-  pub no_trigger : All (λ sent. sent.frame.identifier ≢ 0) frames
+  pub no_trigger : All (λ sent. 1 < sent.frame.identifier) frames
   pub follows : (layout : CycleLayout) → Follows (offers_of cycle_line (nodes_alone layout before)) [] from until frames
 
 -- a cycle has run up to its synchronous window: these frames were sent and heard, from the time `from` on the nodes are
@@ -65,5 +65,5 @@ pub record IsBeforeWindow (layout : CycleLayout) (cycle l mask : ℕ) (before af
   pub heard : after ≡ heard_by frames before
   pub whole : (later : List TimedFrame)
       → Follows (offers_of cycle_line (nodes_alone layout after)) [] from ((cycle + 1) * layout.cycle) later
-      → Follows (offers_of cycle_line (announced layout (cycle * layout.cycle) (trigger_frame cycle l mask) before))
+      → Follows (offers_of cycle_line (announced layout (cycle * layout.cycle) (triggers_with layout.slots cycle l mask) before))
       [] (cycle * layout.cycle) ((cycle + 1) * layout.cycle) (frames ++ later)

@@ -19,24 +19,26 @@ use node_model::laws::{hears_a_cycle, offers_in_range, offers_its_part, stays_a_
 use requirement_table::Order;
 use std::alloc::{AllocError, Global};
 
-/// Runs one cycle on the bus: the nodes learn the order's list, where there is one, the master sends the trigger, and
-/// the nodes send what they are to send.
+/// Runs one cycle on the bus: the nodes learn the order's list, where there is one, the master sends the trigger frames,
+/// and the nodes send what they are to send.
 ///
 /// The order's cycle is the nodes' next one, below 2^42. `l` is the sum of the worst lengths of the flagged slots, and
-/// at most the largest synchronous window. A list that is learned is well placed. Of each flagged slot some node knows,
-/// once the list is learnt, an instance that may be sent in the cycle. All memory is taken first: after an error the
-/// nodes are as before, and the call may be made again.
+/// at most the largest synchronous window. The flagged slots are below the layout's number of slots. A list that is
+/// learned is well placed. Of each flagged slot some node knows, once the list is learnt, an instance that may be sent in
+/// the cycle. All memory is taken first: after an error the nodes are as before, and the call may be made again.
 pub fn run_cycle(alloc: Global, order: &Order, nodes: &mut Nodes) -> Result<Segment, AllocError>
     requires cycle { order.now.cycle < 2 ^ 42 }
     requires next { All (λ node. node.next ≡ order.now.cycle) (states_of nodes.old.nodes) }
     requires learned { IfSome order.now.learned IsWellPlaced }
     requires window { order.now.l ≤ nodes.old.layout.window }
+    requires slots { order.now.mask < 2 ^ nodes.old.layout.slots }
     // The nodes have learnt the list, then heard the frames of the segment, in their order, and nothing else.
     ensures layout { nodes.new.layout ≡ nodes.old.layout }
     ensures heard { IfOk result (λ segment. states_of nodes.new.nodes
         ≡ heard_by segment (learnt_by order.now.learned (states_of nodes.old.nodes))) }
     ensures next { OnOk result (All (λ node. node.next ≡ order.now.cycle + 1) (states_of nodes.new.nodes)) }
     ensures memory { OnErr result (states_of nodes.new.nodes ≡ states_of nodes.old.nodes) }
+    ensures spare { KeepSpare nodes.old.nodes nodes.new.nodes }
     // The segment is the part of the CAN trace in the order's cycle, whatever bus the nodes stand for.
     ensures runs { IfOk result
         (λ segment. (owners : List Owner) (requests : List Request) (placed : List Placed) (past : List TimedFrame)
@@ -66,6 +68,7 @@ pub fn run_cycle_in(order: &Order, nodes: &mut Nodes, segment: &mut Segment)
     requires next { All (λ node. node.next ≡ order.now.cycle) (states_of nodes.old.nodes) }
     requires learned { IfSome order.now.learned IsWellPlaced }
     requires window { order.now.l ≤ nodes.old.layout.window }
+    requires slots { order.now.mask < 2 ^ nodes.old.layout.slots }
     requires spare { CanLearn order.now.learned nodes.old.nodes }
     ensures layout { nodes.new.layout ≡ nodes.old.layout }
     ensures heard { states_of nodes.new.nodes

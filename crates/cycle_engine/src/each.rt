@@ -3,11 +3,11 @@
 ghost use Rattle.std.specs.Prelude.{◌≡◌, ◌≢◌, ℕ, ◌+◌, ◌^◌, ◌<◌, ◌≤◌, ◌++◌};
 ghost use Rattle.std.specs.Prelude.{Some, All, AllPairs, Contains, IfSome, IsSome, OnOk, is_some, length, map, true};
 ghost use Rattle.arbitration.specs.Arbitration.{AreDistinct};
-ghost use Rattle.requirement_table.specs.Slots.{contains_slot, slots};
+ghost use Rattle.requirement_table.specs.Slots.{contains_slot, most_slots};
 ghost use Rattle.requirement_table.specs.Table.{IsWellPlaced};
-ghost use Rattle.trigger_codec.specs.Bytes.{trigger_of};
+ghost use Rattle.trigger_codec.specs.Bytes.{second_of, trigger_of};
 ghost use Rattle.bus_line.specs.Stations.{IsWake, sooner};
-ghost use Rattle.node_model.specs.Node.{IsNode, learnt, node_offer};
+ghost use Rattle.node_model.specs.Node.{IsNode, learnt, node_offer, opening_identifier};
 ghost use Rattle.node_model.specs.Own.{AreApart, counting};
 ghost use Rattle.node_model.specs.Window.{AreOfSlots};
 ghost use Rattle.cycle_engine.specs.Nodes.{HaveSpare, KeepSpare, heard_by, left_in, spares_of, states_of};
@@ -21,7 +21,12 @@ use node_model::Node;
 use node_model::laws::{hears_a_request, nodes_are_apart};
 use requirement_table::{Mask, Placed};
 use std::alloc::{AllocError, Global};
-use trigger_codec::{TRIGGER_IDENTIFIER, Trigger, decode};
+use trigger_codec::{
+    SECOND_IDENTIFIER, Second, TRIGGER_IDENTIFIER, Trigger, decode, decode_second,
+};
+
+/// The number of slots of a table whose trigger is one frame.
+pub const SLOTS_OF_ONE: u8 = 40;
 
 /// Makes each node able to learn a list of so many entries without memory.
 pub fn reserve(alloc: Global, nodes: &mut [Node], entries: usize) -> Result<(), AllocError>
@@ -47,17 +52,22 @@ pub fn learn(nodes: &mut [Node], placed: &[Placed])
     }
 }
 
-/// Tells each node of a frame. A trigger is read once for all of them; of another frame the node at the place `first`
-/// is told first.
-pub fn hear(nodes: &mut [Node], first: usize, sent: &TimedFrame)
-    requires next { sent.now.frame.identifier ≡ 0 → All (λ node. node.next < 2 ^ 42) (states_of nodes.old) }
+/// Tells each node of a frame. A trigger frame is read once for all of them; of another frame the node at the place
+/// `first` is told first. The table has so many slots.
+pub fn hear(nodes: &mut [Node], slots: u8, first: usize, sent: &TimedFrame)
+    requires slots { All (λ node. node.layout.slots ≡ slots) (states_of nodes.old) }
+    requires next { All (λ node. sent.now.frame.identifier ≡ opening_identifier node.layout.slots
+        → node.next < 2 ^ 42) (states_of nodes.old) }
     requires are { All IsNode (states_of nodes.old) }
     requires apart { AllPairs AreApart (states_of nodes.old) }
     ensures heard { states_of nodes.new ≡ all_hear (states_of nodes.old) sent.now }
     ensures spare { spares_of nodes.new ≡ spares_of nodes.old }
 {
-    if sent.frame.id() == TRIGGER_IDENTIFIER {
+    let id = sent.frame.id();
+    if id == TRIGGER_IDENTIFIER {
         hear_trigger(nodes, sent, &decode(&sent.frame).ok());
+    } else if id == SECOND_IDENTIFIER && slots != SLOTS_OF_ONE {
+        hear_second(nodes, sent, &decode_second(&sent.frame).ok());
     } else if first < nodes.len() {
         hear_from(nodes, first, sent);
     } else {
@@ -65,11 +75,12 @@ pub fn hear(nodes: &mut [Node], first: usize, sent: &TimedFrame)
     }
 }
 
-/// Tells each node of a frame with identifier 0, whose reading as a trigger is this one.
+/// Tells each node of a frame with identifier 0, whose reading as a first trigger frame is this one.
 fn hear_trigger(nodes: &mut [Node], sent: &TimedFrame, trigger: &Option<Trigger>)
     requires identifier { sent.now.frame.identifier ≡ 0 }
     requires reading { trigger.now ≡ trigger_of sent.now.frame }
-    requires next { All (λ node. node.next < 2 ^ 42) (states_of nodes.old) }
+    requires next { All (λ node. sent.now.frame.identifier ≡ opening_identifier node.layout.slots
+        → node.next < 2 ^ 42) (states_of nodes.old) }
     ensures heard { states_of nodes.new ≡ all_hear (states_of nodes.old) sent.now }
     ensures spare { spares_of nodes.new ≡ spares_of nodes.old }
 {
@@ -78,10 +89,27 @@ fn hear_trigger(nodes: &mut [Node], sent: &TimedFrame, trigger: &Option<Trigger>
     }
 }
 
-/// Tells each node of a frame with another identifier. Where the node at a place has an unsent request of it, all other
+/// Tells each node of a frame with identifier 1, whose reading as a second trigger frame is this one, where the table
+/// has 96 slots.
+fn hear_second(nodes: &mut [Node], sent: &TimedFrame, second: &Option<Second>)
+    requires identifier { sent.now.frame.identifier ≡ 1 }
+    requires reading { second.now ≡ second_of sent.now.frame }
+    requires slots { All (λ node. node.layout.slots ≢ 40) (states_of nodes.old) }
+    requires next { All (λ node. sent.now.frame.identifier ≡ opening_identifier node.layout.slots
+        → node.next < 2 ^ 42) (states_of nodes.old) }
+    ensures heard { states_of nodes.new ≡ all_hear (states_of nodes.old) sent.now }
+    ensures spare { spares_of nodes.new ≡ spares_of nodes.old }
+{
+    for node in nodes {
+        node.hear_second(sent, second);
+    }
+}
+
+/// Tells each node of a frame that is no trigger frame. Where the node at a place has an unsent request of it, all other
 /// nodes only count the frame.
 fn hear_from(nodes: &mut [Node], place: usize, sent: &TimedFrame)
-    requires identifier { sent.now.frame.identifier ≢ 0 }
+    requires next { All (λ node. sent.now.frame.identifier ≡ opening_identifier node.layout.slots
+        → node.next < 2 ^ 42) (states_of nodes.old) }
     requires place { place < length nodes.old }
     requires are { All IsNode (states_of nodes.old) }
     requires apart { AllPairs AreApart (states_of nodes.old) }
@@ -107,9 +135,10 @@ fn count(nodes: &mut [Node])
     }
 }
 
-/// Tells each node of a frame with another identifier, whosever it is.
+/// Tells each node of a frame, whosever it is.
 fn hear_other(nodes: &mut [Node], sent: &TimedFrame)
-    requires identifier { sent.now.frame.identifier ≢ 0 }
+    requires next { All (λ node. sent.now.frame.identifier ≡ opening_identifier node.layout.slots
+        → node.next < 2 ^ 42) (states_of nodes.old) }
     ensures heard { states_of nodes.new ≡ all_hear (states_of nodes.old) sent.now }
     ensures spare { spares_of nodes.new ≡ spares_of nodes.old }
 {
@@ -120,7 +149,7 @@ fn hear_other(nodes: &mut [Node], sent: &TimedFrame)
 
 /// The slots that nodes are to send in their open cycle.
 pub fn due_slots(nodes: &[Node]) -> Mask
-    ensures slots { (slot : ℕ) → slot < slots
+    ensures slots { (slot : ℕ) → slot < most_slots
         → contains_slot result slot ≡ is_some (due_by (states_of nodes.now) slot) }
 {
     let mut due = Mask::empty();
@@ -132,7 +161,7 @@ pub fn due_slots(nodes: &[Node]) -> Mask
 
 /// The frame of a slot that a node is to send in its open cycle.
 pub fn due_frame(nodes: &[Node], slot: u8) -> Frame
-    requires slot { slot < slots }
+    requires slot { slot < most_slots }
     requires due { IsSome (due_by (states_of nodes.now) slot) }
     ensures frame { due_by (states_of nodes.now) slot ≡ Some result }
 {

@@ -1,5 +1,5 @@
-//! One elementary cycle on the bus: its trigger, the requests in its asynchronous window, and the frames of its flagged
-//! slots.
+//! One elementary cycle on the bus: its trigger frames, the requests in its asynchronous window, and the frames of its
+//! flagged slots.
 //!
 //! All times are bit times from 0, below 2^60.
 #![tactic(auto)]

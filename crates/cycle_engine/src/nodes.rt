@@ -1,10 +1,11 @@
 //! The nodes of a bus.
 
-ghost use Rattle.std.specs.Prelude.{◌≡◌, ◌≢◌, ℕ, ◌+◌, ◌*◌, ◌/◌, ◌^◌, ◌<◌, ◌≤◌, [], All, AllPairs, Any, IfOk, IfSome};
+ghost use Rattle.std.specs.Prelude.{◌≡◌, ◌≢◌, ℕ, ◌+◌, ◌*◌, ◌/◌, ◌^◌, ◌<◌, ◌≤◌, [], ◌∷◌, All, AllPairs, Any, IfOk, IfSome};
+ghost use Rattle.std.specs.List.{cons_option};
 ghost use Rattle.std.specs.Prelude.{OnErr, OnOk, Some, length, slice_get, slice_index_or, vec_len, vec_capacity};
 ghost use Rattle.cycle_layout.specs.Layout.{IsLayout};
 ghost use Rattle.requirement_table.specs.Table.{IsWellPlaced};
-ghost use Rattle.trigger_codec.specs.Bytes.{trigger_frame};
+ghost use Rattle.trigger_codec.specs.Bytes.{trigger_frame, triggers_with};
 ghost use Rattle.bus_line.specs.Trace.{Follows};
 ghost use Rattle.bus_line.specs.Stations.{offers_of};
 ghost use Rattle.node_model.specs.Node.{IsNode, NodeView};
@@ -12,22 +13,23 @@ ghost use Rattle.async_window.specs.Owners.{AreOwners};
 ghost use Rattle.node_model.specs.Node.{fresh_node};
 ghost use Rattle.cycle_engine.specs.Nodes.{CanLearn, HaveSpare, IsBus, IsNumber, KeepSpare, heard_by, learnt_by, left_in};
 ghost use Rattle.cycle_engine.specs.Nodes.{states_of};
-ghost use Rattle.cycle_engine.specs.Stations.{announced, cycle_line};
+ghost use Rattle.cycle_engine.specs.Stations.{AreNodes, announced, cycle_line};
 ghost use Rattle.cycle_engine.specs.SyncWindow.{IsBeforeWindow};
 
+use crate::each::SLOTS_OF_ONE;
 use crate::stations::NodeStations;
 use async_window::{Owner, Request};
 use bus_line::laws::{StationOffers, same_along, trace_laws};
 use bus_line::run_until;
-use can_frame::TimedFrame;
 use can_frame::laws::wire_lengths;
+use can_frame::{Frame, TimedFrame};
 use cycle_layout::Layout;
 use node_model::Node;
 use node_model::laws::{nodes_are_apart, offers_in_range, sends_its_slots, stays_a_node};
 use requirement_table::{Order, PlacedList};
 use std::alloc::{AllocError, Global};
 use std::marker::Model;
-use trigger_codec::encode;
+use trigger_codec::{encode, encode_second};
 
 /// The nodes of a bus. Contracts see the layout and the nodes, each with what it knows.
 #[derive(Drop)]
@@ -96,7 +98,7 @@ impl Nodes {
 
     /// What is true of all nodes and their layout. This does nothing: it brings the facts to a proof.
     pub(crate) fn are_known(&self)
-        ensures are { All IsNode (states_of self.now.nodes) }
+        ensures nodes { AreNodes self.now.layout (states_of self.now.nodes) }
         ensures known { IsLayout self.now.layout }
     {
         self.stations.are_known();
@@ -122,6 +124,7 @@ impl Nodes {
         ensures room { OnOk result (CanLearn learned.now self.new.nodes) }
         ensures same { states_of self.new.nodes ≡ states_of self.old.nodes }
         ensures layout { self.new.layout ≡ self.old.layout }
+        ensures spare { KeepSpare self.old.nodes self.new.nodes }
     {
         match learned {
             Some(list) => self.reserve(alloc, list.as_slice().len()),
@@ -148,13 +151,14 @@ impl Nodes {
         requires cycle { order.now.cycle < 2 ^ 42 }
         requires next { All (λ node. node.next ≡ order.now.cycle) (states_of self.old.nodes) }
         requires window { order.now.l ≤ self.old.layout.window }
+        requires slots { order.now.mask < 2 ^ self.old.layout.slots }
         requires empty { frames.old.items ≡ [] }
         requires room { self.old.layout.cycle / 47 + 1 ≤ vec_capacity frames.old }
         ensures layout { self.new.layout ≡ self.old.layout }
         ensures heard { states_of self.new.nodes ≡ heard_by frames.new.items (states_of self.old.nodes) }
         ensures runs { Follows
             (offers_of cycle_line (announced self.old.layout (order.now.cycle * self.old.layout.cycle)
-            (trigger_frame order.now.cycle order.now.l order.now.mask) (states_of self.old.nodes)))
+            (triggers_with self.old.layout.slots order.now.cycle order.now.l order.now.mask) (states_of self.old.nodes)))
             [] (order.now.cycle * self.old.layout.cycle)
             ((order.now.cycle + 1) * self.old.layout.cycle) frames.new.items }
         ensures capacity { vec_capacity frames.old ≤ vec_capacity frames.new }
@@ -173,6 +177,7 @@ impl Nodes {
         requires cycle { order.now.cycle < 2 ^ 42 }
         requires next { All (λ node. node.next ≡ order.now.cycle) (states_of self.old.nodes) }
         requires window { order.now.l ≤ self.old.layout.window }
+        requires slots { order.now.mask < 2 ^ self.old.layout.slots }
         requires empty { frames.old.items ≡ [] }
         requires room { self.old.layout.cycle / 47 + 1 ≤ vec_capacity frames.old }
         ensures layout { self.new.layout ≡ self.old.layout }
@@ -193,9 +198,22 @@ impl Nodes {
         let layout = *self.layout();
         let start = order.cycle * u64::from(layout.cycle());
         let window = layout.sync_start(order.cycle, order.l);
-        let trigger = encode(order.cycle, order.l, order.mask);
-        self.stations.announce(start, trigger);
+        let first = encode(order.cycle, order.l, order.mask);
+        let second = second_trigger(&layout, order);
+        self.stations.announce(start, first, second);
         window.max(run_until(&mut self.stations, start, window, frames))
+    }
+}
+
+/// The second trigger frame of the cycle of an order, where the layout has one.
+fn second_trigger(layout: &Layout, order: &Order) -> Option<Frame>
+    ensures frames { (l : ℕ) → trigger_frame order.now.cycle l order.now.mask ∷ cons_option result []
+        ≡ triggers_with layout.now.slots order.now.cycle l order.now.mask }
+{
+    if layout.slots() == SLOTS_OF_ONE {
+        None
+    } else {
+        Some(encode_second(order.cycle, order.mask))
     }
 }
 

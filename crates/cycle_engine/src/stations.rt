@@ -1,7 +1,8 @@
-//! The nodes of a bus as stations on it, and with them the master, which offers a trigger.
+//! The nodes of a bus as stations on it, and with them the master, which offers the trigger frames of a cycle.
 
-ghost use Rattle.std.specs.Prelude.{◌≡◌, ◌+◌, ◌-◌, ◌/◌, ◌^◌, ◌<◌, ◌≤◌, []};
-ghost use Rattle.std.specs.Prelude.{None, Some, All, Contains, OnOk, length, map, vec_capacity};
+ghost use Rattle.std.specs.Prelude.{◌≡◌, ◌≢◌, ◌+◌, ◌-◌, ◌/◌, ◌^◌, ◌<◌, ◌≤◌, [], ◌∷◌};
+ghost use Rattle.std.specs.Prelude.{All, AllPairs, Contains, OnOk, length, map, vec_capacity};
+ghost use Rattle.std.specs.List.{cons_option};
 ghost use Rattle.cycle_layout.specs.Layout.{IsLayout};
 ghost use Rattle.requirement_table.specs.Table.{IsWellPlaced};
 ghost use Rattle.node_model.specs.Node.{learnt};
@@ -9,7 +10,8 @@ ghost use Rattle.node_model.specs.Window.{IsInWindow};
 ghost use Rattle.cycle_engine.specs.Nodes.{HaveSpare, KeepSpare, left_in, spares_of, states_of};
 ghost use Rattle.bus_line.specs.Stations.{IsWake};
 ghost use Rattle.async_window.specs.Owners.{AreOwners};
-ghost use Rattle.cycle_engine.specs.Stations.{AreNodes, frame_by_nodes, offered_by_nodes, offered_trigger};
+ghost use Rattle.cycle_engine.specs.Stations.{AreDue, AreNodes, announced, due_from, due_list, frame_by_nodes};
+ghost use Rattle.cycle_engine.specs.Stations.{offered_by_nodes, offered_trigger, triggers_after};
 ghost use Rattle.cycle_engine.specs.SyncWindow.{IsSentBy};
 
 use crate::next_offers::{self, Soonest};
@@ -26,24 +28,26 @@ use requirement_table::Placed;
 use std::alloc::{AllocError, Global};
 use std::marker::Model;
 
-/// A trigger that is not sent yet.
+/// The trigger frames of a cycle that are not sent yet: one, and the one behind it, where there are two.
 #[derive(Clone, Copy)]
-pub struct DueTrigger {
-    /// The time at which it is offered, in bit times.
+pub struct Due {
+    /// The time from which on they are offered, in bit times.
     pub at: u64,
-    /// The frame, with identifier 0.
-    pub frame: Frame,
+    /// The frame that is offered next.
+    pub next: Frame,
+    /// The frame that is offered once that one was sent.
+    pub second: Option<Frame>,
 }
 
 /// The number of identifiers of 11 bits.
 const IDENTIFIERS: usize = 2_048;
 
-/// The nodes of a bus, and the trigger that is offered next, where there is one.
+/// The nodes of a bus, and the trigger frames that are offered next, where there are any.
 #[derive(Drop)]
 pub struct NodeStations {
     layout: Layout,
     nodes: Vec<Node>,
-    trigger: Option<DueTrigger>,
+    due: Option<Due>,
     /// For each identifier the place of the node that is asked first for its frame. All others are asked where that one
     /// does not offer it.
     asked_first: [u8; IDENTIFIERS],
@@ -54,30 +58,30 @@ pub struct NodeStations {
 impl Model for NodeStations {
     ghost use Rattle.cycle_engine.specs.Nodes.{states_of};
     ghost use Rattle.cycle_engine.specs.Soonest.{AreKept};
-    ghost use Rattle.cycle_engine.specs.Stations.{StationsView};
+    ghost use Rattle.cycle_engine.specs.Stations.{StationsView, due_list};
 
     ghost Value = { StationsView };
 
-    ghost view = { λ s. record { layout = s.layout; trigger = s.trigger; nodes = s.nodes.items } };
+    ghost view = { λ s. record { layout = s.layout; triggers = due_list s.due; nodes = s.nodes.items } };
 
     ghost invariant = { λ s. AreKept (record {
       layout = s.layout;
-      trigger = s.trigger;
+      triggers = due_list s.due;
       nodes = states_of s.nodes.items;
     }) s.soonest };
 }
 
 impl NodeStations {
-    /// The stations without a trigger. These are the owners of asynchronous identifiers.
+    /// The stations without trigger frames. These are the owners of asynchronous identifiers.
     pub fn new(layout: Layout, nodes: Vec<Node>, owners: &[Owner]) -> NodeStations
         requires nodes { AreNodes layout (states_of nodes.items) }
         requires owners { AreOwners owners.now }
-        ensures stations { result ≡ record { layout = layout; trigger = None; nodes = nodes.items } }
+        ensures stations { result ≡ record { layout = layout; triggers = []; nodes = nodes.items } }
     {
         NodeStations {
             layout,
             nodes,
-            trigger: None,
+            due: None,
             asked_first: nodes_of_owners(owners),
             soonest: None,
         }
@@ -130,18 +134,22 @@ impl NodeStations {
         each::learn(self.nodes.as_mut_slice(), placed);
     }
 
-    /// Makes a trigger the next one.
-    pub fn announce(&mut self, at: u64, frame: Frame)
-        requires identifier { frame.identifier ≡ 0 }
+    /// Makes trigger frames the next ones, from a time on: one, and another one behind it, where there are two.
+    pub fn announce(&mut self, at: u64, first: Frame, second: Option<Frame>)
+        requires due { AreDue self.old.layout (due_from at (first ∷ cons_option second [])) }
         requires next { All (λ node. node.next < 2 ^ 42) (states_of self.old.nodes) }
         ensures announced { self.new ≡ record {
           layout = self.old.layout;
-          trigger = Some (record { at = at; frame = frame });
+          triggers = due_from at (first ∷ cons_option second []);
           nodes = self.old.nodes;
         } }
         ensures known { AreNodes self.new.layout (states_of self.new.nodes) }
     {
-        self.trigger = Some(DueTrigger { at, frame });
+        self.due = Some(Due {
+            at,
+            next: first,
+            second,
+        });
     }
 
     /// The place of the node that is asked first for the frame of an identifier.
@@ -161,7 +169,7 @@ impl NodeStations {
     }
 
     /// Runs the bus over the nodes in their synchronous window from `from` on, and puts the frames that start before
-    /// `until` behind `out`, which has room for them. The trigger was sent.
+    /// `until` behind `out`, which has room for them. The trigger frames were sent.
     pub fn run_window(&mut self, from: u64, until: u64, out: &mut Vec<TimedFrame>)
         requires time { until < 2 ^ 60 }
         requires window { All (IsInWindow from until) (states_of self.old.nodes) }
@@ -176,7 +184,7 @@ impl NodeStations {
         nodes_are_apart();
         self.soonest = None;
         sync_window::run_window(self.nodes.as_mut_slice(), from, until, out);
-        self.trigger = None;
+        self.due = None;
     }
 }
 
@@ -199,21 +207,21 @@ impl Stations for NodeStations {
         offers_in_range();
         nodes_are_apart();
         ids.clear();
-        push_trigger(&self.trigger, at, ids);
+        push_trigger(&self.due, at, ids);
         next_offers::push(self.nodes.as_slice(), &self.soonest, at, ids);
     }
 
     fn wake(&self, at: u64) -> Option<u64> {
         sooner_wake();
         let nodes = next_offers::wake(self.nodes.as_slice(), &self.soonest, at);
-        each::sooner(wake_of_trigger(&self.trigger, at), nodes)
+        each::sooner(wake_of_trigger(&self.due, at), nodes)
     }
 
     fn frame(&self, at: u64, id: u16) -> Frame {
-        match self.trigger {
-            Some(trigger) => {
-                if trigger.frame.id() == id {
-                    trigger.frame
+        match self.due {
+            Some(due) => {
+                if due.next.id() == id {
+                    due.next
                 } else {
                     self.frame_of_node(at, id)
                 }
@@ -227,8 +235,9 @@ impl Stations for NodeStations {
         stays_a_node();
         nodes_are_apart();
         let first = self.first_place(sent.frame.id());
-        each::hear(self.nodes.as_mut_slice(), first, sent);
-        self.trigger = None;
+        let slots = self.layout.slots();
+        each::hear(self.nodes.as_mut_slice(), slots, first, sent);
+        self.due = due_after(&self.due, sent.frame.id());
         self.soonest = Some(next_offers::find(self.nodes.as_slice(), sent.start));
     }
 }
@@ -244,22 +253,41 @@ fn nodes_of_owners(owners: &[Owner]) -> [u8; IDENTIFIERS]
     nodes
 }
 
-/// Adds the identifier of the trigger to no contenders, where it is offered at this time.
-fn push_trigger(trigger: &Option<DueTrigger>, at: u64, ids: &mut Contenders)
+/// Adds the identifier of the first of the trigger frames to no contenders, where it is offered at this time.
+fn push_trigger(due: &Option<Due>, at: u64, ids: &mut Contenders)
     requires empty { ids.old ≡ [] }
-    ensures pushed { ids.new ≡ offered_trigger trigger.now at }
+    ensures pushed { ids.new ≡ offered_trigger (due_list due.now) at }
 {
-    if let Some(trigger) = trigger {
-        if trigger.at == at {
-            ids.push(trigger.frame.id());
+    if let Some(due) = due {
+        if due.at <= at {
+            ids.push(due.next.id());
         }
     }
 }
 
-/// The time of the trigger, where it is offered behind `at`.
-fn wake_of_trigger(trigger: &Option<DueTrigger>, at: u64) -> Option<u64>
-    ensures wake { IsWake (offered_trigger trigger.now) at result }
+/// The least time behind `at` at which the first of the trigger frames is offered while nothing is sent.
+fn wake_of_trigger(due: &Option<Due>, at: u64) -> Option<u64>
+    requires time { at < 2 ^ 60 }
+    ensures wake { IsWake (offered_trigger (due_list due.now)) at result }
 {
-    let trigger = trigger.as_ref()?;
-    (at < trigger.at).then_some(trigger.at)
+    let due = due.as_ref()?;
+    Some(due.at.max(at + 1))
+}
+
+/// The trigger frames that are left behind a frame with an identifier.
+fn due_after(due: &Option<Due>, id: u16) -> Option<Due>
+    ensures left { due_list result ≡ triggers_after id (due_list due.now) }
+{
+    let due = due.as_ref()?;
+    if due.next.id() != id {
+        return Some(*due);
+    }
+    match due.second {
+        Some(second) => Some(Due {
+            at: due.at,
+            next: second,
+            second: None,
+        }),
+        None => None,
+    }
 }

@@ -3,7 +3,7 @@
 
 ghost use Rattle.std.specs.Prelude.{◌≡◌, ℕ, ◌+◌, ◌-◌, ◌/◌, ◌^◌, ◌<◌, ◌≤◌, ◌++◌};
 ghost use Rattle.std.specs.Prelude.{All, IsSome, length, true, vec_len, vec_capacity};
-ghost use Rattle.requirement_table.specs.Slots.{contains_slot, slots};
+ghost use Rattle.requirement_table.specs.Slots.{contains_slot, most_slots};
 ghost use Rattle.node_model.specs.Opening.{first_identifier};
 ghost use Rattle.node_model.specs.Node.{IsNode};
 ghost use Rattle.node_model.specs.Window.{AreOfSlots, IsInWindow};
@@ -41,7 +41,7 @@ pub fn run_window(nodes: &mut [Node], from: u64, until: u64, out: &mut Vec<Timed
 /// the other from `from` on, as many as start before `until`.
 fn send_slots(nodes: &[Node], set: Mask, from: u64, until: u64, out: &mut Vec<TimedFrame>)
     requires time { until < 2 ^ 60 }
-    requires due { (slot : ℕ) → slot < slots → contains_slot set slot ≡ true
+    requires due { (slot : ℕ) → slot < most_slots → contains_slot set slot ≡ true
         → IsSome (due_by (states_of nodes.now) slot) }
     requires room { from < until → vec_len out.old + ((until - from) / 47 + 1) ≤ vec_capacity out.old }
     ensures sent { out.new.items
@@ -72,7 +72,7 @@ fn send_slots(nodes: &[Node], set: Mask, from: u64, until: u64, out: &mut Vec<Ti
 /// The slots of frames of slots.
 fn slots_of(frames: &[TimedFrame]) -> Mask
     requires of_slots { All (λ sent. (first_identifier ≤ sent.frame.identifier)
-        × (sent.frame.identifier < first_identifier + slots)) frames.now }
+        × (sent.frame.identifier < first_identifier + most_slots)) frames.now }
     ensures slots { AreOfSlots result frames.now }
 {
     let mut slots = Mask::empty();

@@ -1,13 +1,15 @@
 -- The windows of an elementary cycle. Lengths and times are bit times; cycle c covers the times from c·E to below
--- (c + 1)·E, and its trigger starts at c·E.
-use Rattle.std.specs.Prelude.{ℕ, ◌+◌, ◌-◌, ◌*◌, ◌≤◌}
+-- (c + 1)·E, and its first trigger frame starts at c·E.
+use Rattle.std.specs.Prelude.{◌≡◌, ℕ, ◌+◌, ◌-◌, ◌*◌, ◌≤◌, ◌⊎◌, nat_eq, if◌then◌else◌}
 use Rattle.stuff_bound.specs.Stuffing.{worst}
 
--- the length E of each cycle, the turnaround R behind the trigger and the largest synchronous window W
+-- the length E of each cycle, the turnaround R behind the trigger part, the largest synchronous window W, and the number
+-- of slots S
 pub record CycleLayout : Type 0 where
   pub cycle : ℕ
   pub turnaround : ℕ
   pub window : ℕ
+  pub slots : ℕ
 
 -- the number lies in the range, both ends included
 pub record IsWithin (low high number : ℕ) : Type 0 where
@@ -23,20 +25,37 @@ IsTurnaround turnaround = IsWithin 0 1000 turnaround
 abbrev pub IsWindow : ℕ → Type 0
 IsWindow window = IsWithin 55 16383 window
 
--- how long the longest trigger, which has 8 data bytes, the turnaround and the largest synchronous window are together
-abbrev pub needed : ℕ → ℕ → ℕ
-needed turnaround window = worst 8 + turnaround + window
+-- a table has 40 slots or 96
+abbrev pub IsSlots : ℕ → Type 0
+IsSlots slots = (slots ≡ 40) ⊎ (slots ≡ 96)
 
--- what is true of every layout: the three numbers are in range, and the cycle has room for what it needs
+-- how many trigger frames flag so many slots: one has room for 40, and a second one for 56 more
+abbrev pub trigger_count : ℕ → ℕ
+trigger_count slots = if nat_eq slots 40 then 1 else 2
+
+-- how long the longest trigger frames are together, of 8 data bytes each: the trigger part of a cycle with so many slots
+abbrev pub trigger_part_of : ℕ → ℕ
+trigger_part_of slots = trigger_count slots * worst 8
+
+-- G, the trigger part of each cycle
+abbrev pub trigger_part : CycleLayout → ℕ
+trigger_part layout = trigger_part_of layout.slots
+
+-- how long the trigger part, the turnaround and the largest synchronous window are together
+abbrev pub needed : ℕ → ℕ → ℕ → ℕ
+needed turnaround window slots = trigger_part_of slots + turnaround + window
+
+-- what is true of every layout: the four numbers are in range, and the cycle has room for what it needs
 pub record IsLayout (layout : CycleLayout) : Type 0 where
   pub cycle_range : IsCycleLength layout.cycle
   pub turnaround_range : IsTurnaround layout.turnaround
   pub window_range : IsWindow layout.window
-  pub room : needed layout.turnaround layout.window ≤ layout.cycle
+  pub slots_range : IsSlots layout.slots
+  pub room : needed layout.turnaround layout.window layout.slots ≤ layout.cycle
 
 -- the start of the asynchronous window of cycle c
 abbrev pub async_open : CycleLayout → ℕ → ℕ
-async_open layout c = c * layout.cycle + worst 8 + layout.turnaround
+async_open layout c = c * layout.cycle + trigger_part layout + layout.turnaround
 
 -- the start of the synchronous window of cycle c, where that window has the length l
 abbrev pub sync_start : CycleLayout → ℕ → ℕ → ℕ

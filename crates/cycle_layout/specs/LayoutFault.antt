@@ -1,15 +1,15 @@
--- Why three numbers are no layout.
+-- Why four numbers are no layout. The number of slots is not judged: it is one of the two.
 use Rattle.std.specs.Prelude.{◌≡◌, ℕ, ◌<◌}
 use Rattle.cycle_layout.specs.Layout.{IsCycleLength, IsTurnaround, IsWindow, needed}
 use Rattle.cycle_layout.specs.declared.LayoutFault.{LayoutFault}
 use Rattle.cycle_layout.specs.declared.LayoutFault.TheVariants.{CycleRange, TurnRange, WindowRange, TooNarrow}
 
 -- the numbers are judged in this order, and the first wrong one decides
-abbrev pub Refuses : ℕ → ℕ → ℕ → LayoutFault → Type 0
-Refuses cycle turnaround window CycleRange = IsCycleLength cycle → ⊥
-Refuses cycle turnaround window TurnRange = IsCycleLength cycle × (IsTurnaround turnaround → ⊥)
-Refuses cycle turnaround window WindowRange =
+abbrev pub Refuses : ℕ → ℕ → ℕ → ℕ → LayoutFault → Type 0
+Refuses cycle turnaround window slots CycleRange = IsCycleLength cycle → ⊥
+Refuses cycle turnaround window slots TurnRange = IsCycleLength cycle × (IsTurnaround turnaround → ⊥)
+Refuses cycle turnaround window slots WindowRange =
     IsCycleLength cycle × IsTurnaround turnaround × (IsWindow window → ⊥)
-Refuses cycle turnaround window (TooNarrow need have) =
+Refuses cycle turnaround window slots (TooNarrow need have) =
     IsCycleLength cycle × IsTurnaround turnaround × IsWindow window
-    × (need ≡ needed turnaround window) × (have ≡ cycle) × (have < need)
+    × (need ≡ needed turnaround window slots) × (have ≡ cycle) × (have < need)

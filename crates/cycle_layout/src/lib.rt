@@ -1,9 +1,9 @@
-//! The layout of an elementary cycle: the trigger, the turnaround, the asynchronous window and the
+//! The layout of an elementary cycle: the trigger part, the turnaround, the asynchronous window and the
 //! synchronous window that ends the cycle. All lengths and times are bit times.
 #![tactic(auto)]
 
 ghost use Rattle.std.specs.Prelude.{◌≡◌, ℕ, ◌+◌, ◌*◌, ◌/◌, ◌^◌, ◌<◌, ◌≤◌, ◌↔◌, IfErr, IfOk, IsTrue};
-ghost use Rattle.cycle_layout.specs.Layout.{IsAllowed, IsLayout, async_open, sync_start};
+ghost use Rattle.cycle_layout.specs.Layout.{IsAllowed, IsLayout, IsSlots, async_open, sync_start, trigger_part, trigger_part_of};
 ghost use Rattle.cycle_layout.specs.LayoutFault.{Refuses};
 
 use std::error::Error;
@@ -11,16 +11,20 @@ use std::fmt;
 use std::marker::Model;
 use stuff_bound::bound;
 
-/// The number of data bytes of a trigger message.
+/// The number of data bytes of a trigger frame.
 const TRIGGER_BYTES: u8 = 8;
 
-/// The lengths that are the same in every cycle: those of the cycle itself, of the turnaround
-/// behind the trigger and of the largest synchronous window.
+/// The number of slots that one trigger frame flags.
+const SLOTS_OF_ONE: u8 = 40;
+
+/// What is the same in every cycle: the lengths of the cycle itself, of the turnaround behind the
+/// trigger part and of the largest synchronous window, and the number of slots.
 #[derive(Clone, Copy, Debug, PartialEq, Eq)]
 pub struct Layout {
     cycle: u32,
     turnaround: u32,
     window: u32,
+    slots: u8,
 }
 
 impl Model for Layout {
@@ -28,15 +32,17 @@ impl Model for Layout {
 
     ghost Value = { CycleLayout };
 
-    ghost view = { λ l. record { cycle = l.cycle; turnaround = l.turnaround; window = l.window } };
+    ghost view = { λ l.
+        record { cycle = l.cycle; turnaround = l.turnaround; window = l.window; slots = l.slots } };
 
     ghost invariant = { λ l.
-        IsLayout (record { cycle = l.cycle; turnaround = l.turnaround; window = l.window }) };
+        IsLayout (record { cycle = l.cycle; turnaround = l.turnaround; window = l.window; slots = l.slots }) };
 
-    ghost inverse = { λ l. record { cycle = l.cycle; turnaround = l.turnaround; window = l.window } };
+    ghost inverse = { λ l.
+        record { cycle = l.cycle; turnaround = l.turnaround; window = l.window; slots = l.slots } };
 }
 
-/// Why three numbers are no layout.
+/// Why numbers are no layout.
 #[derive(Clone, Copy, Debug, PartialEq, Eq)]
 pub enum LayoutFault {
     /// The cycle is not 400 to 100,000 bit times long.
@@ -45,8 +51,8 @@ pub enum LayoutFault {
     TurnRange,
     /// The largest synchronous window is not 55 to 16,383 bit times long.
     WindowRange,
-    /// The longest trigger, the turnaround and the largest synchronous window need more than the
-    /// cycle has.
+    /// The trigger part, the turnaround and the largest synchronous window need more than the cycle
+    /// has.
     TooNarrow { need: u32, have: u32 },
 }
 
@@ -67,16 +73,26 @@ impl fmt::Display for LayoutFault {
 
 impl Error for LayoutFault {}
 
+/// How long the longest trigger frames are together that flag so many slots, in bit times.
+fn trigger_part_of(slots: u8) -> u32
+    ensures value { result ≡ trigger_part_of slots }
+{
+    let one = bound(TRIGGER_BYTES);
+    if slots == SLOTS_OF_ONE { one } else { 2 * one }
+}
+
 impl Layout {
-    /// The layout with cycles of `e` bit times, the turnaround `r` and synchronous windows of at
-    /// most `w` bit times.
+    /// The layout with cycles of `e` bit times, the turnaround `r`, synchronous windows of at most
+    /// `w` bit times, and `slots` slots, 40 or 96.
     ///
     /// A cycle out of its range is refused first, then a turnaround, then a window, then a cycle
     /// that is too narrow.
-    pub fn new(e: u32, r: u32, w: u32) -> Result<Layout, LayoutFault>
-        ensures layout { IfOk result (λ l. l ≡ record { cycle = e; turnaround = r; window = w }) }
+    pub fn new(e: u32, r: u32, w: u32, slots: u8) -> Result<Layout, LayoutFault>
+        requires slots { IsSlots slots }
+        ensures layout { IfOk result
+            (λ l. l ≡ record { cycle = e; turnaround = r; window = w; slots = slots }) }
         ensures known { IfOk result IsLayout }
-        ensures fault { IfErr result (Refuses e r w) }
+        ensures fault { IfErr result (Refuses e r w slots) }
     {
         if !(400..=100_000).contains(&e) {
             return Err(LayoutFault::CycleRange);
@@ -87,7 +103,7 @@ impl Layout {
         if !(55..=16_383).contains(&w) {
             return Err(LayoutFault::WindowRange);
         }
-        let need = bound(TRIGGER_BYTES) + r + w;
+        let need = trigger_part_of(slots) + r + w;
         if need > e {
             return Err(LayoutFault::TooNarrow { need, have: e });
         }
@@ -95,6 +111,7 @@ impl Layout {
             cycle: e,
             turnaround: r,
             window: w,
+            slots,
         })
     }
 
@@ -113,8 +130,7 @@ impl Layout {
         self.cycle
     }
 
-    /// The turnaround: the time that nodes have between the longest trigger and the asynchronous
-    /// window.
+    /// The turnaround: the time that nodes have between the trigger part and the asynchronous window.
     pub fn turnaround(&self) -> u32
         ensures value { result ≡ self.now.turnaround }
         ensures known { IsLayout self.now }
@@ -130,12 +146,29 @@ impl Layout {
         self.window
     }
 
+    /// S, the number of slots: 40 or 96.
+    pub fn slots(&self) -> u8
+        ensures value { result ≡ self.now.slots }
+        ensures known { IsLayout self.now }
+    {
+        self.slots
+    }
+
+    /// G, the trigger part: the length of the longest trigger frames of a cycle together, 135 bit
+    /// times with 40 slots and 270 with 96.
+    pub fn trigger_part(&self) -> u32
+        ensures value { result ≡ trigger_part self.now }
+        ensures known { IsLayout self.now }
+    {
+        trigger_part_of(self.slots)
+    }
+
     /// The start of the asynchronous window of a cycle.
     pub fn async_open(&self, cycle: u64) -> u64
         requires cycle { cycle < 2 ^ 42 }
         ensures value { result ≡ async_open self.now cycle }
     {
-        cycle * u64::from(self.cycle) + u64::from(bound(TRIGGER_BYTES) + self.turnaround)
+        cycle * u64::from(self.cycle) + u64::from(self.trigger_part() + self.turnaround)
     }
 
     /// The start of the synchronous window of a cycle, where that window has the length `l`.
@@ -156,7 +189,7 @@ impl Layout {
         ensures allowed { IsTrue result ↔ IsAllowed self.now dlc at (at / self.now.cycle) l }
     {
         let into = at % u64::from(self.cycle);
-        let opened = u64::from(bound(TRIGGER_BYTES) + self.turnaround);
+        let opened = u64::from(self.trigger_part() + self.turnaround);
         let closed = u64::from(self.cycle - l);
         opened <= into && into + u64::from(bound(dlc)) <= closed
     }

@@ -20,7 +20,7 @@ use Rattle.replay_run.specs.Run.{AnswersSteps, IsRun}
 use Rattle.live_steps.specs.Live.{IsLive}
 use Rattle.async_window.specs.declared.request.Owner.{Owner}
 use Rattle.async_window.specs.declared.request.Request.{Request}
-use Rattle.admission.specs.Verdict.{is_accepted}
+use Rattle.admission.specs.Verdict.{bounds_by, is_accepted}
 use Rattle.master_core.specs.Certificates.{IsCertificateOfPlan}
 use Rattle.master_core.specs.History.{IsPlainlyLegal, placed_of}
 use Rattle.master_core.specs.declared.event.Event.{Event}
@@ -88,13 +88,13 @@ breach_line (NotClosed slot) = codes "no,notclosed," ++ decimal slot ++ codes "\
 -- why a plan does not keep the table that the steps ask for
 pub record IsRefuted (job : JobView) (certificate : CertificateView) (text : List ℕ) : Type 0 where
   pub breach : Breach
-  pub first : IsBreach (table_of job.system.rules.nodes job.steps).placed job.system.rules.window certificate breach
+  pub first : IsBreach (table_of (bounds_by job.system.rules) job.steps).placed job.system.rules.window certificate breach
   pub written : text ≡ breach_line breach
 
 -- the answer to a plan: it keeps the table that the steps ask for, or the first breach
 abbrev pub IsCheckText : JobView → CertificateView → Status → List ℕ → Type 0
 IsCheckText job certificate Done text =
-    IsTaken (table_of job.system.rules.nodes job.steps).placed job.system.rules.window certificate
+    IsTaken (table_of (bounds_by job.system.rules) job.steps).placed job.system.rules.window certificate
     × (text ≡ codes "yes\n")
 IsCheckText job certificate No text = IsRefuted job certificate text
 IsCheckText job certificate _ text = ⊥

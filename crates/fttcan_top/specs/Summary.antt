@@ -15,7 +15,8 @@ refuses (Submit caller change from verdict trail) = not (is_accepted verdict)
 refuses (Look caller next) = false
 refuses (Open cycle mask) = false
 
--- whether the frame is a synchronous one: it has an identifier from 0x100 to 0x127
+-- whether the frame is a synchronous one of a generated system, which has 40 slots: it has an identifier from 0x100 to
+-- 0x127
 abbrev pub is_synchronous : TimedFrame → Bool
 is_synchronous sent = nat_le 256 sent.frame.identifier && nat_lt sent.frame.identifier 296
 

@@ -7,9 +7,9 @@ ghost use Rattle.fttcan_top.specs.Summary.{is_asynchronous, history_rows, is_syn
 
 use async_window::LEAST_ASYNCHRONOUS;
 use can_frame::TimedFrame;
+use input_text::GENERATED_SLOTS;
 use master_core::Event;
 use node_model::FIRST_IDENTIFIER;
-use requirement_table::SLOTS;
 use std::alloc::{AllocError, Global};
 
 /// Whether the event refuses a change.
@@ -22,12 +22,12 @@ fn refuses(event: &Event) -> bool
     }
 }
 
-/// Whether the frame is a synchronous one.
+/// Whether the frame is a synchronous one of a generated system.
 fn is_synchronous(sent: &TimedFrame) -> bool
     ensures test { result ≡ is_synchronous sent.now }
 {
     let id = sent.frame.id();
-    FIRST_IDENTIFIER <= id && id < FIRST_IDENTIFIER + u16::from(SLOTS)
+    FIRST_IDENTIFIER <= id && id < FIRST_IDENTIFIER + u16::from(GENERATED_SLOTS)
 }
 
 /// Whether the frame is an asynchronous one.

@@ -193,7 +193,7 @@ pub fn check_of(alloc: Global, job: &Job, certificate: &Certificate) -> Result<O
     ensures done { IfOk result (λ outcome. IsDone outcome.status) }
 {
     let rules = &job.system().rules;
-    let placed = asked_table(alloc, rules.nodes, job.steps())?;
+    let placed = asked_table(alloc, rules, job.steps())?;
     match check(placed.as_slice(), rules.window, certificate) {
         Ok(()) => Ok(Outcome {
             status: Status::Done,

@@ -1,5 +1,5 @@
 -- The input that a number makes has each number in its range.
-use Rattle.std.proofs.Common.{◌≡◌, ◌∙◌, ap, refl, ℕ, zero, suc, ◌+◌, ◌*◌, ◌%◌, ◌<◌, ◌≤◌, List, [], ◌∷◌, ◌++◌, All, AllPairs, arith, length, length-append, sum_by, true, nat_eq, lit≤, rules, subst, ◌-◌}
+use Rattle.std.proofs.Common.{inl, ◌≡◌, ◌∙◌, ap, refl, ℕ, zero, suc, ◌+◌, ◌*◌, ◌%◌, ◌<◌, ◌≤◌, List, [], ◌∷◌, ◌++◌, All, AllPairs, arith, length, length-append, sum_by, true, nat_eq, lit≤, rules, subst, ◌-◌}
 use Rattle.std.specs.List.{list_any}
 use Rattle.std.proofs.lemmas.Nat.{mod_below}
 use Rattle.std.proofs.lemmas.List.Elements.{All-from_recursion, All-nil, All-push}
@@ -46,9 +46,11 @@ system_is number =
         cycle_range = record { above = lit≤ tt; below = lit≤ tt };
         turnaround_range = record { above = lit≤ tt; below = lit≤ tt };
         window_range = record { above = lit≤ tt; below = lit≤ tt };
+        slots_range = inl refl;
         room = lit≤ tt;
       };
       same_window = refl;
+      same_slots = refl;
       some_nodes = lit≤ tt;
       few_nodes = lit≤ tt;
       some_horizon = lit≤ tt;

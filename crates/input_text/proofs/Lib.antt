@@ -1,4 +1,3 @@
-mod RowByRow
 mod ListParts
 mod StepLines
 mod StepMeaning

@@ -2,10 +2,10 @@
 use Rattle.std.proofs.Common.{◌≡◌, ◌≢◌, ℕ, List, [], Result, Ok, Err, refl, ap}
 use Rattle.async_window.specs.declared.request.Request.{Request}
 use Rattle.async_window.specs.declared.request.Owner.{Owner}
-use Rattle.input_text.proofs.RowByRow.{all_items, all_mean, fault_means, first_fault}
+use Rattle.text_fields.proofs.Shared.{all_items, all_mean, fault_means, first_fault}
 use Rattle.input_text.specs.RequestRow.{meaning}
 use Rattle.input_text.specs.RequestsFile.{AreRequests, requests_of_rows, requests_or_fault}
-use Rattle.input_text.specs.RowByRow.{Faulty, IsFirstFault, items_below}
+use Rattle.text_fields.specs.RowByRow.{Faulty, IsFirstFault, items_below}
 use Rattle.input_text.specs.declared.request_fault.RequestFault.TheVariants.{Row, Memory}
 use Rattle.input_text.specs.declared.request_fault.RequestWhy.{RequestWhy}
 

@@ -16,7 +16,7 @@ use Rattle.input_text.specs.StepFields.{beginning, entry_at, operation_at, said_
 use Rattle.input_text.specs.StepForm.{form_of, has_fields}
 use Rattle.input_text.specs.StepRow.{begins, below, count_in, ends_in_change, has_operator, line_of, looks, meaning}
 use Rattle.input_text.specs.StepsFile.{FitsEntry, FitsOperation}
-use Rattle.input_text.specs.Whys.{◌>>=◌, where_holds}
+use Rattle.text_fields.specs.Whys.{◌>>=◌, where_holds}
 use Rattle.input_text.specs.declared.step_fault.StepWhy.TheVariants.{Word, Fields, Number, Operator, Loose, Changes, Looks, Cycles}
 use Rattle.input_text.specs.declared.step_rows.Form.{Form}
 use Rattle.input_text.specs.declared.step_rows.Form.TheVariants as form

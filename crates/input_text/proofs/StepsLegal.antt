@@ -8,9 +8,9 @@ use Rattle.std.specs.List.{All, count_by, flat_map, sum_by}
 use Rattle.change_protocol.specs.declared.operations.Act.TheVariants as act
 use Rattle.change_protocol.specs.declared.operations.Op.{Op}
 use Rattle.input_text.proofs.ListParts.{all_back, all_front}
-use Rattle.input_text.proofs.RowByRow.{held}
+use Rattle.text_fields.proofs.Shared.{held}
 use Rattle.input_text.proofs.StepMeaning.{Allows, IsLine, says}
-use Rattle.input_text.specs.RowByRow.{AreItems}
+use Rattle.text_fields.specs.RowByRow.{AreItems}
 use Rattle.input_text.specs.StepRow.{begins, count_in, is_operator, looks, meaning}
 use Rattle.input_text.specs.StepsFile.{AreLegalSteps, AreSteps, FitsOperation, HasOperation, IsStep, count_of, is_change, is_look, lines_of, lines_of_change}
 use Rattle.input_text.specs.declared.step_rows.Line.{Line}

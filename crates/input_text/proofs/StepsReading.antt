@@ -3,7 +3,7 @@ use Rattle.std.proofs.Common.{Bor, ◌≡◌, ℕ, List, length, map}
 use Rattle.csv.specs.declared.reader.Reader.{Reader}
 use Rattle.text_fields.specs.CsvReading.{Reads}
 use Rattle.text_fields.specs.CsvRows.{trimmed}
-use Rattle.input_text.specs.RowByRow.{AreItems}
+use Rattle.text_fields.specs.RowByRow.{AreItems}
 use Rattle.input_text.specs.StepRow.{meaning}
 use Rattle.input_text.specs.StepsReading.{Counts, Drafts}
 use Rattle.input_text.specs.declared.step_rows.Line.{Line}

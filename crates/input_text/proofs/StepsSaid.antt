@@ -7,10 +7,10 @@ use Rattle.std.proofs.lemmas.List.Elements.{All-head, All-nil, All-tail}
 use Rattle.std.specs.List.{All, flat_map}
 use Rattle.change_protocol.specs.declared.operations.Act.TheVariants as act
 use Rattle.change_protocol.specs.declared.operations.Op.{Op}
-use Rattle.input_text.proofs.RowByRow.{all_items, all_mean, fault_means, first_fault, held}
+use Rattle.text_fields.proofs.Shared.{all_items, all_mean, fault_means, first_fault, held}
 use Rattle.input_text.proofs.StepLines.{ends_as, say_joined, say_more}
 use Rattle.input_text.proofs.StepMeaning.{Allows, says}
-use Rattle.input_text.specs.RowByRow.{AreItems, Faulty, IsFirstFault, items_below}
+use Rattle.text_fields.specs.RowByRow.{AreItems, Faulty, IsFirstFault, items_below}
 use Rattle.input_text.specs.StepRow.{ends_in_change, meaning}
 use Rattle.input_text.specs.StepsFile.{AreSteps, HasOperation, Say, joined, lines_of, lines_of_change, steps_of_rows, steps_or_fault, steps_said}
 use Rattle.input_text.specs.StepsReading.{asking}

@@ -1,5 +1,6 @@
 -- The first fault of a list of faults.
-use Rattle.std.proofs.Common.{◌≡◌, ℕ, List, [], ◌∷◌, ◌++◌, Some, None, Result, Ok, Err, IfOk, OnOk, map, refl, ap, sym, ◌∙◌}
+use Rattle.std.proofs.Common.{◌≡◌, ℕ, List, [], ◌∷◌, ◌++◌, Some, None, Result, Ok, Err, IfOk, IfErr, OnOk, map, refl, ap, sym, ◌∙◌}
+use Rattle.std.specs.Result.{IsErrAnd}
 use Rattle.input_text.specs.SystemFile.{described_by, document_of, faults_of, judged, system_of}
 use Rattle.toml.specs.Data.{Members}
 use Rattle.input_text.specs.declared.system.System.{System}
@@ -14,6 +15,17 @@ still_first (other ∷ front) rest fault e = e
 -- the first of a front is the first of the whole
 pub first_in_front : (front rest : List SystemFault) (fault : SystemFault) → IsFirst front fault → IsFirst (front ++ rest) fault
 first_in_front front rest fault is = record { first = λ other. still_first front rest fault (is.first other) }
+
+-- the first of what stands behind nothing is the first of the whole
+pub first_behind : (front rest : List SystemFault) (fault : SystemFault) → front ≡ [] → IsFirst rest fault → IsFirst (front ++ rest) fault
+first_behind [] rest fault none is = is
+first_behind (other ∷ front) rest fault none is = absurd (cc)
+
+-- a fault that is handed on is still the first one
+pub handed-on : {A : Type 0} (faults : List SystemFault) (result : Result A SystemFault) (fault : SystemFault)
+    → IsErrAnd result (λ now. now ≡ fault) → IsFirst faults fault → IfErr result (IsFirst faults)
+handed-on faults (Ok value) fault same is = absurd same
+handed-on faults (Err now) fault same is = rw same is
 
 first_is_judged : (faults : List SystemFault) (system : System) (fault : SystemFault) → IsFirst faults fault → (fault ≡ Memory → ⊥) → judged faults system ≡ Err fault
 first_is_judged [] system fault is other = absurd (let none = is.first other in cc)

@@ -5,6 +5,7 @@ use Rattle.std.specs.List.{range_with_len}
 use Rattle.requirement_table.specs.declared.entries.Entry.{Entry}
 use Rattle.change_protocol.specs.declared.operations.Op.TheVariants.{Add}
 use Rattle.change_protocol.specs.declared.operations.Act.TheVariants.{Ask}
+use Rattle.planner_policies.specs.declared.Fill.TheVariants.{Prefix}
 use Rattle.planner_policies.specs.declared.Policy.{Policy}
 use Rattle.planner_policies.specs.declared.Policy.TheVariants.{Rm, Dm, Edf}
 use Rattle.async_window.specs.declared.request.Owner.{Owner}
@@ -37,11 +38,22 @@ policy_made number = if number % 3 == 0 then Rm else if number % 3 == 1 then Dm 
 abbrev pub owner_made : ℕ → Owner
 owner_made place = record { id = 0x200 + place; node = place % 8 }
 
--- a cycle of 2,000 bit times, a turnaround of 10, a window of 810, eight nodes, and 32 owned identifiers
+-- how many slots a generated system has
+abbrev pub generated_slots : ℕ
+generated_slots = 40
+
+-- a cycle of 2,000 bit times, a turnaround of 10, a window of 810, 40 slots, eight nodes, and 32 owned identifiers
 unfoldable pub system_made : ℕ → System
 system_made number = record {
-  layout = record { cycle = 2000; turnaround = 10; window = 810 };
-  rules = record { nodes = 8; policy = policy_made number; window = 810; horizon = 10000 };
+  layout = record { cycle = 2000; turnaround = 10; window = 810; slots = generated_slots };
+  rules = record {
+    nodes = 8;
+    slots = generated_slots;
+    policy = policy_made number;
+    fill = Prefix;
+    window = 810;
+    horizon = 10000;
+  };
   owners = each_below 32 owner_made;
 }
 
@@ -69,7 +81,7 @@ change_made number slot = step.Act 1 (Ask (record { start = 0; ops = Add (entry_
 
 -- a change for each of the 40 slots, and 5,000 cycles
 unfoldable pub steps_made : ℕ → List Step
-steps_made number = each_below 40 (change_made number) ++ step.Cycle 5000 ∷ []
+steps_made number = each_below generated_slots (change_made number) ++ step.Cycle 5000 ∷ []
 
 -- the requests: what a request takes of the draws behind this many
 
@@ -93,7 +105,7 @@ bytes_made number before = each_below (size_made number before) (byte_made numbe
 -- how many draws stand before those of the request of this place, from 0: those of the 40 changes, and three and one
 -- for each byte of each request before it
 unfoldable pub draws_before : ℕ → ℕ → ℕ
-draws_before number zero = 6 * 40
+draws_before number zero = 6 * generated_slots
 draws_before number (suc place) = draws_before number place + 3 + size_made number (draws_before number place)
 
 -- the arrival of the request of this place: the sum of the gaps up to it, its own included

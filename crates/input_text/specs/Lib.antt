@@ -1,5 +1,3 @@
-pub mod RowByRow
-pub mod Whys
 pub mod RequestText
 pub mod RequestRow
 pub mod RequestOwners

@@ -13,7 +13,7 @@ use Rattle.async_window.specs.declared.request.Owner.{Owner}
 use Rattle.text_fields.specs.ByteText.{bytes_of}
 use Rattle.text_fields.specs.CsvRows.{number_at}
 use Rattle.text_fields.specs.Decimal.{number_of, within}
-use Rattle.input_text.specs.Whys.{◌>>=◌, where_holds}
+use Rattle.text_fields.specs.Whys.{◌>>=◌, where_holds}
 use Rattle.input_text.specs.declared.request_fault.RequestWhy.{RequestWhy}
 use Rattle.input_text.specs.declared.request_fault.RequestWhy.TheVariants.{Fields, Number, Identifier}
 use Rattle.input_text.specs.declared.request_fault.RequestWhy.TheVariants.{Data, Order, Many}

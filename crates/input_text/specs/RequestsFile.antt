@@ -4,7 +4,7 @@ use Rattle.async_window.specs.declared.request.Request.{Request}
 use Rattle.async_window.specs.declared.request.Owner.{Owner}
 use Rattle.text_fields.specs.CsvRows.{rows_of}
 use Rattle.input_text.specs.RequestRow.{meaning, IsRequest}
-use Rattle.input_text.specs.RowByRow.{AreItems, Faulty, IsFirstFault, items_below}
+use Rattle.text_fields.specs.RowByRow.{AreItems, Faulty, IsFirstFault, items_below}
 use Rattle.input_text.specs.declared.request_fault.RequestWhy.{RequestWhy}
 use Rattle.input_text.specs.declared.request_fault.RequestFault.{RequestFault}
 use Rattle.input_text.specs.declared.request_fault.RequestFault.TheVariants.{Row, Memory}

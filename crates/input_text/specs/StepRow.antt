@@ -2,7 +2,7 @@
 use Rattle.std.specs.Prelude.{ℕ, ◌+◌, ◌-◌, ◌&&◌, Bool, true, false, nat_lt, nat_le, List}
 use Rattle.std.specs.Prelude.{length, count_by, sum_by, option_map, ok_or, unwrap_or, Result}
 use Rattle.std.specs.List.{slice_get}
-use Rattle.input_text.specs.Whys.{◌>>=◌, where_holds}
+use Rattle.text_fields.specs.Whys.{◌>>=◌, where_holds}
 use Rattle.input_text.specs.StepForm.{form_of, has_fields}
 use Rattle.input_text.specs.StepFields.{said_as}
 use Rattle.input_text.specs.declared.step_rows.Line.{Line}

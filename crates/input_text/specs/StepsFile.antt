@@ -8,7 +8,7 @@ use Rattle.change_protocol.specs.declared.operations.Op.TheVariants.{Add, Remove
 use Rattle.change_protocol.specs.declared.operations.Act.{Act}
 use Rattle.change_protocol.specs.declared.operations.Act.TheVariants as act
 use Rattle.text_fields.specs.CsvRows.{rows_of}
-use Rattle.input_text.specs.RowByRow.{AreItems, IsFirstFault, Faulty, items_below}
+use Rattle.text_fields.specs.RowByRow.{AreItems, IsFirstFault, Faulty, items_below}
 use Rattle.input_text.specs.StepRow.{meaning}
 use Rattle.input_text.specs.declared.step_rows.Line.{Line}
 use Rattle.input_text.specs.declared.step_rows.Line.TheVariants as line

@@ -14,6 +14,8 @@ use Rattle.toml.specs.Data.{Data, string, integer, array, table, Items, no_items
 use Rattle.toml.specs.Data.{no_members, member, as_array, as_integer, as_str, as_table, get_member}
 use Rattle.toml.specs.Parse.{parse_document}
 use Rattle.cycle_layout.specs.Layout.{IsLayout, needed}
+use Rattle.planner_policies.specs.declared.Fill.{Fill}
+use Rattle.planner_policies.specs.declared.Fill.TheVariants.{Prefix, Skip}
 use Rattle.planner_policies.specs.declared.Policy.{Policy}
 use Rattle.planner_policies.specs.declared.Policy.TheVariants.{Rm, Dm, Edf}
 use Rattle.async_window.specs.declared.request.Owner.{Owner}
@@ -54,9 +56,11 @@ greatest_horizon = 100000
 
 -- the table of paths
 
--- what stands at a key: an integer from a least to a greatest one, one of some texts, a table, or an array
+-- what stands at a key: an integer from a least to a greatest one, one of some integers, one of some texts, a table, or
+-- an array
 pub data Kind : Type 0 where
   whole : ℕ → ℕ → Kind
+  either : List ℕ → Kind
   word : List (List ℕ) → Kind
   section : Kind
   series : Kind
@@ -86,8 +90,11 @@ window_row = record { key = codes "window"; kind = whole least_window greatest_w
 abbrev pub nodes_row : Row
 nodes_row = record { key = codes "nodes"; kind = whole 1 greatest_nodes; default = None }
 
+abbrev pub slots_row : Row
+slots_row = record { key = codes "slots"; kind = either (40 ∷ 96 ∷ []); default = Some (integer (pos 40)) }
+
 abbrev pub bus_rows : List Row
-bus_rows = cycle_row ∷ turnaround_row ∷ window_row ∷ nodes_row ∷ []
+bus_rows = cycle_row ∷ turnaround_row ∷ window_row ∷ nodes_row ∷ slots_row ∷ []
 
 abbrev pub plan_row : Row
 plan_row = record { key = codes "plan"; kind = section; default = Some (table no_members) }
@@ -106,8 +113,15 @@ horizon_row = record {
   default = Some (integer (pos 10000));
 }
 
+abbrev pub fill_row : Row
+fill_row = record {
+  key = codes "fill";
+  kind = word (codes "prefix" ∷ codes "skip" ∷ []);
+  default = Some (string (codes "prefix"));
+}
+
 abbrev pub plan_rows : List Row
-plan_rows = policy_row ∷ horizon_row ∷ []
+plan_rows = policy_row ∷ horizon_row ∷ fill_row ∷ []
 
 abbrev pub async_row : Row
 async_row = record { key = codes "async"; kind = series; default = Some (array no_items) }
@@ -218,6 +232,7 @@ is_array value = is_some (as_array value)
 
 abbrev pub is_of : Kind → Data → Bool
 is_of (whole low high) = is_integer
+is_of (either numbers) = is_integer
 is_of (word words) = is_text
 is_of section = is_table
 is_of series = is_array
@@ -236,12 +251,17 @@ abbrev pub is_whole_from : ℕ → ℕ → Data → Bool
 is_whole_from low high (integer (pos number)) = nat_le low number && nat_le number high
 is_whole_from low high _ = false
 
+abbrev pub is_one_of : List ℕ → Data → Bool
+is_one_of numbers (integer (pos number)) = list_any (nat_eq number) numbers
+is_one_of numbers _ = false
+
 abbrev pub is_word_of : List (List ℕ) → Data → Bool
 is_word_of words (string text) = is_among words text
 is_word_of words _ = false
 
 abbrev pub is_in_range : Kind → Data → Bool
 is_in_range (whole low high) = is_whole_from low high
+is_in_range (either numbers) = is_one_of numbers
 is_in_range (word words) = is_word_of words
 is_in_range section = is_table
 is_in_range series = is_array
@@ -321,13 +341,14 @@ range_faults document =
     ++ flat_map (range_at (codes "plan.") (plan_of document)) plan_rows
     ++ from_place (ranges_among (nodes_of document) (map id_of (elements_of document))) 0 (elements_of document)
 
--- a cycle without room for the longest trigger, the turnaround and the largest synchronous window
+-- a cycle without room for the trigger part, the turnaround and the largest synchronous window
 abbrev pub narrow_at : ℕ → ℕ → List SystemFault
 narrow_at need have = if nat_le need have then [] else Narrow need have ∷ []
 
 abbrev pub narrow_faults : Members → List SystemFault
 narrow_faults document =
-    narrow_at (needed (number_of turnaround_row (bus_of document)) (number_of window_row (bus_of document)))
+    narrow_at (needed (number_of turnaround_row (bus_of document)) (number_of window_row (bus_of document))
+    (number_of slots_row (bus_of document)))
     (number_of cycle_row (bus_of document))
 
 -- all that is wrong, in the order in which it is looked for
@@ -348,6 +369,17 @@ policy_named text =
 abbrev pub policy_of : List ℕ → Policy
 policy_of text = unwrap_or (policy_named text) Rm
 
+-- the filling of this name
+abbrev pub fill_named : List ℕ → Option Fill
+fill_named text =
+    if bytes_eq text (codes "prefix") then Some Prefix
+    else if bytes_eq text (codes "skip") then Some Skip
+    else None
+
+-- the filling of this name; `Prefix` where it is none
+abbrev pub fill_of : List ℕ → Fill
+fill_of text = unwrap_or (fill_named text) Prefix
+
 abbrev pub owner_of : Data → Owner
 owner_of element = record { id = id_of element; node = number_of (node_row 1) (element_of element) }
 
@@ -357,10 +389,13 @@ described_by document = record {
     cycle = number_of cycle_row (bus_of document);
     turnaround = number_of turnaround_row (bus_of document);
     window = number_of window_row (bus_of document);
+    slots = number_of slots_row (bus_of document);
   };
   rules = record {
     nodes = nodes_of document;
+    slots = number_of slots_row (bus_of document);
     policy = policy_of (text_in (value_of policy_row (plan_of document)));
+    fill = fill_of (text_in (value_of fill_row (plan_of document)));
     window = number_of window_row (bus_of document);
     horizon = number_of horizon_row (plan_of document);
   };
@@ -384,10 +419,12 @@ system_of_reading (Some document) = system_of_document document
 unfoldable pub system_of : List ℕ → Result System SystemFault
 system_of bytes = system_of_reading (document_of bytes)
 
--- what holds of a system: its owners are nodes of the bus, each of an asynchronous identifier of its own
+-- what holds of a system: changes are judged for the window and the slots of its layout, and its owners are nodes of the
+-- bus, each of an asynchronous identifier of its own
 pub record IsSystem (system : System) : Type 0 where
   pub layout : IsLayout system.layout
   pub same_window : system.rules.window ≡ system.layout.window
+  pub same_slots : system.rules.slots ≡ system.layout.slots
   pub some_nodes : 1 ≤ system.rules.nodes
   pub few_nodes : system.rules.nodes ≤ greatest_nodes
   pub some_horizon : least_horizon ≤ system.rules.horizon

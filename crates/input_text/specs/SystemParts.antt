@@ -9,11 +9,12 @@ use Rattle.toml.specs.Data.{Data, integer, Members, no_members}
 use Rattle.toml.specs.View.{table_view}
 use Rattle.toml.specs.declared.value.Value.{Value}
 use Rattle.async_window.specs.declared.request.Owner.{Owner}
-use Rattle.cycle_layout.specs.Layout.{IsCycleLength, IsTurnaround, IsWindow}
+use Rattle.cycle_layout.specs.Layout.{IsCycleLength, IsSlots, IsTurnaround, IsWindow}
 use Rattle.input_text.specs.declared.system.Bus.{Bus}
 use Rattle.input_text.specs.declared.system.Plan.{Plan}
-use Rattle.input_text.specs.SystemFile.{cycle_row, turnaround_row, window_row, nodes_row, policy_row}
-use Rattle.input_text.specs.SystemFile.{greatest_nodes, horizon_row, number_of, policy_of, text_in, value_of}
+use Rattle.input_text.specs.SystemFile.{cycle_row, turnaround_row, window_row, nodes_row, slots_row, policy_row}
+use Rattle.input_text.specs.SystemFile.{fill_of, fill_row, greatest_nodes, horizon_row, number_of, policy_of}
+use Rattle.input_text.specs.SystemFile.{text_in, value_of}
 use Rattle.input_text.specs.SystemFile.{in_element, is_integer, is_text, is_table, is_array}
 use Rattle.input_text.specs.declared.system_fault.SystemFault.{SystemFault}
 use Rattle.input_text.specs.declared.system_fault.SystemFault.TheVariants as wrong
@@ -67,6 +68,7 @@ pub record IsBusOf (table : Members) (bus : Bus) : Type 0 where
   pub turnaround : bus.turnaround ≡ number_of turnaround_row table
   pub window : bus.window ≡ number_of window_row table
   pub nodes : bus.nodes ≡ number_of nodes_row table
+  pub slots : bus.slots ≡ number_of slots_row table
 
 pub record IsBus (bus : Bus) : Type 0 where
   pub cycle : IsCycleLength bus.cycle
@@ -74,11 +76,13 @@ pub record IsBus (bus : Bus) : Type 0 where
   pub window : IsWindow bus.window
   pub some_nodes : 1 ≤ bus.nodes
   pub few_nodes : bus.nodes ≤ greatest_nodes
+  pub slots : IsSlots bus.slots
 
 -- the values of `plan` are those that the table sets
 pub record IsPlanOf (table : Members) (plan : Plan) : Type 0 where
   pub policy : plan.policy ≡ policy_of (text_in (value_of policy_row table))
   pub horizon : plan.horizon ≡ number_of horizon_row table
+  pub fill : plan.fill ≡ fill_of (text_in (value_of fill_row table))
 
 -- the owner is one of so many nodes, and its identifier is an asynchronous one
 pub record IsOwner (nodes : ℕ) (owner : Owner) : Type 0 where

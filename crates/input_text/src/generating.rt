@@ -6,7 +6,7 @@
 ghost use Rattle.std.specs.Prelude.{◌≡◌, ◌+◌, ◌*◌, ◌/◌, ◌^◌, ◌%◌, ◌<◌, ◌≤◌, ℕ, [], ◌∷◌, IfOk, OnOk};
 ghost use Rattle.change_protocol.specs.declared.operations.Op.TheVariants.{Add};
 ghost use Rattle.input_text.specs.Generator.{bytes_made, draw, each_below, entry_made, gap_made};
-ghost use Rattle.input_text.specs.Generator.{generated, identifier_made, owner_made, policy_made};
+ghost use Rattle.input_text.specs.Generator.{generated, generated_slots, identifier_made, owner_made, policy_made};
 ghost use Rattle.input_text.specs.Generator.{requests_made, size_made, state_after, steps_made, system_made};
 ghost use Rattle.input_text.specs.RequestsFile.{AreLegal};
 ghost use Rattle.input_text.specs.StepsFile.{AreLegalSteps};
@@ -22,7 +22,7 @@ use async_window::{LEAST_ASYNCHRONOUS, Owner, Request};
 use can_frame::{Frame, MAX_BYTES};
 use change_protocol::{Act, Change, Op, Ops};
 use cycle_layout::Layout;
-use planner_policies::Policy;
+use planner_policies::{Fill, Policy};
 use requirement_table::Entry;
 use std::alloc::{AllocError, Global};
 
@@ -55,8 +55,8 @@ const WINDOW: u32 = 810;
 /// How many asynchronous identifiers have owners, from the least one on.
 const IDS: u8 = 32;
 
-/// How many slots are asked for, from 0 on.
-const SLOTS: u8 = 40;
+/// How many slots a generated system has. An entry is asked for in each of them.
+pub const GENERATED_SLOTS: u8 = 40;
 
 /// The periods from which one is drawn, in elementary cycles.
 const PERIODS: [u16; 8] = [2, 3, 4, 5, 6, 8, 10, 12];
@@ -188,9 +188,9 @@ fn owners(alloc: Global) -> Result<OwnerList, AllocError>
 
 /// The layout.
 fn layout() -> Layout
-    ensures value { result ≡ record { cycle = 2000; turnaround = 10; window = 810 } }
+    ensures value { result ≡ record { cycle = 2000; turnaround = 10; window = 810; slots = generated_slots } }
 {
-    match Layout::new(2_000, 10, WINDOW) {
+    match Layout::new(2_000, 10, WINDOW, GENERATED_SLOTS) {
         Ok(layout) => layout,
         Err(_) => unreachable!(),
     }
@@ -203,7 +203,9 @@ fn system(alloc: Global, number: u32) -> Result<System, AllocError>
     let owners = owners(alloc)?;
     let rules = Rules {
         nodes: NODES,
+        slots: GENERATED_SLOTS,
         policy: policy(number),
+        fill: Fill::Prefix,
         window: WINDOW,
         horizon: 10_000,
     };
@@ -232,10 +234,10 @@ fn change(alloc: Global, entry: Entry) -> Result<Step, AllocError>
 /// The steps.
 fn steps(alloc: Global, draws: &mut Draws) -> Result<StepList, AllocError>
     ensures value { IfOk result (λ steps. steps ≡ steps_made draws.old.state) }
-    ensures state { OnOk result (draws.new.state ≡ state_after draws.old.state (6 * 40)) }
+    ensures state { OnOk result (draws.new.state ≡ state_after draws.old.state (6 * generated_slots)) }
 {
     let mut steps = Vec::new(alloc);
-    for slot in 0..SLOTS {
+    for slot in 0..GENERATED_SLOTS {
         let entry = draws.entry(slot);
         steps.push(change(alloc, entry)?)?;
     }
@@ -245,7 +247,7 @@ fn steps(alloc: Global, draws: &mut Draws) -> Result<StepList, AllocError>
 
 /// The requests, where the draws of the steps were taken.
 fn requests(alloc: Global, mut draws: Draws) -> Result<RequestList, AllocError>
-    ensures value { (number : ℕ) → draws.state ≡ state_after number (6 * 40)
+    ensures value { (number : ℕ) → draws.state ≡ state_after number (6 * generated_slots)
         → IfOk result (λ requests. requests ≡ requests_made number) }
 {
     let mut requests = Vec::new(alloc);

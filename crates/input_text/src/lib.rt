@@ -16,7 +16,7 @@ mod system;
 mod system_fault;
 mod system_sections;
 
-pub use generating::{Generated, generate};
+pub use generating::{GENERATED_SLOTS, Generated, generate};
 pub use lists::{RequestList, StepList};
 pub use owners::OwnerList;
 pub use request_fault::{RequestFault, RequestWhy};

@@ -5,7 +5,7 @@ ghost use Rattle.async_window.specs.declared.request.Owner.{Owner};
 ghost use Rattle.async_window.specs.declared.request.Request.{Request};
 ghost use Rattle.input_text.specs.RequestRow.{meaning};
 ghost use Rattle.input_text.specs.RequestsFile.{AreRequests, requests_of_rows};
-ghost use Rattle.input_text.specs.RowByRow.{IsFirstFault};
+ghost use Rattle.text_fields.specs.RowByRow.{IsFirstFault};
 ghost use Rattle.input_text.specs.declared.request_fault.RequestFault.TheVariants.{Row, Memory};
 ghost use Rattle.input_text.specs.declared.request_fault.RequestWhy.{RequestWhy};
 

@@ -1,7 +1,7 @@
 //! What the definitions of a steps file say, one of the other.
 
 ghost use Rattle.std.specs.Prelude.{◌≡◌, ◌≢◌, ◌↔◌, ℕ, List, Ok, Err};
-ghost use Rattle.input_text.specs.RowByRow.{IsFirstFault};
+ghost use Rattle.text_fields.specs.RowByRow.{IsFirstFault};
 ghost use Rattle.input_text.specs.StepRow.{meaning};
 ghost use Rattle.input_text.specs.StepsFile.{AreSteps, AreLegalSteps, steps_of_rows};
 ghost use Rattle.input_text.specs.declared.step_fault.StepFault.TheVariants.{Row, Memory};

@@ -6,7 +6,8 @@ ghost use Rattle.std.specs.Prelude.{IfErr, IfOk, OnOk, All, AllPairs, Some, None
 ghost use Rattle.std.specs.List.{flat_map, list_any};
 ghost use Rattle.toml.specs.Data.{get_member};
 ghost use Rattle.toml.specs.View.{table_view, view};
-ghost use Rattle.cycle_layout.specs.Layout.{IsLayout, needed};
+ghost use Rattle.cycle_layout.specs.Layout.{IsLayout, IsSlots, needed};
+ghost use Rattle.input_text.specs.SystemFile.{fill_named, fill_of, fill_row, number_in, slots_row};
 ghost use Rattle.input_text.specs.SystemFile.{IsSystem, bus_of, bus_rows, described_by, document_of, element_of};
 ghost use Rattle.input_text.specs.SystemFile.{elements_of, elements_in, faults_of, from_place, greatest_horizon, id_of};
 ghost use Rattle.input_text.specs.SystemFile.{kind_at, kind_faults, kinds_in_element, least_horizon, members_in};
@@ -26,7 +27,7 @@ use admission_rules::Rules;
 use async_window::{LEAST_ASYNCHRONOUS, Owner};
 use can_frame::MAX_IDENTIFIER;
 use cycle_layout::{Layout, LayoutFault};
-use planner_policies::Policy;
+use planner_policies::{Fill, Policy};
 use std::alloc::Global;
 use toml::{Table, Value};
 
@@ -35,7 +36,7 @@ use toml::{Table, Value};
 pub struct System {
     /// The elementary cycle and its windows.
     pub layout: Layout,
-    /// The rules by which changes are judged. Their window is that of the layout.
+    /// The rules by which changes are judged. Their window and their slots are those of the layout.
     pub rules: Rules,
     /// The asynchronous identifiers and the nodes that send them, in the order of the file.
     pub owners: OwnerList,
@@ -58,6 +59,11 @@ const MAX_WINDOW: u32 = 16_383;
 
 /// The most nodes.
 const MAX_NODES: u32 = 30;
+
+/// The numbers of slots that a bus may have; without another word it has the first one.
+const SLOTS: u8 = 40;
+
+const MORE_SLOTS: u8 = 96;
 
 /// The least horizon, in elementary cycles.
 const LEAST_HORIZON: u32 = 1;
@@ -180,8 +186,8 @@ fn check_keys(alloc: Global, document: &Table) -> Result<(), SystemFault>
     ensures fault { IfErr result (IsFirst (unknown_faults (table_view document.now))) }
 {
     top_of(document).check_keys(alloc, &["bus", "plan", "async"])?;
-    bus_of(document).check_keys(alloc, &["cycle", "turnaround", "window", "nodes"])?;
-    plan_of(document).check_keys(alloc, &["policy", "horizon"])?;
+    bus_of(document).check_keys(alloc, &["cycle", "turnaround", "window", "nodes", "slots"])?;
+    plan_of(document).check_keys(alloc, &["policy", "horizon", "fill"])?;
     check_elements_keys(alloc, elements_of(document))
 }
 
@@ -195,7 +201,8 @@ fn check_bus(alloc: Global, document: &Table) -> Result<(), SystemFault>
     bus.check_kind(alloc, "cycle", Kind::Integer, true)?;
     bus.check_kind(alloc, "turnaround", Kind::Integer, false)?;
     bus.check_kind(alloc, "window", Kind::Integer, true)?;
-    bus.check_kind(alloc, "nodes", Kind::Integer, true)
+    bus.check_kind(alloc, "nodes", Kind::Integer, true)?;
+    bus.check_kind(alloc, "slots", Kind::Integer, false)
 }
 
 /// Tests that the keys of `plan` hold what they should, where they are there.
@@ -206,7 +213,8 @@ fn check_plan(alloc: Global, document: &Table) -> Result<(), SystemFault>
 {
     let plan = plan_of(document);
     plan.check_kind(alloc, "policy", Kind::Text, false)?;
-    plan.check_kind(alloc, "horizon", Kind::Integer, false)
+    plan.check_kind(alloc, "horizon", Kind::Integer, false)?;
+    plan.check_kind(alloc, "fill", Kind::Text, false)
 }
 
 /// Tests that an element of `async` is a table.
@@ -260,13 +268,37 @@ fn check_kinds(alloc: Global, document: &Table) -> Result<(), SystemFault>
 }
 
 /// The numbers of `bus`: the lengths of the elementary cycle, of the turnaround and of the largest
-/// synchronous window in bit times, and how many nodes there are.
+/// synchronous window in bit times, and how many nodes and slots there are.
 #[derive(Clone, Copy)]
 struct Bus {
     cycle: u32,
     turnaround: u32,
     window: u32,
     nodes: u8,
+    slots: u8,
+}
+
+/// The number of slots of `bus`, where it is one of the two.
+fn read_slots(alloc: Global, bus: Section) -> Result<u8, SystemFault>
+    ensures slots { IfOk result (λ slots. slots ≡ number_in (value_of slots_row (members_at bus.entry.table))) }
+    ensures known { IfOk result IsSlots }
+    ensures ok { OnOk result (range_at (prefix_of bus.entry.place) (members_at bus.entry.table) slots_row ≡ []) }
+    ensures fault { IfErr result
+        (IsFirst (range_at (prefix_of bus.entry.place) (members_at bus.entry.table) slots_row)) }
+{
+    let Some(value) = bus.value("slots") else {
+        return Ok(SLOTS);
+    };
+    let Some(number) = value.as_integer() else {
+        return Err(bus.range_fault(alloc, "slots"));
+    };
+    if number == i64::from(SLOTS) {
+        Ok(SLOTS)
+    } else if number == i64::from(MORE_SLOTS) {
+        Ok(MORE_SLOTS)
+    } else {
+        Err(bus.range_fault(alloc, "slots"))
+    }
 }
 
 /// The numbers of `bus`, where they are in range.
@@ -282,11 +314,13 @@ fn read_bus(alloc: Global, document: &Table) -> Result<Bus, SystemFault>
     let turnaround = bus.number_or(alloc, "turnaround", 0, 0..=MAX_TURNAROUND)?;
     let window = bus.number(alloc, "window", LEAST_WINDOW..=MAX_WINDOW)?;
     let nodes = bus.number(alloc, "nodes", 1..=MAX_NODES)?;
+    let slots = read_slots(alloc, bus)?;
     Ok(Bus {
         cycle,
         turnaround,
         window,
         nodes: nodes as u8,
+        slots,
     })
 }
 
@@ -325,12 +359,45 @@ fn read_policy(alloc: Global, plan: Section) -> Result<Policy, SystemFault>
     }
 }
 
-/// What `plan` sets: the policy, and the number of cycles within which a repeat of the plan has to
-/// be found.
+/// The filling of this name.
+fn fill_named(name: &str) -> Option<Fill>
+    ensures fill { result ≡ fill_named name.now }
+{
+    if name == "prefix" {
+        Some(Fill::Prefix)
+    } else if name == "skip" {
+        Some(Fill::Skip)
+    } else {
+        None
+    }
+}
+
+/// The filling of `plan`, where it is one.
+fn read_fill(alloc: Global, plan: Section) -> Result<Fill, SystemFault>
+    ensures fill { IfOk result (λ fill. fill ≡ fill_of (text_in (value_of fill_row (members_at plan.entry.table)))) }
+    ensures ok { OnOk result (range_at (prefix_of plan.entry.place) (members_at plan.entry.table) fill_row ≡ []) }
+    ensures fault { IfErr result
+        (IsFirst (range_at (prefix_of plan.entry.place) (members_at plan.entry.table) fill_row)) }
+{
+    let Some(value) = plan.value("fill") else {
+        return Ok(Fill::Prefix);
+    };
+    let Some(name) = value.as_str() else {
+        return Err(plan.range_fault(alloc, "fill"));
+    };
+    match fill_named(name) {
+        Some(fill) => Ok(fill),
+        None => Err(plan.range_fault(alloc, "fill")),
+    }
+}
+
+/// What `plan` sets: the policy, the number of cycles within which a repeat of the plan has to be
+/// found, and the filling.
 #[derive(Clone, Copy)]
 struct Plan {
     policy: Policy,
     horizon: u32,
+    fill: Fill,
 }
 
 /// What `plan` sets, where its values are in range.
@@ -344,7 +411,12 @@ fn read_plan(alloc: Global, document: &Table) -> Result<Plan, SystemFault>
     let plan = plan_of(document);
     let policy = read_policy(alloc, plan)?;
     let horizon = plan.number_or(alloc, "horizon", 10_000, LEAST_HORIZON..=MAX_HORIZON)?;
-    Ok(Plan { policy, horizon })
+    let fill = read_fill(alloc, plan)?;
+    Ok(Plan {
+        policy,
+        horizon,
+        fill,
+    })
 }
 
 /// Whether one of the owners has the identifier.
@@ -416,12 +488,17 @@ fn read_owners(alloc: Global, elements: &[Value], nodes: u8) -> Result<Vec<Owner
 fn layout_of(bus: Bus) -> Result<Layout, SystemFault>
     requires ranges { IsBus bus }
     ensures layout { IfOk result
-        (λ layout. layout ≡ record { cycle = bus.cycle; turnaround = bus.turnaround; window = bus.window }) }
+        (λ layout. layout ≡ record {
+          cycle = bus.cycle;
+          turnaround = bus.turnaround;
+          window = bus.window;
+          slots = bus.slots;
+        }) }
     ensures known { IfOk result IsLayout }
-    ensures ok { OnOk result (narrow_at (needed bus.turnaround bus.window) bus.cycle ≡ []) }
-    ensures fault { IfErr result (IsFirst (narrow_at (needed bus.turnaround bus.window) bus.cycle)) }
+    ensures ok { OnOk result (narrow_at (needed bus.turnaround bus.window bus.slots) bus.cycle ≡ []) }
+    ensures fault { IfErr result (IsFirst (narrow_at (needed bus.turnaround bus.window bus.slots) bus.cycle)) }
 {
-    match Layout::new(bus.cycle, bus.turnaround, bus.window) {
+    match Layout::new(bus.cycle, bus.turnaround, bus.window, bus.slots) {
         Ok(layout) => Ok(layout),
         Err(LayoutFault::TooNarrow { need, have }) => Err(SystemFault::Narrow { need, have }),
         Err(_) => unreachable!(),
@@ -443,7 +520,9 @@ fn read_values(alloc: Global, document: &Table) -> Result<System, SystemFault>
     let layout = layout_of(bus)?;
     let rules = Rules {
         nodes: bus.nodes,
+        slots: bus.slots,
         policy: plan.policy,
+        fill: plan.fill,
         window: bus.window,
         horizon: u64::from(plan.horizon),
     };

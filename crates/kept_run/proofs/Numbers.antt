@@ -12,11 +12,11 @@ use Rattle.change_protocol.specs.declared.operations.Op.TheVariants.{Add, Remove
 use Rattle.change_protocol.specs.declared.operations.Change.{Change as TableChange}
 use Rattle.change_protocol.specs.Applied.{IsKept, applied, ended, placed_by}
 use Rattle.change_protocol.proofs.Shared.{ended-kept}
-use Rattle.change_protocol.specs.Malformed.{IsWellFormed, broken, change_faults, deadline_range, length_range, node_unknown, op_faults, period_zero, places, slot_busy, slot_empty, slot_range, slot_twice, where_holds, whys}
+use Rattle.change_protocol.specs.Malformed.{Bounds, IsWellFormed, broken, change_faults, deadline_range, length_range, node_unknown, op_faults, period_zero, places, slot_busy, slot_empty, slot_range, slot_twice, where_holds, whys}
 use Rattle.admission_rules.specs.declared.Rules.{Rules}
 use Rattle.admission.specs.declared.verdict.Verdict.{Verdict}
 use Rattle.admission.specs.declared.verdict.Verdict.TheVariants.{Malformed, Passed, Miss, Horizon, Accepted}
-use Rattle.admission.specs.Verdict.{IsVerdict, is_accepted}
+use Rattle.admission.specs.Verdict.{IsVerdict, bounds_by, is_accepted}
 use Rattle.master_core.specs.declared.event.Event.{Event}
 use Rattle.master_core.specs.declared.event.Event.TheVariants.{Submit, Look, Open}
 use Rattle.master_core.specs.History.{AllAfter, IsLegal, IsRight, placed_after, placed_of}
@@ -52,23 +52,23 @@ record HasNode (nodes : ℕ) (op : Op) : Type 0 where
   known : places (λ entry. nat_le nodes entry.node) op ≡ false
 
 -- no operation breaks the rule of the nodes
-node-known : (placed : List Placed) (nodes start : ℕ) (earlier : List Op) (op : Op) → whys placed nodes start earlier op ≡ [] → HasNode nodes op
-node-known placed nodes start earlier op none =
-    let upto_busy = both-none (slot_range op ++ slot_twice earlier op ++ node_unknown nodes op ++ length_range op ++ period_zero op ++ deadline_range op ++ slot_busy placed start op) (slot_empty placed op) none in
-    let upto_deadline = both-none (slot_range op ++ slot_twice earlier op ++ node_unknown nodes op ++ length_range op ++ period_zero op ++ deadline_range op) (slot_busy placed start op) upto_busy.0 in
-    let upto_period = both-none (slot_range op ++ slot_twice earlier op ++ node_unknown nodes op ++ length_range op ++ period_zero op) (deadline_range op) upto_deadline.0 in
-    let upto_length = both-none (slot_range op ++ slot_twice earlier op ++ node_unknown nodes op ++ length_range op) (period_zero op) upto_period.0 in
-    let upto_node = both-none (slot_range op ++ slot_twice earlier op ++ node_unknown nodes op) (length_range op) upto_length.0 in
-    let from_node = both-none (slot_range op ++ slot_twice earlier op) (node_unknown nodes op) upto_node.0 in
+node-known : (placed : List Placed) (bounds : Bounds) (start : ℕ) (earlier : List Op) (op : Op) → whys placed bounds start earlier op ≡ [] → HasNode bounds.nodes op
+node-known placed bounds start earlier op none =
+    let upto_busy = both-none (slot_range bounds.slots op ++ slot_twice earlier op ++ node_unknown bounds.nodes op ++ length_range op ++ period_zero op ++ deadline_range op ++ slot_busy placed start op) (slot_empty placed op) none in
+    let upto_deadline = both-none (slot_range bounds.slots op ++ slot_twice earlier op ++ node_unknown bounds.nodes op ++ length_range op ++ period_zero op ++ deadline_range op) (slot_busy placed start op) upto_busy.0 in
+    let upto_period = both-none (slot_range bounds.slots op ++ slot_twice earlier op ++ node_unknown bounds.nodes op ++ length_range op ++ period_zero op) (deadline_range op) upto_deadline.0 in
+    let upto_length = both-none (slot_range bounds.slots op ++ slot_twice earlier op ++ node_unknown bounds.nodes op ++ length_range op) (period_zero op) upto_period.0 in
+    let upto_node = both-none (slot_range bounds.slots op ++ slot_twice earlier op ++ node_unknown bounds.nodes op) (length_range op) upto_length.0 in
+    let from_node = both-none (slot_range bounds.slots op ++ slot_twice earlier op) (node_unknown bounds.nodes op) upto_node.0 in
     record { known = not-held _ _ from_node.1 }
 
-all-known : (placed : List Placed) (nodes start : ℕ) (earlier ops : List Op) → op_faults placed nodes start earlier ops ≡ [] → All (HasNode nodes) ops
-all-known placed nodes start earlier [] none = All-nil (HasNode nodes)
-all-known placed nodes start earlier (op ∷ ops) none =
-    let parts = both-none (map (broken (length earlier)) (whys placed nodes start earlier op)) (op_faults placed nodes start (earlier ++ op ∷ []) ops) none in
-    All-cons (HasNode nodes) op ops
-    (node-known placed nodes start earlier op (none-mapped (broken (length earlier)) (whys placed nodes start earlier op) parts.0))
-    (all-known placed nodes start (earlier ++ op ∷ []) ops parts.1)
+all-known : (placed : List Placed) (bounds : Bounds) (start : ℕ) (earlier ops : List Op) → op_faults placed bounds start earlier ops ≡ [] → All (HasNode bounds.nodes) ops
+all-known placed bounds start earlier [] none = All-nil (HasNode bounds.nodes)
+all-known placed bounds start earlier (op ∷ ops) none =
+    let parts = both-none (map (broken (length earlier)) (whys placed bounds start earlier op)) (op_faults placed bounds start (earlier ++ op ∷ []) ops) none in
+    All-cons (HasNode bounds.nodes) op ops
+    (node-known placed bounds start earlier op (none-mapped (broken (length earlier)) (whys placed bounds start earlier op) parts.0))
+    (all-known placed bounds start (earlier ++ op ∷ []) ops parts.1)
 
 -- so what they place is of nodes
 placed-of_node : (placed : List Placed) (nodes start : ℕ) (op : Op) → HasNode nodes op → IfSome (placed_by placed start op) (IsOfNode nodes)
@@ -80,16 +80,16 @@ kept-of_node : (nodes start : ℕ) (p q : Placed) → IsKept start p q → IsOfN
 kept-of_node nodes start p q (inl same) of_node = subst (IsOfNode nodes) (sym same) of_node
 kept-of_node nodes start p q (inr (live, same)) of_node = subst (IsOfNode nodes) (sym same) of_node
 
-applied-of_nodes : (placed : List Placed) (nodes : ℕ) (change : TableChange) → IsWellFormed placed nodes change → All (IsOfNode nodes) placed → All (IsOfNode nodes) (applied placed change)
-applied-of_nodes placed nodes change formed all =
-    let faults = both-none (change_faults change.start change.ops) (op_faults placed nodes change.start [] change.ops) formed in
-    All-append (IsOfNode nodes) (map (ended change.start change.ops) placed) (filter_map (placed_by placed change.start) change.ops)
-    (All-map (IsOfNode nodes) (ended change.start change.ops) placed
-    (All-weaker (IsOfNode nodes) (λ p. IsOfNode nodes (ended change.start change.ops p))
-    (λ p of_node. kept-of_node nodes change.start p (ended change.start change.ops p) (ended-kept change.start change.ops p) of_node) placed all))
-    (All-filter_map (IsOfNode nodes) (placed_by placed change.start) change.ops
-    (All-weaker (HasNode nodes) (λ op. IfSome (placed_by placed change.start op) (IsOfNode nodes)) (λ op has. placed-of_node placed nodes change.start op has) change.ops
-    (all-known placed nodes change.start [] change.ops faults.1)))
+applied-of_nodes : (placed : List Placed) (bounds : Bounds) (change : TableChange) → IsWellFormed placed bounds change → All (IsOfNode bounds.nodes) placed → All (IsOfNode bounds.nodes) (applied placed change)
+applied-of_nodes placed bounds change formed all =
+    let faults = both-none (change_faults change.start change.ops) (op_faults placed bounds change.start [] change.ops) formed in
+    All-append (IsOfNode bounds.nodes) (map (ended change.start change.ops) placed) (filter_map (placed_by placed change.start) change.ops)
+    (All-map (IsOfNode bounds.nodes) (ended change.start change.ops) placed
+    (All-weaker (IsOfNode bounds.nodes) (λ p. IsOfNode bounds.nodes (ended change.start change.ops p))
+    (λ p of_node. kept-of_node bounds.nodes change.start p (ended change.start change.ops p) (ended-kept change.start change.ops p) of_node) placed all))
+    (All-filter_map (IsOfNode bounds.nodes) (placed_by placed change.start) change.ops
+    (All-weaker (HasNode bounds.nodes) (λ op. IfSome (placed_by placed change.start op) (IsOfNode bounds.nodes)) (λ op has. placed-of_node placed bounds.nodes change.start op has) change.ops
+    (all-known placed bounds change.start [] change.ops faults.1)))
 
 -- an event that is right keeps that
 answered-of_nodes : (rules : Rules) (placed : List Placed) (pending from next : ℕ) (change : TableChange) (verdict : Verdict)
@@ -99,7 +99,7 @@ answered-of_nodes rules placed pending from next change (Malformed op why) answe
 answered-of_nodes rules placed pending from next change (Passed start opened) answer all = all
 answered-of_nodes rules placed pending from next change (Miss slot release cycle) answer all = all
 answered-of_nodes rules placed pending from next change (Horizon first walked) answer all = all
-answered-of_nodes rules placed pending from next change (Accepted first len) answer all = applied-of_nodes placed rules.nodes change answer.0.well_formed all
+answered-of_nodes rules placed pending from next change (Accepted first len) answer all = applied-of_nodes placed (bounds_by rules) change answer.0.well_formed all
 
 after-of_nodes : (rules : Rules) (before : List Event) (event : Event) → IsRight rules before event → All (IsOfNode rules.nodes) (placed_of before)
     → All (IsOfNode rules.nodes) (placed_after (placed_of before) event)

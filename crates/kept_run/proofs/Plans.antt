@@ -4,7 +4,7 @@ use Rattle.std.proofs.lemmas.Bool.{and_parts, lt-ltb, false≢true}
 use Rattle.requirement_table.specs.declared.entries.Placed.{Placed}
 use Rattle.requirement_table.specs.Flags.{IsFlaggedOnce, IsGoodCycle}
 use Rattle.requirement_table.specs.Instance.{Exists, IsLastCycle, release_of}
-use Rattle.requirement_table.specs.Slots.{contains_slot, set_of, slots}
+use Rattle.requirement_table.specs.Slots.{contains_slot, set_of, most_slots}
 use Rattle.requirement_table.specs.Table.{IsWellPlaced, instance_in, width_in, worst_in}
 use Rattle.requirement_table.proofs.Shared.{contains_slot-none, contains_slot-set_of, sum_where-same}
 use Rattle.planner_policies.specs.Plan.{HasNoMiss, IsValid, NeverMisses, Planning, flags_of, mask_at, pending_at, planned_at, planned_in}
@@ -18,7 +18,7 @@ pub record PlanLaws : Type 0 where
       → ((m : ℕ) → m < n → IsGoodCycle placed flags from held m)
       → (p : Placed) (k last : ℕ) → Contains placed p → Exists p (release_of p k) → from ≤ release_of p k
       → IsLastCycle p k last → last < from + n → IsFlaggedOnce flags p.entry.slot (release_of p k) last
-  pub planned : (plan : Planning) (n : ℕ) → set_of slots (planned_in plan (plan.from + n) (contains_slot (pending_at plan n))) ≡ mask_at plan n
+  pub planned : (plan : Planning) (n : ℕ) → set_of most_slots (planned_in plan (plan.from + n) (contains_slot (pending_at plan n))) ≡ mask_at plan n
   pub fits : (plan : Planning) (c : ℕ) (before : ℕ → Bool) → width_in plan.placed c (planned_in plan c before) ≤ plan.window
   pub sendable : (plan : Planning) (c pending slot : ℕ) → IsWellPlaced plan.placed → IsValid plan.placed c pending
       → planned_in plan c (contains_slot pending) slot ≡ true → IsSome (instance_in plan.placed slot c)
@@ -26,11 +26,11 @@ pub record PlanLaws : Type 0 where
       → HasNoMiss plan n → IsValid plan.placed (plan.from + n) (pending_at plan n)
 
 -- a set of slots that is made of a test has the slots that pass it
-pub in_set : (p : ℕ → Bool) (slot : ℕ) → slot < slots → contains_slot (set_of slots p) slot ≡ p slot
-in_set p slot known = contains_slot-set_of slots p slot ∙ ap (λ b. b && p slot) (lt-ltb slot slots known)
+pub in_set : (p : ℕ → Bool) (slot : ℕ) → slot < most_slots → contains_slot (set_of most_slots p) slot ≡ p slot
+in_set p slot known = contains_slot-set_of most_slots p slot ∙ ap (λ b. b && p slot) (lt-ltb slot most_slots known)
 
-pub from_set : (p : ℕ → Bool) (slot : ℕ) → contains_slot (set_of slots p) slot ≡ true → p slot ≡ true
-from_set p slot flagged = (and_parts (nat_lt slot slots) (p slot) (sym (contains_slot-set_of slots p slot) ∙ flagged)).1
+pub from_set : (p : ℕ → Bool) (slot : ℕ) → contains_slot (set_of most_slots p) slot ≡ true → p slot ≡ true
+from_set p slot flagged = (and_parts (nat_lt slot most_slots) (p slot) (sym (contains_slot-set_of most_slots p slot) ∙ flagged)).1
 
 -- nothing is pending before cycle 0
 nothing-pending : (placed : List Placed) (c : ℕ) → IsValid placed c 0
@@ -41,7 +41,7 @@ module _ (laws : PlanLaws) (rules : Rules) (placed : List Placed) (well : IsWell
   plan = plan_of rules placed
 
   -- a slot of the mask of a cycle is planned in it
-  pub mask-planned : (c slot : ℕ) → slot < slots → contains_slot (mask_at plan c) slot ≡ flags_of plan c slot
+  pub mask-planned : (c slot : ℕ) → slot < most_slots → contains_slot (mask_at plan c) slot ≡ flags_of plan c slot
   mask-planned c slot known =
       let same : c ≡ c - 0 = omega arith in
       in_set (planned_at plan c) slot known ∙ ap (λ n. planned_at plan n slot) same
@@ -65,9 +65,9 @@ module _ (laws : PlanLaws) (rules : Rules) (placed : List Placed) (well : IsWell
   mask-fits c =
       let before : ℕ → Bool = contains_slot (pending_at plan c) in
       let start : 0 + c ≡ c = zero-add c in
-      let mask : mask_at plan c ≡ set_of slots (planned_in plan c before) = sym (laws.planned plan c) ∙ ap (λ n. set_of slots (planned_in plan n before)) start in
+      let mask : mask_at plan c ≡ set_of most_slots (planned_in plan c before) = sym (laws.planned plan c) ∙ ap (λ n. set_of most_slots (planned_in plan n before)) start in
       let same : width_in placed c (contains_slot (mask_at plan c)) ≡ width_in placed c (planned_in plan c before) =
       ap (λ m. width_in placed c (contains_slot m)) mask
-      ∙ sum_where-same slots (contains_slot (set_of slots (planned_in plan c before))) (planned_in plan c before) (worst_in placed c) (λ slot known. in_set (planned_in plan c before) slot known) in
+      ∙ sum_where-same most_slots (contains_slot (set_of most_slots (planned_in plan c before))) (planned_in plan c before) (worst_in placed c) (λ slot known. in_set (planned_in plan c before) slot known) in
       let fits = laws.fits plan c before in
       subst (λ w. w ≤ rules.window) (sym same) fits

@@ -1,5 +1,5 @@
 -- The nodes of a run: what they know once they have learnt the list of an order and heard a cycle.
-use Rattle.std.proofs.Common.{◌≡◌, ℕ, ◌+◌, ◌*◌, ◌<◌, ◌≤◌, eqb, Bool, length, true, false, cond, List, [], ◌∷◌, ◌++◌, map, fold, All, Contains, Option, Some, None, refl, ap, sym, ◌∙◌, subst}
+use Rattle.std.proofs.Common.{◌≡◌, ℕ, ◌+◌, ◌*◌, ◌^◌, ◌<◌, ◌≤◌, eqb, Bool, length, true, false, cond, List, [], ◌∷◌, ◌++◌, map, fold, All, Contains, Option, Some, None, refl, ap, sym, ◌∙◌, subst}
 use Rattle.std.specs.Prelude.{IfSome, is_some}
 use Rattle.std.proofs.lemmas.List.Elements.{All-contains, All-map, All-weaker}
 use Rattle.can_frame.specs.DataFrame.{DataFrame}
@@ -19,7 +19,7 @@ use Rattle.master_core.specs.History.{IsLegal, IsRight, is_changed, is_open, nex
 use Rattle.master_core.specs.Orders.{IsOrder}
 use Rattle.async_window.specs.declared.request.Owner.{Owner}
 use Rattle.async_window.specs.declared.request.Request.{Request}
-use Rattle.node_model.specs.Node.{NodeState, NodeView, after_frame, after_hearing, counted, entries_of, is_own_slot, learnt}
+use Rattle.node_model.specs.Node.{NodeState, NodeView, after_frame, after_hearing, counted, entries_of, is_own_slot, learnt, opening_identifier}
 use Rattle.node_model.specs.Own.{Stands}
 use Rattle.node_model.proofs.Shared.{instance-of_own}
 use Rattle.cycle_engine.specs.Cycle.{FitsWindow}
@@ -40,7 +40,8 @@ number-either false one other number is_one is_other = is_other
 
 number-frame : (node : NodeState) (frame : DataFrame) → (after_frame node frame).number ≡ node.number
 number-frame node frame =
-    number-either (eqb frame.identifier 0) _ _ node.number refl (number-either (is_own_slot node.entries frame.identifier) _ _ node.number refl refl)
+    number-either (eqb frame.identifier (opening_identifier node.layout.slots)) _ _ node.number refl
+    (number-either (eqb frame.identifier 0) _ _ node.number refl (number-either (is_own_slot node.entries frame.identifier) _ _ node.number refl refl))
 
 number-heard : (frames : List TimedFrame) (node : NodeState) → (fold after_hearing node frames).number ≡ node.number
 number-heard [] node = refl
@@ -192,6 +193,10 @@ module _ (setting : Setting) (history : List Event) (trace : List TimedFrame) (n
   -- the window is not above the largest one
   pub order-window : IsSetting setting → AreReady setting history trace nodes → IsOrder setting.rules history order → order.l ≤ nodes.layout.window
   order-window known ready is = subst (λ l. order.l ≤ l.window) (sym ready.same_layout) (subst (λ w. order.l ≤ w) known.same_window is.fits)
+
+  -- the flagged slots are slots of the layout
+  pub order-slots : IsSetting setting → AreReady setting history trace nodes → IsOrder setting.rules history order → order.mask < 2 ^ nodes.layout.slots
+  order-slots known ready is = subst (λ l. order.mask < 2 ^ l.slots) (sym ready.same_layout) (subst (λ n. order.mask < 2 ^ n) known.same_slots is.slots)
 
   bus-now : IsWellPlaced (placed_of history) → AreReady setting history trace nodes → IsOrder setting.rules history order
       → IsBus setting.layout setting.owners setting.requests (placed_of history) trace (next_of history) after

@@ -1,56 +1,79 @@
 -- What a run owes is served: each instance whose last cycle was run, and nothing else in its slot.
-use Rattle.std.proofs.Common.{◌≡◌, ℕ, ◌+◌, ◌*◌, ◌<◌, ◌≤◌, ◌⊎◌, ◌&&◌, Bool, true, false, eqb, leb, List, get_or, Option, Some, None, All, Contains, IsSome, refl, ap, sym, ◌∙◌, arith, subst, inl, inr}
-use Rattle.std.specs.Prelude.{option_map, IfSome}
+use Rattle.std.proofs.Common.{◌≡◌, ℕ, ◌+◌, ◌*◌, ◌<◌, ◌≤◌, ◌⊎◌, ◌&&◌, Bool, true, false, cond, eqb, leb, List, [], ◌∷◌, ◌++◌, map, get_or, Option, Some, None, All, Contains, IsSome, refl, ap, sym, ◌∙◌, arith, subst, inl, inr}
+use Rattle.std.specs.Prelude.{nat_eq, option_map, IfSome}
 use Rattle.std.proofs.lemmas.Bool.{cases_eq, eq-eqb, ne_eqb, le-leb, leb-true, and_from, and_left, and_right, and_parts, false_from_ne_true, cond-false}
-use Rattle.std.proofs.lemmas.List.Elements.{All-contains, Contains-get_or}
+use Rattle.std.proofs.lemmas.List.Elements.{All-cons, All-contains, All-nil, Contains-append_cases, Contains-get_or, filter-append}
 use Rattle.std.proofs.Math.Nat.{div-lt_iff_lt-mul, div-eq_of_lt-le}
+use Rattle.can_frame.specs.DataFrame.{DataFrame}
 use Rattle.can_frame.specs.declared.data_frame.TimedFrame.{TimedFrame}
 use Rattle.cycle_layout.specs.Layout.{CycleLayout}
 use Rattle.requirement_table.specs.declared.entries.Placed.{Placed}
 use Rattle.requirement_table.specs.Flags.{IsFlaggedOnce}
 use Rattle.requirement_table.specs.Instance.{Instance, MaySend, bytes_of, payload, release_of}
-use Rattle.requirement_table.specs.Opening.{Opening}
-use Rattle.requirement_table.specs.Slots.{contains_slot, slots}
+use Rattle.requirement_table.specs.Opening.{Opening, width_of}
+use Rattle.requirement_table.specs.Slots.{contains_slot, most_slots}
 use Rattle.requirement_table.specs.Table.{IsInRange, instance_in}
 use Rattle.requirement_table.proofs.Shared.{instance_in-found, instance_in-sound}
 use Rattle.change_protocol.specs.Applied.{without_end}
 use Rattle.planner_policies.specs.Plan.{Planning, flags_of, mask_at}
 use Rattle.admission_rules.specs.declared.Rules.{Rules}
 use Rattle.master_core.specs.History.{plan_of}
+use Rattle.trigger_codec.specs.Bytes.{second_frame, trigger_frame}
 use Rattle.node_model.specs.Opening.{first_identifier}
 use Rattle.cycle_engine.specs.Cycle.{IsRequestFrame, IsSentOnce, IsSlotFrame, RunsCycle, RunsCycles, cycle_of, frames_in, of_slot}
 use Rattle.kept_run.specs.Served.{AllGuarded, AllServed, IsInWindow, NoStrangers, frames_of}
-use Rattle.kept_run.proofs.Lists.{Contains-cases, Contains-filter, Contains-nil, filter-filter, filter-same, place-of}
+use Rattle.kept_run.proofs.Lists.{Contains-cases, Contains-filter, Contains-nil, filter-filter, filter-none, filter-same, place-of}
 use Rattle.kept_run.proofs.Opened.{AreOpenedBy}
 use Rattle.kept_run.proofs.Plans.{PlanLaws, mask-planned, mask-sendable, planned_once}
 
 -- The frames of one cycle
 
--- a frame that may come behind the trigger of its cycle
+-- a frame that may come behind the trigger frames of its cycle
 abbrev IsLaterFrame : CycleLayout → Opening → TimedFrame → Type 0
 IsLaterFrame layout opening sent = IsRequestFrame layout opening sent ⊎ IsSlotFrame layout opening sent
 
+ids-second : (one : Bool) (first second : DataFrame) (sent : TimedFrame) (later : List TimedFrame) → second.identifier ≡ 1
+    → map (λ s. s.frame) (sent ∷ later) ≡ first ∷ cond one [] (second ∷ []) → All (λ s. s.frame.identifier ≡ 1) later
+ids-second one first second sent [] id are = All-nil (λ s. s.frame.identifier ≡ 1)
+ids-second true first second sent (x ∷ xs) id are = absurd (cc)
+ids-second false first second sent (x ∷ []) id are =
+    let same : x.frame ≡ second = cc in
+    All-cons (λ s. s.frame.identifier ≡ 1) x [] (ap (λ f. f.identifier) same ∙ id) (All-nil (λ s. s.frame.identifier ≡ 1))
+ids-second false first second sent (x ∷ y ∷ ys) id are = absurd (cc)
+
 module _ (layout : CycleLayout) (opening : Opening) (frames : List TimedFrame) (runs : RunsCycle layout opening frames) where
-  -- the trigger has identifier 0
+  -- the first trigger frame has identifier 0, and the second one identifier 1
   pub trigger_identifier : runs.trigger.frame.identifier ≡ 0
   trigger_identifier = ap (λ f. f.identifier) runs.is_trigger
 
-  -- a frame of the cycle is its trigger, or one behind it
-  first_or_later : (sent : TimedFrame) → Contains frames sent → (sent.frame.identifier ≡ 0) ⊎ Contains runs.later sent
-  first_or_later sent among = elim (Contains-cases runs.trigger runs.later sent (subst (λ l. Contains l sent) runs.all_frames among)) [
-    | inl trigger ↦ inl (ap (λ s. s.frame.identifier) (sym trigger) ∙ trigger_identifier)
-    | inr later ↦ inr later
+  pub second_identifiers : All (λ sent. sent.frame.identifier ≡ 1) runs.second
+  second_identifiers =
+      ids-second (nat_eq layout.slots 40) (trigger_frame opening.cycle (width_of opening) opening.mask) (second_frame opening.cycle opening.mask)
+      runs.trigger runs.second refl runs.are_triggers
+
+  -- a frame of the cycle is one of its trigger frames, or one behind them
+  first_or_later : (sent : TimedFrame) → Contains frames sent → (sent.frame.identifier ≤ 1) ⊎ Contains runs.later sent
+  first_or_later sent among = elim (Contains-cases runs.trigger (runs.second ++ runs.later) sent (subst (λ l. Contains l sent) runs.all_frames among)) [
+    | inl trigger ↦ inl (let zero = ap (λ s. s.frame.identifier) (sym trigger) ∙ trigger_identifier in omega arith)
+    | inr behind ↦ elim (Contains-append_cases runs.second runs.later sent behind) [
+      | inl second ↦ inl (let one = All-contains (λ s. s.frame.identifier ≡ 1) runs.second sent second_identifiers second in omega arith)
+      | inr later ↦ inr later
+    ]
   ]
 
-  -- the frames of a slot in the cycle are those behind its trigger
+  -- the frames of a slot in the cycle are those behind its trigger frames
   of_slot-cycle : (slot : ℕ) → of_slot slot frames ≡ of_slot slot runs.later
   of_slot-cycle slot =
       let zero = trigger_identifier in
+      let is_slot : TimedFrame → Bool = λ s. eqb s.frame.identifier (first_identifier + slot) in
+      let none : of_slot slot runs.second ≡ [] =
+      filter-none is_slot runs.second (λ k d within. ne_eqb _ _ (λ same. let one = second_identifiers k d within in omega arith)) in
       ap (of_slot slot) runs.all_frames
       ∙ cond-false (eqb runs.trigger.frame.identifier (first_identifier + slot)) _ _ (ne_eqb _ _ (λ same. omega arith))
+      ∙ filter-append is_slot runs.second runs.later ∙ ap (λ l. l ++ of_slot slot runs.later) none
 
   -- a slot that is not flagged sends nothing in the cycle
-  nothing_sent : (slot : ℕ) (sent : TimedFrame) → slot < slots → contains_slot opening.mask slot ≡ false
+  nothing_sent : (slot : ℕ) (sent : TimedFrame) → slot < most_slots → contains_slot opening.mask slot ≡ false
       → Contains frames sent → sent.frame.identifier ≡ first_identifier + slot → ⊥
   nothing_sent slot sent known unflagged among same =
       let kept : Contains (of_slot slot frames) sent = Contains-filter (λ s. eqb s.frame.identifier (first_identifier + slot)) frames sent among (eq-eqb _ _ same) in
@@ -104,7 +127,7 @@ module _ (laws : PlanLaws) (rules : Rules) (layout : CycleLayout) (placed : List
   runs-opening o opened = All-contains (λ x. RunsCycle layout x (frames_in layout x.cycle trace)) openings o run.cycles opened
 
   -- the flags of an opened cycle are those of the plan
-  flagged-as_planned : (o : Opening) (slot : ℕ) → Contains openings o → slot < slots → contains_slot o.mask slot ≡ flags_of plan o.cycle slot
+  flagged-as_planned : (o : Opening) (slot : ℕ) → Contains openings o → slot < most_slots → contains_slot o.mask slot ≡ flags_of plan o.cycle slot
   flagged-as_planned o slot opened known =
       ap (λ m. contains_slot m slot) (All-contains (λ x. x.mask ≡ mask_at plan x.cycle) openings o run.opened.masks opened)
       ∙ mask-planned laws rules placed run.opened.well run.opened.in_time o.cycle slot known
@@ -114,7 +137,7 @@ module _ (laws : PlanLaws) (rules : Rules) (layout : CycleLayout) (placed : List
   in-its_cycle o sent cycle among = Contains-filter (λ s. eqb (cycle_of layout s) o.cycle) trace sent among (eq-eqb _ _ (sym cycle))
 
   -- what a slot sends in the cycles of an instance that is flagged once is what it sends in that cycle
-  sent_in-that_cycle : (p : Placed) (k last : ℕ) (o : Opening) → p.entry.slot < slots → last < next → Contains openings o
+  sent_in-that_cycle : (p : Placed) (k last : ℕ) (o : Opening) → p.entry.slot < most_slots → last < next → Contains openings o
       → (once : IsFlaggedOnce (flags_of plan) p.entry.slot (release_of p k) last) → o.cycle ≡ once.cycle
       → frames_of layout (first_identifier + p.entry.slot) (release_of p k) last trace ≡ of_slot p.entry.slot (frames_in layout o.cycle trace)
   sent_in-that_cycle p k last o known early opened once cycle =
@@ -187,7 +210,7 @@ module _ (laws : PlanLaws) (rules : Rules) (layout : CycleLayout) (placed : List
     opening : Opening
     opened : Contains openings opening
     cycle : opening.cycle ≡ cycle_of layout sent
-    is : (sent.frame.identifier ≡ 0) ⊎ IsLaterFrame layout opening sent
+    is : (sent.frame.identifier ≤ 1) ⊎ IsLaterFrame layout opening sent
 
   frame-of : (sent : TimedFrame) → Contains trace sent → IsFrameOf sent
   frame-of sent among =
@@ -205,7 +228,7 @@ module _ (laws : PlanLaws) (rules : Rules) (layout : CycleLayout) (placed : List
         ];
       }
 
-  -- no frame of a request touches a trigger's time or a synchronous window
+  -- no frame of a request touches a trigger part or a synchronous window
   pub all_guarded : AllGuarded layout openings trace
   all_guarded k d here request =
       let sent : TimedFrame = get_or trace k d in
@@ -220,18 +243,18 @@ module _ (laws : PlanLaws) (rules : Rules) (layout : CycleLayout) (placed : List
             after = asynchronous.after;
             before = asynchronous.before;
           }
-          | inr of_slot ↦ absurd (let is = of_slot.identifier in let known = of_slot.known in let all : slots ≡ 40 = refl in omega arith)
+          | inr of_slot ↦ absurd (let is = of_slot.identifier in let known = of_slot.known in omega arith)
         ]
       ]
 
   -- a frame with the identifier of a slot is sent where the slot is flagged
-  slot-flagged : (o : Opening) (sent : TimedFrame) (slot : ℕ) → slot < slots → sent.frame.identifier ≡ first_identifier + slot
-      → (sent.frame.identifier ≡ 0) ⊎ IsLaterFrame layout o sent → contains_slot o.mask slot ≡ true
+  slot-flagged : (o : Opening) (sent : TimedFrame) (slot : ℕ) → slot < most_slots → sent.frame.identifier ≡ first_identifier + slot
+      → (sent.frame.identifier ≤ 1) ⊎ IsLaterFrame layout o sent → contains_slot o.mask slot ≡ true
   slot-flagged o sent slot known same is =
       elim is [
         | inl trigger ↦ absurd (omega arith)
         | inr later ↦ elim later [
-          | inl frame ↦ absurd (let least = frame.identifier in let all : slots ≡ 40 = refl in omega arith)
+          | inl frame ↦ absurd (let least = frame.identifier in omega arith)
           | inr frame ↦ let id = frame.identifier in let slot_is : slot ≡ frame.slot = omega arith in ap (contains_slot o.mask) slot_is ∙ frame.flagged
         ]
       ]

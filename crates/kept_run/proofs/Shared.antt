@@ -17,6 +17,7 @@ use Rattle.kept_run.specs.Kept.{Kept}
 use Rattle.kept_run.specs.Progress.{AreReady, IsOnTheWay, IsSetting, IsUnderWay, Setting}
 pub use Rattle.kept_run.proofs.Histories.{AllAfter-parts, next_of-push}
 pub use Rattle.kept_run.proofs.Lists.{Contains-filter, number-below}
+pub use Rattle.kept_run.proofs.Served.{second_identifiers}
 
 -- a run that is under way keeps what is promised
 pub record Promises : Type 0 where

@@ -5,7 +5,7 @@ use Rattle.can_frame.specs.declared.data_frame.TimedFrame.{TimedFrame}
 use Rattle.cycle_layout.specs.Layout.{CycleLayout, IsLayout}
 use Rattle.requirement_table.specs.declared.entries.Placed.{Placed}
 use Rattle.requirement_table.specs.Opening.{Opening}
-use Rattle.requirement_table.specs.Slots.{contains_slot, slots}
+use Rattle.requirement_table.specs.Slots.{contains_slot, most_slots}
 use Rattle.requirement_table.specs.Table.{IsWellPlaced, instance_in, width_in}
 use Rattle.planner_policies.specs.Plan.{NeverMisses, mask_at}
 use Rattle.admission_rules.specs.declared.Rules.{Rules}
@@ -80,7 +80,7 @@ answered setting trace history event closed legal way =
 fits-window : (laws : PlanLaws) (rules : Rules) (layout : CycleLayout) (placed : List Placed) (cycle mask : ℕ) → IsWellPlaced placed → NeverMisses (plan_of rules placed)
     → rules.window ≡ layout.window → mask ≡ mask_at (plan_of rules placed) cycle → FitsWindow layout (record { cycle = cycle; mask = mask; placed = placed })
 fits-window laws rules layout placed cycle mask well in_time window is =
-    let present : (slot : ℕ) → slot < slots → contains_slot mask slot ≡ true → IsSome (instance_in placed slot cycle) =
+    let present : (slot : ℕ) → slot < most_slots → contains_slot mask slot ≡ true → IsSome (instance_in placed slot cycle) =
     λ slot known flagged. mask-sendable laws rules placed well in_time cycle slot (ap (λ m. contains_slot m slot) (sym is) ∙ flagged) in
     let fits : width_in placed cycle (contains_slot mask) ≤ rules.window =
     subst (λ m. width_in placed cycle (contains_slot m) ≤ rules.window) (sym is) (mask-fits laws rules placed well in_time cycle) in

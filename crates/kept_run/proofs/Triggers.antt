@@ -1,9 +1,9 @@
 -- The triggers up to a frame count the cycles up to its own.
-use Rattle.std.proofs.Common.{◌≡◌, ◌≢◌, ℕ, suc, ◌+◌, ◌*◌, ◌/◌, ◌<◌, ◌≤◌, ◌⊎◌, Bool, true, false, cond, List, [], ◌∷◌, ◌++◌, length, map, get_or, filter, All, AllPairs, Contains, refl, sym, ap, subst, ◌∙◌, ⊎_elim, inl, inr, arith}
+use Rattle.std.proofs.Common.{◌≡◌, ◌≢◌, ℕ, suc, ◌+◌, ◌*◌, ◌/◌, ◌<◌, ◌≤◌, ◌⊎◌, Bool, true, false, cond, List, [], ◌∷◌, ◌++◌, length, map, get_or, filter, All, AllPairs, Contains, sym, ap, subst, ◌∙◌, ⊎_elim, inl, inr, arith}
 use Rattle.std.specs.Prelude.{◌==◌}
 use Rattle.std.specs.List.{range_with_len}
 use Rattle.std.proofs.lemmas.Bool.{cases_eq, cond-false, cond-true, eq-eqb, ne_eqb}
-use Rattle.std.proofs.lemmas.List.Elements.{All-contains, All-head, All-tail, Contains-get_or}
+use Rattle.std.proofs.lemmas.List.Elements.{All-append, All-contains, All-head, All-tail, Contains-get_or}
 use Rattle.std.proofs.lemmas.Nat.{le-div}
 use Rattle.std.proofs.Math.Nat.{div-lt_iff_lt-mul, div-mul-le_self}
 use Rattle.can_frame.specs.declared.data_frame.TimedFrame.{TimedFrame}
@@ -14,20 +14,14 @@ use Rattle.master_core.specs.History.{next_of}
 use Rattle.master_core.specs.Openings.{openings_of}
 use Rattle.cycle_engine.specs.Cycle.{IsRequestFrame, IsSlotFrame, RunsCycle, cycle_of, frames_in}
 use Rattle.kept_run.specs.Progress.{IsSetting, IsUnderWay, Setting}
-use Rattle.kept_run.proofs.Lists.{Contains-filter, of-number}
-use Rattle.kept_run.proofs.Served.{trigger_identifier}
+use Rattle.kept_run.proofs.Lists.{Contains-filter, filter-none, of-number}
+use Rattle.kept_run.proofs.Served.{second_identifiers, trigger_identifier}
 
 abbrev is_trigger : TimedFrame → Bool
 is_trigger sent = sent.frame.identifier == 0
 
 abbrev one_if : Bool → ℕ
 one_if b = cond b 1 0
-
-filter-none : {X : Type 0} (p : X → Bool) (xs : List X) → All (λ x. p x ≡ false) xs → filter p xs ≡ []
-filter-none p [] none = refl
-filter-none p (x ∷ xs) none =
-    cond-false (p x) (x ∷ filter p xs) (filter p xs) (All-head (λ y. p y ≡ false) x xs none)
-    ∙ filter-none p xs (All-tail (λ y. p y ≡ false) x xs none)
 
 length-cond : (b : Bool) (x : TimedFrame) (xs : List TimedFrame) → length (cond b (x ∷ xs) xs) ≡ one_if b + length xs
 length-cond true x xs = omega arith
@@ -39,7 +33,7 @@ head-same x y xs ys same = cc
 tail-same : (x y : TimedFrame) (xs ys : List TimedFrame) → x ∷ xs ≡ y ∷ ys → xs ≡ ys
 tail-same x y xs ys same = cc
 
--- the frames of a cycle begin with a trigger, and have no other
+-- the frames of a cycle begin with a first trigger frame, and have no other
 record BeginsWithTrigger (frames : List TimedFrame) : Type 0 where
   trigger : TimedFrame
   later : List TimedFrame
@@ -167,10 +161,12 @@ not-trigger layout opening sent (inr slot) = λ none. let high = slot.identifier
 begins-of : (layout : CycleLayout) (opening : Opening) (frames : List TimedFrame) → RunsCycle layout opening frames → BeginsWithTrigger frames
 begins-of layout opening frames runs = record {
   trigger = runs.trigger;
-  later = runs.later;
+  later = runs.second ++ runs.later;
   split = runs.all_frames;
   first = trigger_identifier layout opening frames runs;
-  others = λ k d within. not-trigger layout opening (get_or runs.later k d) (runs.all k d within);
+  others = All-append (λ sent. sent.frame.identifier ≢ 0) runs.second runs.later
+      (λ k d within none. let one = second_identifiers layout opening frames runs k d within in omega arith)
+      (λ k d within. not-trigger layout opening (get_or runs.later k d) (runs.all k d within));
 }
 
 pub triggers-counted : (setting : Setting) (history : List Event) (trace : List TimedFrame)

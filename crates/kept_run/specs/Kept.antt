@@ -26,5 +26,5 @@ pub record Kept (rules : Rules) (layout : CycleLayout) (requests : List Request)
   pub served : AllServed layout (placed_of history) (openings_of history) (next_of history) trace
   -- nothing else is sent with a slot's identifier
   pub no_strangers : NoStrangers layout (placed_of history) trace
-  -- no asynchronous frame touches a trigger's time or a synchronous window
+  -- no asynchronous frame touches a trigger part or a synchronous window
   pub guarded : AllGuarded layout (openings_of history) trace

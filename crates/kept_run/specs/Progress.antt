@@ -23,10 +23,11 @@ pub record Setting : Type 0 where
   pub requests : List Request
 
 -- what holds of it: the layout's numbers are in range, the largest synchronous window is the one within which cycles
--- are planned, and the requests have asynchronous identifiers
+-- are planned, the slots are those of the table, and the requests have asynchronous identifiers
 pub record IsSetting (setting : Setting) : Type 0 where
   pub known : IsLayout setting.layout
   pub same_window : setting.rules.window ≡ setting.layout.window
+  pub same_slots : setting.rules.slots ≡ setting.layout.slots
   pub asynchronous : AreAsynchronous setting.requests
 
 -- the history and the trace of a run so far: the history is legal, the trace is that which arbitration decides in the

@@ -1,5 +1,5 @@
 -- What is owed by a trace: each instance whose last cycle was run was sent whole, exactly once, in its time; nothing
--- else was sent in its slot; and no frame of a request touches a trigger's time or a synchronous window. Times are bit
+-- else was sent in its slot; and no frame of a request touches a trigger part or a synchronous window. Times are bit
 -- times.
 use Rattle.std.specs.Prelude.{◌≡◌, ℕ, ◌+◌, ◌<◌, ◌≤◌, ◌&&◌, ◌==◌, nat_le, List, [], ◌∷◌, filter, All, Contains}
 use Rattle.can_frame.specs.declared.data_frame.TimedFrame.{TimedFrame}
@@ -7,7 +7,7 @@ use Rattle.cycle_layout.specs.Layout.{CycleLayout, async_open}
 use Rattle.requirement_table.specs.declared.entries.Placed.{Placed}
 use Rattle.requirement_table.specs.Instance.{Exists, IsLastCycle, MaySend, payload, release_of}
 use Rattle.requirement_table.specs.Opening.{Opening}
-use Rattle.requirement_table.specs.Slots.{slots}
+use Rattle.requirement_table.specs.Slots.{most_slots}
 use Rattle.bus_line.specs.Trace.{end_of}
 use Rattle.node_model.specs.Opening.{end_of_cycle, first_identifier, window_start}
 use Rattle.cycle_engine.specs.Cycle.{cycle_of}
@@ -52,7 +52,7 @@ pub record IsOwed (layout : CycleLayout) (placed : List Placed) (slot : ℕ) (se
 
 -- *No strangers*: no frame of a slot starts in another cycle
 abbrev pub NoStrangers : CycleLayout → List Placed → List TimedFrame → Type 0
-NoStrangers layout placed trace = (slot : ℕ) → slot < slots
+NoStrangers layout placed trace = (slot : ℕ) → slot < most_slots
     → All (λ sent. sent.frame.identifier ≡ first_identifier + slot → IsOwed layout placed slot sent) trace
 
 -- the frame lies within the asynchronous window of the cycle in which it starts
@@ -63,7 +63,7 @@ pub record IsGuarded (layout : CycleLayout) (openings : List Opening) (sent : Ti
   pub after : async_open layout opening.cycle ≤ sent.start
   pub before : end_of sent ≤ window_start layout opening
 
--- *Guarded*: no frame of a request touches a trigger's time or a synchronous window; identifiers from 0x200 on are
+-- *Guarded*: no frame of a request touches a trigger part or a synchronous window; identifiers from 0x200 on are
 -- those of requests
 abbrev pub AllGuarded : CycleLayout → List Opening → List TimedFrame → Type 0
 AllGuarded layout openings trace = All (λ sent. 0x200 ≤ sent.frame.identifier → IsGuarded layout openings sent) trace

@@ -3,7 +3,7 @@
 //! A run keeps two things between its steps: its history and its trace are under way, and its nodes are ready. It
 //! begins so, each step keeps it, and whatever is under way keeps what is promised.
 
-ghost use Rattle.std.specs.Prelude.{◌≡◌, ℕ, ◌+◌, ◌*◌, ◌<◌, ◌≤◌, ◌↔◌, ◌==◌, false, List, [], ◌∷◌, ◌++◌, All, Any, IfSome};
+ghost use Rattle.std.specs.Prelude.{◌≡◌, ℕ, ◌+◌, ◌*◌, ◌^◌, ◌<◌, ◌≤◌, ◌↔◌, ◌==◌, false, List, [], ◌∷◌, ◌++◌, All, Any, IfSome};
 ghost use Rattle.std.specs.Prelude.{filter, length};
 ghost use Rattle.can_frame.specs.declared.data_frame.TimedFrame.{TimedFrame};
 ghost use Rattle.requirement_table.specs.declared.entries.Order.{Order};
@@ -82,9 +82,9 @@ pub fn calls_between()
 {}
 
 /// An order of the master can be run as it is: its opening is right after the history, its frames fit into the largest
-/// window, what the nodes are to learn is well placed, and when they have learnt it each flagged slot has a node that
-/// knows what to send. Nodes that can learn a list as long as that of the placed entries without memory can learn what
-/// the order has for them, so its cycle needs no memory.
+/// window, its flagged slots are slots of the layout, what the nodes are to learn is well placed, and when they have
+/// learnt it each flagged slot has a node that knows what to send. Nodes that can learn a list as long as that of the
+/// placed entries without memory can learn what the order has for them, so its cycle needs no memory.
 pub fn orders()
     ensures right { (rules : Rules) (history : List Event) (order : Order) → IsOrder rules history order
         → IsRight rules history (Open order.cycle order.mask) }
@@ -102,6 +102,10 @@ pub fn orders()
         (nodes : NodesView) (order : Order)
         → IsSetting setting → AreReady setting history trace nodes
         → IsOrder setting.rules history order → order.l ≤ nodes.layout.window }
+    ensures slots { (setting : Setting) (history : List Event) (trace : List TimedFrame)
+        (nodes : NodesView) (order : Order)
+        → IsSetting setting → AreReady setting history trace nodes
+        → IsOrder setting.rules history order → order.mask < 2 ^ nodes.layout.slots }
     ensures fits { (setting : Setting) (history : List Event) (order : Order)
         → IsSetting setting → IsOrder setting.rules history order
         → FitsWindow setting.layout (opening_of order (placed_of history)) }
@@ -150,8 +154,8 @@ pub fn cycles_run()
     valid_states();
 }
 
-/// In a run under way the triggers up to a frame, itself included, are one more than the number of the cycle in which it
-/// starts: its start divided by the length of a cycle.
+/// In a run under way the first trigger frames up to a frame, itself included, are one more than the number of the
+/// cycle in which it starts: its start divided by the length of a cycle.
 pub fn triggers_count_cycles()
     ensures counted { (setting : Setting) (history : List Event) (trace : List TimedFrame)
         → IsSetting setting → IsUnderWay setting history trace

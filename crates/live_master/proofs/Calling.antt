@@ -1,5 +1,5 @@
 -- What a call does to a pass, from the steps that it makes on the turn.
-use Rattle.std.proofs.Common.{◌≡◌, ◌⊎◌, inr, ℕ, ◌+◌, ◌++◌, ◌∷◌, [], List, None, length, drop, add_assoc, arith, refl, sym, ap, ◌∙◌, subst}
+use Rattle.std.proofs.Common.{◌≡◌, ◌⊎◌, inr, ℕ, ◌+◌, ◌≤◌, ◌++◌, ◌∷◌, [], List, None, length, drop, add_assoc, arith, refl, sym, ap, ◌∙◌, subst}
 use mathlib.Core.List.{IsPrefix}
 use Rattle.std.proofs.lemmas.List.{append-nil}
 use Rattle.turn_lock.specs.History.{own}
@@ -13,10 +13,13 @@ use Rattle.master_core.specs.declared.apart.Snapshot.{Snapshot}
 use Rattle.master_core.specs.declared.event.Event.{Event}
 use Rattle.master_core.specs.declared.event.Event.TheVariants.{Submit, Open}
 use Rattle.master_core.specs.Apart.{CanSettle, IsPlanOf, PlannedView, from_of, snapshot_of}
+use Rattle.master_core.specs.History.{placed_of}
 use Rattle.master_core.specs.Orders.{IsOrder}
 use Rattle.live_master.specs.Callers.{number_of}
-use Rattle.live_master.specs.Calls.{AfterWaiting, Answered, GaveBack, InTurn, IsPlannedIn, IsRefused, Opened, Settled, Snapped, Submitted, Waited}
+use Rattle.live_master.specs.Calls.{AfterWaiting, Answered, AtOnce, GaveBack, InTurn, IsPlannedIn, IsRefused, Opened, Settled, Snapped, Submitted, Waited}
+use Rattle.live_master.specs.Within.{IsOpenedWithin}
 use Rattle.live_master.proofs.Openings.{none_between}
+use Rattle.live_master.proofs.Rooms.{few-learned}
 
 drop_found : (found : List Event) (event : Event) → drop (length found) (found ++ event ∷ []) ≡ event ∷ []
 drop_found [] event = refl
@@ -64,6 +67,19 @@ opened rules old new order found begins is ordered zeroth facts owned =
     (subst (λ (l : List Event). IsOrder rules l order) (sym split) ordered)
     zeroth facts
     (ap (λ (l : List Event). own number_of old.view.number l) split ∙ owned)
+
+-- and with no more entries in it than there was room for
+pub opened_within : (rules : Rules) (old new : Known Event Rules) (order : Order) (entries : ℕ) (found : List Event) → IsPrefix old.view.seen found
+    → new ≡ knowing old (committed (found ++ Open order.cycle order.mask ∷ []) (granted found old.view))
+    → IsOrder rules found order → length (placed_of found) ≤ entries
+    → old.view.number ≡ 0 → Facts number_of old.view → own number_of old.view.number found ≡ old.view.mine
+    → IsOpenedWithin rules entries old new order
+unfolding answered opened opened_at
+opened_within rules old new order entries found begins is ordered few zeroth facts owned = record {
+  opened = opened rules old new order found begins is ordered zeroth facts owned;
+  placed = subst (λ (l : List Event). length (placed_of l) ≤ entries) (sym begins.1) few;
+  few = few-learned rules found order entries ordered few;
+}
 
 settled_at : (old new : Known Event Rules) (change : Change) (planned : PlannedView) (verdict : Verdict) (trail : List ℕ) (between : List Event)
     → new ≡ knowing old (committed ((old.view.seen ++ between) ++ Submit old.view.number change (from_of (old.view.seen ++ between) planned) verdict trail ∷ [])
@@ -117,6 +133,18 @@ still_planned rules old new change plan back word planned refusal same =
 pub looked_first : (rules : Rules) (old new : Known Event Rules) (snapshot : Snapshot) → AfterWaiting (λ one other. Snapped rules one other snapshot) old new
     → AfterWaiting GaveBack old new
 looked_first rules old new snapshot taken = record { till = taken.till; waited = taken.waited; made = taken.made.gave_back }
+
+-- a change was planned from the snapshot that was taken in one turn, and settled in the next one
+pub submitted_once : (rules : Rules) (old between new : Known Event Rules) (snapshot : Snapshot) (change : Change) (planned : PlannedView) (verdict : Verdict)
+    → Snapped rules old between snapshot → IsPlanOf snapshot change planned → Settled between new change planned verdict
+    → Submitted AtOnce rules old new change verdict
+submitted_once rules old between new snapshot change planned verdict taken plan settled = record {
+  between = between;
+  looked = taken.gave_back;
+  planned = planned;
+  plan = subst (λ (s : Snapshot). IsPlanOf s change planned) taken.is plan;
+  settled = settled;
+}
 
 -- a change was planned from a snapshot and settled, and each turn was waited for
 pub submitted_waiting : (rules : Rules) (old between new : Known Event Rules) (snapshot : Snapshot) (change : Change) (planned : PlannedView) (verdict : Verdict)

@@ -9,9 +9,11 @@ use Rattle.live_master.specs.Calls.{GaveBack, Opened}
 use Rattle.live_master.specs.declared.within.Opening.{Opening}
 use Rattle.live_master.specs.declared.within.Opening.TheVariants as opening
 
--- a cycle was opened by this order, and the list that is learnt with it, where there is one, has no more entries
+-- a cycle was opened by this order. No more entries are placed, and the list that is learnt with it, where there is one,
+-- has no more
 pub record IsOpenedWithin (rules : Rules) (entries : ℕ) (old new : Known Event Rules) (order : Order) : Type 0 where
   pub opened : Opened rules old new order
+  pub placed : length (placed_of (old.view.seen ++ opened.answered.between)) ≤ entries
   pub few : IfSome order.learned (λ placed. length placed ≤ entries)
 
 -- the turn was got and let go with no event added: so many entries are placed, and these are more. No cycle was opened

@@ -33,9 +33,10 @@ pub struct Ended {
 /// Makes a shared master with these rules and nodes before cycle 0, runs them as [`run_live`] does, and closes the
 /// master.
 ///
-/// The largest synchronous window of the rules is that of the layout. The owners' identifiers are distinct and 0x200 to
-/// 0x7EF, their nodes are among those of the rules, each request's identifier has an owner, and arrivals never fall and
-/// are below 2^40. There are less than 2^41 cycles and at most 8 scripts, the first one of operator 1.
+/// The largest synchronous window of the rules and their number of slots are those of the layout. The owners' identifiers
+/// are distinct and 0x200 to 0x7EF, and their nodes are among those of the rules. Each request's identifier has an owner,
+/// and arrivals never fall and are below 2^40. There are less than 2^41 cycles and at most 8 scripts, the first one of
+/// operator 1.
 ///
 /// # Errors
 ///
@@ -55,6 +56,7 @@ pub fn run_whole<T: Threads + Wait + Sync, G: Gate>(
     requires given { setting ≡ record { rules = rules; layout = layout; owners = owners.now; requests = requests.now } }
     requires rules { IsRules rules }
     requires window { rules.window ≡ layout.window }
+    requires slots { rules.slots ≡ layout.slots }
     requires owners { AreOwners owners.now }
     requires numbers { All (λ owner. owner.node < rules.nodes) owners.now }
     requires owned { All (λ request. Any (λ owner. owner.id ≡ request.frame.identifier) owners.now) requests.now }

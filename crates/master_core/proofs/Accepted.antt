@@ -2,7 +2,7 @@
 use Rattle.std.proofs.Common.{◌≡◌, ℕ, ◌+◌, ◌-◌, ◌<◌, ◌≤◌, false, List, ap, ◌∙◌, subst, ⊎_elim, zero-add, arith}
 use Rattle.std.proofs.lemmas.Bool.{cases_lt}
 use Rattle.requirement_table.specs.declared.entries.Placed.{Placed}
-use Rattle.requirement_table.specs.Slots.{slots}
+use Rattle.requirement_table.specs.Slots.{most_slots}
 use Rattle.change_protocol.specs.Applied.{IsChangedAt}
 use Rattle.planner_policies.specs.Plan.{NeverMisses, is_missed_at, pending_at}
 use Rattle.planner_policies.proofs.Shared.{on-missed}
@@ -15,10 +15,10 @@ use Rattle.master_core.proofs.Unfelt.{missed-unfelt, pending_set-unfelt}
 -- that was planned
 module _ (rules : Rules) (old new : List Placed) (start from : ℕ) (changed : IsChangedAt start old new) (ahead : from ≤ start)
     (was : NeverMisses (plan_of rules old)) (goes_on : NeverMisses (plan_from rules new from (pending_at (plan_of rules old) from))) where
-  before : (m slot : ℕ) → m < from → slot < slots → is_missed_at (plan_of rules new) m slot ≡ false
+  before : (m slot : ℕ) → m < from → slot < most_slots → is_missed_at (plan_of rules new) m slot ≡ false
   before m slot early known = missed-unfelt (plan_of rules old) new start changed m slot (omega arith) known ∙ was m slot known
 
-  behind : (k slot : ℕ) → slot < slots → is_missed_at (plan_of rules new) (from + k) slot ≡ false
+  behind : (k slot : ℕ) → slot < most_slots → is_missed_at (plan_of rules new) (from + k) slot ≡ false
   behind k slot known =
       on-missed (plan_of rules new) from k slot known
       ∙ ap (λ (n : ℕ). is_missed_at (plan_from rules new n (pending_at (plan_of rules new) from)) k slot) (zero-add from)

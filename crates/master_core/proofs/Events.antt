@@ -3,14 +3,14 @@ use Rattle.std.proofs.Common.{◌≡◌, ℕ, zero, ◌+◌, ◌-◌, ◌^◌, �
 use Rattle.std.proofs.lemmas.List.Sums.{count_by-le-length, sum_by_push}
 use mir.Val.{bool_byte}
 use Rattle.requirement_table.specs.declared.entries.Placed.{Placed}
-use Rattle.requirement_table.specs.Slots.{contains_slot, slots}
+use Rattle.requirement_table.specs.Slots.{contains_slot, most_slots}
 use Rattle.requirement_table.specs.Table.{not_over}
 use Rattle.requirement_table.proofs.Shared.{set_of-contains_slot, set_of-same}
 use Rattle.change_protocol.specs.Applied.{applied}
 use Rattle.planner_policies.specs.Plan.{Ranking, mask_at, pending_at, pending_before}
 use Rattle.planner_policies.proofs.Shared.{before-first}
 use Rattle.admission_rules.specs.declared.Rules.{Rules}
-use Rattle.admission.specs.Verdict.{IsRules, is_accepted}
+use Rattle.admission.specs.Verdict.{IsRules, is_accepted, ranking_by}
 use Rattle.master_core.specs.declared.event.Event.{Event}
 use Rattle.master_core.specs.declared.event.Event.TheVariants.{Submit, Look, Open}
 use Rattle.master_core.specs.declared.answer.Answer.{Answer}
@@ -45,7 +45,7 @@ module _ (rules : Rules) (history : List Event) (list : List Placed) (since : �
 
   -- the table where entries that are over by the next cycle are dropped from those that are planned
   pub kept-passed : (same_list : List Placed) (by : ℕ) (fewer : Ranking) → same_list ≡ list → by ≤ cycle
-      → fewer ≡ record { placed = not_over by same_list; policy = ranked.policy } → IsKept rules history same_list by fewer cycle pending learned
+      → fewer ≡ record ranked { placed = not_over by same_list } → IsKept rules history same_list by fewer cycle pending learned
   kept-passed same_list by fewer same passed is = record {
     ranges = kept.ranges;
     legal = kept.legal;
@@ -54,7 +54,7 @@ module _ (rules : Rules) (history : List Event) (list : List Placed) (since : �
     near = kept.near;
     waiting = kept.waiting ∙ ap (λ (l : List Placed). pending_at (plan_of rules l) cycle) (sym same);
     passed = passed;
-    left = is ∙ ap (λ (r : Ranking). record { placed = not_over by same_list; policy = r.policy }) kept.left;
+    left = is ∙ ap (λ (r : Ranking). record r { placed = not_over by same_list }) kept.left;
     to_learn = kept.to_learn;
   }
 
@@ -145,7 +145,7 @@ module _ (rules : Rules) (history : List Event) (list : List Placed) (since : �
         rw (same.0, same.1, ← list_is, ← since_is, ← ranked_is, ← learned_is) (kept-refused refused)
     kept-put (Some made) old new old_learned new_learned is taken list_is since_is ranked_is learned_is = rw (taken.0, taken.1) (kept-taken made is)
 
-pub kept-new : (rules : Rules) → IsRules rules → IsKept rules [] [] 0 (record { placed = []; policy = rules.policy }) 0 0 None
+pub kept-new : (rules : Rules) → IsRules rules → IsKept rules [] [] 0 (ranking_by rules []) 0 0 None
 kept-new rules ranges = record {
   ranges = ranges;
   legal = tt;
@@ -153,8 +153,8 @@ kept-new rules ranges = record {
   next = refl;
   near = omega arith;
   waiting =
-      set_of-contains_slot slots 0 (omega arith)
-      ∙ sym (set_of-same slots (pending_before (plan_of rules []) zero) (contains_slot 0) (λ slot known. before-first (plan_of rules []) slot));
+      set_of-contains_slot most_slots 0 (omega arith)
+      ∙ sym (set_of-same most_slots (pending_before (plan_of rules []) zero) (contains_slot 0) (λ slot known. before-first (plan_of rules []) slot));
   passed = omega arith;
   left = refl;
   to_learn = refl;

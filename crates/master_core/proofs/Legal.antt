@@ -1,7 +1,8 @@
 -- What holds of every legal history.
-use Rattle.std.proofs.Common.{◌≡◌, ℕ, ◌+◌, ◌≤◌, cond, List, [], ◌∷◌, ◌++◌, refl, sym, subst, inl, zero-add, arith}
+use Rattle.std.proofs.Common.{ℕ, ◌+◌, ◌≤◌, cond, List, [], ◌∷◌, ◌++◌, All, refl, sym, subst, inl, zero-add, arith}
 use Rattle.std.proofs.Math.Bool.{and-false}
 use Rattle.std.proofs.Math.Nat.{le_trans}
+use Rattle.std.proofs.lemmas.List.Elements.{All-nil}
 use Rattle.requirement_table.specs.declared.entries.Placed.{Placed}
 use Rattle.requirement_table.specs.Table.{IsWellPlaced}
 use Rattle.requirement_table.proofs.Shared.{contains_slot-none}
@@ -14,20 +15,18 @@ use Rattle.planner_policies.proofs.Shared.{valid-along}
 use Rattle.admission_rules.specs.declared.Rules.{Rules}
 use Rattle.admission.specs.declared.verdict.Verdict.{Verdict}
 use Rattle.admission.specs.declared.verdict.Verdict.TheVariants.{Malformed, Passed, Miss, Horizon, Accepted}
-use Rattle.admission.specs.Verdict.{is_accepted, plan_from}
+use Rattle.admission.specs.Verdict.{bounds_by, is_accepted, plan_from}
 use Rattle.master_core.specs.declared.event.Event.{Event}
 use Rattle.master_core.specs.declared.event.Event.TheVariants.{Submit, Look, Open}
 use Rattle.master_core.specs.History.{IsLegal, IsRight, IsRightAnswer, next_of, placed_after, placed_of, plan_of}
 use Rattle.master_core.proofs.Accepted.{never-missed-then}
+use Rattle.master_core.proofs.KnownSlots.{HasSlot, both-none, slots-applied}
 use Rattle.master_core.proofs.Recurring.{recurring}
 use Rattle.master_core.proofs.Histories.{kept-along, placed_of-push}
 
-pub both-none : {A : Type 0} (xs ys : List A) → xs ++ ys ≡ [] → (xs ≡ []) × (ys ≡ [])
-both-none [] ys e = (refl, e)
-both-none (x ∷ xs) ys e = absurd (cc)
-
 pub record IsSound (rules : Rules) (placed : List Placed) : Type 0 where
   pub well_placed : IsWellPlaced placed
+  pub slots : All (HasSlot rules.slots) placed
   pub in_time : NeverMisses (plan_of rules placed)
 
 -- how an event changes the list: at a start that is not below the next cycle
@@ -44,14 +43,14 @@ unfelt : (next : ℕ) (placed : List Placed) → IsFelt next placed placed
 unfelt next placed = record { start = next; ahead = omega arith; changed = unchanged next placed }
 
 -- what an answer makes of the list
-record IsAfter (rules : Rules) (next : ℕ) (old new : List Placed) : Type 0 where
-  sound : IsSound rules new
-  felt : IsFelt next old new
+pub record IsAfter (rules : Rules) (next : ℕ) (old new : List Placed) : Type 0 where
+  pub sound : IsSound rules new
+  pub felt : IsFelt next old new
 
 stays : (rules : Rules) (next : ℕ) (placed : List Placed) → IsSound rules placed → IsAfter rules next placed placed
 stays rules next placed sound = record { sound = sound; felt = unfelt next placed }
 
-after-answer : (rules : Rules) (history : List Event) (change : Change) (from : ℕ) (verdict : Verdict) (trail : List ℕ)
+pub after-answer : (rules : Rules) (history : List Event) (change : Change) (from : ℕ) (verdict : Verdict) (trail : List ℕ)
     → IsSound rules (placed_of history) → IsRightAnswer rules history change from verdict trail
     → IsAfter rules (next_of history) (placed_of history) (cond (is_accepted verdict) (applied (placed_of history) change) (placed_of history))
 after-answer rules history change from (Malformed op why) trail sound right = stays rules (next_of history) (placed_of history) sound
@@ -63,13 +62,14 @@ after-answer rules history change from (Accepted first length) trail sound right
     let well = sound.well_placed in
     let in_time = right.answer.0 in
     let changed = changed-applied old change well.in_range in
-    let formed = both-none (change_faults change.start change.ops) (op_faults old rules.nodes change.start [] change.ops) in_time.well_formed in
-    let then : IsWellPlaced (applied old change) = well_placed-applied old rules.nodes change well formed.0 formed.1 right.types in
+    let formed = both-none (change_faults change.start change.ops) (op_faults old (bounds_by rules) change.start [] change.ops) in_time.well_formed in
+    let then : IsWellPlaced (applied old change) = well_placed-applied old (bounds_by rules) change right.room well formed.0 formed.1 right.types in
     let opened = right.opened in
     let ahead = in_time.ahead in
     record {
       sound = record {
         well_placed = then;
+        slots = slots-applied old (bounds_by rules) change formed.1 sound.slots;
         in_time = never-missed-then rules old (applied old change) change.start from changed (le_trans opened ahead) sound.in_time
             (recurring (plan_from rules (applied old change) from (pending_at (plan_of rules old) from)) rules.horizon first length then right.answer.1.0
             right.answer.1.1 right.answer.1.2);
@@ -95,7 +95,7 @@ pub sound-of_legal : (rules : Rules) (history : List Event) → IsLegal rules hi
 sound-of_legal rules history legal =
     kept-along (IsRight rules) (λ (h : List Event). IsSound rules (placed_of h))
     (λ before event was sound right. (one-more rules before event sound right).sound) [] history tt
-    (record { well_placed = record { in_range = λ i d within. absurd (omega arith); in_order = λ i j d order within. absurd (omega arith) }; in_time = nothing-missed rules })
+    (record { well_placed = record { in_range = λ i d within. absurd (omega arith); in_order = λ i j d order within. absurd (omega arith) }; slots = All-nil (HasSlot rules.slots); in_time = nothing-missed rules })
     legal
 
 pub valid-of_legal : (rules : Rules) (history : List Event) → IsLegal rules history

@@ -1,9 +1,12 @@
 mod Accepted
+mod Anew
 mod Certificates
 mod Earlier
 mod Events
 mod Histories
+mod KnownSlots
 mod Legal
+mod NextOrder
 mod NextPlan
 mod Passing
 mod Recurring

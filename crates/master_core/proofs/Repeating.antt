@@ -2,7 +2,7 @@
 use Rattle.std.proofs.Common.{◌≡◌, ℕ, ◌+◌, ◌-◌, ◌*◌, ◌/◌, ◌%◌, ◌<◌, ◌≤◌, max, not, ◌&&◌, ◌||◌, Bool, false, cond, List, [], ◌∷◌, ◌++◌, All, refl, sym, ap, ◌∙◌, subst, zero-add, add-zero, arith}
 use Rattle.std.proofs.Math.Nat.{add-mul-mod_self_right, div-add-mod', le_trans}
 use Rattle.requirement_table.specs.declared.entries.Placed.{Placed}
-use Rattle.requirement_table.specs.Slots.{slots}
+use Rattle.requirement_table.specs.Slots.{most_slots}
 use Rattle.requirement_table.specs.Table.{IsWellPlaced}
 use Rattle.requirement_table.proofs.Shared.{contains_slot-none, set_of-same}
 use Rattle.change_protocol.specs.declared.operations.Change.{Change}
@@ -65,7 +65,7 @@ recurs-later rules placed next later after recurs =
 onward-pending : (rules : Rules) (placed : List Placed) (from pending n : ℕ) → pending ≡ pending_at (plan_of rules placed) from
     → pending_at (plan_of rules placed) (from + n) ≡ pending_at (plan_from rules placed from pending) n
 onward-pending rules placed from pending n left =
-    set_of-same slots (pending_before (plan_of rules placed) (from + n)) (pending_before (plan_from rules placed from pending) n)
+    set_of-same most_slots (pending_before (plan_of rules placed) (from + n)) (pending_before (plan_from rules placed from pending) n)
     (λ slot known.
     on-pending (plan_of rules placed) from n slot known
     ∙ ap (λ (m : ℕ). pending_before (plan_from rules placed m (pending_at (plan_of rules placed) from)) n slot) (zero-add from)
@@ -108,7 +108,7 @@ accepted-recurs rules old new start from next first length changed ahead after r
       within = omega arith;
     }
 
-recurs-answer : (rules : Rules) (history : List Event) (change : Change) (from : ℕ) (verdict : Verdict) (trail : List ℕ) → IsWellPlaced (placed_of history)
+pub recurs-answer : (rules : Rules) (history : List Event) (change : Change) (from : ℕ) (verdict : Verdict) (trail : List ℕ) → IsWellPlaced (placed_of history)
     → Recurs rules (placed_of history) (next_of history) → IsRightAnswer rules history change from verdict trail
     → Recurs rules (cond (is_accepted verdict) (applied (placed_of history) change) (placed_of history)) (next_of history)
 recurs-answer rules history change from (Malformed op why) trail well recurs right = recurs
@@ -167,7 +167,7 @@ empty-recurs rules ranges =
         other_settled = omega arith;
         place = refl;
         pending =
-            set_of-same slots (pending_before (plan_of rules []) 0) (pending_before (plan_of rules []) (0 + 1))
+            set_of-same most_slots (pending_before (plan_of rules []) 0) (pending_before (plan_of rules []) (0 + 1))
             (λ slot known. none-before rules slot ∙ sym (none-behind rules slot));
       };
       short = omega arith;
@@ -183,7 +183,7 @@ recurs-of_legal rules history ranges legal =
 -- what is pending goes on as it did, as it is known of every plan
 abbrev pub GoesRound : Type 0
 GoesRound = (plan : Planning) (n m k slot : ℕ) → IsWellPlaced plan.placed → n < m → All (RepeatsFrom (plan.from + n) (m - n)) plan.placed
-    → pending_at plan n ≡ pending_at plan m → slot < slots → pending_before plan (m + k) slot ≡ pending_before plan (n + k) slot
+    → pending_at plan n ≡ pending_at plan m → slot < most_slots → pending_before plan (m + k) slot ≡ pending_before plan (n + k) slot
 
 same-place : (c more period : ℕ) → more % period ≡ 0 → c % period ≡ (c + more) % period
 same-place c more period divided =
@@ -210,7 +210,7 @@ recurs-onward round rules placed next well recurs none =
     let one : first + k ≡ next + n = omega arith in
     let other : first + d + k ≡ next + (n + d) = omega arith in
     let pending : pending_at plan (next + n) ≡ pending_at plan (next + (n + d)) =
-    set_of-same slots (pending_before plan (next + n)) (pending_before plan (next + (n + d)))
+    set_of-same most_slots (pending_before plan (next + n)) (pending_before plan (next + (n + d)))
     (λ slot known.
     ap (λ m. pending_before plan m slot) (sym one)
     ∙ sym (round plan first (first + d) k slot well (omega arith) repeats alike.pending known)

@@ -4,6 +4,7 @@ use Rattle.std.proofs.lemmas.Bool.{eq-eqb, ltb-false, ltb-true}
 use Rattle.std.proofs.lemmas.List.Sums.{fold-append, sum_by-append, sum_by-cons}
 use Rattle.std.proofs.lemmas.Option.{same_Some}
 use Rattle.requirement_table.specs.declared.entries.Placed.{Placed}
+use Rattle.requirement_table.specs.Slots.{most_slots}
 use Rattle.requirement_table.specs.Table.{not_over}
 use Rattle.change_protocol.specs.declared.operations.Change.{Change}
 use Rattle.change_protocol.specs.Applied.{applied}
@@ -14,7 +15,7 @@ use Rattle.admission_rules.specs.declared.Rules.{Rules}
 use Rattle.admission.specs.declared.verdict.Verdict.{Verdict}
 use Rattle.admission.specs.declared.verdict.Verdict.TheVariants.{Malformed, Passed, Miss, Horizon, Accepted}
 use Rattle.admission.specs.declared.decision.Decision.{Decision}
-use Rattle.admission.specs.Verdict.{IsDecision, IsVerdict, is_accepted, placed_with, plan_from, trail_of}
+use Rattle.admission.specs.Verdict.{IsDecision, IsVerdict, is_accepted, placed_with, plan_from, ranking_by, trail_of}
 use Rattle.master_core.specs.declared.answer.Answer.{Answer}
 use Rattle.master_core.specs.declared.answer.Made.{Made}
 use Rattle.master_core.specs.declared.event.Event.{Event}
@@ -137,13 +138,14 @@ taken-is list new (Miss slot release cycle) some = absurd (cc)
 taken-is list new (Horizon from walked) some = absurd (cc)
 taken-is list new (Accepted first length) some = (refl, same_Some list new some)
 
-module _ (rules : Rules) (history : List Event) (list : List Placed) (same : placed_of history ≡ list) where
+module _ (rules : Rules) (history : List Event) (list : List Placed) (room : rules.slots ≤ most_slots) (same : placed_of history ≡ list) where
   -- what is right of a list is right of the placed entries
   right-by : (change : Change) (from : ℕ) (verdict : Verdict) (trail : List ℕ) → All HasTypes change.ops → IsSince history from → from ≤ next_of history
       → IsVerdict rules list (pending_at (plan_of rules list) from) from (next_of history) change verdict
       → trail ≡ trail_of (plan_from rules (applied list change) from (pending_at (plan_of rules list) from)) verdict
       → IsRightAnswer rules history change from verdict trail
   right-by change from verdict trail types since opened is plan = record {
+    room = room;
     types = types;
     since = since;
     opened = opened;
@@ -154,7 +156,7 @@ module _ (rules : Rules) (history : List Event) (list : List Placed) (same : pla
   }
 
   made-by : (answer : Answer) (made : Option Made) → option_map (λ m. m.learned) made ≡ placed_with (applied list answer.change) answer.verdict
-      → AreTablesOf rules.policy answer.from made → IsMade rules history answer made
+      → AreTablesOf rules answer.from made → IsMade rules history answer made
   made-by answer None none tables = refused-is (applied list answer.change) answer.verdict (sym none)
   made-by answer (Some made) some tables =
       let taken = taken-is (applied list answer.change) made.learned answer.verdict (sym some) in
@@ -163,8 +165,8 @@ module _ (rules : Rules) (history : List Event) (list : List Placed) (same : pla
         placed = tables.placed ∙ sym taken.1 ∙ ap (λ (l : List Placed). applied l answer.change) (sym same);
         since = tables.since;
         ranked = tables.ranked
-            ∙ ap (λ (l : List Placed). record { placed = not_over answer.from l; policy = rules.policy }) (sym tables.placed)
-            ∙ ap (λ (n : ℕ). record { placed = not_over n made.table.placed.items; policy = rules.policy }) (sym tables.since);
+            ∙ ap (λ (l : List Placed). ranking_by rules (not_over answer.from l)) (sym tables.placed)
+            ∙ ap (λ (n : ℕ). ranking_by rules (not_over n made.table.placed.items)) (sym tables.since);
         learned = sym tables.placed;
       }
 
@@ -215,7 +217,7 @@ module _ (rules : Rules) (list : List Placed) (state : PlanState) (change copy :
   abbrev whole : Answer
   whole = record { change = copy; from = state.cycle; verdict = decision.verdict; trail = decision.trail; made = made }
 
-  planned-by : option_map (λ m. m.learned) made ≡ decision.placed → AreTablesOf rules.policy state.cycle made → IsPlannedFrom rules list state whole
+  planned-by : option_map (λ m. m.learned) made ≡ decision.placed → AreTablesOf rules state.cycle made → IsPlannedFrom rules list state whole
   planned-by placed tables = record {
     types = subst (λ (ch : Change). All HasTypes ch.ops) (sym same) types;
     from = refl;
@@ -230,13 +232,13 @@ module _ (rules : Rules) (list : List Placed) (state : PlanState) (change copy :
 
   pub planned-none : decision.placed ≡ None → made ≡ None → IsPlannedFrom rules list state whole
   planned-none none is =
-      planned-by (ap (λ (o : Option Made). option_map (λ m. m.learned) o) is ∙ sym none) (subst (λ (o : Option Made). AreTablesOf rules.policy state.cycle o) (sym is) tt)
+      planned-by (ap (λ (o : Option Made). option_map (λ m. m.learned) o) is ∙ sym none) (subst (λ (o : Option Made). AreTablesOf rules state.cycle o) (sym is) tt)
 
-  pub planned-some : (new : List Placed) (here : Made) → decision.placed ≡ Some new → made ≡ Some here → here.learned ≡ new → IsTableOf rules.policy state.cycle here
+  pub planned-some : (new : List Placed) (here : Made) → decision.placed ≡ Some new → made ≡ Some here → here.learned ≡ new → IsTableOf rules state.cycle here
       → IsPlannedFrom rules list state whole
   planned-some new here some is learned table =
       planned-by (ap (λ (o : Option Made). option_map (λ m. m.learned) o) is ∙ ap (λ (l : List Placed). Some l) learned ∙ sym some)
-      (subst (λ (o : Option Made). AreTablesOf rules.policy state.cycle o) (sym is) table)
+      (subst (λ (o : Option Made). AreTablesOf rules state.cycle o) (sym is) table)
 
 -- The answers of a master
 
@@ -246,14 +248,14 @@ module _ (rules : Rules) (history : List Event) (list : List Placed) (since : �
   pub kept-answer : (answer : Answer) → IsPlannedFrom rules list (record { cycle = cycle; pending = pending }) answer → IsAnswer rules history answer
   kept-answer answer planned =
       let now : answer.from ≡ next_of history = planned.from ∙ kept.next in
-      answer-now rules history list (sym kept.placed) (record { cycle = cycle; pending = pending }) kept.waiting answer planned
+      answer-now rules history list kept.ranges.few_slots (sym kept.placed) (record { cycle = cycle; pending = pending }) kept.waiting answer planned
       (subst (IsSince history) (sym now) (since-now history)) now
 
   -- a change that was planned from a snapshot at some place of the history, behind which no change was accepted
   module _ (change : Change) (planned : PlannedView) (by : Rules) (accepted : ℕ) (answer : Answer)
       (view : record { rules = by; accepted = accepted; change = answer.change; from = answer.from; decision = decision_of answer } ≡ planned)
       (same : accepted ≡ accepted_of history) where
-    pub kept-settled : CanSettle rules history change planned → All HasTypes answer.change.ops → AreTablesOf by.policy answer.from answer.made
+    pub kept-settled : CanSettle rules history change planned → All HasTypes answer.change.ops → AreTablesOf by answer.from answer.made
         → IsAnswer rules history (answer_at cycle answer)
     kept-settled can types tables =
         let (front, begins, is) = can.place (sym can.plan.accepted ∙ sym (ap (λ (v : PlannedView). v.accepted) view) ∙ same) in
@@ -264,7 +266,7 @@ module _ (rules : Rules) (history : List Event) (list : List Placed) (since : �
         let whole : next_of (front ++ back) ≡ next_of history = ap next_of begins.1 in
         let from : answer.from ≡ next_of front = ap (λ (v : PlannedView). v.from) view ∙ plan.from in
         subst (λ (n : ℕ). IsAnswer rules history (answer_at n answer)) (sym kept.next)
-        (answer-later rules history (placed_of front) (ap placed_of (sym begins.1) ∙ same-placed front back none)
+        (answer-later rules history (placed_of front) kept.ranges.few_slots (ap placed_of (sym begins.1) ∙ same-placed front back none)
         (snapshot_of rules front).state refl answer
         (record {
           types = types;
@@ -274,7 +276,7 @@ module _ (rules : Rules) (history : List Event) (list : List Placed) (since : �
               (sym (ap (λ (v : PlannedView). v.decision) view))
               (subst (λ (ch : Change). IsDecision rules (placed_of front) (snapshot_of rules front).state.pending (next_of front) ch planned.decision)
               (sym plan.asked ∙ sym (ap (λ (v : PlannedView). v.change) view)) plan.decided);
-          made = subst (λ (r : Rules). AreTablesOf r.policy answer.from answer.made) (ap (λ (v : PlannedView). v.rules) view ∙ plan.rules) tables;
+          made = subst (λ (r : Rules). AreTablesOf r answer.from answer.made) (ap (λ (v : PlannedView). v.rules) view ∙ plan.rules) tables;
         })
         (subst (IsSince history) (sym from) (subst (λ (h : List Event). IsSince h (next_of front)) begins.1 (since-then front back none)))
         (omega arith))

@@ -3,7 +3,7 @@ use Rattle.std.proofs.Common.{◌≡◌, ℕ, zero, suc, ◌+◌, ◌<◌, ◌�
 use Rattle.std.specs.Option.{option_map_or}
 use Rattle.requirement_table.specs.declared.entries.Placed.{Placed}
 use Rattle.requirement_table.specs.Instance.{Instance}
-use Rattle.requirement_table.specs.Slots.{slots}
+use Rattle.requirement_table.specs.Slots.{most_slots}
 use Rattle.requirement_table.specs.Table.{instance_in}
 use Rattle.requirement_table.proofs.Shared.{set_of-same}
 use Rattle.change_protocol.specs.Applied.{IsChangedAt, without_end}
@@ -53,7 +53,7 @@ module _ (policy : Policy) (start c : ℕ) (old new : List Placed) (changed : Is
   }
 
 module _ (plan : Planning) (new : List Placed) (start : ℕ) (changed : IsChangedAt start plan.placed new) where
-  pub pending-unfelt : (m slot : ℕ) → plan.from + m ≤ start → slot < slots → pending_before (record plan { placed = new }) m slot ≡ pending_before plan m slot
+  pub pending-unfelt : (m slot : ℕ) → plan.from + m ≤ start → slot < most_slots → pending_before (record plan { placed = new }) m slot ≡ pending_before plan m slot
   pending-unfelt zero slot within known = before-first (record plan { placed = new }) slot ∙ sym (before-first plan slot)
   pending-unfelt (suc m) slot within known =
       before-next (record plan { placed = new }) m slot
@@ -61,20 +61,20 @@ module _ (plan : Planning) (new : List Placed) (start : ℕ) (changed : IsChange
       (alike-unfelt plan.policy start (plan.from + m) plan.placed new changed (omega arith)) (λ other below. pending-unfelt m other (omega arith) below) slot known
       ∙ sym (before-next plan m slot)
 
-  pub planned-unfelt : (m slot : ℕ) → plan.from + m < start → slot < slots → planned_at (record plan { placed = new }) m slot ≡ planned_at plan m slot
+  pub planned-unfelt : (m slot : ℕ) → plan.from + m < start → slot < most_slots → planned_at (record plan { placed = new }) m slot ≡ planned_at plan m slot
   planned-unfelt m slot within known =
       planned-alike plan new plan.from plan.pending (plan.from + m) (plan.from + m) (pending_before plan m) (pending_before (record plan { placed = new }) m)
       (alike-unfelt plan.policy start (plan.from + m) plan.placed new changed within) (λ other below. pending-unfelt m other (omega arith) below) slot known
 
-  pub missed-unfelt : (m slot : ℕ) → plan.from + m < start → slot < slots → is_missed_at (record plan { placed = new }) m slot ≡ is_missed_at plan m slot
+  pub missed-unfelt : (m slot : ℕ) → plan.from + m < start → slot < most_slots → is_missed_at (record plan { placed = new }) m slot ≡ is_missed_at plan m slot
   missed-unfelt m slot within known =
       missed-alike plan new plan.from plan.pending (plan.from + m) (plan.from + m) (pending_before plan m) (pending_before (record plan { placed = new }) m)
       (alike-unfelt plan.policy start (plan.from + m) plan.placed new changed within) (λ other below. pending-unfelt m other (omega arith) below) slot known
 
   pub mask-unfelt : (m : ℕ) → plan.from + m < start → mask_at (record plan { placed = new }) m ≡ mask_at plan m
   mask-unfelt m within =
-      set_of-same slots (planned_at (record plan { placed = new }) m) (planned_at plan m) (λ slot known. planned-unfelt m slot within known)
+      set_of-same most_slots (planned_at (record plan { placed = new }) m) (planned_at plan m) (λ slot known. planned-unfelt m slot within known)
 
   pub pending_set-unfelt : (m : ℕ) → plan.from + m ≤ start → pending_at (record plan { placed = new }) m ≡ pending_at plan m
   pending_set-unfelt m within =
-      set_of-same slots (pending_before (record plan { placed = new }) m) (pending_before plan m) (λ slot known. pending-unfelt m slot within known)
+      set_of-same most_slots (pending_before (record plan { placed = new }) m) (pending_before plan m) (λ slot known. pending-unfelt m slot within known)

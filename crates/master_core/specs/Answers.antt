@@ -5,13 +5,12 @@ use Rattle.requirement_table.specs.declared.entries.Placed.{Placed}
 use Rattle.requirement_table.specs.Table.{not_over}
 use Rattle.change_protocol.specs.Applied.{applied}
 use Rattle.change_protocol.specs.Operations.{HasTypes}
-use Rattle.planner_policies.specs.declared.Policy.{Policy}
 use Rattle.planner_policies.specs.declared.state.PlanState.{PlanState}
 use Rattle.admission_rules.specs.declared.Rules.{Rules}
 use Rattle.admission.specs.declared.decision.Decision.{Decision}
 use Rattle.admission.specs.declared.verdict.Verdict.{Verdict}
 use Rattle.admission.specs.declared.verdict.Verdict.TheVariants.{Malformed, Passed, Miss, Horizon, Accepted}
-use Rattle.admission.specs.Verdict.{IsDecision, is_accepted}
+use Rattle.admission.specs.Verdict.{IsDecision, is_accepted, ranking_by}
 use Rattle.master_core.specs.declared.answer.Answer.{Answer}
 use Rattle.master_core.specs.declared.answer.Made.{Made}
 use Rattle.master_core.specs.declared.event.Event.{Event}
@@ -24,8 +23,7 @@ pub record IsMadeOf (rules : Rules) (history : List Event) (answer : Answer) (ma
   pub accepted : is_accepted answer.verdict ≡ true
   pub placed : made.table.placed.items ≡ applied (placed_of history) answer.change
   pub since : made.table.since ≡ answer.from
-  pub ranked : made.table.ranked
-      ≡ record { placed = not_over made.table.since made.table.placed.items; policy = rules.policy }
+  pub ranked : made.table.ranked ≡ ranking_by rules (not_over made.table.since made.table.placed.items)
   pub learned : made.learned ≡ made.table.placed.items
 
 -- an accepted change makes a list, and another one makes nothing
@@ -38,15 +36,15 @@ pub record IsAnswer (rules : Rules) (history : List Event) (answer : Answer) : T
   pub right : IsRightAnswer rules history answer.change answer.from answer.verdict answer.trail
   pub made : IsMade rules history answer answer.made
 
--- what is made of a list that is planned from a cycle on: the table, and the list to be learned
-pub record IsTableOf (policy : Policy) (from : ℕ) (made : Made) : Type 0 where
+-- what is made of a list that is planned by these rules from a cycle on: the table, and the list to be learned
+pub record IsTableOf (rules : Rules) (from : ℕ) (made : Made) : Type 0 where
   pub placed : made.table.placed.items ≡ made.learned
   pub since : made.table.since ≡ from
-  pub ranked : made.table.ranked ≡ record { placed = not_over from made.learned; policy = policy }
+  pub ranked : made.table.ranked ≡ ranking_by rules (not_over from made.learned)
 
-abbrev pub AreTablesOf : Policy → ℕ → Option Made → Type 0
-AreTablesOf policy from None = Unit {0}
-AreTablesOf policy from (Some made) = IsTableOf policy from made
+abbrev pub AreTablesOf : Rules → ℕ → Option Made → Type 0
+AreTablesOf rules from None = Unit {0}
+AreTablesOf rules from (Some made) = IsTableOf rules from made
 
 -- the decision that an answer has
 abbrev pub decision_of : Answer → Decision
@@ -61,7 +59,7 @@ pub record IsPlannedFrom (rules : Rules) (placed : List Placed) (state : PlanSta
   pub types : All HasTypes answer.change.ops
   pub from : answer.from ≡ state.cycle
   pub decided : IsDecision rules placed state.pending state.cycle answer.change (decision_of answer)
-  pub made : AreTablesOf rules.policy answer.from answer.made
+  pub made : AreTablesOf rules answer.from answer.made
 
 -- whether a verdict of this kind is given of no change whose start has passed when `next` is the next cycle
 abbrev pub is_passed_by : ℕ → ℕ → Verdict → Bool

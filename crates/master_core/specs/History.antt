@@ -3,6 +3,7 @@
 use Rattle.std.specs.Prelude.{◌≡◌, ℕ, ◌≤◌, Bool, true, false, List, [], ◌∷◌, ◌++◌}
 use Rattle.std.specs.Prelude.{Option, Some, None, All, count_by, fold, if◌then◌else◌}
 use Rattle.requirement_table.specs.declared.entries.Placed.{Placed}
+use Rattle.requirement_table.specs.Slots.{most_slots}
 use Rattle.change_protocol.specs.declared.operations.Change.{Change}
 use Rattle.change_protocol.specs.Applied.{applied}
 use Rattle.change_protocol.specs.Operations.{HasTypes}
@@ -55,10 +56,12 @@ IsSince history from = (front back : List Event) (event : Event)
     → history ≡ front ++ event ∷ back → accepts event ≡ true → next_of front ≤ from
 
 -- a change is answered right after this history: it was planned from a cycle that is not above the next one, and behind
--- which no change was accepted; from what is pending before that cycle in the plan of the placed entries. The numbers
--- of a change are in the ranges of their types, as those of every change that is handed in are
+-- which no change was accepted; from what is pending before that cycle in the plan of the placed entries. A set of slots
+-- has room for those of the rules, and the numbers of a change are in the ranges of their types: so it is with all rules
+-- and changes that are handed in
 pub record IsRightAnswer (rules : Rules) (history : List Event) (change : Change) (from : ℕ)
     (verdict : Verdict) (trail : List ℕ) : Type 0 where
+  pub room : rules.slots ≤ most_slots
   pub types : All HasTypes change.ops
   pub since : IsSince history from
   pub opened : from ≤ next_of history

@@ -4,7 +4,7 @@ use Rattle.requirement_table.specs.declared.entries.Placed.{Placed}
 use Rattle.requirement_table.specs.Table.{not_over}
 use Rattle.planner_policies.specs.Plan.{Ranking, pending_at}
 use Rattle.admission_rules.specs.declared.Rules.{Rules}
-use Rattle.admission.specs.Verdict.{IsRules}
+use Rattle.admission.specs.Verdict.{IsRules, ranking_by}
 use Rattle.master_core.specs.declared.event.Event.{Event}
 use Rattle.master_core.specs.History.{IsLegal, learned_of, next_of, placed_of, plan_of}
 
@@ -25,7 +25,7 @@ pub record IsKept (rules : Rules) (history : List Event) (list : List Placed) (s
   pub near : cycle ≤ 2 ^ 41
   pub waiting : pending ≡ pending_at (plan_of rules list) cycle
   pub passed : since ≤ cycle
-  pub left : ranked ≡ record { placed = not_over since list; policy = rules.policy }
+  pub left : ranked ≡ ranking_by rules (not_over since list)
   pub to_learn : learned ≡ learned_of history
 
 -- the room of a history: it has so many events, a vector that holds them has so much room in all, and so many more are

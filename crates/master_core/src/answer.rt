@@ -10,7 +10,7 @@ ghost use Rattle.master_core.specs.Answers.{IsPlannedFrom, IsTableOf, IsTakenOve
 use crate::table::{Table, copy_of, list_of};
 use admission::{Decision, Rules, Trail, Verdict, decide};
 use change_protocol::Change;
-use planner_policies::{PlanState, Policy};
+use planner_policies::PlanState;
 use requirement_table::{Placed, PlacedList};
 use std::alloc::{AllocError, Global};
 
@@ -105,7 +105,7 @@ pub fn answer_of(
     let from = state.cycle;
     let made = match placed {
         None => None,
-        Some(list) => Some(made_of(alloc, list, from, rules.policy)?),
+        Some(list) => Some(made_of(alloc, list, from, rules)?),
     };
     Ok(Answer {
         change,
@@ -116,15 +116,15 @@ pub fn answer_of(
     })
 }
 
-/// The table of a list that is planned from cycle `from` on, and the same list to be learned.
-fn made_of(alloc: Global, list: PlacedList, from: u64, policy: Policy) -> Result<Made, AllocError>
+/// The table of a list that is planned by these rules from cycle `from` on, and the same list to be learned.
+fn made_of(alloc: Global, list: PlacedList, from: u64, rules: &Rules) -> Result<Made, AllocError>
     requires { IsWellPlaced list }
-    ensures table { IfOk result (IsTableOf policy from) }
+    ensures table { IfOk result (IsTableOf rules.now from) }
     ensures learned { IfOk result (λ made. made.learned ≡ list) }
 {
     let list = list.into_vec();
     let learned = list_of(alloc, list.as_slice())?;
-    let table = Table::of(alloc, list, from, policy)?;
+    let table = Table::of(alloc, list, from, rules)?;
     Ok(Made { table, learned })
 }
 

@@ -51,7 +51,7 @@ impl Model for Planned {
       decision = decision_of p.answer;
     } };
 
-    ghost invariant = { λ p. All HasTypes p.answer.change.ops × AreTablesOf p.rules.policy p.answer.from p.answer.made };
+    ghost invariant = { λ p. All HasTypes p.answer.change.ops × AreTablesOf p.rules p.answer.from p.answer.made };
 }
 
 impl Planned {

@@ -1,20 +1,27 @@
 //! Laws about histories. Each function has an empty body, and its contract is the law.
 
-ghost use Rattle.std.specs.Prelude.{◌≡◌, ℕ, ◌<◌, ◌≤◌, ◌++◌, ◌∷◌, [], List, All, map, option_map};
+ghost use Rattle.std.specs.Prelude.{◌≡◌, ℕ, ◌<◌, ◌≤◌, ◌++◌, ◌∷◌, [], List, All, map, option_map, true};
 ghost use Rattle.std.specs.List.{range_with_len};
 ghost use Rattle.requirement_table.specs.Table.{IsWellPlaced, instance_in};
+ghost use Rattle.change_protocol.specs.declared.operations.Change.{Change};
 ghost use Rattle.change_protocol.specs.Applied.{IsChangedAt, without_end};
 ghost use Rattle.planner_policies.specs.Plan.{IsValid, NeverMisses, mask_at, pending_at};
 ghost use Rattle.admission_rules.specs.declared.Rules.{Rules};
+ghost use Rattle.admission.specs.declared.verdict.Verdict.{Verdict};
+ghost use Rattle.admission.specs.Verdict.{IsRules, IsVerdict, is_accepted};
 ghost use Rattle.master_core.specs.declared.event.Event.{Event};
-ghost use Rattle.master_core.specs.History.{IsLegal, next_of, placed_of, plan_of};
+ghost use Rattle.master_core.specs.History.{IsLegal, IsRightAnswer, next_of, placed_of, plan_of};
 ghost use Rattle.master_core.specs.Openings.{openings_of};
 
-/// The placed entries of a legal history are well placed, and no deadline of theirs is ever missed. So what is pending
-/// before the next cycle can be planned from.
+use planner_policies::laws::loops;
+
+/// The placed entries of a legal history are well placed, in slots of the rules, and no deadline of theirs is ever
+/// missed. So what is pending before the next cycle can be planned from.
 pub fn legal_histories()
     ensures well_placed { (rules : Rules) (history : List Event)
         → IsLegal rules history → IsWellPlaced (placed_of history) }
+    ensures slots { (rules : Rules) (history : List Event)
+        → IsLegal rules history → All (λ p. p.entry.slot < rules.slots) (placed_of history) }
     ensures in_time { (rules : Rules) (history : List Event)
         → IsLegal rules history → NeverMisses (plan_of rules (placed_of history)) }
     ensures valid { (rules : Rules) (history : List Event) → IsLegal rules history
@@ -55,3 +62,15 @@ pub fn opened_cycles()
         → All (λ o. (slot : ℕ) → option_map without_end (instance_in o.placed slot o.cycle)
         ≡ option_map without_end (instance_in (placed_of history) slot o.cycle)) (openings_of history) }
 {}
+
+/// A change that is accepted by a plan from an earlier cycle is accepted too where it is planned from the next cycle:
+/// what repeats within the horizon repeats from there on too.
+pub fn accepted_anew()
+    ensures accepted { (rules : Rules) (history : List Event) (change : Change) (from : ℕ)
+        (verdict anew : Verdict) (trail : List ℕ) → IsRules rules → IsLegal rules history
+        → IsRightAnswer rules history change from verdict trail → is_accepted verdict ≡ true
+        → IsVerdict rules (placed_of history) (pending_at (plan_of rules (placed_of history)) (next_of history))
+        (next_of history) (next_of history) change anew → is_accepted anew ≡ true }
+{
+    loops();
+}

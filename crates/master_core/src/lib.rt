@@ -13,7 +13,9 @@ mod opened;
 mod planning;
 mod room;
 mod table;
+mod upcoming;
 
 pub use apart::{Planned, Snapshot, plan_apart};
 pub use event::Event;
 pub use master::Master;
+pub use upcoming::Upcoming;

@@ -12,7 +12,7 @@ ghost use Rattle.master_core.specs.Apart.{CanSettle, IsPlannable, from_of, snaps
 ghost use Rattle.master_core.specs.Certificates.{IsCertificateOfPlan};
 ghost use Rattle.master_core.specs.declared.event.Event.TheVariants.{Submit, Look, Open};
 ghost use Rattle.master_core.specs.History.{IsLegal, IsPlainlyLegal, accepted_of, next_of, placed_of, plan_of};
-ghost use Rattle.master_core.specs.Orders.{IsOrder};
+ghost use Rattle.master_core.specs.Orders.{IsOrder, IsUpcoming};
 
 use crate::answer::{Answer, answer_of, take_over};
 use crate::apart::{Planned, Snapshot};
@@ -21,6 +21,7 @@ use crate::opened::opened_masks;
 use crate::planning::plan_next;
 use crate::room::{make_room, put};
 use crate::table::{Table, list_of};
+use crate::upcoming::Upcoming;
 use admission::{CertifyFault, Rules, Verdict, certify};
 use change_protocol::Change;
 use plan_check::Certificate;
@@ -61,7 +62,8 @@ impl Model for Master {
 }
 
 impl Master {
-    /// A master with these rules, which was not called yet.
+    /// A master with these rules, which was not called yet. The rules have 1 to 30 nodes, 40 or 96 slots, a window of 55
+    /// to 16,383 bit times and a horizon of 1 to 100,000 cycles.
     ///
     /// # Errors
     ///
@@ -71,7 +73,7 @@ impl Master {
         ensures rules { IfOk result (λ master. master.rules ≡ rules) }
         ensures history { IfOk result (λ master. master.history ≡ []) }
     {
-        let table = Table::of(alloc, Vec::new(alloc), 0, rules.policy)?;
+        let table = Table::of(alloc, Vec::new(alloc), 0, &rules)?;
         Ok(Master {
             rules,
             history: Vec::new(alloc),
@@ -342,20 +344,52 @@ impl Master {
             → IsPlainlyLegal self.new.rules self.new.history }
         ensures few { length self.new.history + self.new.spare < 2 ^ 61 }
     {
-        let cycle = self.state.cycle;
-        self.table.pass(cycle);
+        let upcoming = self.upcoming();
+        self.open_upcoming(upcoming)
+    }
+
+    /// What `open` would open now; the next cycle is below 2^41. It takes no memory.
+    pub fn upcoming(&self) -> Upcoming
+        requires next { next_of self.now.history < 2 ^ 41 }
+        ensures upcoming { IsUpcoming self.now.rules self.now.history result }
+    {
         let planner_policies::Planned { mask, width, next } = plan_next(
             &self.table.ranked,
             self.rules.window,
             &self.state,
         );
+        Upcoming {
+            mask,
+            l: width,
+            next,
+        }
+    }
+
+    /// Opens the next cycle, below 2^41, as `open` does, by what is upcoming now: the cycle is not planned again. It
+    /// takes no memory, and one of the room. Entries that are over by the cycle behind it are planned no more.
+    pub fn open_upcoming(&mut self, upcoming: Upcoming) -> Order
+        requires spare { 1 ≤ self.old.spare }
+        requires next { next_of self.old.history < 2 ^ 41 }
+        requires upcoming { IsUpcoming self.old.rules self.old.history upcoming }
+        ensures rules { self.new.rules ≡ self.old.rules }
+        ensures order { IsOrder self.old.rules self.old.history result }
+        ensures event { self.new.history ≡ self.old.history ++ Open result.cycle result.mask ∷ [] }
+        ensures spare { self.new.spare + 1 ≡ self.old.spare }
+        ensures legal { IsLegal self.new.rules self.new.history }
+        ensures plain { IsPlainlyLegal self.old.rules self.old.history
+            → IsPlainlyLegal self.new.rules self.new.history }
+        ensures few { length self.new.history + self.new.spare < 2 ^ 61 }
+    {
+        let cycle = self.state.cycle;
+        let Upcoming { mask, l, next } = upcoming;
+        self.table.pass(next.cycle);
         self.state = next;
         put(&mut self.history, Event::Open { cycle, mask });
         self.spare -= 1;
         Order {
             cycle,
             mask,
-            l: width,
+            l,
             learned: self.learned.take(),
         }
     }

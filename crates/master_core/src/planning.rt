@@ -1,7 +1,7 @@
 //! The plan of the next cycle.
 
 ghost use Rattle.std.specs.Prelude.{◌≡◌, ◌+◌, ◌^◌, ◌<◌};
-ghost use Rattle.requirement_table.specs.Slots.{contains_slot, set_of, slots};
+ghost use Rattle.requirement_table.specs.Slots.{contains_slot, set_of, most_slots};
 ghost use Rattle.requirement_table.specs.Table.{width_in};
 ghost use Rattle.planner_policies.specs.Plan.{HasNoMissIn, IsValid, left_after, planned_in, planning_of};
 
@@ -14,13 +14,13 @@ pub fn plan_next(ranked: &Ranked, window: u32, state: &PlanState) -> Planned
     requires in_time { let plan = planning_of ranked.now window state.now.cycle state.now.pending in
         HasNoMissIn plan state.now.cycle (contains_slot state.now.pending) }
     ensures mask { let plan = planning_of ranked.now window state.now.cycle state.now.pending in
-        result.mask ≡ set_of slots (planned_in plan state.now.cycle (contains_slot state.now.pending)) }
+        result.mask ≡ set_of most_slots (planned_in plan state.now.cycle (contains_slot state.now.pending)) }
     ensures width { let plan = planning_of ranked.now window state.now.cycle state.now.pending in
         result.width ≡ width_in ranked.now.placed state.now.cycle
         (planned_in plan state.now.cycle (contains_slot state.now.pending)) }
     ensures cycle { result.next.cycle ≡ state.now.cycle + 1 }
     ensures pending { let plan = planning_of ranked.now window state.now.cycle state.now.pending in
-        result.next.pending ≡ set_of slots (left_after plan state.now.cycle (contains_slot state.now.pending)) }
+        result.next.pending ≡ set_of most_slots (left_after plan state.now.cycle (contains_slot state.now.pending)) }
 {
     match plan_with_width(ranked, window, state) {
         Ok(planned) => planned,

@@ -3,9 +3,11 @@
 ghost use Rattle.std.specs.Prelude.{◌≡◌, ◌≤◌, IfOk, All};
 ghost use Rattle.requirement_table.specs.Table.{IsWellPlaced, not_over};
 ghost use Rattle.change_protocol.specs.Operations.{HasTypes, IsTyped};
+ghost use Rattle.admission.specs.Verdict.{ranking_by};
 
+use admission::Rules;
 use change_protocol::{Change, Op, Ops};
-use planner_policies::{Policy, Ranked, rank};
+use planner_policies::{Ranked, rank};
 use requirement_table::{Entry, Placed, PlacedList, first_over, not_over};
 use std::alloc::{AllocError, Global};
 
@@ -23,21 +25,20 @@ pub struct Table {
 }
 
 impl Table {
-    /// The table of a list that is planned from cycle `since` on.
+    /// The table of a list that is planned by these rules from cycle `since` on.
     pub fn of(
         alloc: Global,
         placed: Vec<Placed>,
         since: u64,
-        policy: Policy,
+        rules: &Rules,
     ) -> Result<Table, AllocError>
         requires { IsWellPlaced placed.items }
         ensures placed { IfOk result (λ table. table.placed.items ≡ placed.items) }
         ensures since { IfOk result (λ table. table.since ≡ since) }
-        ensures ranked { IfOk result
-            (λ table. table.ranked ≡ record { placed = not_over since placed.items; policy = policy }) }
+        ensures ranked { IfOk result (λ table. table.ranked ≡ ranking_by rules.now (not_over since placed.items)) }
     {
         let left = not_over(alloc, placed.as_slice(), since)?;
-        let ranked = rank(alloc, left.as_slice(), policy)?;
+        let ranked = rank(alloc, left.as_slice(), rules.policy, rules.fill)?;
         let until = first_over(ranked.placed());
         Ok(Table {
             placed,
@@ -55,7 +56,7 @@ impl Table {
         ensures placed { self.new.placed.items ≡ self.old.placed.items }
         ensures since { self.new.since ≤ cycle }
         ensures ranked { self.new.ranked
-            ≡ record { placed = not_over self.new.since self.new.placed.items; policy = self.old.ranked.policy } }
+            ≡ record self.old.ranked { placed = not_over self.new.since self.new.placed.items } }
     {
         if self.until <= cycle {
             self.ranked.drop_over(cycle);

@@ -1,5 +1,5 @@
 -- Two nodes never offer one identifier at the same time.
-use Rattle.std.proofs.Common.{◌≡◌, ◌≢◌, ℕ, ◌+◌, ◌-◌, ◌/◌, ◌<◌, ◌≤◌, Bool, true, false, not, ◌&&◌, ◌==◌, cond, eqb, leb, Option, Some, None, List, [], length, get_or, map, filter, Contains, ◌⊎◌, inl, inr, refl, sym, ap, ◌∙◌, subst, arith, option_map}
+use Rattle.std.proofs.Common.{◌≡◌, ◌≢◌, ℕ, ◌+◌, ◌/◌, ◌<◌, ◌≤◌, not, ◌&&◌, ◌==◌, eqb, leb, Option, Some, None, List, [], length, get_or, map, filter, Contains, ◌⊎◌, inl, inr, refl, sym, ap, ◌∙◌, subst, arith, option_map}
 use Rattle.std.specs.Option.{is_some}
 use Rattle.std.proofs.lemmas.Bool.{cases_Bool, cases_order, eqb-true, and_parts, cond-true, cond-false}
 use Rattle.std.proofs.lemmas.Option.{none-some, same_Some}
@@ -8,16 +8,17 @@ use Rattle.std.proofs.lemmas.List.Elements.{All-contains, All-map}
 use Rattle.can_frame.specs.declared.data_frame.TimedFrame.{TimedFrame}
 use Rattle.cycle_layout.specs.Layout.{CycleLayout, sync_start}
 use Rattle.requirement_table.specs.declared.entries.Placed.{Placed}
-use Rattle.requirement_table.specs.Slots.{contains_slot, slots}
+use Rattle.requirement_table.specs.Slots.{contains_slot, most_slots}
 use Rattle.requirement_table.specs.Instance.{Instance}
 use Rattle.requirement_table.specs.Table.{IsWellPlaced, instance_in}
 use Rattle.async_window.specs.declared.request.Owner.{Owner}
 use Rattle.async_window.specs.declared.request.Request.{Request}
 use Rattle.async_window.specs.Mailbox.{IsLeastWith, IsMail, Mail, Offers, mail_offer, without_first}
 use Rattle.node_model.specs.Opening.{first_identifier}
-use Rattle.node_model.specs.Node.{NodeState, Opened, after_hearing, after_opening, after_request, after_slot, counted, entries_of, identifiers_of, is_due, is_own_slot, learnt, least_where, node_offer, offer_in}
+use Rattle.node_model.specs.Node.{NodeState, Opened, after_hearing, entries_of, identifiers_of, is_due, learnt, least_where, node_offer, offer_in}
 use Rattle.async_window.specs.Owners.{AreOwners}
 use Rattle.node_model.specs.Own.{AreApart, Stands}
+use Rattle.node_model.proofs.OtherFrames.{after_hearing-keeps}
 use Rattle.node_model.proofs.OwnEntries.{Contains-from_filter, Contains-from_map, passes-from_filter, instance-of_all}
 use Rattle.node_model.proofs.LeastSlot.{IsLeastBelow, least_where-least}
 use Rattle.node_model.proofs.OwnPart.{identifiers-after, value-of}
@@ -108,29 +109,14 @@ apart-turned one other are = record {
   slots = λ slot cycle mine theirs is_mine is_theirs. are.slots slot cycle theirs mine is_theirs is_mine;
 }
 
--- what holds after each kind of frame holds after a frame
-conds : (P : NodeState → Type 0) (b d : Bool) (x y z : NodeState) → (b ≡ true → P x) → P y → P z → P (cond b x (cond d y z))
-conds P true d x y z one two three = one refl
-conds P false true x y z one two three = two
-conds P false false x y z one two three = three
-
-pub after_hearing-keeps : (P : NodeState → Type 0) (node : NodeState) (sent : TimedFrame)
-    → (sent.frame.identifier ≡ 0 → P (after_opening (record node { frames = counted node.frames }) sent.frame))
-    → P (after_slot (record node { frames = counted node.frames }) (sent.frame.identifier - first_identifier))
-    → P (after_request (record node { frames = counted node.frames }) sent.frame.identifier)
-    → P (after_hearing node sent)
-after_hearing-keeps P node sent trigger slot request =
-    conds P (eqb sent.frame.identifier 0) (is_own_slot node.entries sent.frame.identifier) _ _ _
-    (λ test. trigger (eqb-true sent.frame.identifier 0 test)) slot request
-
 pub after_hearing-entries : (node : NodeState) (sent : TimedFrame) → (after_hearing node sent).entries ≡ node.entries
-after_hearing-entries node sent = after_hearing-keeps (λ n. n.entries ≡ node.entries) node sent (λ trigger. refl) refl refl
+after_hearing-entries node sent = after_hearing-keeps (λ n. n.entries ≡ node.entries) node sent (λ opening. refl) (λ other noting. refl) refl refl
 
 pub after_hearing-identifiers : ((id : ℕ) (mail : List Mail) → map (λ box. box.identifier) (without_first id mail) ≡ map (λ box. box.identifier) mail)
     → (node : NodeState) (sent : TimedFrame) → map (λ box. box.identifier) (after_hearing node sent).mail ≡ map (λ box. box.identifier) node.mail
 after_hearing-identifiers identifiers node sent =
     after_hearing-keeps (λ n. map (λ box. box.identifier) n.mail ≡ map (λ box. box.identifier) node.mail) node sent
-    (λ trigger. refl) refl (identifiers sent.frame.identifier node.mail)
+    (λ opening. refl) (λ other noting. refl) refl (identifiers sent.frame.identifier node.mail)
 
 pub apart-same : (one other after also : NodeState) → after.entries ≡ one.entries → also.entries ≡ other.entries
     → map (λ box. box.identifier) after.mail ≡ map (λ box. box.identifier) one.mail
@@ -152,12 +138,12 @@ apart-hearing identifiers one other sent also =
 -- what a node that offers an identifier has
 abbrev Has : NodeState → ℕ → ℕ → Type 0
 Has node at id =
-    ((slot : ℕ) × (id ≡ first_identifier + slot) × (slot < slots) × ((i : Instance) × (instance_in node.entries slot (at / node.layout.cycle) ≡ Some i)))
+    ((slot : ℕ) × (id ≡ first_identifier + slot) × (slot < most_slots) × ((i : Instance) × (instance_in node.entries slot (at / node.layout.cycle) ≡ Some i)))
     ⊎ ((0x200 ≤ id) × Contains (map (λ box. box.identifier) node.mail) id)
 
-slot-part : (entries : List Placed) (opened : Opened) (c id : ℕ) (found : Option ℕ) → c ≡ opened.cycle → IsLeastBelow slots (is_due entries opened) found
+slot-part : (entries : List Placed) (opened : Opened) (c id : ℕ) (found : Option ℕ) → c ≡ opened.cycle → IsLeastBelow most_slots (is_due entries opened) found
     → option_map (λ slot. first_identifier + slot) found ≡ Some id
-    → (slot : ℕ) × (id ≡ first_identifier + slot) × (slot < slots) × ((i : Instance) × (instance_in entries slot c ≡ Some i))
+    → (slot : ℕ) × (id ≡ first_identifier + slot) × (slot < most_slots) × ((i : Instance) × (instance_in entries slot c ≡ Some i))
 slot-part entries opened c id None same none is = absurd (none-some id is)
 slot-part entries opened c id (Some slot) same least is =
     let parts = and_parts (contains_slot opened.mask slot) (is_some (instance_in entries slot opened.cycle) && not (contains_slot opened.heard slot)) least.1 in
@@ -180,8 +166,8 @@ module _ (node : NodeState) (at : ℕ)
   open-part opened id is =
       elim (cases_Bool (eqb (at / node.layout.cycle) opened.cycle)) [
         | inl same ↦ elim (cases_Bool (leb (sync_start node.layout opened.cycle opened.width) at)) [
-          | inl late ↦ inl (slot-part node.entries opened (at / node.layout.cycle) id (least_where slots (is_due node.entries opened)) (eqb-true _ _ same)
-              (least_where-least slots (is_due node.entries opened))
+          | inl late ↦ inl (slot-part node.entries opened (at / node.layout.cycle) id (least_where most_slots (is_due node.entries opened)) (eqb-true _ _ same)
+              (least_where-least most_slots (is_due node.entries opened))
               (sym (cond-true (leb (sync_start node.layout opened.cycle opened.width) at) _ _ late)
               ∙ sym (cond-true (eqb (at / node.layout.cycle) opened.cycle) _ _ same) ∙ is))
           | inr early ↦ inr (mail-part opened.width id (mail_offer node.layout opened.width node.mail at) (least opened.width)

@@ -2,7 +2,7 @@
 use Rattle.std.proofs.Common.{◌≡◌, ℕ, ◌^◌, ◌<◌, ◌&&◌, ◌||◌, Bool, true, false, not, Option, Some, None, IfSome, List, is_some, option_map, refl, sym, ap, ◌∙◌, subst}
 use Rattle.std.proofs.lemmas.Bool.{lt-ltb}
 use Rattle.requirement_table.specs.declared.entries.Placed.{Placed}
-use Rattle.requirement_table.specs.Slots.{contains_slot, set_of, slots}
+use Rattle.requirement_table.specs.Slots.{contains_slot, set_of, most_slots}
 use Rattle.requirement_table.specs.Table.{instance_in}
 use Rattle.requirement_table.proofs.Shared.{contains_slot-set_of}
 use Rattle.node_model.specs.Node.{is_due}
@@ -17,9 +17,9 @@ not_either true false was now = refl
 not_either false some was now = refl
 
 pub due-heard : (before : Option Open) (o : Open) (all_heard due heard : ℕ) → before ≡ Some o
-    → all_heard ≡ set_of slots (λ slot. contains_slot o.heard slot || contains_slot heard slot)
-    → ((slot : ℕ) → slot < slots → contains_slot due slot ≡ (contains_slot o.due slot && not (contains_slot heard slot)))
-    → (entries : List Placed) → IfSome before (KnowsDue entries) → (slot : ℕ) → slot < slots
+    → all_heard ≡ set_of most_slots (λ slot. contains_slot o.heard slot || contains_slot heard slot)
+    → ((slot : ℕ) → slot < most_slots → contains_slot due slot ≡ (contains_slot o.due slot && not (contains_slot heard slot)))
+    → (entries : List Placed) → IfSome before (KnowsDue entries) → (slot : ℕ) → slot < most_slots
     → contains_slot due slot ≡ is_due entries (record { cycle = o.cycle; width = o.width; mask = o.mask; heard = all_heard }) slot
 due-heard before o all_heard due heard is all without entries knows slot within =
     let known : KnowsDue entries o = subst (λ x. IfSome x (KnowsDue entries)) is knows in
@@ -29,9 +29,9 @@ due-heard before o all_heard due heard is all without entries knows slot within 
     ∙ not_either (contains_slot o.mask slot) some (contains_slot o.heard slot) (contains_slot heard slot)
     ∙ ap (λ b. contains_slot o.mask slot && (some && not b))
     (sym (ap (λ n. contains_slot n slot) all
-    ∙ contains_slot-set_of slots (λ s. contains_slot o.heard s || contains_slot heard s) slot
-    ∙ ap (λ b. b && (contains_slot o.heard slot || contains_slot heard slot)) (lt-ltb slot slots within)))
+    ∙ contains_slot-set_of most_slots (λ s. contains_slot o.heard s || contains_slot heard s) slot
+    ∙ ap (λ b. b && (contains_slot o.heard slot || contains_slot heard slot)) (lt-ltb slot most_slots within)))
 
-pub small-opened : (before : Option Open) → IfSome before (λ o. o.heard < 2 ^ slots) → IfSome (option_map opened_of before) (λ o. o.heard < 2 ^ slots)
+pub small-opened : (before : Option Open) → IfSome before (λ o. o.heard < 2 ^ most_slots) → IfSome (option_map opened_of before) (λ o. o.heard < 2 ^ most_slots)
 small-opened None small = tt
 small-opened (Some o) small = small

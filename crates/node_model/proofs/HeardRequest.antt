@@ -1,6 +1,6 @@
 -- A frame of which a node has an unsent request: that node takes the request away, and a node that is apart from it only
 -- counts the frame.
-use Rattle.std.proofs.Common.{◌≡◌, ℕ, suc, ◌+◌, ◌≤◌, ◌||◌, ◌==◌, false, eqb, List, [], ◌∷◌, get_or, map, All, Contains, IsSome, slice_get, inl, inr, refl, ap, ◌∙◌, subst, arith}
+use Rattle.std.proofs.Common.{◌≡◌, ℕ, suc, ◌+◌, ◌≤◌, ◌||◌, false, eqb, List, [], ◌∷◌, get_or, map, All, Contains, IsSome, slice_get, inl, inr, refl, ap, ◌∙◌, subst, arith}
 use Rattle.std.proofs.lemmas.Bool.{cases_eq, cond-false, false≢true, ne_eqb}
 use Rattle.std.proofs.lemmas.List.Elements.{All-head, All-map, All-tail}
 use Rattle.can_frame.specs.declared.data_frame.TimedFrame.{TimedFrame}
@@ -11,6 +11,7 @@ use Rattle.async_window.proofs.Shared.{unsent_of-later}
 use Rattle.node_model.specs.Opening.{first_identifier}
 use Rattle.node_model.specs.Node.{IsNode, NodeState, after_hearing, after_request, is_own_slot}
 use Rattle.node_model.specs.Own.{AreApart, HasRequest, counting}
+use Rattle.node_model.proofs.OtherFrames.{other-frame}
 
 -- an identifier with an unsent request has a mailbox, and is an asynchronous one
 has-box : (id : ℕ) (mail : List Mail) → IsSome (slice_get (unsent_of mail id) 0) → Contains (map (λ box. box.identifier) mail) id
@@ -40,7 +41,7 @@ no-slot (p ∷ rest) id above in_range =
 heard-request : (node : NodeState) (sent : TimedFrame) → IsNode node → 0x200 ≤ sent.frame.identifier
     → after_hearing node sent ≡ counting (after_request node sent.frame.identifier)
 heard-request node sent is above =
-    cond-false (sent.frame.identifier == 0) _ _ (ne_eqb _ _ (λ zero. omega (arith, zero, above)))
+    other-frame node sent (omega (arith, above))
     ∙ cond-false (is_own_slot node.entries sent.frame.identifier) _ _ (no-slot node.entries sent.frame.identifier above is.entries.in_range)
 
 -- a node without a mailbox of an identifier has no request of it to take away

@@ -1,25 +1,25 @@
 -- A node that hears frames of slots: it counts them, and marks those of its slots.
-use Rattle.std.proofs.Common.{◌≡◌, ℕ, zero, suc, ◌+◌, ◌-◌, ◌^◌, ◌<◌, ◌≤◌, Bool, true, false, ◌&&◌, ◌||◌, ◌==◌, cond, eqb, ltb, Option, Some, None, IfSome, List, [], ◌∷◌, All, length, min, option_map, inl, inr, refl, sym, ap, ◌∙◌, subst, arith}
+use Rattle.std.proofs.Common.{◌≡◌, ℕ, ◌+◌, ◌-◌, ◌^◌, ◌<◌, ◌≤◌, Bool, true, false, ◌&&◌, ◌||◌, ◌==◌, cond, Option, Some, None, IfSome, List, [], ◌∷◌, All, length, min, option_map, inl, inr, refl, sym, ap, ◌∙◌, arith}
 use Rattle.std.specs.Prelude.{fold}
 use Rattle.std.specs.List.{list_any}
-use Rattle.std.proofs.lemmas.Bool.{cases_Bool, both_ways, eq-eqb, ne_eqb, eqb-true, lt-ltb, cond-true, cond-false, cases_eq, false≢true}
+use Rattle.std.proofs.lemmas.Bool.{eq-eqb, ne_eqb, eqb-true, lt-ltb, cases_eq, false≢true}
 use Rattle.std.proofs.lemmas.List.Elements.{All-head, All-tail}
-use Rattle.std.proofs.lemmas.List.Folds.{list_any-from_Any, Any-from_list_any}
 use Rattle.can_frame.specs.declared.data_frame.TimedFrame.{TimedFrame}
 use Rattle.requirement_table.specs.declared.entries.Placed.{Placed}
-use Rattle.requirement_table.specs.Slots.{contains_slot, set_of, slots}
+use Rattle.requirement_table.specs.Slots.{contains_slot, set_of, most_slots}
 use Rattle.requirement_table.proofs.Shared.{contains_slot-set_of, set_of-below, set_of-same, set_of-from_slots}
-use Rattle.async_window.specs.Mailbox.{Mail, without_first}
+use Rattle.async_window.specs.Mailbox.{without_first}
 use Rattle.node_model.specs.Opening.{first_identifier}
 use Rattle.node_model.specs.Node.{NodeState, Opened, after_hearing, counted, is_own_slot, with_heard}
 use Rattle.node_model.specs.Kept.{AreSlotsOf}
 use Rattle.node_model.specs.Window.{AreOfSlots, with_all_heard}
 use Rattle.node_model.proofs.Hearing.{without_first-none}
 use Rattle.node_model.proofs.Known.{own-slot}
+use Rattle.node_model.proofs.OtherFrames.{other-frame}
 
 -- the frame is one of a slot
 abbrev pub IsOfSlot : TimedFrame → Type 0
-IsOfSlot one = (first_identifier ≤ one.frame.identifier) × (one.frame.identifier < first_identifier + slots)
+IsOfSlot one = (first_identifier ≤ one.frame.identifier) × (one.frame.identifier < first_identifier + most_slots)
 
 -- the open cycle, where there is one, of a node that heard a frame of a slot
 abbrev pub marked : List Placed → Option Opened → TimedFrame → Option Opened
@@ -39,7 +39,7 @@ mark_or_none false node id same = ap (λ mail. record node { mail = mail }) same
 pub hear-one : (node : NodeState) (one : TimedFrame) → All (λ box. 0x200 ≤ box.identifier) node.mail → IsOfSlot one
     → after_hearing node one ≡ record node { frames = counted node.frames; opened = marked node.entries node.opened one }
 hear-one node one mail of_slot =
-    cond-false (one.frame.identifier == 0) _ _ (ne_eqb _ _ (λ zero. omega (arith, zero, of_slot.0)))
+    other-frame node one (omega (arith, of_slot.0))
     ∙ mark_or_none (is_own_slot node.entries one.frame.identifier) (record node { frames = counted node.frames }) one.frame.identifier
     (without_first-none one.frame.identifier node.mail (omega (arith, of_slot.1)) mail)
 
@@ -64,7 +64,7 @@ abbrev own_heard : List Placed → List TimedFrame → ℕ → Bool
 own_heard entries frames slot = has_entry entries slot && list_any (λ one. one.frame.identifier == first_identifier + slot) frames
 
 abbrev heard_with : Opened → (ℕ → Bool) → Opened
-heard_with opened p = record opened { heard = set_of slots (λ slot. contains_slot opened.heard slot || p slot) }
+heard_with opened p = record opened { heard = set_of most_slots (λ slot. contains_slot opened.heard slot || p slot) }
 
 or_false : (b : Bool) → b ≡ (b || false)
 or_false true = refl
@@ -93,15 +93,15 @@ cond-same false o = refl
 
 module _ (entries : List Placed) where
   mark-step : (own : Bool) (one : TimedFrame) (later : List TimedFrame) (opened : Opened) → is_own_slot entries one.frame.identifier ≡ own → IsOfSlot one
-      → opened.heard < 2 ^ slots
-      → ((other : Opened) → other.heard < 2 ^ slots → fold (marked entries) (Some other) later ≡ Some (heard_with other (own_heard entries later)))
+      → opened.heard < 2 ^ most_slots
+      → ((other : Opened) → other.heard < 2 ^ most_slots → fold (marked entries) (Some other) later ≡ Some (heard_with other (own_heard entries later)))
       → fold (marked entries) (cond own (Some (with_heard (one.frame.identifier - first_identifier) opened)) (Some opened)) later
       ≡ Some (heard_with opened (own_heard entries (one ∷ later)))
   mark-step true one later opened is of_slot small rest =
       let id = one.frame.identifier in
       let k = id - first_identifier in
       let now = with_heard k opened in
-      let within : (slot : ℕ) → slot < slots → (contains_slot now.heard slot || own_heard entries later slot)
+      let within : (slot : ℕ) → slot < most_slots → (contains_slot now.heard slot || own_heard entries later slot)
       ≡ (contains_slot opened.heard slot || own_heard entries (one ∷ later) slot) = λ slot below.
       let its : (id == first_identifier + slot) ≡ true → has_entry entries slot ≡ true =
       λ same. sym (own-slot entries slot id (sym (eqb-true _ _ same))) ∙ is in
@@ -110,27 +110,27 @@ module _ (entries : List Placed) where
         | inr other ↦ ne_eqb slot k other ∙ sym (ne_eqb id (first_identifier + slot) (λ same. other (omega (arith, same))))
       ] in
       ap (λ b. b || own_heard entries later slot)
-      (contains_slot-set_of slots (λ s. (s == k) || contains_slot opened.heard s) slot
-      ∙ ap (λ b. b && ((slot == k) || contains_slot opened.heard slot)) (lt-ltb slot slots below)
+      (contains_slot-set_of most_slots (λ s. (s == k) || contains_slot opened.heard s) slot
+      ∙ ap (λ b. b && ((slot == k) || contains_slot opened.heard slot)) (lt-ltb slot most_slots below)
       ∙ ap (λ b. b || contains_slot opened.heard slot) test)
       ∙ marks-own (id == first_identifier + slot) (contains_slot opened.heard slot) (has_entry entries slot)
       (list_any (λ one. one.frame.identifier == first_identifier + slot) later) its in
-      rest now (set_of-below slots (λ s. (s == k) || contains_slot opened.heard s))
-      ∙ ap (λ n. Some (record opened { heard = n })) (set_of-same slots _ _ within)
+      rest now (set_of-below most_slots (λ s. (s == k) || contains_slot opened.heard s))
+      ∙ ap (λ n. Some (record opened { heard = n })) (set_of-same most_slots _ _ within)
   mark-step false one later opened is of_slot small rest =
       let id = one.frame.identifier in
-      let within : (slot : ℕ) → slot < slots → (contains_slot opened.heard slot || own_heard entries later slot)
+      let within : (slot : ℕ) → slot < most_slots → (contains_slot opened.heard slot || own_heard entries later slot)
       ≡ (contains_slot opened.heard slot || own_heard entries (one ∷ later) slot) = λ slot below.
       marks-none (id == first_identifier + slot) (contains_slot opened.heard slot) (has_entry entries slot)
       (list_any (λ one. one.frame.identifier == first_identifier + slot) later)
       (λ same. sym (own-slot entries slot id (sym (eqb-true _ _ same))) ∙ is) in
-      rest opened small ∙ ap (λ n. Some (record opened { heard = n })) (set_of-same slots _ _ within)
+      rest opened small ∙ ap (λ n. Some (record opened { heard = n })) (set_of-same most_slots _ _ within)
 
-  mark-all : (frames : List TimedFrame) → All IsOfSlot frames → (opened : Opened) → opened.heard < 2 ^ slots
+  mark-all : (frames : List TimedFrame) → All IsOfSlot frames → (opened : Opened) → opened.heard < 2 ^ most_slots
       → fold (marked entries) (Some opened) frames ≡ Some (heard_with opened (own_heard entries frames))
   mark-all [] of_slots opened small =
       ap (λ n. Some (record opened { heard = n }))
-      (set_of-from_slots slots opened.heard (λ slot. contains_slot opened.heard slot || own_heard entries [] slot) small
+      (set_of-from_slots most_slots opened.heard (λ slot. contains_slot opened.heard slot || own_heard entries [] slot) small
       (λ slot _. and_none (contains_slot opened.heard slot) (has_entry entries slot)))
   mark-all (one ∷ later) of_slots opened small =
       mark-step (is_own_slot entries one.frame.identifier) one later opened refl (All-head IsOfSlot one later of_slots) small
@@ -144,10 +144,10 @@ module _ (entries : List Placed) where
   -- the open cycle behind frames of which these are the slots
   pub mark-sent : (own sent mine : ℕ) (frames : List TimedFrame) (opened : Option Opened) → AreSlotsOf entries own → AreOfSlots sent frames
       → ((slot : ℕ) → contains_slot mine slot ≡ (contains_slot own slot && contains_slot sent slot))
-      → IfSome opened (λ o. o.heard < 2 ^ slots) → option_map (with_all_heard mine) opened ≡ fold (marked entries) opened frames
+      → IfSome opened (λ o. o.heard < 2 ^ most_slots) → option_map (with_all_heard mine) opened ≡ fold (marked entries) opened frames
   mark-sent own sent mine frames None are of_slots common small = sym (mark-nothing frames)
   mark-sent own sent mine frames (Some opened) are of_slots common small =
-      ap (λ n. Some (record opened { heard = n })) (set_of-same slots _ _ (λ slot _.
+      ap (λ n. Some (record opened { heard = n })) (set_of-same most_slots _ _ (λ slot _.
       ap (λ b. contains_slot opened.heard slot || b)
       (common slot ∙ ap (λ b. b && contains_slot sent slot) (are slot) ∙ ap (λ b. has_entry entries slot && b) (of_slots.each slot))))
       ∙ sym (mark-all frames of_slots.all opened small)

@@ -1,30 +1,34 @@
 -- How a node goes on when it hears the frames of a cycle.
-use Rattle.std.proofs.Common.{◌≡◌, ◌≢◌, ℕ, ◌+◌, ◌-◌, ◌%◌, ◌^◌, ◌<◌, ◌≤◌, Bool, true, false, ◌&&◌, ◌||◌, ◌==◌, cond, eqb, leb, Option, Some, None, List, [], ◌∷◌, ◌++◌, get_or, filter, All, inl, inr, refl, sym, ap, ◌∙◌, subst, arith}
+use Rattle.std.proofs.Common.{◌≡◌, ℕ, ◌+◌, ◌-◌, ◌^◌, ◌<◌, ◌≤◌, Bool, true, false, ◌&&◌, ◌||◌, ◌==◌, eqb, leb, Option, Some, List, [], ◌∷◌, ◌++◌, get_or, filter, map, All, inl, inr, refl, sym, ap, ◌∙◌, subst, arith}
+use Rattle.std.specs.Prelude.{fold}
 use Rattle.std.specs.List.{list_any}
-use Rattle.std.proofs.lemmas.Bool.{cases_Bool, both_ways, eq-eqb, ne_eqb, eqb-true, le-leb, lt-leb, lt-ltb, and_from, and_left, and_right, cond-true, cond-false}
+use Rattle.std.proofs.lemmas.Bool.{cases_Bool, both_ways, eq-eqb, ne_eqb, eqb-true, le-leb, lt-leb, lt-ltb, and_left, and_right, cond-true, cond-false}
 use Rattle.std.proofs.lemmas.Bool.Decides.{eqb_tells}
-use Rattle.std.proofs.lemmas.List.Elements.{All-contains, All-map, All-filter, All-push}
+use Rattle.std.proofs.lemmas.List.{append-nil, append_assoc}
+use Rattle.std.proofs.lemmas.List.Elements.{All-append, All-contains, All-filter, All-head, All-map, All-tail}
 use Rattle.std.proofs.lemmas.List.Folds.{list_any-append, list_any_none, list_any-from_Any, Any-from_list_any, map_fixed}
-use Rattle.can_frame.specs.DataFrame.{DataFrame}
 use Rattle.can_frame.specs.declared.data_frame.TimedFrame.{TimedFrame}
-use Rattle.cycle_layout.specs.Layout.{CycleLayout}
+use Rattle.cycle_layout.specs.Layout.{CycleLayout, IsLayout}
 use Rattle.requirement_table.specs.declared.entries.Placed.{Placed}
-use Rattle.requirement_table.specs.Slots.{contains_slot, set_of, slots}
+use Rattle.requirement_table.specs.Slots.{contains_slot, set_of, most_slots}
 use Rattle.requirement_table.specs.Table.{IsInRange, IsWellPlaced}
 use Rattle.requirement_table.proofs.Shared.{contains_slot-set_of, contains_slot-none}
 use Rattle.trigger_codec.specs.declared.message.Trigger.{Trigger}
-use Rattle.trigger_codec.specs.Bytes.{trigger_bytes, trigger_frame, trigger_of, width_told, flags_in}
+use Rattle.trigger_codec.specs.Bytes.{triggers_with}
 use Rattle.async_window.specs.declared.request.Owner.{Owner}
 use Rattle.async_window.specs.declared.request.Request.{Request}
 use Rattle.async_window.specs.Mailbox.{Mail, mail_after, taken_from, without_first}
 use Rattle.async_window.specs.Waiting.{unsent_after}
 use Rattle.requirement_table.specs.Opening.{Opening, width_of}
 use Rattle.node_model.specs.Opening.{first_identifier, start_of}
-use Rattle.node_model.specs.Node.{NodeState, Opened, after_hearing, counted, entries_of, identifiers_of, is_own_slot, next_trigger, opened_by}
+use Rattle.node_model.specs.Node.{NodeState, after_hearing, counted, entries_of, identifiers_of, is_own_slot}
 use Rattle.async_window.specs.Owners.{AreOwners}
 use Rattle.node_model.specs.Own.{Stands, StandsIn, was_sent}
+use Rattle.node_model.specs.Offered.{trigger_frames}
+use Rattle.node_model.proofs.OtherFrames.{other-frame}
+use Rattle.node_model.proofs.Triggers.{IsBelowTwo, opened_with, opening_done, opens-next, trigger-identifiers}
 use Rattle.node_model.proofs.OwnEntries.{entries_of-well_placed}
-use Rattle.node_model.proofs.Standing.{standing, opened_for, standing-is, standing_in-is}
+use Rattle.node_model.proofs.Standing.{standing, opened_for, standing_in-is}
 
 -- an identifier that is below the asynchronous ones takes away no request
 pub without_first-none : (id : ℕ) (mail : List Mail) → id < 0x200 → All (λ box. 0x200 ≤ box.identifier) mail → without_first id mail ≡ mail
@@ -42,22 +46,6 @@ mail_after-least number owners requests past are =
     (All-map (λ id. 0x200 ≤ id) (λ owner. owner.id) (filter (λ owner. owner.node == number) owners)
     (All-filter (λ owner. owner.node == number) (λ owner. 0x200 ≤ owner.id) owners are.least))
 
--- what a trigger says
-abbrev saying : ℕ → ℕ → ℕ → Trigger
-saying low l mask = record { low = low; l = l; mask = mask }
-
-said : (low window flags l mask : ℕ) → window ≡ l → flags ≡ mask → l ≤ 16383
-    → cond (leb window 16383) (Some (saying low window flags)) None ≡ Some (saying low l mask)
-said low window flags l mask same also small =
-    cond-true (leb window 16383) (Some (saying low window flags)) None (le-leb window 16383 (omega arith))
-    ∙ ap (λ w. Some (saying low w flags)) same
-    ∙ ap (λ m. Some (saying low l m)) also
-
-pub trigger_of-frame : (cycle l mask : ℕ) → l ≤ 16383 → mask < 2 ^ slots
-    → trigger_of (trigger_frame cycle l mask) ≡ Some (record { low = cycle % 256; l = l; mask = mask })
-trigger_of-frame cycle l mask small few =
-    said (cycle % 256) (width_told (trigger_bytes cycle l mask)) (flags_in (trigger_bytes cycle l mask)) l mask (omega arith) (omega arith) small
-
 turn : (is begun was : Bool) → begun ≡ true → (is || was) ≡ (was || ((is && begun) || false))
 turn true true true e = refl
 turn true true false e = refl
@@ -70,29 +58,18 @@ kept false begun true e = refl
 kept false begun false e = refl
 kept true begun was e = absurd (cc)
 
--- a trigger that passes a test
-abbrev pub passing : (Trigger → Bool) → Option Trigger → Option Trigger
-passing fits None = None
-passing fits (Some trigger) = cond (fits trigger) (Some trigger) None
-
-pub next_trigger-fits : (node : NodeState) (frame : DataFrame) (trigger : Trigger) → trigger_of frame ≡ Some trigger
-    → trigger.l ≤ node.layout.window → trigger.low ≡ node.next % 256 → next_trigger node frame ≡ Some trigger
-next_trigger-fits node frame trigger is small same =
-    ap (passing (λ t. leb t.l node.layout.window && (t.low == node.next % 256))) is
-    ∙ cond-true (leb trigger.l node.layout.window && (trigger.low == node.next % 256)) _ _ (and_from _ _ (le-leb _ _ small) (eq-eqb _ _ same))
-
 module _ (layout : CycleLayout) (owners : List Owner) (requests : List Request) (opening : Opening) where
   abbrev stands_marked : ℕ → List TimedFrame → ℕ → Type 0
-  stands_marked number past heard = (slot : ℕ) → slot < slots → list_any (λ p. p.entry.slot == slot) (entries_of number opening.placed) ≡ true
+  stands_marked number past heard = (slot : ℕ) → slot < most_slots → list_any (λ p. p.entry.slot == slot) (entries_of number opening.placed) ≡ true
       → contains_slot heard slot ≡ was_sent layout opening past slot
 
-  abbrev in_cycle : ℕ → List TimedFrame → ℕ → ℕ → NodeState
-  in_cycle number past heard frames =
-      standing layout owners requests opening.placed past (opening.cycle + 1) number (Some (opened_for opening heard)) frames
+  abbrev in_cycle : ℕ → Option Trigger → List TimedFrame → ℕ → ℕ → NodeState
+  in_cycle number noted past heard frames =
+      standing layout owners requests opening.placed past (opening.cycle + 1) number (Some (opened_for opening heard)) frames noted
 
-  in_cycle-stands : (number : ℕ) (past : List TimedFrame) (heard frames : ℕ) → stands_marked number past heard
-      → StandsIn layout owners requests opening past (in_cycle number past heard frames)
-  in_cycle-stands number past heard frames marked = record {
+  in_cycle-stands : (number : ℕ) (noted : Option Trigger) (past : List TimedFrame) (heard frames : ℕ) → stands_marked number past heard
+      → StandsIn layout owners requests opening past (in_cycle number noted past heard frames)
+  in_cycle-stands number noted past heard frames marked = record {
     stands = record { same_layout = refl; own_entries = refl; own_mail = refl; next_cycle = refl };
     opened = opened_for opening heard;
     is_open = record { is_open = refl; cycle = refl; width = refl; mask = refl; heard = marked };
@@ -105,14 +82,17 @@ module _ (layout : CycleLayout) (owners : List Owner) (requests : List Request) 
       → was_sent layout opening (past ++ sent ∷ []) slot ≡ (was_sent layout opening past slot || (is_of_slot slot sent || false))
   was_sent-next past sent slot = list_any-append (is_of_slot slot) past (sent ∷ [])
 
-  -- after the trigger no slot of the cycle was sent
-  none_sent : (past : List TimedFrame) (sent : TimedFrame) (slot : ℕ) → All (λ earlier. earlier.start < start_of layout opening) past
-      → sent.frame.identifier ≡ 0 → was_sent layout opening (past ++ sent ∷ []) slot ≡ false
-  none_sent past sent slot before trigger =
-      list_any_none (is_of_slot slot) (past ++ sent ∷ [])
-      (All-push (λ x. is_of_slot slot x ≡ false) past sent
+  -- after the trigger frames no slot of the cycle was sent
+  none_sent : (past sent : List TimedFrame) (slot : ℕ) → All (λ earlier. earlier.start < start_of layout opening) past
+      → All IsBelowTwo sent → was_sent layout opening (past ++ sent) slot ≡ false
+  none_sent past sent slot before triggers =
+      list_any_none (is_of_slot slot) (past ++ sent)
+      (All-append (λ x. is_of_slot slot x ≡ false) past sent
       (λ k d within. and_right (eqb (get_or past k d).frame.identifier (first_identifier + slot)) _ (lt-leb _ _ (before k d within)))
-      (and_left _ (leb (start_of layout opening) sent.start) (ne_eqb _ _ (λ (same : sent.frame.identifier ≡ first_identifier + slot). omega arith))))
+      (λ k d within.
+      let below = triggers k d within in
+      and_left _ (leb (start_of layout opening) (get_or sent k d).start)
+      (ne_eqb _ _ (λ (same : (get_or sent k d).frame.identifier ≡ first_identifier + slot). omega (arith, same, below)))))
 
   same_mail : (ids : List ℕ) (past : List TimedFrame) (sent : TimedFrame)
       → mail_after ids requests (past ++ sent ∷ []) ≡ without_first sent.frame.identifier (mail_after ids requests past)
@@ -121,7 +101,20 @@ module _ (layout : CycleLayout) (owners : List Owner) (requests : List Request) 
   same_mail ids past sent taken above below =
       sym (taken ∙ without_first-none sent.frame.identifier (mail_after ids requests past) below above)
 
-  module _ (past : List TimedFrame) (sent : TimedFrame) (number frames : ℕ) (are : AreOwners owners)
+  -- trigger frames take away no request
+  same_mail-all : (number : ℕ) → AreOwners owners
+      → ((past : List TimedFrame) (one : TimedFrame) → mail_after (identifiers_of number owners) requests (past ++ one ∷ [])
+      ≡ without_first one.frame.identifier (mail_after (identifiers_of number owners) requests past))
+      → (sent past : List TimedFrame) → All IsBelowTwo sent
+      → mail_after (identifiers_of number owners) requests past ≡ mail_after (identifiers_of number owners) requests (past ++ sent)
+  same_mail-all number are taken [] past triggers = ap (mail_after (identifiers_of number owners) requests) (sym (append-nil past))
+  same_mail-all number are taken (one ∷ rest) past triggers =
+      let below = All-head IsBelowTwo one rest triggers in
+      same_mail (identifiers_of number owners) past one (taken past one) (mail_after-least number owners requests past are) (omega (arith, below))
+      ∙ same_mail-all number are taken rest (past ++ one ∷ []) (All-tail IsBelowTwo one rest triggers)
+      ∙ ap (mail_after (identifiers_of number owners) requests) (append_assoc past (one ∷ []) rest)
+
+  module _ (past : List TimedFrame) (sent : TimedFrame) (number frames : ℕ) (noted : Option Trigger) (are : AreOwners owners)
       (taken : mail_after (identifiers_of number owners) requests (past ++ sent ∷ [])
       ≡ without_first sent.frame.identifier (mail_after (identifiers_of number owners) requests past)) where
     abbrev mail : List Mail
@@ -130,42 +123,11 @@ module _ (layout : CycleLayout) (owners : List Owner) (requests : List Request) 
     above : All (λ box. 0x200 ≤ box.identifier) mail
     above = mail_after-least number owners requests past are
 
-    -- the trigger
-    module _ (opened : Option Opened) (small : width_of opening ≤ layout.window) (largest : layout.window ≤ 16383) (few : opening.mask < 2 ^ slots)
-        (before : All (λ earlier. earlier.start < start_of layout opening) past)
-        (same : sent.frame ≡ trigger_frame opening.cycle (width_of opening) opening.mask) where
-      abbrev waiting : NodeState
-      waiting = standing layout owners requests opening.placed past opening.cycle number opened frames
-
-      abbrev counting : NodeState
-      counting = record waiting { frames = counted frames }
-
-      abbrev said_by : DataFrame
-      said_by = trigger_frame opening.cycle (width_of opening) opening.mask
-
-      opens : next_trigger counting said_by ≡ Some (record { low = opening.cycle % 256; l = width_of opening; mask = opening.mask })
-      opens = next_trigger-fits counting said_by (record { low = opening.cycle % 256; l = width_of opening; mask = opening.mask })
-          (trigger_of-frame opening.cycle (width_of opening) opening.mask (omega arith) few) small refl
-
-      hears_trigger : after_hearing waiting sent ≡ in_cycle number (past ++ sent ∷ []) 0 (counted frames)
-      hears_trigger =
-          ap (λ frame. after_hearing waiting (record sent { frame = frame })) same
-          ∙ ap (λ trigger. record counting { opened = Some (opened_by opening.cycle trigger); next = opening.cycle + 1 }) opens
-          ∙ ap (λ m. record counting { mail = m; opened = Some (opened_for opening 0); next = opening.cycle + 1 })
-          (same_mail (identifiers_of number owners) past sent taken above
-          (let none : sent.frame.identifier ≡ 0 = ap (λ f. f.identifier) same in omega arith))
-
-      pub stands_in-trigger : StandsIn layout owners requests opening (past ++ sent ∷ []) (after_hearing waiting sent)
-      stands_in-trigger =
-          subst (λ (n : NodeState). StandsIn layout owners requests opening (past ++ sent ∷ []) n) (sym hears_trigger)
-          (in_cycle-stands number (past ++ sent ∷ []) 0 (counted frames)
-          (λ slot within own. contains_slot-none slot ∙ sym (none_sent past sent slot before (ap (λ f. f.identifier) same))))
-
     -- another frame
-    module _ (heard : ℕ) (well : IsWellPlaced opening.placed) (other : sent.frame.identifier ≢ 0) (begun : start_of layout opening ≤ sent.start)
+    module _ (heard : ℕ) (well : IsWellPlaced opening.placed) (other : 1 < sent.frame.identifier) (begun : start_of layout opening ≤ sent.start)
         (marked : stands_marked number past heard) where
       abbrev open_node : NodeState
-      open_node = in_cycle number past heard frames
+      open_node = in_cycle number noted past heard frames
 
       abbrev entries : List Placed
       entries = entries_of number opening.placed
@@ -173,25 +135,22 @@ module _ (layout : CycleLayout) (owners : List Owner) (requests : List Request) 
       abbrev id : ℕ
       id = sent.frame.identifier
 
-      no_trigger : (x y : NodeState) → cond (eqb id 0) x y ≡ y
-      no_trigger x y = cond-false (eqb id 0) x y (ne_eqb id 0 other)
-
       -- a frame of a slot in which the node has an entry
       module _ (own : is_own_slot entries id ≡ true) where
-        slot_of : (slot : ℕ) × (slot < slots) × (first_identifier + slot ≡ id)
+        slot_of : (slot : ℕ) × (slot < most_slots) × (first_identifier + slot ≡ id)
         slot_of =
             let any = Any-from_list_any (λ p. first_identifier + p.entry.slot == id) entries own in
             let range : IsInRange any.1 = All-contains IsInRange entries any.1 (entries_of-well_placed number opening.placed well).in_range (any.0, any.2, any.3) in
             (any.1.entry.slot, range.entry.slot, eqb-true _ _ any.4)
 
         abbrev more : ℕ
-        more = set_of slots (λ s. (s == (id - first_identifier)) || contains_slot heard s)
+        more = set_of most_slots (λ s. (s == (id - first_identifier)) || contains_slot heard s)
 
-        hears_slot : after_hearing open_node sent ≡ in_cycle number (past ++ sent ∷ []) more (counted frames)
+        hears_slot : after_hearing open_node sent ≡ in_cycle number noted (past ++ sent ∷ []) more (counted frames)
         hears_slot =
-            no_trigger _ _
+            other-frame open_node sent other
             ∙ cond-true (is_own_slot entries id) _ _ own
-            ∙ ap (λ m. record (in_cycle number past more (counted frames)) { mail = m })
+            ∙ ap (λ m. record (in_cycle number noted past more (counted frames)) { mail = m })
             (same_mail (identifiers_of number owners) past sent taken above
             (let slot = slot_of in let within = slot.1 in let is = slot.2 in omega arith))
 
@@ -206,8 +165,8 @@ module _ (layout : CycleLayout) (owners : List Owner) (requests : List Request) 
 
         marks_slot : stands_marked number (past ++ sent ∷ []) more
         marks_slot slot within its =
-            contains_slot-set_of slots (λ s. (s == (id - first_identifier)) || contains_slot heard s) slot
-            ∙ ap (λ b. b && (eqb slot (id - first_identifier) || contains_slot heard slot)) (lt-ltb slot slots within)
+            contains_slot-set_of most_slots (λ s. (s == (id - first_identifier)) || contains_slot heard s) slot
+            ∙ ap (λ b. b && (eqb slot (id - first_identifier) || contains_slot heard slot)) (lt-ltb slot most_slots within)
             ∙ ap (λ b. b || contains_slot heard slot) (same_test slot)
             ∙ ap (λ b. eqb id (first_identifier + slot) || b) (marked slot within its)
             ∙ turn (eqb id (first_identifier + slot)) (leb (start_of layout opening) sent.start) (was_sent layout opening past slot) (le-leb _ _ begun)
@@ -215,11 +174,11 @@ module _ (layout : CycleLayout) (owners : List Owner) (requests : List Request) 
 
       -- a frame of none
       module _ (none : is_own_slot entries id ≡ false) where
-        hears_none : after_hearing open_node sent ≡ in_cycle number (past ++ sent ∷ []) heard (counted frames)
+        hears_none : after_hearing open_node sent ≡ in_cycle number noted (past ++ sent ∷ []) heard (counted frames)
         hears_none =
-            no_trigger _ _
+            other-frame open_node sent other
             ∙ cond-false (is_own_slot entries id) _ _ none
-            ∙ ap (λ m. record (in_cycle number past heard (counted frames)) { mail = m }) (sym taken)
+            ∙ ap (λ m. record (in_cycle number noted past heard (counted frames)) { mail = m }) (sym taken)
 
         apart_from : (slot : ℕ) → list_any (λ p. p.entry.slot == slot) entries ≡ true → id ≡ first_identifier + slot → ⊥
         apart_from slot its same =
@@ -238,34 +197,57 @@ module _ (layout : CycleLayout) (owners : List Owner) (requests : List Request) 
       stands_in-later =
           elim (cases_Bool (is_own_slot entries id)) [
             | inl own ↦ subst (λ (n : NodeState). StandsIn layout owners requests opening (past ++ sent ∷ []) n) (sym (hears_slot own))
-                (in_cycle-stands number (past ++ sent ∷ []) (more own) (counted frames) (marks_slot own))
+                (in_cycle-stands number noted (past ++ sent ∷ []) (more own) (counted frames) (marks_slot own))
             | inr none ↦ subst (λ (n : NodeState). StandsIn layout owners requests opening (past ++ sent ∷ []) n) (sym (hears_none none))
-                (in_cycle-stands number (past ++ sent ∷ []) heard (counted frames) (marks_none none))
+                (in_cycle-stands number noted (past ++ sent ∷ []) heard (counted frames) (marks_none none))
           ]
 
-pub stands-trigger : (layout : CycleLayout) (owners : List Owner) (requests : List Request) (opening : Opening) (past : List TimedFrame)
-    (sent : TimedFrame) (node : NodeState)
-    → ((ids : List ℕ) → mail_after ids requests (past ++ sent ∷ []) ≡ without_first sent.frame.identifier (mail_after ids requests past))
-    → AreOwners owners → width_of opening ≤ layout.window → layout.window ≤ 16383 → opening.mask < 2 ^ slots
-    → All (λ earlier. earlier.start < start_of layout opening) past
-    → sent.frame ≡ trigger_frame opening.cycle (width_of opening) opening.mask
-    → Stands layout owners requests opening.placed past opening.cycle node
-    → StandsIn layout owners requests opening (past ++ sent ∷ []) (after_hearing node sent)
-stands-trigger layout owners requests opening past sent node taken are small largest few before same stands =
-    subst (λ (n : NodeState). StandsIn layout owners requests opening (past ++ sent ∷ []) (after_hearing n sent))
-    (sym (standing-is layout owners requests opening.placed past opening.cycle node stands))
-    (stands_in-trigger layout owners requests opening past sent node.number node.frames are (taken (identifiers_of node.number owners))
-    node.opened small largest few before same)
+module _ (layout : CycleLayout) (owners : List Owner) (requests : List Request) (opening : Opening) (past sent : List TimedFrame)
+    (taken : (ids : List ℕ) (earlier : List TimedFrame) (one : TimedFrame)
+    → mail_after ids requests (earlier ++ one ∷ []) ≡ without_first one.frame.identifier (mail_after ids requests earlier)) (are : AreOwners owners) where
+  stands-opened : (node : NodeState) (frames : ℕ) → All (λ earlier. earlier.start < start_of layout opening) past → All IsBelowTwo sent
+      → Stands layout owners requests opening.placed past opening.cycle node
+      → StandsIn layout owners requests opening (past ++ sent) (opening_done node (width_of opening) opening.mask frames)
+  stands-opened node frames before triggers stands = record {
+    stands = record {
+      same_layout = stands.same_layout;
+      own_entries = stands.own_entries;
+      own_mail = stands.own_mail ∙ same_mail-all layout owners requests opening node.number are (taken (identifiers_of node.number owners)) sent past triggers;
+      next_cycle = ap (λ c. c + 1) stands.next_cycle;
+    };
+    opened = opened_with node.next (width_of opening) opening.mask;
+    is_open = record {
+      is_open = refl;
+      cycle = stands.next_cycle;
+      width = refl;
+      mask = refl;
+      heard = λ slot within own. contains_slot-none slot ∙ sym (none_sent layout owners requests opening past sent slot before triggers);
+    };
+  }
+
+  pub stands-trigger : (node : NodeState) → IsLayout layout → width_of opening ≤ layout.window → opening.mask < 2 ^ layout.slots
+      → All (λ earlier. earlier.start < start_of layout opening) past → map (λ one. one.frame) sent ≡ trigger_frames layout opening
+      → Stands layout owners requests opening.placed past opening.cycle node
+      → StandsIn layout owners requests opening (past ++ sent) (fold after_hearing node sent)
+  stands-trigger node is small below before triggers stands =
+      let same = sym stands.same_layout in
+      let its : map (λ one. one.frame) sent ≡ triggers_with node.layout.slots node.next (width_of opening) opening.mask =
+      triggers ∙ ap (λ l. triggers_with l.slots opening.cycle (width_of opening) opening.mask) same
+      ∙ ap (λ c. triggers_with node.layout.slots c (width_of opening) opening.mask) (sym stands.next_cycle) in
+      let opens = opens-next node (width_of opening) opening.mask (subst IsLayout same is) (subst (λ l. width_of opening ≤ l.window) same small)
+      (subst (λ l. opening.mask < 2 ^ l.slots) same below) sent its in
+      subst (λ (n : NodeState). StandsIn layout owners requests opening (past ++ sent) n) (sym opens.1)
+      (stands-opened node opens.0 before (trigger-identifiers layout.slots opening.cycle (width_of opening) opening.mask is.slots_range sent triggers) stands)
 
 pub stands-later : (layout : CycleLayout) (owners : List Owner) (requests : List Request) (opening : Opening) (past : List TimedFrame)
     (sent : TimedFrame) (node : NodeState)
     → ((ids : List ℕ) → mail_after ids requests (past ++ sent ∷ []) ≡ without_first sent.frame.identifier (mail_after ids requests past))
-    → AreOwners owners → IsWellPlaced opening.placed → sent.frame.identifier ≢ 0 → start_of layout opening ≤ sent.start
+    → AreOwners owners → IsWellPlaced opening.placed → 1 < sent.frame.identifier → start_of layout opening ≤ sent.start
     → StandsIn layout owners requests opening past node
     → StandsIn layout owners requests opening (past ++ sent ∷ []) (after_hearing node sent)
 stands-later layout owners requests opening past sent node taken are well other begun stands =
     subst (λ (n : NodeState). StandsIn layout owners requests opening (past ++ sent ∷ []) (after_hearing n sent))
     (sym (standing_in-is layout owners requests opening past node stands))
-    (stands_in-later layout owners requests opening past sent node.number node.frames are (taken (identifiers_of node.number owners))
+    (stands_in-later layout owners requests opening past sent node.number node.frames node.noted are (taken (identifiers_of node.number owners))
     stands.opened.heard well other begun
     (λ slot within own. stands.is_open.heard slot within (ap (list_any (λ p. p.entry.slot == slot)) stands.stands.own_entries ∙ own)))

@@ -1,24 +1,22 @@
 -- A node in the synchronous window of its open cycle: what it offers, with which frames, and how it goes on as it hears
 -- those of slots.
-use Rattle.std.proofs.Common.{◌≡◌, ◌≢◌, ℕ, ◌+◌, ◌-◌, ◌*◌, ◌^◌, ◌/◌, ◌%◌, ◌<◌, ◌≤◌, Bool, true, false, ◌&&◌, ◌||◌, ◌==◌, not, cond, eqb, leb, is_some, Option, Some, None, IfSome, MatchOption, List, [], ◌∷◌, All, option_map, slice_get, inl, inr, refl, sym, ap, ◌∙◌, subst, arith}
+use Rattle.std.proofs.Common.{◌≡◌, ℕ, ◌+◌, ◌-◌, ◌*◌, ◌/◌, ◌<◌, ◌≤◌, Bool, true, false, ◌&&◌, ◌||◌, ◌==◌, not, cond, eqb, leb, is_some, Option, Some, None, MatchOption, List, [], ◌∷◌, option_map, slice_get, refl, sym, ap, ◌∙◌, subst, arith}
 use Rattle.std.specs.Option.{option_map_or}
 use Rattle.std.specs.List.{cons_option, filter_map, list_any}
 use Rattle.std.proofs.Math.Nat.{div-eq_of_lt-le}
-use Rattle.std.proofs.lemmas.Bool.{cases_Bool, cases_eq, eqb-true, eq-eqb, ne_eqb, le-leb, lt-leb, lt-ltb, cond-true, cond-false, and_parts, false≢true}
+use Rattle.std.proofs.lemmas.Bool.{eqb-true, eq-eqb, le-leb, lt-leb, lt-ltb, cond-false, false≢true}
 use Rattle.std.proofs.lemmas.Option.{none-some, same_Some}
-use Rattle.can_frame.specs.DataFrame.{DataFrame}
 use Rattle.can_frame.specs.declared.data_frame.TimedFrame.{TimedFrame}
 use Rattle.cycle_layout.specs.Layout.{sync_start}
 use Rattle.requirement_table.specs.declared.entries.Placed.{Placed}
-use Rattle.requirement_table.specs.Slots.{contains_slot, set_of, slots}
+use Rattle.requirement_table.specs.Slots.{contains_slot, most_slots}
 use Rattle.requirement_table.specs.Instance.{bytes_of, instance_of}
 use Rattle.requirement_table.specs.Table.{instance_in, sendable}
 use Rattle.requirement_table.proofs.Shared.{contains_slot-set_of}
-use Rattle.trigger_codec.specs.Bytes.{trigger_frame}
 use Rattle.node_model.specs.Opening.{first_identifier}
-use Rattle.node_model.specs.Node.{IsNode, NodeState, Opened, after_hearing, counted, is_due, is_own_slot, least_where, node_frame, node_offer, offer_in, opened_by, with_heard}
-use Rattle.node_model.specs.Window.{IsInWindow, due_bytes, due_frame, is_due_slot}
-use Rattle.node_model.proofs.Hearing.{next_trigger-fits, trigger_of-frame}
+use Rattle.node_model.specs.Node.{IsNode, NodeState, Opened, after_hearing, is_due, is_own_slot, least_where, node_frame, node_offer, offer_in, with_heard}
+use Rattle.node_model.specs.Window.{IsInWindow, due_frame, is_due_slot}
+use Rattle.node_model.proofs.OtherFrames.{other-frame}
 use Rattle.node_model.proofs.HeardSlots.{hear-one, marked}
 use Rattle.node_model.proofs.Known.{own-slot}
 use Rattle.node_model.proofs.Least.{least_where-same}
@@ -35,7 +33,7 @@ time-in node from until at is known begun early =
     div-eq_of_lt-le node.layout.cycle start (omega (arith, early, is.ends))
 
 offers-least : (node : NodeState) (from until at : ℕ) → IsNode node → IsInWindow from until node → from ≤ at → at < until
-    → node_offer node at ≡ option_map (λ slot. first_identifier + slot) (least_where slots (is_due_slot node))
+    → node_offer node at ≡ option_map (λ slot. first_identifier + slot) (least_where most_slots (is_due_slot node))
 offers-least node from until at known is begun early =
     let o = is.opened in
     let offered : node_offer node at ≡ offer_in node at o = rw is.is_open refl in
@@ -43,14 +41,14 @@ offers-least node from until at known is begun early =
     ∙ offer-late (eqb (at / node.layout.cycle) o.cycle) (leb (sync_start node.layout o.cycle o.width) at) _ _
     (eq-eqb _ _ (time-in node from until at is known begun early)) (le-leb _ _ (omega (arith, is.begun, begun)))
     ∙ ap (option_map (λ slot. first_identifier + slot))
-    (least_where-same slots (is_due node.entries o) (is_due_slot node)
+    (least_where-same most_slots (is_due node.entries o) (is_due_slot node)
     (λ slot _. ap (λ opened. option_map_or (λ x. is_due node.entries x slot) opened false) (sym is.is_open)))
 
 -- what is offered, as it is found
-found-due : (node : NodeState) (found offered : Option ℕ) → IsLeastBelow slots (is_due_slot node) found
+found-due : (node : NodeState) (found offered : Option ℕ) → IsLeastBelow most_slots (is_due_slot node) found
     → offered ≡ option_map (λ slot. first_identifier + slot) found
-    → MatchOption offered ((slot : ℕ) → slot < slots → is_due_slot node slot ≡ false)
-    (λ id. (slot : ℕ) × (slot < slots) × (id ≡ first_identifier + slot) × (is_due_slot node slot ≡ true)
+    → MatchOption offered ((slot : ℕ) → slot < most_slots → is_due_slot node slot ≡ false)
+    (λ id. (slot : ℕ) × (slot < most_slots) × (id ≡ first_identifier + slot) × (is_due_slot node slot ≡ true)
     × ((other : ℕ) → other < slot → is_due_slot node other ≡ false))
 found-due node None None is same = is
 found-due node None (Some id) is same = absurd (none-some id (sym same))
@@ -58,14 +56,14 @@ found-due node (Some slot) None is same = absurd (none-some (first_identifier + 
 found-due node (Some slot) (Some id) is same = (slot, is.0, same_Some id (first_identifier + slot) same, is.1, is.2)
 
 pub offers-due : (node : NodeState) (from until at : ℕ) → IsNode node → IsInWindow from until node → from ≤ at → at < until
-    → MatchOption (node_offer node at) ((slot : ℕ) → slot < slots → is_due_slot node slot ≡ false)
-    (λ id. (slot : ℕ) × (slot < slots) × (id ≡ first_identifier + slot) × (is_due_slot node slot ≡ true)
+    → MatchOption (node_offer node at) ((slot : ℕ) → slot < most_slots → is_due_slot node slot ≡ false)
+    (λ id. (slot : ℕ) × (slot < most_slots) × (id ≡ first_identifier + slot) × (is_due_slot node slot ≡ true)
     × ((other : ℕ) → other < slot → is_due_slot node other ≡ false))
 offers-due node from until at known is begun early =
-    found-due node (least_where slots (is_due_slot node)) (node_offer node at) (least_where-least slots (is_due_slot node))
+    found-due node (least_where most_slots (is_due_slot node)) (node_offer node at) (least_where-least most_slots (is_due_slot node))
     (offers-least node from until at known is begun early)
 
-pub frames-due : (node : NodeState) (from until at slot : ℕ) → IsNode node → IsInWindow from until node → from ≤ at → at < until → slot < slots
+pub frames-due : (node : NodeState) (from until at slot : ℕ) → IsNode node → IsInWindow from until node → from ≤ at → at < until → slot < most_slots
     → node_frame node at (first_identifier + slot) ≡ due_frame node slot
 frames-due node from until at slot known is begun early within =
     let id = first_identifier + slot in
@@ -85,29 +83,28 @@ kept_cycle true k o = (with_heard k o, refl, refl, refl)
 kept_cycle false k o = (o, refl, refl, refl)
 
 abbrev IsOfSlot : TimedFrame → Type 0
-IsOfSlot one = (first_identifier ≤ one.frame.identifier) × (one.frame.identifier < first_identifier + slots)
+IsOfSlot one = (first_identifier ≤ one.frame.identifier) × (one.frame.identifier < first_identifier + most_slots)
 
-heard_opened : (trigger own : Bool) (first second third : NodeState) (was marked_one : Option Opened) → trigger ≡ false
-    → second.opened ≡ marked_one → third.opened ≡ was → (cond trigger first (cond own second third)).opened ≡ cond own marked_one was
-heard_opened true own first second third was marked_one no_trigger here same = absurd (false≢true (sym no_trigger))
-heard_opened false true first second third was marked_one no_trigger here same = here
-heard_opened false false first second third was marked_one no_trigger here same = same
+heard_opened : (own : Bool) (slot request : NodeState) (was marked_one : Option Opened)
+    → slot.opened ≡ marked_one → request.opened ≡ was → (cond own slot request).opened ≡ cond own marked_one was
+heard_opened true slot request was marked_one here same = here
+heard_opened false slot request was marked_one here same = same
 
-heard_layout : (trigger own : Bool) (first second third node : NodeState) → first.layout ≡ node.layout → second.layout ≡ node.layout
-    → third.layout ≡ node.layout → (cond trigger first (cond own second third)).layout ≡ node.layout
-heard_layout true own first second third node a b c = a
-heard_layout false true first second third node a b c = b
-heard_layout false false first second third node a b c = c
+heard_layout : (own : Bool) (slot request node : NodeState) → slot.layout ≡ node.layout → request.layout ≡ node.layout
+    → (cond own slot request).layout ≡ node.layout
+heard_layout true slot request node a b = a
+heard_layout false slot request node a b = b
 
-pub stays-in_window : (node : NodeState) (from until : ℕ) (one : TimedFrame) → one.frame.identifier ≢ 0 → IsInWindow from until node
+pub stays-in_window : (node : NodeState) (from until : ℕ) (one : TimedFrame) → 1 < one.frame.identifier → IsInWindow from until node
     → IsInWindow from until (after_hearing node one)
 stays-in_window node from until one other is =
     let o = is.opened in
     let own = is_own_slot node.entries one.frame.identifier in
     let kept = kept_cycle own (one.frame.identifier - first_identifier) o in
-    let layout : (after_hearing node one).layout ≡ node.layout = heard_layout (one.frame.identifier == 0) own _ _ _ node refl refl refl in
+    let hears = other-frame node one other in
+    let layout : (after_hearing node one).layout ≡ node.layout = ap (λ (n : NodeState). n.layout) hears ∙ heard_layout own _ _ node refl refl in
     let opened : (after_hearing node one).opened ≡ marked node.entries node.opened one =
-    heard_opened (one.frame.identifier == 0) own _ _ _ node.opened _ (ne_eqb one.frame.identifier 0 other) refl refl in
+    ap (λ (n : NodeState). n.opened) hears ∙ heard_opened own _ _ node.opened _ refl refl in
     record {
       opened = kept.0;
       is_open = opened ∙ ap (λ x. marked node.entries x one) is.is_open ∙ kept.1;
@@ -156,7 +153,7 @@ due-closed entries k slot true false = refl
 due-closed entries k slot false true = refl
 due-closed entries k slot false false = refl
 
-due-one : (entries : List Placed) (own : Bool) (k slot : ℕ) (opened : Option Opened) → slot < slots
+due-one : (entries : List Placed) (own : Bool) (k slot : ℕ) (opened : Option Opened) → slot < most_slots
     → (own ≡ false → slot ≡ k → (cycle : ℕ) → is_some (instance_in entries slot cycle) ≡ false)
     → option_map_or (λ x. is_due entries x slot) (cond own (option_map (with_heard k) opened) opened) false
     ≡ (not (slot == k) && option_map_or (λ x. is_due entries x slot) opened false)
@@ -164,8 +161,8 @@ due-one entries own k slot None within none = due-closed entries k slot own (slo
 due-one entries true k slot (Some o) within none =
     let some = is_some (instance_in entries slot o.cycle) in
     ap (λ b. contains_slot o.mask slot && (some && not b))
-    (contains_slot-set_of slots (λ s. (s == k) || contains_slot o.heard s) slot
-    ∙ ap (λ b. b && ((slot == k) || contains_slot o.heard slot)) (lt-ltb slot slots within))
+    (contains_slot-set_of most_slots (λ s. (s == k) || contains_slot o.heard s) slot
+    ∙ ap (λ b. b && ((slot == k) || contains_slot o.heard slot)) (lt-ltb slot most_slots within))
     ∙ heard_now (contains_slot o.mask slot) some (contains_slot o.heard slot) (slot == k)
 due-one entries false k slot (Some o) within none =
     never_own (contains_slot o.mask slot) (is_some (instance_in entries slot o.cycle)) (contains_slot o.heard slot) (slot == k)
@@ -184,7 +181,7 @@ no_instance (p ∷ rest) slot cycle none =
     ∙ no_instance rest slot cycle parts.1
 
 -- the frame of a slot takes that slot away, and no other one
-pub due-kept : (node : NodeState) (one : TimedFrame) (k slot : ℕ) → IsNode node → one.frame.identifier ≡ first_identifier + k → k < slots → slot < slots
+pub due-kept : (node : NodeState) (one : TimedFrame) (k slot : ℕ) → IsNode node → one.frame.identifier ≡ first_identifier + k → k < most_slots → slot < most_slots
     → is_due_slot (after_hearing node one) slot ≡ (not (slot == k) && is_due_slot node slot)
 due-kept node one k slot known is inside within =
     let id = one.frame.identifier in
@@ -194,13 +191,3 @@ due-kept node one k slot known is inside within =
     ∙ due-one node.entries (is_own_slot node.entries id) k slot node.opened within
     (λ none same cycle.
     no_instance node.entries slot cycle (sym (own-slot node.entries slot id (ap (λ s. first_identifier + s) same ∙ sym is)) ∙ none))
-
--- a trigger opens the cycle, with its window
-pub opens : (node : NodeState) (one : TimedFrame) (l mask : ℕ) → l ≤ node.layout.window → node.layout.window ≤ 16383 → mask < 2 ^ slots
-    → one.frame ≡ trigger_frame node.next l mask → (after_hearing node one).opened ≡ Some (record { cycle = node.next; width = l; mask = mask; heard = 0 })
-opens node one l mask small largest few is =
-    let frame = trigger_frame node.next l mask in
-    let counting : NodeState = record node { frames = counted node.frames } in
-    ap (λ f. (after_hearing node (record one { frame = f })).opened) is
-    ∙ ap (λ trigger. Some (opened_by node.next trigger))
-    (next_trigger-fits counting frame (record { low = node.next % 256; l = l; mask = mask }) (trigger_of-frame node.next l mask (omega (arith, small, largest)) few) small refl)

@@ -19,3 +19,7 @@ mod DueBehind
 mod InWindow
 mod InCycle
 mod DueSlots
+mod OtherFrames
+mod Triggers
+mod Between
+mod OnlyCounted

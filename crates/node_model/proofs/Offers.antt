@@ -1,13 +1,13 @@
 -- What a node offers at the times of its open cycle.
-use Rattle.std.proofs.Common.{◌≡◌, ℕ, ◌+◌, ◌-◌, ◌*◌, ◌/◌, ◌<◌, ◌≤◌, ◌&&◌, Bool, true, false, max, nat_eq, nat_le, nat_lt, is_some, if◌then◌else◌, Option, Some, None, IsSome, [], slice_get, ◌⊎◌, inl, inr, refl, sym, ap, ◌∙◌, subst, arith, ⊎_elim}
+use Rattle.std.proofs.Common.{◌≡◌, ℕ, ◌+◌, ◌-◌, ◌*◌, ◌/◌, ◌<◌, ◌≤◌, ◌&&◌, Bool, true, false, max, nat_eq, nat_le, nat_lt, is_some, if◌then◌else◌, cond, Option, Some, None, IsSome, [], slice_get, ◌⊎◌, inl, inr, refl, sym, ap, ◌∙◌, subst, arith, ⊎_elim}
 use Rattle.std.specs.Option.{option_map, option_map_or}
 use Rattle.std.proofs.lemmas.Bool.{eq-eqb, eqb-true, leb-true, le-leb, cases_Bool, ltb-true, lt-ltb, cases_lt, false≢true, and_parts, and_from}
 use Rattle.std.proofs.lemmas.Bool.Decides.{nat_tests}
 use Rattle.std.proofs.lemmas.Option.{none-some, same_Some}
 use Rattle.std.proofs.Math.Nat.{div-eq_of_lt-le, div-lt_iff_lt-mul, le-div_iff_mul-le}
 use Rattle.stuff_bound.specs.Stuffing.{worst}
-use Rattle.cycle_layout.specs.Layout.{sync_start}
-use Rattle.requirement_table.specs.Slots.{contains_slot, slots}
+use Rattle.cycle_layout.specs.Layout.{sync_start, trigger_part, trigger_part_of}
+use Rattle.requirement_table.specs.Slots.{contains_slot, most_slots}
 use Rattle.requirement_table.specs.Instance.{Instance, bytes_of}
 use Rattle.requirement_table.specs.Table.{instance_in}
 use Rattle.can_frame.specs.DataFrame.{DataFrame}
@@ -41,13 +41,13 @@ offer-early false late one other is_same is_late = absurd (false≢true is_same)
 
 -- the identifier of the least slot that is due
 abbrev pub due_identifier : Open → Option ℕ
-due_identifier o = option_map (λ slot. first_identifier + slot) (least_where slots (contains_slot o.due))
+due_identifier o = option_map (λ slot. first_identifier + slot) (least_where most_slots (contains_slot o.due))
 
 pub node_offer-late : (node : NodeState) (at : ℕ) (o : Open) → IsOpenAt node at o → sync_start node.layout o.cycle o.width ≤ at → node_offer node at ≡ due_identifier o
 node_offer-late node at o is late =
     in_cycle node at o is
     ∙ offer-late (nat_eq (at / node.layout.cycle) o.cycle) (nat_le (sync_start node.layout o.cycle o.width) at) _ _ (eq-eqb _ _ is.cycle) (le-leb _ _ late)
-    ∙ ap (option_map (λ slot. first_identifier + slot)) (sym (least_where-same slots (contains_slot o.due) (is_due node.entries (opened_of o)) is.due))
+    ∙ ap (option_map (λ slot. first_identifier + slot)) (sym (least_where-same most_slots (contains_slot o.due) (is_due node.entries (opened_of o)) is.due))
 
 pub node_offer-early : (node : NodeState) (at : ℕ) (o : Open) → IsOpenAt node at o → at < sync_start node.layout o.cycle o.width → node_offer node at ≡ mail_offer node.layout o.width node.mail at
 node_offer-early node at o is early =
@@ -117,27 +117,27 @@ module _ (node : NodeState) (at : ℕ) (o : Open) (is : IsOpenAt node at o) (som
 
   -- where the mailboxes don't wake, only the synchronous window is left
   late-only : IsNextInCycle node.layout.cycle at MailOffers None → (later : ℕ) → at < later → later / node.layout.cycle ≡ at / node.layout.cycle → NodeOffers later
-      → (window ≤ later) × (is_some (least_where slots (contains_slot o.due)) ≡ true)
+      → (window ≤ later) × (is_some (least_where most_slots (contains_slot o.due)) ≡ true)
   late-only none later behind same offers =
       ⊎_elim
       (λ (before : later < window). absurd (none later (behind, same, subst IsSome (offers-early later same before) offers)))
-      (λ (late : window ≤ later). (late, sym (is_some-map (λ slot. first_identifier + slot) (least_where slots (contains_slot o.due))) ∙ ap is_some (sym (offers-late later same late)) ∙ offers))
+      (λ (late : window ≤ later). (late, sym (is_some-map (λ slot. first_identifier + slot) (least_where most_slots (contains_slot o.due))) ∙ ap is_some (sym (offers-late later same late)) ∙ offers))
       (cases_lt later window)
 
   abbrev first_late : ℕ
   first_late = max (at + 1) window
 
   abbrev has_late : Bool
-  has_late = is_some (least_where slots (contains_slot o.due)) && nat_lt first_late ends
+  has_late = is_some (least_where most_slots (contains_slot o.due)) && nat_lt first_late ends
 
   wake-late : IsNextInCycle node.layout.cycle at MailOffers None → has_late ≡ true → IsNextInCycle node.layout.cycle at NodeOffers (Some first_late)
   wake-late none has =
-      let parts = and_parts (is_some (least_where slots (contains_slot o.due))) (nat_lt first_late ends) has in
+      let parts = and_parts (is_some (least_where most_slots (contains_slot o.due))) (nat_lt first_late ends) has in
       let before : first_late < ends = ltb-true first_late ends parts.1 in
       let started = in_cycle-times node.layout.cycle at o.cycle some_time is.cycle in
       let from : o.cycle * node.layout.cycle ≤ first_late = omega (arith, started.0) in
       let same : first_late / node.layout.cycle ≡ at / node.layout.cycle = div-eq_of_lt-le node.layout.cycle from before ∙ sym is.cycle in
-      let offers : IsSome (due_identifier o) = is_some-map (λ slot. first_identifier + slot) (least_where slots (contains_slot o.due)) ∙ parts.0 in (
+      let offers : IsSome (due_identifier o) = is_some-map (λ slot. first_identifier + slot) (least_where most_slots (contains_slot o.due)) ∙ parts.0 in (
         (omega arith, same, subst IsSome (sym (offers-late first_late same (omega arith))) offers),
         λ later other. let late = late-only none later other.0 other.1 other.2 in omega (arith, late.0, other.0),
       )
@@ -165,6 +165,14 @@ offers-in true true slot other some = (refl, inl refl)
 offers-in true false slot other some = (refl, inr some)
 offers-in false late slot other some = absurd (false≢true some)
 
+counted-part : (one : Bool) → 0 < cond one 1 2 * worst 8
+counted-part true = omega arith
+counted-part false = omega arith
+
+-- the trigger part is not empty
+positive-part : (slots : ℕ) → 0 < trigger_part_of slots
+positive-part slots = counted-part (nat_eq slots 40)
+
 -- a node offers something only in its open cycle, behind the cycle's start
 offers-within : (node : NodeState) (at : ℕ) (o : Opened) → IsNode node → node.opened ≡ Some o → IsSome (node_offer node at)
     → (at / node.layout.cycle ≡ o.cycle) × (o.cycle * node.layout.cycle < at)
@@ -178,12 +186,12 @@ offers-within node at o known opened some =
       elim parts.1 [
         | inl late ↦
             let behind : sync_start node.layout o.cycle o.width ≤ at = leb-true _ _ late in
-            omega (arith, behind, range.0, room)
+            omega (arith, behind, range.0, room, positive-part node.layout.slots)
         | inr early ↦
             let found = some-number _ early in
             let allowed = (offered-request node.layout o.width at found.0 node.mail known.mail found.1).1.allowed.opened in
-            let begun : o.cycle * node.layout.cycle + worst 8 + node.layout.turnaround ≤ at = rw same at allowed in
-            omega (arith, begun)
+            let begun : o.cycle * node.layout.cycle + trigger_part node.layout + node.layout.turnaround ≤ at = rw same at allowed in
+            omega (arith, begun, positive-part node.layout.slots)
       ],
     )
 
@@ -221,10 +229,10 @@ offer-cases false late slot other id offered = absurd (none-some id offered)
 -- the slot of a synchronous identifier, with the instance that may be sent
 pub record IsOfferedSlot (node : NodeState) (at id : ℕ) : Type 0 where
   pub from : first_identifier ≤ id
-  pub below : id < first_identifier + slots
+  pub below : id < first_identifier + most_slots
   pub instance : is_some (instance_in node.entries (id - first_identifier) (at / node.layout.cycle)) ≡ true
 
-offered_slot-at : (node : NodeState) (at id slot : ℕ) (o : Opened) → at / node.layout.cycle ≡ o.cycle → first_identifier + slot ≡ id → slot < slots → is_due node.entries o slot ≡ true → IsOfferedSlot node at id
+offered_slot-at : (node : NodeState) (at id slot : ℕ) (o : Opened) → at / node.layout.cycle ≡ o.cycle → first_identifier + slot ≡ id → slot < most_slots → is_due node.entries o slot ≡ true → IsOfferedSlot node at id
 offered_slot-at node at id slot o cycle is within due =
     let parts = and_parts (contains_slot o.mask slot) _ due in
     let more = and_parts (is_some (instance_in node.entries slot o.cycle)) _ parts.1 in
@@ -237,12 +245,12 @@ IsOffered node at id = IsOfferedSlot node at id ⊎ ((l : ℕ) × (mail_offer no
 offered-in : (node : NodeState) (at id : ℕ) (o : Opened) → offer_in node at o ≡ Some id → IsOffered node at id
 offered-in node at id o offered =
     ⊎_elim
-    (λ (slot : (nat_eq (at / node.layout.cycle) o.cycle ≡ true) × (s : ℕ) × (least_where slots (is_due node.entries o) ≡ Some s) × (first_identifier + s ≡ id)).
-    let least = least_where-sound slots (is_due node.entries o) slot.1 slot.2 in
+    (λ (slot : (nat_eq (at / node.layout.cycle) o.cycle ≡ true) × (s : ℕ) × (least_where most_slots (is_due node.entries o) ≡ Some s) × (first_identifier + s ≡ id)).
+    let least = least_where-sound most_slots (is_due node.entries o) slot.1 slot.2 in
     inl (offered_slot-at node at id slot.1 o (eqb-true _ _ slot.0) slot.3 least.0 least.1))
     (λ (mail : mail_offer node.layout o.width node.mail at ≡ Some id). inr (o.width, mail))
     (offer-cases (nat_eq (at / node.layout.cycle) o.cycle) (nat_le (sync_start node.layout o.cycle o.width) at)
-    (least_where slots (is_due node.entries o)) (mail_offer node.layout o.width node.mail at) id offered)
+    (least_where most_slots (is_due node.entries o)) (mail_offer node.layout o.width node.mail at) id offered)
 
 offered-cases : (node : NodeState) (at id : ℕ) (opened : Option Opened) → node.opened ≡ opened → node_offer node at ≡ Some id → IsOffered node at id
 offered-cases node at id None is offered = let none : node_offer node at ≡ None = rw is refl in absurd (none-some id (sym none ∙ offered))

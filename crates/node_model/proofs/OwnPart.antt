@@ -10,7 +10,7 @@ use Rattle.can_frame.specs.DataFrame.{DataFrame}
 use Rattle.can_frame.specs.declared.data_frame.TimedFrame.{TimedFrame}
 use Rattle.cycle_layout.specs.Layout.{CycleLayout, IsLayout}
 use Rattle.requirement_table.specs.declared.entries.Placed.{Placed}
-use Rattle.requirement_table.specs.Slots.{contains_slot, slots}
+use Rattle.requirement_table.specs.Slots.{contains_slot, most_slots}
 use Rattle.requirement_table.specs.Instance.{Instance, bytes_of}
 use Rattle.requirement_table.specs.Table.{IsWellPlaced, instance_in}
 use Rattle.async_window.specs.declared.request.Owner.{Owner}
@@ -18,6 +18,7 @@ use Rattle.async_window.specs.declared.request.Request.{Request}
 use Rattle.async_window.specs.Waiting.{MayStart, frames_with, requests_of, unsent_after}
 use Rattle.async_window.specs.Mailbox.{IsLeastWith, IsMail, Mail, Offers, mail_after, mail_offer, unsent_of}
 use Rattle.requirement_table.specs.Opening.{Opening, width_of}
+use Rattle.trigger_codec.specs.declared.message.Trigger.{Trigger}
 use Rattle.node_model.specs.Opening.{first_identifier, start_of, window_start}
 use Rattle.node_model.specs.Offered.{IsUnsent}
 use Rattle.node_model.specs.Node.{IsNode, NodeState, entries_of, identifiers_of, is_due, least_where, node_bytes, node_frame, node_offer}
@@ -90,7 +91,7 @@ within_cycle : (at cycle : ℕ) → 0 < cycle → at < (at / cycle + 1) * cycle
 within_cycle at cycle positive = (div-lt_iff_lt-mul {k = cycle} {x = at} {y = at / cycle + 1} positive).0 (omega arith)
 
 -- the bytes of a slot's frame are those of its instance
-bytes_of-slot : (node : NodeState) (at slot : ℕ) (i : Instance) → slot < slots → instance_in node.entries slot (at / node.layout.cycle) ≡ Some i
+bytes_of-slot : (node : NodeState) (at slot : ℕ) (i : Instance) → slot < most_slots → instance_in node.entries slot (at / node.layout.cycle) ≡ Some i
     → node_bytes node at (first_identifier + slot) ≡ bytes_of i
 bytes_of-slot node at slot i within is =
     let back : first_identifier + slot - first_identifier ≡ slot = omega arith in
@@ -123,11 +124,11 @@ same_frame frame id bytes same also =
     ap (λ n. record { identifier = n; bytes = bytes }) same ∙ ap (λ b. record { identifier = frame.identifier; bytes = b }) also
 
 module _ (layout : CycleLayout) (owners : List Owner) (requests : List Request) (opening : Opening) (past : List TimedFrame)
-    (at number frames heard : ℕ) (positive : 0 < layout.cycle) (well : IsWellPlaced opening.placed) (time : at / layout.cycle ≡ opening.cycle)
-    (marked : (slot : ℕ) → slot < slots → list_any (λ p. p.entry.slot == slot) (entries_of number opening.placed) ≡ true
+    (at number frames heard : ℕ) (noted : Option Trigger) (positive : 0 < layout.cycle) (well : IsWellPlaced opening.placed) (time : at / layout.cycle ≡ opening.cycle)
+    (marked : (slot : ℕ) → slot < most_slots → list_any (λ p. p.entry.slot == slot) (entries_of number opening.placed) ≡ true
     → contains_slot heard slot ≡ was_sent layout opening past slot) where
   abbrev node : NodeState
-  node = standing layout owners requests opening.placed past (opening.cycle + 1) number (Some (opened_for opening heard)) frames
+  node = standing layout owners requests opening.placed past (opening.cycle + 1) number (Some (opened_for opening heard)) frames noted
 
   abbrev Own : DataFrame → Type 0
   Own = OffersOwn number layout owners requests opening past at
@@ -142,7 +143,7 @@ module _ (layout : CycleLayout) (owners : List Owner) (requests : List Request) 
   mail = mail_after ids requests past
 
   -- in the synchronous window
-  due-offers : window_start layout opening ≤ at → (slot : ℕ) → slot < slots → is_due entries (opened_for opening heard) slot ≡ true
+  due-offers : window_start layout opening ≤ at → (slot : ℕ) → slot < most_slots → is_due entries (opened_for opening heard) slot ≡ true
       → Own (node_frame node at (first_identifier + slot))
   due-offers late slot within due =
       let parts = and_parts (contains_slot opening.mask slot) (is_some (instance_in entries slot opening.cycle) && not (contains_slot heard slot)) due in
@@ -167,7 +168,7 @@ module _ (layout : CycleLayout) (owners : List Owner) (requests : List Request) 
       )
 
   offers-due : window_start layout opening ≤ at → (frame : DataFrame) → Own frame
-      → (slot : ℕ) × (slot < slots) × (is_due entries (opened_for opening heard) slot ≡ true) × (frame.identifier ≡ first_identifier + slot)
+      → (slot : ℕ) × (slot < most_slots) × (is_due entries (opened_for opening heard) slot ≡ true) × (frame.identifier ≡ first_identifier + slot)
   offers-due late frame (inl request) = let whole = request.0.may_start.allowed.whole in absurd (omega arith)
   offers-due late frame (inr (slot, offers, (i, is, its))) =
       let mine = instance-of_own number opening.placed slot opening.cycle i well is its in
@@ -181,11 +182,11 @@ module _ (layout : CycleLayout) (owners : List Owner) (requests : List Request) 
 
   offers-late : window_start layout opening ≤ at → OffersLeastOwn layout owners requests opening past at node
   offers-late late =
-      let value : node_offer node at ≡ option_map (λ slot. first_identifier + slot) (least_where slots (is_due entries (opened_for opening heard)))
+      let value : node_offer node at ≡ option_map (λ slot. first_identifier + slot) (least_where most_slots (is_due entries (opened_for opening heard)))
       = cond-true (eqb (at / layout.cycle) opening.cycle) _ _ (eq-eqb _ _ time) ∙ cond-true (leb (window_start layout opening) at) _ _ (le-leb _ _ late) in
       subst (IsLeastFrame Own (node_frame node at)) (sym value)
-      (least_slot-frame Own (node_frame node at) slots (is_due entries (opened_for opening heard)) (least_where slots (is_due entries (opened_for opening heard)))
-      (due-offers late) (offers-due late) (least_where-least slots (is_due entries (opened_for opening heard))))
+      (least_slot-frame Own (node_frame node at) most_slots (is_due entries (opened_for opening heard)) (least_where most_slots (is_due entries (opened_for opening heard)))
+      (due-offers late) (offers-due late) (least_where-least most_slots (is_due entries (opened_for opening heard))))
 
   -- before it
   module _ (known : IsMail mail)
@@ -247,6 +248,6 @@ offers_own_part layout owners requests opening past at node least among unsent i
     let long = its_layout.cycle_range.above in
     subst (λ (n : NodeState). OffersLeastOwn layout owners requests opening past at n)
     (sym (standing_in-is layout owners requests opening past node stands))
-    (offers-least layout owners requests opening past at node.number node.frames stands.opened.heard (omega arith) well time
+    (offers-least layout owners requests opening past at node.number node.frames stands.opened.heard node.noted (omega arith) well time
     (λ slot within own. stands.is_open.heard slot within (ap (list_any (λ p. p.entry.slot == slot)) stands.stands.own_entries ∙ own))
     known (among mail) (unsent (identifiers_of node.number owners)) (least mail known))

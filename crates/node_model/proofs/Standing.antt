@@ -5,6 +5,7 @@ use Rattle.cycle_layout.specs.Layout.{CycleLayout}
 use Rattle.requirement_table.specs.declared.entries.Placed.{Placed}
 use Rattle.async_window.specs.declared.request.Owner.{Owner}
 use Rattle.async_window.specs.declared.request.Request.{Request}
+use Rattle.trigger_codec.specs.declared.message.Trigger.{Trigger}
 use Rattle.async_window.specs.Mailbox.{Mail, mail_after}
 use Rattle.requirement_table.specs.Opening.{Opening, width_of}
 use Rattle.node_model.specs.Node.{NodeState, Opened, entries_of, identifiers_of}
@@ -12,7 +13,16 @@ use Rattle.node_model.specs.Own.{Stands, StandsIn}
 
 same_node : (node : NodeState) (layout : CycleLayout) (entries : List Placed) (mail : List Mail) (opened : Option Opened) (next : ℕ)
     → node.layout ≡ layout → node.entries ≡ entries → node.mail ≡ mail → node.opened ≡ opened → node.next ≡ next
-    → node ≡ record { number = node.number; layout = layout; entries = entries; mail = mail; opened = opened; next = next; frames = node.frames }
+    → node ≡ record {
+      number = node.number;
+      layout = layout;
+      entries = entries;
+      mail = mail;
+      opened = opened;
+      next = next;
+      frames = node.frames;
+      noted = node.noted;
+    }
 same_node node layout entries mail opened next l e m o n =
     ap (λ x. record node { layout = x }) l
     ∙ ap (λ x. record node { layout = layout; entries = x }) e
@@ -20,9 +30,9 @@ same_node node layout entries mail opened next l e m o n =
     ∙ ap (λ x. record node { layout = layout; entries = entries; mail = mail; opened = x }) o
     ∙ ap (λ x. record node { layout = layout; entries = entries; mail = mail; opened = opened; next = x }) n
 
--- the node of this number, with this cycle open, that heard so many frames
-abbrev pub standing : CycleLayout → List Owner → List Request → List Placed → List TimedFrame → ℕ → ℕ → Option Opened → ℕ → NodeState
-standing layout owners requests placed past next number opened frames = record {
+-- the node of this number, with this cycle open, that heard so many frames and noted this one
+abbrev pub standing : CycleLayout → List Owner → List Request → List Placed → List TimedFrame → ℕ → ℕ → Option Opened → ℕ → Option Trigger → NodeState
+standing layout owners requests placed past next number opened frames noted = record {
   number = number;
   layout = layout;
   entries = entries_of number placed;
@@ -30,6 +40,7 @@ standing layout owners requests placed past next number opened frames = record {
   opened = opened;
   next = next;
   frames = frames;
+  noted = noted;
 }
 
 -- the cycle as it is open for a node that heard these slots
@@ -38,7 +49,7 @@ opened_for opening heard = record { cycle = opening.cycle; width = width_of open
 
 pub standing-is : (layout : CycleLayout) (owners : List Owner) (requests : List Request) (placed : List Placed) (past : List TimedFrame) (next : ℕ)
     (node : NodeState) → Stands layout owners requests placed past next node
-    → node ≡ standing layout owners requests placed past next node.number node.opened node.frames
+    → node ≡ standing layout owners requests placed past next node.number node.opened node.frames node.noted
 standing-is layout owners requests placed past next node stands =
     same_node node layout (entries_of node.number placed) (mail_after (identifiers_of node.number owners) requests past) node.opened next
     stands.same_layout stands.own_entries stands.own_mail refl stands.next_cycle
@@ -52,7 +63,7 @@ same_opened o cycle width flags c w f =
 
 pub standing_in-is : (layout : CycleLayout) (owners : List Owner) (requests : List Request) (opening : Opening) (past : List TimedFrame)
     (node : NodeState) (is : StandsIn layout owners requests opening past node)
-    → node ≡ standing layout owners requests opening.placed past (opening.cycle + 1) node.number (Some (opened_for opening is.opened.heard)) node.frames
+    → node ≡ standing layout owners requests opening.placed past (opening.cycle + 1) node.number (Some (opened_for opening is.opened.heard)) node.frames node.noted
 standing_in-is layout owners requests opening past node is =
     same_node node layout (entries_of node.number opening.placed) (mail_after (identifiers_of node.number owners) requests past)
     (Some (opened_for opening is.opened.heard)) (opening.cycle + 1)

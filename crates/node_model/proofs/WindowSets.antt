@@ -1,13 +1,13 @@
--- Sets of slots as words: what stands in both of two, in one of them, in one alone; and that a set without one of its
+-- Sets of slots as words: what stands in both of two, in one alone; and that a set without one of its
 -- slots is less.
-use Rattle.std.proofs.Common.{◌≡◌, ℕ, zero, suc, ◌+◌, ◌-◌, ◌^◌, ◌<◌, ◌≤◌, ◌&&◌, ◌||◌, Bool, true, false, not, nat_eq, if◌then◌else◌, bit_and, bit_or, min, max, inl, inr, refl, sym, ap, ◌∙◌, arith}
+use Rattle.std.proofs.Common.{◌≡◌, ℕ, zero, suc, ◌-◌, ◌^◌, ◌<◌, ◌≤◌, ◌&&◌, Bool, true, false, not, nat_eq, if◌then◌else◌, bit_and, min, inl, inr, refl, ap, ◌∙◌, arith}
 use Rattle.std.specs.Int.{bit_at, bit_not, w128}
 use Rattle.std.proofs.lemmas.Bool.{cases_lt, false≢true}
 use Rattle.std.proofs.lemmas.Bool.Decides.{nat_tests}
-use Rattle.std.proofs.lemmas.Nat.{or_lt, pow_pos}
-use Rattle.std.proofs.lemmas.Nat.Bits.{bit_at-lt, bit_at_and, bit_at_or, bit_at_not}
-use Rattle.requirement_table.specs.Slots.{contains_slot, set_of, slots, sum_where}
-use Rattle.requirement_table.proofs.Shared.{set_of-contains_slot, set_of-from_slots}
+use Rattle.std.proofs.lemmas.Nat.{pow_pos}
+use Rattle.std.proofs.lemmas.Nat.Bits.{bit_at-lt, bit_at_and, bit_at_not}
+use Rattle.requirement_table.specs.Slots.{contains_slot, set_of, most_slots, sum_where}
+use Rattle.requirement_table.proofs.Shared.{set_of-contains_slot}
 
 both-bits : (a b : ℕ) → a < 2 → b < 2 → nat_eq (min a b) 1 ≡ (nat_eq a 1 && nat_eq b 1)
 both-bits a b small few = grind (arith, nat_tests)
@@ -20,22 +20,6 @@ contains_slot-common result one other a b slot is a_is b_is =
     ∙ both-bits (bit_at a slot) (bit_at b slot) (bit_at-lt a slot) (bit_at-lt b slot)
     ∙ ap (λ mask. contains_slot mask slot && contains_slot b slot) a_is
     ∙ ap (λ mask. contains_slot one slot && contains_slot mask slot) b_is
-
-either-bits : (a b : ℕ) → a < 2 → b < 2 → nat_eq (max a b) 1 ≡ (nat_eq a 1 || nat_eq b 1)
-either-bits a b small few = grind (arith, nat_tests)
-
-contains_slot-either : (a b slot : ℕ) → contains_slot (bit_or a b) slot ≡ (contains_slot a slot || contains_slot b slot)
-contains_slot-either a b slot =
-    ap (λ bit. nat_eq bit 1) (bit_at_or a b slot) ∙ either-bits (bit_at a slot) (bit_at b slot) (bit_at-lt a slot) (bit_at-lt b slot)
-
-pub set_of-either : (result one other a b : ℕ) → result ≡ bit_or a b → a ≡ one → b ≡ other → a < 2 ^ slots → b < 2 ^ slots
-    → result ≡ set_of slots (λ slot. contains_slot one slot || contains_slot other slot)
-set_of-either result one other a b is a_is b_is low small =
-    is ∙ set_of-from_slots slots (bit_or a b) (λ slot. contains_slot one slot || contains_slot other slot) (or_lt slots a b low small)
-    (λ slot within.
-    contains_slot-either a b slot
-    ∙ ap (λ mask. contains_slot mask slot || contains_slot b slot) a_is
-    ∙ ap (λ mask. contains_slot one slot || contains_slot mask slot) b_is)
 
 alone-bits : (a b : ℕ) → a < 2 → b < 2 → nat_eq (min a (1 - b)) 1 ≡ (nat_eq a 1 && not (nat_eq b 1))
 alone-bits a b small few = grind (arith, nat_tests)
@@ -78,12 +62,12 @@ sum_where-less (suc n) p q f k within more has lacks some = elim (cases_lt k n) 
 ]
 
 -- a set without one of its slots is a lesser number
-pub without-less : (left rest k : ℕ) → k < slots → left < 2 ^ slots → rest < 2 ^ slots → contains_slot left k ≡ true
+pub without-less : (left rest k : ℕ) → k < most_slots → left < 2 ^ most_slots → rest < 2 ^ most_slots → contains_slot left k ≡ true
     → ((s : ℕ) → contains_slot rest s ≡ (not (nat_eq s k) && contains_slot left s)) → rest < left
 unfolding set_of
 without-less left rest k within low small has without =
-    let whole = set_of-contains_slot slots left low in
-    let part = set_of-contains_slot slots rest small in
-    let less = sum_where-less slots (contains_slot left) (contains_slot rest) (λ slot. 2 ^ slot) k within
+    let whole = set_of-contains_slot most_slots left low in
+    let part = set_of-contains_slot most_slots rest small in
+    let less = sum_where-less most_slots (contains_slot left) (contains_slot rest) (λ slot. 2 ^ slot) k within
     (λ s _ in_rest. let is = without s in grind (arith, nat_tests)) has (let is = without k in grind (arith, nat_tests)) (pow_pos k) in
     rw (whole, part) less

@@ -4,7 +4,7 @@ use Rattle.std.specs.Prelude.{◌≡◌, ℕ, ◌/◌, ◌<◌, ◌≤◌, ◌==
 use Rattle.std.specs.Option.{option_map_or}
 use Rattle.std.specs.List.{list_any}
 use Rattle.requirement_table.specs.declared.entries.Placed.{Placed}
-use Rattle.requirement_table.specs.Slots.{contains_slot, slots}
+use Rattle.requirement_table.specs.Slots.{contains_slot, most_slots}
 use Rattle.requirement_table.specs.Table.{instance_in, IsWellPlaced}
 use Rattle.node_model.specs.Node.{IsNode, NodeState, Opened, is_due, node_offer}
 use Rattle.node_model.specs.declared.cycle.Open.{Open}
@@ -23,7 +23,7 @@ AreSlotsOf entries own = (slot : ℕ) → contains_slot own slot ≡ list_any (�
 -- the open cycle's `due` are the slots that the node is to send in it
 abbrev pub KnowsDue : List Placed → Open → Type 0
 KnowsDue entries open_cycle =
-    (slot : ℕ) → slot < slots → contains_slot open_cycle.due slot ≡ is_due entries (opened_of open_cycle) slot
+    (slot : ℕ) → slot < most_slots → contains_slot open_cycle.due slot ≡ is_due entries (opened_of open_cycle) slot
 
 -- the cycle from which on a node may have to send: the open one, or the next one where none is open
 abbrev pub sends_from : Option Opened → ℕ → ℕ

@@ -1,5 +1,5 @@
 -- One node: what it knows, what it does with a frame that it hears, and what it offers. Times are bit times.
-use Rattle.std.specs.Prelude.{ℕ, zero, suc, ◌+◌, ◌-◌, ◌/◌, ◌%◌, ◌^◌, ◌<◌, ◌≤◌, ◌==◌, ◌&&◌, ◌||◌, not}
+use Rattle.std.specs.Prelude.{◌≡◌, ◌≢◌, ℕ, zero, suc, ◌+◌, ◌-◌, ◌/◌, ◌%◌, ◌^◌, ◌<◌, ◌≤◌, ◌==◌, ◌&&◌, ◌||◌, not}
 use Rattle.std.specs.Prelude.{Bool, nat_le, nat_eq, if◌then◌else◌, List, [], map, filter, min, Option}
 use Rattle.std.specs.Prelude.{Some, None, IfSome, IsSome, is_some, option_map, slice_get}
 use Rattle.std.specs.Option.{option_map_or}
@@ -8,11 +8,12 @@ use Rattle.can_frame.specs.DataFrame.{DataFrame}
 use Rattle.can_frame.specs.declared.data_frame.TimedFrame.{TimedFrame}
 use Rattle.cycle_layout.specs.Layout.{CycleLayout, IsLayout, sync_start}
 use Rattle.requirement_table.specs.declared.entries.Placed.{Placed}
-use Rattle.requirement_table.specs.Slots.{contains_slot, set_of, slots}
+use Rattle.requirement_table.specs.Slots.{contains_slot, set_of, most_slots}
 use Rattle.requirement_table.specs.Instance.{bytes_of}
 use Rattle.requirement_table.specs.Table.{instance_in, IsWellPlaced}
 use Rattle.trigger_codec.specs.declared.message.Trigger.{Trigger}
-use Rattle.trigger_codec.specs.Bytes.{trigger_of}
+use Rattle.trigger_codec.specs.declared.message.Second.{Second}
+use Rattle.trigger_codec.specs.Bytes.{flags_of_both, second_of, trigger_of}
 use Rattle.async_window.specs.declared.request.Owner.{Owner}
 use Rattle.async_window.specs.declared.request.Request.{Request}
 use Rattle.async_window.specs.Mailbox.{IsLeastWith, IsMail, Mail, mail_after, mail_offer, unsent_of, without_first}
@@ -27,7 +28,8 @@ pub record Opened : Type 0 where
   pub heard : ℕ
 
 -- what a node knows: its number, the layout, the placed entries that it learnt, its unsent requests, the cycle that is
--- open for it, the next cycle, and the number of frames that it heard
+-- open for it, the next cycle, the number of frames that it heard, and the first trigger frame of the next cycle, where
+-- it heard that one and awaits the second
 pub record NodeState : Type 0 where
   pub number : ℕ
   pub layout : CycleLayout
@@ -36,11 +38,19 @@ pub record NodeState : Type 0 where
   pub opened : Option Opened
   pub next : ℕ
   pub frames : ℕ
+  pub noted : Option Trigger
 
 -- a node: what it knows, and the greatest length of a list that it can learn without memory
 pub record NodeView : Type 0 where
   pub state : NodeState
   pub spare : ℕ
+
+-- a first trigger frame that a node may await the second one of: there are two, its window is at most the largest one,
+-- and its byte 0 is the next cycle modulo 256
+pub record IsAwaiting (layout : CycleLayout) (next : ℕ) (trigger : Trigger) : Type 0 where
+  pub two : layout.slots ≢ 40
+  pub fits : trigger.l ≤ layout.window
+  pub same : trigger.low ≡ next % 256
 
 -- what holds of every node
 pub record IsNode (node : NodeState) : Type 0 where
@@ -50,6 +60,7 @@ pub record IsNode (node : NodeState) : Type 0 where
   pub opened : IfSome node.opened (λ o. (o.width ≤ node.layout.window) × (o.cycle < node.next))
   pub next : node.next ≤ 2 ^ 42
   pub frames : node.frames < 2 ^ 64
+  pub noted : IfSome node.noted (IsAwaiting node.layout node.next)
 
 -- the placed entries of a node
 abbrev pub entries_of : ℕ → List Placed → List Placed
@@ -69,6 +80,7 @@ fresh_node layout owners requests number = record {
   opened = None;
   next = 0;
   frames = 0;
+  noted = None;
 }
 
 -- a node that has learnt a list: it knows the entries of its own
@@ -77,8 +89,8 @@ learnt placed node = record node { entries = entries_of node.number placed }
 
 -- What a node does with a frame
 
--- the trigger that opens the next cycle, where the frame is one: its window is at most the largest one, and its byte 0
--- is that cycle modulo 256
+-- what a first trigger frame of the next cycle says, where the frame is one: its window is at most the largest one, and
+-- its byte 0 is that cycle modulo 256
 abbrev pub next_trigger : NodeState → DataFrame → Option Trigger
 next_trigger node frame =
     trigger_where (λ trigger. nat_le trigger.l node.layout.window && (trigger.low == node.next % 256))
@@ -88,17 +100,39 @@ next_trigger node frame =
     trigger_where fits None = None
     trigger_where fits (Some trigger) = if fits trigger then Some trigger else None
 
--- the next cycle as such a trigger opens it; any other frame with identifier 0 opens it with nothing synchronous
+-- what two trigger frames say together, where the first one was noted and the second one is of the same cycle: the
+-- window of the first one, and the flags of both
+abbrev pub joined : Option Trigger → Option Second → Option Trigger
+joined None second = None
+joined (Some first) None = None
+joined (Some first) (Some second) =
+    if second.low == first.low then Some (record first { mask = flags_of_both first.mask second.mask }) else None
+
+-- the identifier of the frame that opens a cycle of a table with so many slots: that of the last of its trigger frames
+abbrev pub opening_identifier : ℕ → ℕ
+opening_identifier slots = if nat_eq slots 40 then 0 else 1
+
+-- what the trigger frames of the next cycle say, where the frame is the last of them
+abbrev pub opening_trigger : NodeState → DataFrame → Option Trigger
+opening_trigger node frame =
+    if nat_eq node.layout.slots 40 then next_trigger node frame else joined node.noted (second_of frame)
+
+-- the next cycle as such a trigger opens it; without one it is opened with nothing synchronous
 abbrev pub opened_by : ℕ → Option Trigger → Opened
 opened_by cycle None = record { cycle = cycle; width = 0; mask = 0; heard = 0 }
 opened_by cycle (Some trigger) = record { cycle = cycle; width = trigger.l; mask = trigger.mask; heard = 0 }
 
--- a node for which a frame with identifier 0 opens the next cycle
+-- a node for which a frame opens the next cycle
 abbrev pub after_opening : NodeState → DataFrame → NodeState
 after_opening node frame = record node {
-  opened = Some (opened_by node.next (next_trigger node frame));
+  opened = Some (opened_by node.next (opening_trigger node frame));
   next = node.next + 1;
+  noted = None;
 }
+
+-- a node that notes the first of two trigger frames where it is of the next cycle, and else awaits no second one
+abbrev pub after_noting : NodeState → DataFrame → NodeState
+after_noting node frame = record node { noted = next_trigger node frame }
 
 -- whether the identifier is that of a slot in which the node has an entry
 abbrev pub is_own_slot : List Placed → ℕ → Bool
@@ -106,7 +140,7 @@ is_own_slot entries id = list_any (λ p. first_identifier + p.entry.slot == id) 
 
 -- an open cycle in which one more slot was heard
 abbrev pub with_heard : ℕ → Opened → Opened
-with_heard slot opened = record opened { heard = set_of slots (λ s. (s == slot) || contains_slot opened.heard s) }
+with_heard slot opened = record opened { heard = set_of most_slots (λ s. (s == slot) || contains_slot opened.heard s) }
 
 -- a node that marks a slot in the open cycle, where one is open
 abbrev pub after_slot : NodeState → ℕ → NodeState
@@ -120,9 +154,10 @@ after_request node id = record node { mail = without_first id node.mail }
 -- request
 abbrev pub after_frame : NodeState → DataFrame → NodeState
 after_frame node frame =
-    if frame.identifier == 0 then after_opening node frame
+    if frame.identifier == opening_identifier node.layout.slots then after_opening node frame
+    else (if frame.identifier == 0 then after_noting node frame
     else (if is_own_slot node.entries frame.identifier then after_slot node (frame.identifier - first_identifier)
-    else after_request node frame.identifier)
+    else after_request node frame.identifier))
 
 -- a count that stands still at the end of its type
 abbrev pub counted : ℕ → ℕ
@@ -152,7 +187,7 @@ abbrev pub offer_in : NodeState → ℕ → Opened → Option ℕ
 offer_in node at opened =
     if nat_eq (at / node.layout.cycle) opened.cycle
     then (if nat_le (sync_start node.layout opened.cycle opened.width) at
-    then option_map (λ slot. first_identifier + slot) (least_where slots (is_due node.entries opened))
+    then option_map (λ slot. first_identifier + slot) (least_where most_slots (is_due node.entries opened))
     else mail_offer node.layout opened.width node.mail at)
     else None
 

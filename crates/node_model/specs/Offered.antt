@@ -1,20 +1,33 @@
--- What is offered on the bus in an opened cycle: its trigger, requests in its asynchronous window, and the frames of
+-- What is offered on the bus in an opened cycle: its trigger frames, requests in its asynchronous window, and the frames of
 -- its flagged slots in its synchronous window. `past` are the frames that started before, on the whole bus.
-use Rattle.std.specs.Prelude.{◌≡◌, ℕ, ◌+◌, ◌<◌, ◌≤◌, true, List, All, Some}
+use Rattle.std.specs.Prelude.{◌≡◌, ℕ, ◌+◌, ◌<◌, ◌≤◌, true, List, All, Contains, Some}
 use Rattle.can_frame.specs.DataFrame.{DataFrame}
 use Rattle.can_frame.specs.declared.data_frame.TimedFrame.{TimedFrame}
-use Rattle.cycle_layout.specs.Layout.{CycleLayout}
-use Rattle.requirement_table.specs.Slots.{contains_slot, slots}
-use Rattle.trigger_codec.specs.Bytes.{trigger_frame}
+use Rattle.cycle_layout.specs.Layout.{CycleLayout, trigger_part}
+use Rattle.requirement_table.specs.Slots.{contains_slot, most_slots}
+use Rattle.trigger_codec.specs.Bytes.{triggers_with}
 use Rattle.async_window.specs.declared.request.Request.{Request}
 use Rattle.async_window.specs.Waiting.{unsent_after, MayStart}
 use Rattle.requirement_table.specs.Opening.{Opening, bytes_in, width_of}
 use Rattle.node_model.specs.Opening.{first_identifier, start_of, end_of_cycle, window_start}
 
--- the trigger is offered at the cycle's start
-pub record OffersTrigger (layout : CycleLayout) (opening : Opening) (at : ℕ) (frame : DataFrame) : Type 0 where
-  pub time : at ≡ start_of layout opening
-  pub trigger : frame ≡ trigger_frame opening.cycle (width_of opening) opening.mask
+-- no frame of the identifier started in the cycle, among the frames before
+abbrev pub HasNotStarted : CycleLayout → Opening → ℕ → List TimedFrame → Type 0
+HasNotStarted layout opening id past =
+    All (λ sent. sent.frame.identifier ≡ id → sent.start < start_of layout opening) past
+
+-- the trigger frames of the cycle, in the order in which they are sent
+abbrev pub trigger_frames : CycleLayout → Opening → List DataFrame
+trigger_frames layout opening = triggers_with layout.slots opening.cycle (width_of opening) opening.mask
+
+-- from the cycle's start on, within the trigger part, each of its trigger frames is offered that has not started in the
+-- cycle
+pub record OffersTrigger (layout : CycleLayout) (opening : Opening) (past : List TimedFrame) (at : ℕ)
+    (frame : DataFrame) : Type 0 where
+  pub begun : start_of layout opening ≤ at
+  pub within : at < start_of layout opening + trigger_part layout
+  pub among : Contains (trigger_frames layout opening) frame
+  pub unsent : HasNotStarted layout opening frame.identifier past
 
 -- in the asynchronous window the first unsent request of an identifier is offered that has arrived, where its longest
 -- frame ends before the synchronous window
@@ -27,17 +40,17 @@ pub record OffersRequest (layout : CycleLayout) (requests : List Request) (openi
 
 -- no frame of the slot started in the cycle, among the frames before
 abbrev pub IsUnsent : CycleLayout → Opening → ℕ → List TimedFrame → Type 0
-IsUnsent layout opening slot past =
-    All (λ sent. sent.frame.identifier ≡ first_identifier + slot → sent.start < start_of layout opening) past
+IsUnsent layout opening slot past = HasNotStarted layout opening (first_identifier + slot) past
 
--- in the cycle, from the synchronous window's start on, each flagged slot is offered that has not been sent in the
+-- in the cycle, from the synchronous window's start on, which lies behind the trigger part where the window is at most
+-- the largest one, each flagged slot is offered that has not been sent in the
 -- cycle: with its identifier, and the bytes of the instance that may be sent in the cycle
 pub record OffersSlot (layout : CycleLayout) (opening : Opening) (past : List TimedFrame)
     (at : ℕ) (frame : DataFrame) (slot : ℕ) : Type 0 where
   pub begun : start_of layout opening ≤ at
   pub late_enough : window_start layout opening ≤ at
   pub within : at < end_of_cycle layout opening
-  pub known : slot < slots
+  pub known : slot < most_slots
   pub flagged : contains_slot opening.mask slot ≡ true
   pub unsent : IsUnsent layout opening slot past
   pub identifier : frame.identifier ≡ first_identifier + slot

@@ -7,7 +7,7 @@ use Rattle.can_frame.specs.DataFrame.{DataFrame}
 use Rattle.can_frame.specs.declared.data_frame.TimedFrame.{TimedFrame}
 use Rattle.cycle_layout.specs.Layout.{CycleLayout}
 use Rattle.requirement_table.specs.declared.entries.Placed.{Placed}
-use Rattle.requirement_table.specs.Slots.{contains_slot, slots}
+use Rattle.requirement_table.specs.Slots.{contains_slot, most_slots}
 use Rattle.requirement_table.specs.Instance.{Instance}
 use Rattle.requirement_table.specs.Table.{instance_in}
 use Rattle.async_window.specs.declared.request.Owner.{Owner}
@@ -50,14 +50,14 @@ was_sent layout opening past slot =
     list_any (λ sent. (sent.frame.identifier == first_identifier + slot)
     && nat_le (start_of layout opening) sent.start) past
 
--- the cycle is open for the node, as its trigger said, and the node's slots that were sent in it are marked
+-- the cycle is open for the node, as its trigger frames said, and the node's slots that were sent in it are marked
 pub record IsOpenFor (layout : CycleLayout) (opening : Opening) (past : List TimedFrame)
     (node : NodeState) (opened : Opened) : Type 0 where
   pub is_open : node.opened ≡ Some opened
   pub cycle : opened.cycle ≡ opening.cycle
   pub width : opened.width ≡ width_of opening
   pub mask : opened.mask ≡ opening.mask
-  pub heard : (slot : ℕ) → slot < slots → list_any (λ p. p.entry.slot == slot) node.entries ≡ true
+  pub heard : (slot : ℕ) → slot < most_slots → list_any (λ p. p.entry.slot == slot) node.entries ≡ true
       → contains_slot opened.heard slot ≡ was_sent layout opening past slot
 
 -- a node within an opened cycle, after the frames `past`

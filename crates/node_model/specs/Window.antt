@@ -1,12 +1,12 @@
 -- The synchronous window of the cycle that is open for a node: which slots the node is to send in it, and their frames.
 use Rattle.std.specs.Prelude.{◌≡◌, ℕ, ◌+◌, ◌*◌, ◌<◌, ◌≤◌, ◌==◌, ◌||◌}
 use Rattle.std.specs.Prelude.{Bool, false, List, [], All, Option, None, Some, if◌then◌else◌}
-use Rattle.std.specs.Option.{option_map, option_map_or}
+use Rattle.std.specs.Option.{option_map_or}
 use Rattle.std.specs.List.{list_any}
 use Rattle.can_frame.specs.DataFrame.{DataFrame}
 use Rattle.can_frame.specs.declared.data_frame.TimedFrame.{TimedFrame}
 use Rattle.cycle_layout.specs.Layout.{sync_start}
-use Rattle.requirement_table.specs.Slots.{contains_slot, set_of, slots}
+use Rattle.requirement_table.specs.Slots.{contains_slot, set_of, most_slots}
 use Rattle.requirement_table.specs.Instance.{bytes_of}
 use Rattle.requirement_table.specs.Table.{instance_in}
 use Rattle.node_model.specs.Opening.{first_identifier}
@@ -32,7 +32,7 @@ frame_due node slot = if is_due_slot node slot then Some (due_frame node slot) e
 -- an open cycle in which more slots were heard
 abbrev pub with_all_heard : ℕ → Opened → Opened
 with_all_heard heard opened = record opened {
-  heard = set_of slots
+  heard = set_of most_slots
       (λ slot. contains_slot opened.heard slot || contains_slot heard slot);
 }
 
@@ -46,6 +46,6 @@ pub record IsInWindow (from until : ℕ) (node : NodeState) : Type 0 where
 -- all of these frames are frames of slots, and these are their slots
 pub record AreOfSlots (sent : ℕ) (frames : List TimedFrame) : Type 0 where
   pub all : All
-      (λ one. (first_identifier ≤ one.frame.identifier) × (one.frame.identifier < first_identifier + slots)) frames
+      (λ one. (first_identifier ≤ one.frame.identifier) × (one.frame.identifier < first_identifier + most_slots)) frames
   pub each : (slot : ℕ)
       → contains_slot sent slot ≡ list_any (λ one. one.frame.identifier == first_identifier + slot) frames

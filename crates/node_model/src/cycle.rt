@@ -4,7 +4,7 @@ ghost use Rattle.std.specs.Prelude.{◌≡◌, ℕ, ◌+◌, ◌-◌, ◌*◌, �
 ghost use Rattle.std.specs.Prelude.{nat_lt, max, if◌then◌else◌, is_some, false, true, List};
 ghost use Rattle.std.specs.Prelude.{Some, None, IfSome, MatchOption, option_map};
 ghost use Rattle.requirement_table.specs.declared.entries.Placed.{Placed};
-ghost use Rattle.requirement_table.specs.Slots.{contains_slot, slots};
+ghost use Rattle.requirement_table.specs.Slots.{contains_slot, most_slots};
 ghost use Rattle.requirement_table.specs.Table.{IsWellPlaced};
 ghost use Rattle.node_model.specs.Opening.{first_identifier};
 ghost use Rattle.node_model.specs.Node.{least_where, opened_by, with_heard};
@@ -12,7 +12,7 @@ ghost use Rattle.node_model.specs.Kept.{KnowsDue, opened_of, sends_from};
 
 use crate::entries::sendable_slots;
 use async_window::Offer;
-use requirement_table::{Mask, Placed, SLOTS};
+use requirement_table::{MOST_SLOTS, Mask, Placed};
 use trigger_codec::Trigger;
 
 /// The identifier of slot 0. That of slot s is s more.
@@ -100,7 +100,7 @@ pub fn after_learning(
 
 /// The open cycle, where there is one, of a node that heard a frame of its slot.
 pub fn after_slot(before: &Option<Open>, slot: u8) -> Option<Open>
-    requires slot { slot < slots }
+    requires slot { slot < most_slots }
     ensures opened { option_map opened_of result ≡ option_map (with_heard slot) (option_map opened_of before.now) }
     ensures due { (entries : List Placed) → IfSome before.now (KnowsDue entries) → IfSome result (KnowsDue entries) }
 {
@@ -117,7 +117,7 @@ pub fn after_slot(before: &Option<Open>, slot: u8) -> Option<Open>
 /// The identifier of the least slot that is to be sent in a cycle.
 pub fn least_due(open_cycle: &Open) -> Option<u16>
     ensures least { result
-        ≡ option_map (λ slot. first_identifier + slot) (least_where slots (contains_slot open_cycle.now.due)) }
+        ≡ option_map (λ slot. first_identifier + slot) (least_where most_slots (contains_slot open_cycle.now.due)) }
 {
     Some(FIRST_IDENTIFIER + u16::from(least_slot(open_cycle.due)?))
 }
@@ -125,7 +125,7 @@ pub fn least_due(open_cycle: &Open) -> Option<u16>
 /// The same, together with how long it is offered: to the end of the cycle.
 pub fn offer_due(open_cycle: &Open, end: u64) -> Option<Offer>
     ensures least { option_map (λ offer. offer.id) result
-        ≡ option_map (λ slot. first_identifier + slot) (least_where slots (contains_slot open_cycle.now.due)) }
+        ≡ option_map (λ slot. first_identifier + slot) (least_where most_slots (contains_slot open_cycle.now.due)) }
     ensures until { IfSome result (λ offer. offer.until ≡ end - 1) }
 {
     match least_due(open_cycle) {
@@ -142,7 +142,7 @@ pub fn offer_due(open_cycle: &Open, end: u64) -> Option<Offer>
 pub fn next_due(open_cycle: &Open, at: u64, window: u64, end: u64) -> Option<u64>
     requires time { at < 2 ^ 60 }
     ensures next { result
-        ≡ (if is_some (least_where slots (contains_slot open_cycle.now.due)) && nat_lt (max (at + 1) window) end
+        ≡ (if is_some (least_where most_slots (contains_slot open_cycle.now.due)) && nat_lt (max (at + 1) window) end
         then Some (max (at + 1) window) else None) }
 {
     least_slot(open_cycle.due)?;
@@ -152,7 +152,7 @@ pub fn next_due(open_cycle: &Open, at: u64, window: u64, end: u64) -> Option<u64
 
 /// The flagged slots that can be sent and were not heard.
 fn unheard(flags: Mask, sendable: Mask, heard: Mask) -> Mask
-    ensures slots { (slot : ℕ) → slot < slots → contains_slot result slot
+    ensures slots { (slot : ℕ) → slot < most_slots → contains_slot result slot
         ≡ (contains_slot flags slot && (contains_slot sendable slot && not (contains_slot heard slot))) }
 {
     Mask::from_bits(flags.bits() & sendable.bits() & !heard.bits())
@@ -162,10 +162,10 @@ fn unheard(flags: Mask, sendable: Mask, heard: Mask) -> Mask
 pub fn slot_among(among: Mask, id: u16) -> Option<u8>
     ensures slot { MatchOption result
         ((slot : ℕ) → first_identifier + slot ≡ id → contains_slot among slot ≡ false)
-        (λ slot. (first_identifier + slot ≡ id) × (slot < slots) × (contains_slot among slot ≡ true)) }
+        (λ slot. (first_identifier + slot ≡ id) × (slot < most_slots) × (contains_slot among slot ≡ true)) }
 {
     among.known();
-    if id < FIRST_IDENTIFIER || FIRST_IDENTIFIER + u16::from(SLOTS) <= id {
+    if id < FIRST_IDENTIFIER || FIRST_IDENTIFIER + u16::from(MOST_SLOTS) <= id {
         return None;
     }
     let slot = (id - FIRST_IDENTIFIER) as u8;
@@ -174,7 +174,7 @@ pub fn slot_among(among: Mask, id: u16) -> Option<u8>
 
 /// The least slot of a set.
 pub fn least_slot(among: Mask) -> Option<u8>
-    ensures least { result ≡ least_where slots (contains_slot among) }
+    ensures least { result ≡ least_where most_slots (contains_slot among) }
 {
     let bits = among.bits();
     (bits != 0).then_some(bits.trailing_zeros() as u8)

@@ -2,7 +2,7 @@
 
 ghost use Rattle.std.specs.Prelude.{◌≡◌, ℕ, ◌^◌, ◌<◌, ◌&&◌, ◌||◌, not, Some, IfSome, List, fold, option_map, true};
 ghost use Rattle.requirement_table.specs.declared.entries.Placed.{Placed};
-ghost use Rattle.requirement_table.specs.Slots.{contains_slot, set_of, slots};
+ghost use Rattle.requirement_table.specs.Slots.{contains_slot, set_of, most_slots};
 ghost use Rattle.node_model.specs.Node.{after_hearing};
 ghost use Rattle.node_model.specs.Kept.{KnowsDue, opened_of};
 ghost use Rattle.node_model.specs.Window.{AreOfSlots, due_frame, is_due_slot, with_all_heard};
@@ -15,7 +15,7 @@ use requirement_table::Mask;
 impl Node {
     /// The frame of a slot that the node is to send in the open cycle.
     pub(crate) fn due_frame(&self, open_cycle: &Open, slot: u8) -> Frame
-        requires slot { slot < slots }
+        requires slot { slot < most_slots }
         requires open_cycle { self.now.state.opened ≡ Some (opened_of open_cycle.now) }
         requires due { is_due_slot self.now.state slot ≡ true }
         ensures frame { result ≡ due_frame self.now.state slot }
@@ -47,7 +47,7 @@ impl Node {
 fn after_slots(before: &Option<Open>, heard: Mask) -> Option<Open>
     ensures opened { option_map opened_of result ≡ option_map (with_all_heard heard) (option_map opened_of before.now) }
     ensures due { (entries : List Placed) → IfSome before.now (KnowsDue entries) → IfSome result (KnowsDue entries) }
-    ensures known { IfSome before.now (λ open_cycle. open_cycle.heard < 2 ^ slots) }
+    ensures known { IfSome before.now (λ open_cycle. open_cycle.heard < 2 ^ most_slots) }
 {
     let before = before.as_ref()?;
     before.heard.known();
@@ -68,14 +68,14 @@ fn common(one: Mask, other: Mask) -> Mask
 
 /// The slots of two sets together.
 pub(crate) fn both(one: Mask, other: Mask) -> Mask
-    ensures slots { result ≡ set_of slots (λ slot. contains_slot one slot || contains_slot other slot) }
+    ensures slots { result ≡ set_of most_slots (λ slot. contains_slot one slot || contains_slot other slot) }
 {
     Mask::from_bits(one.bits() | other.bits())
 }
 
 /// The slots of a set that do not stand in another one.
 fn without_all(one: Mask, other: Mask) -> Mask
-    ensures slots { (slot : ℕ) → slot < slots
+    ensures slots { (slot : ℕ) → slot < most_slots
         → contains_slot result slot ≡ (contains_slot one slot && not (contains_slot other slot)) }
 {
     Mask::from_bits(one.bits() & !other.bits())

@@ -9,7 +9,9 @@ ghost use Rattle.node_model.specs.Node.{entries_of, identifiers_of};
 ghost use Rattle.node_model.specs.Kept.{AreSlotsOf, HaveInstances};
 
 use async_window::Owner;
-use requirement_table::{Mask, Payload, Placed, SLOTS, current, drop_over, first_over, is_over};
+use requirement_table::{
+    MOST_SLOTS, Mask, Payload, Placed, current, drop_over, first_over, is_over,
+};
 use std::alloc::{AllocError, Global};
 
 /// The identifiers that `owners` gives to a node.
@@ -50,9 +52,9 @@ pub struct Remaining {
     /// A cycle before which none of them is over.
     pub until: u64,
     /// For each slot the place of its first entry among them. A slot's instance is looked for there first.
-    pub first: [Option<usize>; SLOTS as usize],
+    pub first: [Option<usize>; MOST_SLOTS as usize],
     /// For each slot the number of its instance in the cycle that was looked at last: a guess, which is tested.
-    pub numbers: [u64; SLOTS as usize],
+    pub numbers: [u64; MOST_SLOTS as usize],
 }
 
 impl Remaining {
@@ -63,8 +65,8 @@ impl Remaining {
         Remaining {
             entries: Vec::new(alloc),
             until: u64::MAX,
-            first: [None; SLOTS as usize],
-            numbers: [0; SLOTS as usize],
+            first: [None; MOST_SLOTS as usize],
+            numbers: [0; MOST_SLOTS as usize],
         }
     }
 
@@ -78,7 +80,7 @@ impl Remaining {
     {
         keep_not_over(entries, cycle, &mut self.entries);
         self.until = first_over(self.entries.as_slice());
-        self.first = first_places(self.entries.as_slice());
+        note_first_places(self.entries.as_slice(), &mut self.first);
     }
 
     /// Drops those that are over by a cycle, in place, where one of them is.
@@ -91,7 +93,7 @@ impl Remaining {
         if self.until <= cycle {
             drop_over(&mut self.entries, cycle);
             self.until = first_over(self.entries.as_slice());
-            self.first = first_places(self.entries.as_slice());
+            note_first_places(self.entries.as_slice(), &mut self.first);
         }
     }
 
@@ -179,16 +181,13 @@ fn exists(p: &Placed, release: u64) -> bool
     }
 }
 
-/// For each slot the place of its first entry.
-fn first_places(entries: &[Placed]) -> [Option<usize>; SLOTS as usize]
-    requires well_placed { IsWellPlaced entries.now }
-{
-    let mut first = [None; SLOTS as usize];
-    for (place, p) in entries.iter().enumerate() {
-        let slot = usize::from(p.entry.slot);
-        first[slot] = first[slot].or(Some(place));
+/// Notes for each slot of these entries the place of its first one. What is noted for other slots stays.
+fn note_first_places(entries: &[Placed], first: &mut [Option<usize>]) {
+    for (place, p) in entries.iter().enumerate().rev() {
+        if let Some(noted) = first.get_mut(usize::from(p.entry.slot)) {
+            *noted = Some(place);
+        }
     }
-    first
 }
 
 /// Replaces a list by those of some entries that are not over by a cycle, without memory.

@@ -2,20 +2,21 @@
 //! the law.
 
 ghost use Rattle.std.specs.Prelude.{◌≡◌, ◌≢◌, ℕ, ◌+◌, ◌/◌, ◌^◌, ◌<◌, ◌≤◌, ◌==◌, ◌&&◌, ◌⊎◌};
-ghost use Rattle.std.specs.Prelude.{not, List, [], ◌∷◌, ◌++◌, All, MatchOption, Some, false, true};
+ghost use Rattle.std.specs.Prelude.{not, List, [], ◌∷◌, ◌++◌, fold, map, All, MatchOption, None, Some, false, true};
 ghost use Rattle.can_frame.specs.declared.data_frame.TimedFrame.{TimedFrame};
-ghost use Rattle.cycle_layout.specs.Layout.{CycleLayout};
+ghost use Rattle.cycle_layout.specs.Layout.{CycleLayout, IsLayout};
 ghost use Rattle.requirement_table.specs.declared.entries.Placed.{Placed};
-ghost use Rattle.requirement_table.specs.Slots.{slots};
+ghost use Rattle.requirement_table.specs.Slots.{most_slots};
 ghost use Rattle.requirement_table.specs.Table.{IsWellPlaced};
-ghost use Rattle.trigger_codec.specs.Bytes.{trigger_frame};
+ghost use Rattle.trigger_codec.specs.Bytes.{triggers_with};
 ghost use Rattle.async_window.specs.declared.request.Owner.{Owner};
 ghost use Rattle.async_window.specs.declared.request.Request.{Request};
 ghost use Rattle.requirement_table.specs.Opening.{Opening, width_of};
 ghost use Rattle.node_model.specs.Opening.{start_of};
 ghost use Rattle.node_model.specs.Opening.{first_identifier};
 ghost use Rattle.node_model.specs.Node.{IsNode, NodeState, after_hearing, after_request, learnt, node_frame};
-ghost use Rattle.node_model.specs.Node.{node_offer};
+ghost use Rattle.node_model.specs.Node.{node_offer, opening_identifier};
+ghost use Rattle.node_model.specs.Offered.{trigger_frames};
 ghost use Rattle.node_model.specs.Window.{IsInWindow, due_frame, is_due_slot};
 ghost use Rattle.async_window.specs.Owners.{AreOwners};
 ghost use Rattle.node_model.specs.Own.{AreApart, HasRequest, OffersLeastOwn, Stands, StandsIn, counting};
@@ -34,23 +35,30 @@ pub fn offers_its_part()
     offer_laws();
 }
 
-/// What a node knows as it hears the frames of a cycle: the trigger first, and then frames of other identifiers.
+/// What a node knows as it hears the frames of a cycle: the trigger frames first, and then frames of other identifiers.
+/// Between two trigger frames it offers nothing. With 40 slots a frame with identifier 1 is only counted.
 pub fn hears_a_cycle()
     ensures learnt { (layout : CycleLayout) (owners : List Owner) (requests : List Request) (placed other : List Placed)
         (past : List TimedFrame) (next : ℕ) (node : NodeState)
         → Stands layout owners requests other past next node
         → Stands layout owners requests placed past next (learnt placed node) }
     ensures trigger { (layout : CycleLayout) (owners : List Owner) (requests : List Request) (opening : Opening)
-        (past : List TimedFrame) (sent : TimedFrame) (node : NodeState)
-        → AreOwners owners → width_of opening ≤ layout.window → layout.window ≤ 16383 → opening.mask < 2 ^ slots
+        (past sent : List TimedFrame) (node : NodeState)
+        → AreOwners owners → IsLayout layout → width_of opening ≤ layout.window → opening.mask < 2 ^ layout.slots
         → All (λ earlier. earlier.start < start_of layout opening) past
-        → sent.frame ≡ trigger_frame opening.cycle (width_of opening) opening.mask
+        → map (λ one. one.frame) sent ≡ trigger_frames layout opening
         → Stands layout owners requests opening.placed past opening.cycle node
-        → StandsIn layout owners requests opening (past ++ sent ∷ []) (after_hearing node sent) }
+        → StandsIn layout owners requests opening (past ++ sent) (fold after_hearing node sent) }
+    ensures between { (node : NodeState) (sent : TimedFrame) (at : ℕ)
+        → IsNode node → sent.frame.identifier ≡ 0 → node.layout.slots ≢ 40 → node.next ≤ at / node.layout.cycle
+        → node_offer (after_hearing node sent) at ≡ None }
+    ensures only_counted { (node : NodeState) (sent : TimedFrame)
+        → IsNode node → node.layout.slots ≡ 40 → sent.frame.identifier ≡ 1
+        → after_hearing node sent ≡ counting node }
     ensures later { (layout : CycleLayout) (owners : List Owner) (requests : List Request) (opening : Opening)
         (past : List TimedFrame) (sent : TimedFrame) (node : NodeState)
         → AreOwners owners → IsWellPlaced opening.placed
-        → sent.frame.identifier ≢ 0 → start_of layout opening ≤ sent.start
+        → 1 < sent.frame.identifier → start_of layout opening ≤ sent.start
         → StandsIn layout owners requests opening past node
         → StandsIn layout owners requests opening (past ++ sent ∷ []) (after_hearing node sent) }
 {
@@ -93,35 +101,36 @@ pub fn stays_a_node()
     ensures learning { (placed : List Placed) (node : NodeState)
         → IsWellPlaced placed → IsNode node → IsNode (learnt placed node) }
     ensures hearing { (node : NodeState) (sent : TimedFrame)
-        → (sent.frame.identifier ≡ 0 → node.next < 2 ^ 42) → IsNode node
+        → (sent.frame.identifier ≡ opening_identifier node.layout.slots → node.next < 2 ^ 42) → IsNode node
         → IsNode (after_hearing node sent) }
 {
     taking_laws();
 }
 
 /// A node in the synchronous window of the cycle that is open for it: it offers the least slot that it is to send, and
-/// the frame of a slot takes that slot away and no other one. A trigger opens the cycle.
+/// the frame of a slot takes that slot away and no other one. The trigger frames open the cycle.
 pub fn sends_its_slots()
     ensures offers { (node : NodeState) (from until at : ℕ) → IsNode node
         → IsInWindow from until node → from ≤ at → at < until
-        → MatchOption (node_offer node at) ((slot : ℕ) → slot < slots → is_due_slot node slot ≡ false)
-        (λ id. (slot : ℕ) × (slot < slots) × (id ≡ first_identifier + slot) × (is_due_slot node slot ≡ true)
+        → MatchOption (node_offer node at) ((slot : ℕ) → slot < most_slots → is_due_slot node slot ≡ false)
+        (λ id. (slot : ℕ) × (slot < most_slots) × (id ≡ first_identifier + slot) × (is_due_slot node slot ≡ true)
         × ((other : ℕ) → other < slot → is_due_slot node other ≡ false)) }
     ensures frames { (node : NodeState) (from until at slot : ℕ)
         → IsNode node → IsInWindow from until node → from ≤ at → at < until
-        → slot < slots → node_frame node at (first_identifier + slot) ≡ due_frame node slot }
-    ensures stays { (node : NodeState) (from until : ℕ) (sent : TimedFrame) → sent.frame.identifier ≢ 0
+        → slot < most_slots → node_frame node at (first_identifier + slot) ≡ due_frame node slot }
+    ensures stays { (node : NodeState) (from until : ℕ) (sent : TimedFrame) → 1 < sent.frame.identifier
         → IsInWindow from until node → IsInWindow from until (after_hearing node sent) }
     ensures same_frames { (node : NodeState) (slot other : ℕ) (sent : TimedFrame) → IsNode node
-        → sent.frame.identifier ≡ first_identifier + slot → slot < slots
+        → sent.frame.identifier ≡ first_identifier + slot → slot < most_slots
         → due_frame (after_hearing node sent) other ≡ due_frame node other }
     ensures takes { (node : NodeState) (slot other : ℕ) (sent : TimedFrame) → IsNode node
-        → sent.frame.identifier ≡ first_identifier + slot → slot < slots → other < slots
+        → sent.frame.identifier ≡ first_identifier + slot → slot < most_slots → other < most_slots
         → is_due_slot (after_hearing node sent) other ≡ (not (other == slot) && is_due_slot node other) }
-    ensures opens { (node : NodeState) (l mask : ℕ) (sent : TimedFrame)
-        → l ≤ node.layout.window → node.layout.window ≤ 16383
-        → mask < 2 ^ slots → sent.frame ≡ trigger_frame node.next l mask
-        → (after_hearing node sent).opened ≡ Some (record { cycle = node.next; width = l; mask = mask; heard = 0 }) }
+    ensures opens { (node : NodeState) (l mask : ℕ) (sent : List TimedFrame)
+        → IsLayout node.layout → l ≤ node.layout.window → mask < 2 ^ node.layout.slots
+        → map (λ one. one.frame) sent ≡ triggers_with node.layout.slots node.next l mask
+        → (fold after_hearing node sent).opened
+        ≡ Some (record { cycle = node.next; width = l; mask = mask; heard = 0 }) }
 {}
 
 /// What a node offers is the identifier of a slot or an asynchronous one.

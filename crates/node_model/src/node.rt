@@ -1,17 +1,18 @@
 //! A node, which offers what follows from what it learnt and heard.
 
-ghost use Rattle.std.specs.Prelude.{◌≡◌, ◌≢◌, ◌↔◌, ℕ, ◌+◌, ◌*◌, ◌/◌, ◌^◌, ◌<◌, ◌≤◌, [], All, AllPairs, IfOk, IfSome};
+ghost use Rattle.std.specs.Prelude.{◌≡◌, ◌≢◌, ◌↔◌, ℕ, ◌+◌, ◌*◌, ◌/◌, ◌%◌, ◌^◌, ◌<◌, ◌≤◌, not, nat_eq, [], All, AllPairs, IfOk, IfSome};
 ghost use Rattle.std.specs.Prelude.{IsSome, MatchOption, OnErr, OnOk, Some, None, false, true, length, option_map};
 ghost use Rattle.can_frame.specs.DataFrame.{DataFrame};
-ghost use Rattle.trigger_codec.specs.Bytes.{trigger_of};
-ghost use Rattle.requirement_table.specs.Slots.{slots};
+ghost use Rattle.trigger_codec.specs.Bytes.{second_of, trigger_of};
+ghost use Rattle.requirement_table.specs.Slots.{most_slots};
 ghost use Rattle.requirement_table.specs.Instance.{bytes_of};
 ghost use Rattle.requirement_table.specs.Table.{IsWellPlaced, instance_in};
 ghost use Rattle.async_window.specs.Mailbox.{IsNextInCycle, left};
 ghost use Rattle.async_window.specs.Owners.{AreOwners};
 ghost use Rattle.node_model.specs.Opening.{first_identifier};
-ghost use Rattle.node_model.specs.Node.{IsNextOffer, IsNode, after_hearing, after_opening, after_request, after_slot};
-ghost use Rattle.node_model.specs.Node.{fresh_node, is_own_slot, learnt, next_trigger, node_frame, node_offer};
+ghost use Rattle.node_model.specs.Node.{IsNextOffer, IsNode, after_hearing, after_request, after_slot, fresh_node};
+ghost use Rattle.node_model.specs.Node.{is_own_slot, joined, learnt, next_trigger, node_frame, node_offer};
+ghost use Rattle.node_model.specs.Node.{opened_by, opening_identifier};
 ghost use Rattle.node_model.specs.Ahead.{IsAhead, Stays, next_time};
 ghost use Rattle.node_model.specs.Kept.{IsClosedAt, IsOpenAt, sends_from};
 ghost use Rattle.node_model.specs.Own.{HasRequest, counting};
@@ -25,10 +26,15 @@ use cycle_layout::Layout;
 use requirement_table::{Mask, Payload, Placed};
 use std::alloc::{AllocError, Global};
 use std::marker::Model;
-use trigger_codec::{TRIGGER_IDENTIFIER, Trigger, decode};
+use trigger_codec::{
+    SECOND_IDENTIFIER, Second, TRIGGER_IDENTIFIER, Trigger, decode, decode_second, flags_of_both,
+};
 
 /// All times are below this one, in bit times.
 const TIMES: u64 = 1 << 60;
+
+/// The number of slots of a table whose cycles have one trigger frame. With more slots they have two.
+const SLOTS_OF_ONE: u8 = 40;
 
 /// A node of the bus. Contracts see what it knows, and the greatest length of a list that it can learn without memory.
 #[derive(Drop)]
@@ -41,6 +47,8 @@ pub struct Node {
     pub(crate) ahead: Option<Ahead>,
     pub(crate) opened: Option<Open>,
     next: u64,
+    /// What the first trigger frame of the next cycle said, where the node heard it and awaits the second one.
+    noted: Option<Trigger>,
     layout: Layout,
     number: u8,
     /// The node's entries, as it learnt them. This vector and that of the remaining ones have room for a list that can
@@ -66,6 +74,7 @@ impl Model for Node {
         opened = option_map opened_of n.opened;
         next = n.next;
         frames = n.frames;
+        noted = n.noted;
       };
       spare = min (vec_capacity n.entries) (vec_capacity n.remaining.entries);
     } };
@@ -78,6 +87,7 @@ impl Model for Node {
       opened = option_map opened_of n.opened;
       next = n.next;
       frames = n.frames;
+      noted = n.noted;
     }) n.own n.remaining.entries.items n.opened n.ahead };
 }
 
@@ -108,6 +118,7 @@ impl Node {
             ahead: None,
             opened: None,
             next: 0,
+            noted: None,
             layout,
             number,
             entries: Vec::new(alloc),
@@ -161,34 +172,68 @@ impl Node {
 
     /// Hears a frame of the bus.
     pub fn hear(&mut self, heard: &TimedFrame)
-        requires cycle { heard.now.frame.identifier ≡ 0 → self.old.state.next < 2 ^ 42 }
+        requires cycle { heard.now.frame.identifier ≡ opening_identifier self.old.state.layout.slots
+            → self.old.state.next < 2 ^ 42 }
         ensures heard { self.new.state ≡ after_hearing self.old.state heard.now }
         ensures spare { self.new.spare ≡ self.old.spare }
     {
-        if heard.frame.id() == TRIGGER_IDENTIFIER {
+        let id = heard.frame.id();
+        if id == TRIGGER_IDENTIFIER {
             self.hear_trigger(heard, &decode(&heard.frame).ok());
+        } else if id == SECOND_IDENTIFIER && self.has_two_triggers() {
+            self.hear_second(heard, &decode_second(&heard.frame).ok());
         } else if self.hear_other(heard) {
             self.look_ahead(heard.start);
         }
     }
 
-    /// The same of a frame with identifier 0, whose reading as a trigger is handed over.
+    /// Whether the cycles of the bus have two trigger frames.
+    fn has_two_triggers(&self) -> bool
+        ensures two { result ≡ not (nat_eq self.now.state.layout.slots 40) }
+    {
+        self.layout.slots() != SLOTS_OF_ONE
+    }
+
+    /// Hears a frame with identifier 0, whose reading as a first trigger frame is handed over. Where cycles have
+    /// one trigger frame it opens the next cycle, and where they have two it is noted.
     pub fn hear_trigger(&mut self, heard: &TimedFrame, trigger: &Option<Trigger>)
         requires identifier { heard.now.frame.identifier ≡ 0 }
         requires reading { trigger.now ≡ trigger_of heard.now.frame }
+        requires cycle { self.old.state.layout.slots ≡ 40 → self.old.state.next < 2 ^ 42 }
+        ensures heard { self.new.state ≡ after_hearing self.old.state heard.now }
+        ensures spare { self.new.spare ≡ self.old.spare }
+    {
+        self.count();
+        let trigger = self.next_trigger(trigger);
+        if self.has_two_triggers() {
+            self.noted = trigger;
+        } else {
+            self.open_next(trigger);
+            self.ahead = self.search_ahead(heard.start);
+        }
+    }
+
+    /// Hears a frame with identifier 1 where cycles have two trigger frames. Its reading as a second one is
+    /// handed over.
+    pub fn hear_second(&mut self, heard: &TimedFrame, second: &Option<Second>)
+        requires identifier { heard.now.frame.identifier ≡ 1 }
+        requires two { self.old.state.layout.slots ≢ 40 }
+        requires reading { second.now ≡ second_of heard.now.frame }
         requires cycle { self.old.state.next < 2 ^ 42 }
         ensures heard { self.new.state ≡ after_hearing self.old.state heard.now }
         ensures spare { self.new.spare ≡ self.old.spare }
     {
         self.count();
+        let trigger = self.joined(second);
         self.open_next(trigger);
         self.ahead = self.search_ahead(heard.start);
     }
 
-    /// The same of a frame with another identifier, without a look ahead. The answer is whether the frame is one of the
-    /// node's own; another one is only counted.
+    /// Hears a frame that is none of the trigger frames, without a look ahead. The answer is whether the frame is
+    /// one of the node's own; another one is only counted.
     fn hear_other(&mut self, heard: &TimedFrame) -> bool
-        requires identifier { heard.now.frame.identifier ≢ 0 }
+        requires first { heard.now.frame.identifier ≢ 0 }
+        requires last { heard.now.frame.identifier ≢ opening_identifier self.old.state.layout.slots }
         ensures heard { self.new.state ≡ after_hearing self.old.state heard.now }
         ensures spare { self.new.spare ≡ self.old.spare }
     {
@@ -284,15 +329,19 @@ impl Node {
         }
     }
 
-    /// Opens the next cycle, by a frame with identifier 0 whose reading as a trigger is this one.
-    fn open_next(&mut self, trigger: &Option<Trigger>)
+    /// Opens the next cycle as its trigger frames say; without such a trigger it has nothing synchronous.
+    fn open_next(&mut self, trigger: Option<Trigger>)
         requires cycle { self.old.state.next < 2 ^ 42 }
-        ensures opened { (frame : DataFrame) → trigger.now ≡ trigger_of frame
-            → self.new.state ≡ after_opening self.old.state frame }
+        requires fits { IfSome trigger (λ said. said.l ≤ self.old.state.layout.window) }
+        ensures opened { self.new.state ≡ record self.old.state {
+          opened = Some (opened_by self.old.state.next trigger);
+          next = self.old.state.next + 1;
+          noted = None;
+        } }
         ensures spare { self.new.spare ≡ self.old.spare }
     {
         self.ahead = None;
-        let trigger = self.next_trigger(trigger);
+        self.noted = None;
         self.remaining.pass(self.next);
         self.opened = Some(cycle::opened_by(
             self.next,
@@ -303,28 +352,45 @@ impl Node {
         self.next += 1;
     }
 
-    /// The trigger that opens the next cycle, where a frame with this reading is one.
+    /// What a first trigger frame of the next cycle says, where a frame with this reading is one.
     fn next_trigger(&self, trigger: &Option<Trigger>) -> Option<Trigger>
         ensures trigger { (frame : DataFrame) → trigger.now ≡ trigger_of frame
             → result ≡ next_trigger self.now.state frame }
         ensures fits { IfSome result (λ trigger. trigger.l ≤ self.now.state.layout.window) }
+        ensures same { IfSome result (λ trigger. trigger.low ≡ self.now.state.next % 256) }
     {
         let trigger = (*trigger)?;
         let fits = trigger.l <= self.layout.window() && u64::from(trigger.low) == self.next % 256;
         fits.then_some(trigger)
     }
 
+    /// What the noted first trigger frame and the second one say together, where both are of one cycle.
+    fn joined(&self, second: &Option<Second>) -> Option<Trigger>
+        ensures joined { result ≡ joined self.now.state.noted second.now }
+        ensures fits { IfSome result (λ trigger. trigger.l ≤ self.now.state.layout.window) }
+    {
+        let first = self.noted?;
+        let second = (*second)?;
+        if second.low != first.low {
+            return None;
+        }
+        Some(Trigger {
+            mask: flags_of_both(first.mask, second.mask),
+            ..first
+        })
+    }
+
     /// The slot of an identifier, where the node has an entry in it.
     fn own_slot(&self, id: u16) -> Option<u8>
         ensures slot { MatchOption result (is_own_slot self.now.state.entries id ≡ false)
-            (λ slot. (is_own_slot self.now.state.entries id ≡ true) × (first_identifier + slot ≡ id) × (slot < slots)) }
+            (λ slot. (is_own_slot self.now.state.entries id ≡ true) × (first_identifier + slot ≡ id) × (slot < most_slots)) }
     {
         cycle::slot_among(self.own, id)
     }
 
     /// Marks a slot in the open cycle, where one is open.
     fn mark(&mut self, slot: u8)
-        requires slot { slot < slots }
+        requires slot { slot < most_slots }
         ensures marked { self.new.state ≡ after_slot self.old.state slot }
         ensures spare { self.new.spare ≡ self.old.spare }
     {

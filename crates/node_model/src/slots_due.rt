@@ -1,7 +1,7 @@
 //! Which slots a node is to send in the cycle that is open for it, and the frame of one of them.
 
 ghost use Rattle.std.specs.Prelude.{◌≡◌, ℕ, ◌<◌, ◌||◌};
-ghost use Rattle.requirement_table.specs.Slots.{contains_slot, slots};
+ghost use Rattle.requirement_table.specs.Slots.{contains_slot, most_slots};
 ghost use Rattle.node_model.specs.Window.{frame_due, is_due_slot};
 
 use crate::due::both;
@@ -12,7 +12,7 @@ use requirement_table::Mask;
 impl Node {
     /// A set of slots, with those that the node is to send in the open cycle.
     pub fn with_due_slots(&self, others: Mask) -> Mask
-        ensures slots { (slot : ℕ) → slot < slots
+        ensures slots { (slot : ℕ) → slot < most_slots
             → contains_slot result slot ≡ (contains_slot others slot || is_due_slot self.now.state slot) }
     {
         match self.opened {
@@ -23,7 +23,7 @@ impl Node {
 
     /// The frame of a slot that the node is to send in the open cycle; none of another slot.
     pub fn frame_due(&self, slot: u8) -> Option<Frame>
-        requires slot { slot < slots }
+        requires slot { slot < most_slots }
         ensures frame { result ≡ frame_due self.now.state slot }
     {
         let open_cycle = self.opened.as_ref()?;

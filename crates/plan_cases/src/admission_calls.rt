@@ -5,34 +5,52 @@ ghost use Rattle.admission.specs.Verdict.{IsRules};
 
 use crate::master_calls;
 use admission::{Rules, certify};
-use planner_policies::{PlanState, Policy};
-use requirement_table::{Mask, Placed, well_placed};
+use planner_policies::{Fill, PlanState, Policy};
+use requirement_table::{MOST_SLOTS, Mask, Placed, well_placed};
 use std::alloc::{AllocError, Global};
 
-/// The answer to a call with these numbers, of which the first ones are those of rules: window and horizon.
+/// The answer to a call with these numbers. Those of `prefix` and `skip` begin with the number of slots, and all have
+/// window and horizon then.
 pub fn answer(
     alloc: Global,
     placed: &[Placed],
     word: &str,
     numbers: &[u64],
 ) -> Result<String, AllocError> {
-    let [window, horizon, ref rest @ ..] = *numbers else {
-        return Ok(String::new(alloc));
-    };
-    if window > 16_383 {
-        return Ok(String::new(alloc));
-    }
-    let rules = Rules {
-        nodes: 1,
-        policy: Policy::Rm,
-        window: window as u32,
-        horizon,
-    };
-    match (word, rest) {
-        ("certify", []) => certified(alloc, &rules, placed),
-        ("master", []) => master_calls::shown(alloc, rules, placed),
-        ("settle", [start, other]) => master_calls::settled(alloc, rules, placed, *start, *other),
+    match (word, numbers) {
+        ("certify", [window, horizon]) => certified(alloc, &rules(*window, *horizon), placed),
+        ("master", [window, horizon]) => {
+            master_calls::shown(alloc, rules(*window, *horizon), placed)
+        }
+        ("settle", [window, horizon, start, other]) => {
+            master_calls::settled(alloc, rules(*window, *horizon), placed, *start, *other)
+        }
+        ("prefix", [slots, window, horizon]) => {
+            let rules = rules_of(*slots, Fill::Prefix, *window, *horizon);
+            master_calls::added(alloc, rules, placed)
+        }
+        ("skip", [slots, window, horizon]) => {
+            let rules = rules_of(*slots, Fill::Skip, *window, *horizon);
+            master_calls::added(alloc, rules, placed)
+        }
         _ => Ok(String::new(alloc)),
+    }
+}
+
+/// Rules with one node, 40 slots, `Rm` and `Prefix`.
+fn rules(window: u64, horizon: u64) -> Rules {
+    rules_of(40, Fill::Prefix, window, horizon)
+}
+
+/// Rules with one node and `Rm`. Of the number of slots and of the window as many low bits are taken as rules have.
+fn rules_of(slots: u64, fill: Fill, window: u64, horizon: u64) -> Rules {
+    Rules {
+        nodes: 1,
+        slots: (slots % 0x100) as u8,
+        policy: Policy::Rm,
+        fill,
+        window: (window % 0x1_0000_0000) as u32,
+        horizon,
     }
 }
 
@@ -41,6 +59,7 @@ pub fn known(rules: &Rules) -> bool
     ensures { IsTrue result ↔ IsRules rules.now }
 {
     (1..=30).contains(&rules.nodes)
+        && rules.slots <= MOST_SLOTS
         && (55..=16_383).contains(&rules.window)
         && (1..=100_000).contains(&rules.horizon)
 }

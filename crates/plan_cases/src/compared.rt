@@ -55,7 +55,9 @@ fn asked(
     match word {
         "lasso" => walk_calls::answer(alloc, numbers),
         "fault" => fault_calls::answer(alloc, numbers),
-        "certify" | "master" | "settle" => admission_calls::answer(alloc, placed, word, numbers),
+        "certify" | "master" | "settle" | "prefix" | "skip" => {
+            admission_calls::answer(alloc, placed, word, numbers)
+        }
         "instances" | "due" | "payload" | "cost" | "bits" | "slots" | "without" => {
             table_calls::answer(alloc, placed, word, numbers)
         }

@@ -39,7 +39,7 @@ fn unasked(alloc: Global) -> Result<String, AllocError> {
         start: 1 << 40,
         ops: Ops::of(Vec::new(alloc)),
     };
-    match apply(alloc, &[], 3, &change) {
+    match apply(alloc, &[], 3, 40, &change) {
         Ok(_) => Ok(String::new(alloc)),
         Err(fault) => format!(in alloc; "{fault}"),
     }

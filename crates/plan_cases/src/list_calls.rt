@@ -1,7 +1,7 @@
 //! Calls about the whole table.
 
 use crate::numbers;
-use planner_policies::{PlanState, Policy, rank, valid};
+use planner_policies::{Fill, PlanState, Policy, rank, valid};
 use requirement_table::{
     Placed, PlacedList, drop_over, first_over, is_over, not_over, released_in, well_placed,
 };
@@ -47,15 +47,15 @@ fn released(alloc: Global, placed: &[Placed], cycle: u64) -> Result<String, Allo
     format!(in alloc; "{slots:?}")
 }
 
-/// The policy and the entries of a ranked table, but for those that are over by a cycle.
+/// The policy, the filling and the entries of a ranked table, but for those that are over by a cycle.
 fn ranked(alloc: Global, placed: &[Placed], cycle: u64) -> Result<String, AllocError> {
     if !well_placed(placed) {
         return Ok(String::new(alloc));
     }
-    let mut ranked = rank(alloc, placed, Policy::Rm)?;
+    let mut ranked = rank(alloc, placed, Policy::Rm, Fill::Skip)?;
     ranked.drop_over(cycle);
     let list = numbers::places(alloc, ranked.placed())?;
-    format!(in alloc; "{:?} {list:?}", ranked.policy())
+    format!(in alloc; "{:?} {:?} {list:?}", ranked.policy(), ranked.fill())
 }
 
 /// Whether these slots may be pending before a cycle.
@@ -72,6 +72,6 @@ fn validity(
         cycle,
         pending: numbers::set(slots),
     };
-    let is = valid(&rank(alloc, placed, Policy::Rm)?, &state);
+    let is = valid(&rank(alloc, placed, Policy::Rm, Fill::Prefix)?, &state);
     format!(in alloc; "{is}")
 }

@@ -3,10 +3,11 @@
 ghost use Rattle.std.specs.Prelude.{◌≡◌};
 
 use crate::admission_calls::known;
+use crate::numbers;
 use admission::Rules;
 use change_protocol::{Change, Op, Ops};
 use master_core::{Event, Master, plan_apart};
-use requirement_table::{Entry, Placed, SLOTS};
+use requirement_table::{Entry, MOST_SLOTS, Mask, Placed};
 use std::alloc::{AllocError, Global};
 
 /// How a master stands that was asked to add these entries, before it opens a cycle and behind that, and its rules.
@@ -24,6 +25,24 @@ pub fn shown(alloc: Global, rules: Rules, placed: &[Placed]) -> Result<String, A
     }
     let after = state(alloc, &master)?;
     format!(in alloc; "{before}, {after}, {:?}", master.rules())
+}
+
+/// What a new master answers to a change that adds these entries from cycle 0 on, and the numbers of the sets of slots
+/// that go with that: those of the certificate where the change is accepted, and else those of the plan up to the miss.
+pub fn added(alloc: Global, rules: Rules, placed: &[Placed]) -> Result<String, AllocError> {
+    if !known(&rules) {
+        return Ok(String::new(alloc));
+    }
+    let mut master = Master::new(alloc, rules)?;
+    let change = adding(alloc, 0, placed)?;
+    let verdict = master.submit(alloc, 1, &change)?;
+    let masks = if verdict.is_accepted() {
+        let certificate = master.certificate(alloc)?;
+        numbers::bits(alloc, certificate.masks())?
+    } else {
+        numbers::bits(alloc, last_trail(&master))?
+    };
+    format!(in alloc; "{verdict:?} {masks:?}")
 }
 
 /// What is answered to a change that adds these entries from cycle `start` on. It is planned apart before cycle 0 and
@@ -81,7 +100,7 @@ fn open(alloc: Global, master: &mut Master) -> Result<(), AllocError>
 fn add_other(alloc: Global, master: &mut Master, slot: u64) -> Result<(), AllocError>
     ensures rules { master.new.rules ≡ master.old.rules }
 {
-    if slot >= u64::from(SLOTS) {
+    if slot >= u64::from(MOST_SLOTS) {
         return Ok(());
     }
     let entry = Entry {
@@ -109,6 +128,14 @@ fn last_from(master: &Master) -> Option<u64> {
     match master.history().last() {
         Some(Event::Submit { from, .. }) => Some(*from),
         _ => None,
+    }
+}
+
+/// The plan that goes with the last event of the history, where that is a change.
+fn last_trail(master: &Master) -> &[Mask] {
+    match master.history().last() {
+        Some(Event::Submit { trail, .. }) => trail.as_slice(),
+        _ => &[],
     }
 }
 

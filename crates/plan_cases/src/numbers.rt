@@ -1,6 +1,6 @@
 //! Words as numbers, and numbers as values.
 
-use requirement_table::{Entry, Mask, Placed, SLOTS};
+use requirement_table::{Entry, MOST_SLOTS, Mask, Placed};
 use std::alloc::{AllocError, Global};
 
 /// What stands for a word that is no number, as `-` for no end.
@@ -49,7 +49,7 @@ pub fn placed(numbers: &[u64]) -> Option<Placed> {
 pub fn set(slots: &[u64]) -> Mask {
     let mut set = Mask::empty();
     for slot in slots {
-        if *slot < u64::from(SLOTS) {
+        if *slot < u64::from(MOST_SLOTS) {
             set = set.with(*slot as u8);
         }
     }
@@ -59,12 +59,21 @@ pub fn set(slots: &[u64]) -> Mask {
 /// The slots of a set.
 pub fn slots(alloc: Global, set: Mask) -> Result<Vec<u8>, AllocError> {
     let mut slots = Vec::new(alloc);
-    for slot in 0..SLOTS {
+    for slot in 0..MOST_SLOTS {
         if set.has(slot) {
             slots.push(slot)?;
         }
     }
     Ok(slots)
+}
+
+/// The numbers of sets.
+pub fn bits(alloc: Global, sets: &[Mask]) -> Result<Vec<u128>, AllocError> {
+    let mut bits = Vec::new(alloc);
+    for set in sets {
+        bits.push(set.bits())?;
+    }
+    Ok(bits)
 }
 
 /// The slot and the origin of each entry.

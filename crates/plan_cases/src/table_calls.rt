@@ -2,7 +2,7 @@
 
 use crate::numbers;
 use requirement_table::{
-    Mask, Payload, Placed, SLOTS, cost, current, current_instance, due, releases,
+    MOST_SLOTS, Mask, Payload, Placed, cost, current, current_instance, due, releases,
 };
 use std::alloc::{AllocError, Global};
 
@@ -26,7 +26,7 @@ pub fn answer(
             let set = Mask::from_bits(u128::from(*bits));
             format!(in alloc; "{:?}", numbers::slots(alloc, set)?)
         }
-        ("without", _, [slot, slots @ ..]) if *slot < u64::from(SLOTS) => {
+        ("without", _, [slot, slots @ ..]) if *slot < u64::from(MOST_SLOTS) => {
             let set = numbers::set(slots).without(*slot as u8);
             format!(in alloc; "{:?}", numbers::slots(alloc, set)?)
         }

@@ -1,15 +1,20 @@
 -- The text of a plan behind its head: the first wrong line there, and that a text is of one certificate.
-use Rattle.std.proofs.Common.{◌≡◌, ℕ, zero, suc, ◌+◌, ◌-◌, ◌^◌, ◌<◌, ◌≤◌, List, [], ◌∷◌, ◌++◌, All, codes, get_or, length, map, replicate, take, refl, sym, ap, ◌∙◌, subst, arith, append_assoc}
-use Rattle.std.proofs.lemmas.List.{append-nil, append_cancel_left, length-append, length-map, length-replicate, map-append, take_all}
-use Rattle.std.proofs.lemmas.List.Elements.{All-append, All-head, All-replicate, All-tail}
+use Rattle.std.proofs.Common.{◌≡◌, ℕ, suc, ◌+◌, ◌-◌, ◌^◌, ◌<◌, ◌≤◌, List, [], ◌∷◌, ◌++◌, All, None, Option, Some, codes, drop, get_or, length, map, take, refl, sym, ap, ◌∙◌, subst, arith, append_assoc}
+use Rattle.std.specs.Fmt.{decimal}
+use Rattle.std.proofs.lemmas.List.{append-nil, append_cancel_left, length-append, length-map, map-append, take_all, take_more}
 use Rattle.std.proofs.Math.Seq.{take-append_seam}
-use Rattle.requirement_table.specs.Slots.{slots}
+use Rattle.plan_check.specs.declared.plan_runs.Run.{Run}
+use Rattle.plan_check.specs.declared.plan_runs.Version.{Version}
+use Rattle.plan_check.specs.declared.plan_runs.Version.TheVariants.{Two}
 use Rattle.plan_check.specs.declared.text_fault.PlanTextFault.{PlanTextFault}
 use Rattle.plan_check.specs.declared.text_fault.PlanTextFault.TheVariants.{Line, Memory}
 use Rattle.plan_check.specs.Certificate.{CertificateView, length_of}
-use Rattle.plan_check.specs.PlanText.{BeginsAsPlan, IsFirstWrongLine, IsMaskFault, IsReadable, IsReadableHead, IsTextFault, IsWrongMask, head_lines, lines_of_head, mask_digits, mask_lines, plan_lines, plan_text, text_of}
-use Rattle.text_fields.proofs.Shared.{hex-injective}
-use Rattle.plan_check.proofs.PlanReads.{AllClean, begins-by, clean-append, clean-head, clean-masks, count-lines, counted-length, counted-readable, front-more, literal-clean, next-line, number-same, same_front}
+use Rattle.plan_check.specs.PlanText.{AreListed, AreRead, IsBody, IsFirstWrongLine, IsPlanOf, IsReadable, IsReadableHead, IsRunFault, IsTextFault, IsWrongRun, MayFollow, first_line, head_lines, last_mask, lines_of_head, lines_of_runs, listed_runs, mask_bound, plan_lines, run_line, spread, text_in, text_of, total}
+use Rattle.text_fields.specs.MaskText.{mask_digits}
+use Rattle.text_fields.proofs.Shared.{mask-injective, same_line}
+use Rattle.plan_check.proofs.LineReads.{line-not-end, of-version, run-same}
+use Rattle.plan_check.proofs.PlanReads.{AllClean, BeginsIn, IsPlanIn, IsWrongIn, begins-by, clean-body, clean-head, clean-runs, count-lines, counted-length, counted-readable, few-listed, filler-begins, first-wrong, front-more, literal-clean, next-line, number-same, plan-in, same_front, text-cons}
+use Rattle.plan_check.proofs.Runs.{filling, length-spread, listed-are, listed-behind, listed-spread, mask-small, mask-wider, masks-below, none-left, spread-listed, total-append, total-listed}
 use Rattle.plan_check.proofs.TextLines.{text_of-append}
 
 -- the head of a text is of one certificate
@@ -20,65 +25,57 @@ pub record HeadSame (certificate : CertificateView) (from pending first length :
   pub length_is : length_of certificate ≡ length
   pub rest_is : rest ≡ other
 
-pub head-same : (bytes rest other : List ℕ) (certificate : CertificateView) (from pending first length : ℕ) → IsReadable certificate
-    → IsReadableHead from pending first length → bytes ≡ text_of (lines_of_head from pending first length) ++ rest
-    → bytes ≡ text_of (head_lines certificate) ++ other → HeadSame certificate from pending first length rest other
-head-same bytes rest other certificate from pending first size readable head mine its =
+head-same : (version : Version) (bytes rest other : List ℕ) (certificate : CertificateView) (from pending first length : ℕ) → IsReadable version certificate
+    → IsReadableHead version from pending first length → bytes ≡ text_of (lines_of_head version from pending first length) ++ rest
+    → bytes ≡ text_of (head_lines version certificate) ++ other → HeadSame certificate from pending first length rest other
+head-same version bytes rest other certificate from pending first size readable head mine its =
     let few = readable.few in
     let short = head.few in
-    let parts = same_front (head_lines certificate) (lines_of_head from pending first size) other rest
-    (clean-head certificate.from certificate.pending certificate.first (length_of certificate) readable.from readable.first (omega arith))
-    (clean-head from pending first size head.from_below head.first_below (omega arith)) refl (sym its ∙ mine) in
-    let line : (k : ℕ) → get_or (head_lines certificate) k [] ≡ get_or (lines_of_head from pending first size) k []
+    let parts = same_front (head_lines version certificate) (lines_of_head version from pending first size) other rest
+    (clean-head version certificate.from certificate.pending certificate.first (length_of certificate) readable.from readable.first (omega arith))
+    (clean-head version from pending first size head.from_below head.first_below (omega arith)) refl (sym its ∙ mine) in
+    let line : (k : ℕ) → get_or (head_lines version certificate) k [] ≡ get_or (lines_of_head version from pending first size) k []
     = λ k. ap (λ (l : List (List ℕ)). get_or l k []) parts.0 in
     record {
       from_is = number-same (codes "from ") certificate.from from readable.from head.from_below (line 1);
-      pending_is = hex-injective 10 certificate.pending pending readable.pending head.pending_below
+      pending_is = mask-injective certificate.pending pending (mask-small version certificate.pending readable.pending)
+          (mask-small version pending head.pending_below)
           (append_cancel_left (codes "pending ") (mask_digits certificate.pending) (mask_digits pending) (line 2));
       first_is = number-same (codes "first ") certificate.first first readable.first head.first_below (line 3);
       length_is = number-same (codes "length ") (length_of certificate) size (omega arith) (omega arith) (line 4);
       rest_is = sym parts.1;
     }
 
-pub whole-split : (certificate : CertificateView) → plan_text certificate ≡ text_of (head_lines certificate) ++ text_of (mask_lines certificate.masks)
-whole-split certificate = text_of-append (head_lines certificate) (mask_lines certificate.masks)
+abbrev runs_in : Version → CertificateView → List Run
+runs_in version certificate = listed_runs version certificate.masks
 
-take-plan : (certificate : CertificateView) (j k : ℕ) → k ≡ 5 + j → take k (plan_lines certificate) ≡ head_lines certificate ++ take j (mask_lines certificate.masks)
-take-plan certificate j k is = let five : k ≡ suc (suc (suc (suc (suc j)))) = omega arith in rw five refl
+abbrev body_in : Version → CertificateView → List (List ℕ)
+body_in version certificate = lines_of_runs version (runs_in version certificate)
 
-count-mask_lines : (masks : List ℕ) → length (mask_lines masks) ≡ length masks + 1
-count-mask_lines masks =
-    let size = length-append (map mask_digits masks) (codes "end" ∷ []) in
-    let same = length-map masks mask_digits in
+whole-split : (version : Version) (certificate : CertificateView)
+    → text_in version certificate ≡ text_of (head_lines version certificate) ++ text_of (body_in version certificate)
+whole-split version certificate = text_of-append (head_lines version certificate) (body_in version certificate)
+
+take-plan : (version : Version) (certificate : CertificateView) (j k : ℕ) → k ≡ 5 + j
+    → take k (plan_lines version certificate) ≡ head_lines version certificate ++ take j (body_in version certificate)
+take-plan version certificate j k is = let five : k ≡ suc (suc (suc (suc (suc j)))) = omega arith in rw five refl
+
+behind-head : (version : Version) (bytes : List ℕ) (certificate : CertificateView) (j k : ℕ) (r : List ℕ) → k ≡ 5 + j
+    → bytes ≡ text_of (take k (plan_lines version certificate)) ++ r
+    → bytes ≡ text_of (head_lines version certificate) ++ (text_of (take j (body_in version certificate)) ++ r)
+behind-head version bytes certificate j k r at split =
+    split
+    ∙ ap (λ l. text_of l ++ r) (take-plan version certificate j k at)
+    ∙ ap (λ t. t ++ r) (text_of-append (head_lines version certificate) (take j (body_in version certificate)))
+    ∙ append_assoc (text_of (head_lines version certificate)) (text_of (take j (body_in version certificate))) r
+
+count-body : (version : Version) (runs : List Run) → length (lines_of_runs version runs) ≡ length runs + 1
+count-body version runs =
+    let all = length-append (map (run_line version) runs) (codes "end" ∷ []) in
+    let same = length-map runs (run_line version) in
     omega arith
 
-mask-line-at : (masks : List ℕ) (j : ℕ) → j < length masks → get_or (mask_lines masks) j [] ≡ mask_digits (get_or masks j 0)
-mask-line-at [] j within = absurd (omega arith)
-mask-line-at (m ∷ masks) zero within = refl
-mask-line-at (m ∷ masks) (suc j) within = mask-line-at masks j (omega arith)
-
-mask-line-end : (masks : List ℕ) (j : ℕ) → j ≡ length masks → get_or (mask_lines masks) j [] ≡ codes "end"
-mask-line-end [] zero is = refl
-mask-line-end [] (suc j) is = absurd (omega arith)
-mask-line-end (m ∷ masks) zero is = absurd (omega arith)
-mask-line-end (m ∷ masks) (suc j) is = mask-line-end masks j (omega arith)
-
-clean-mask_lines : (masks : List ℕ) → AllClean (mask_lines masks)
-clean-mask_lines masks = clean-append (map mask_digits masks) (codes "end" ∷ []) (clean-masks masks) (literal-clean (codes "end") refl, tt)
-
-masks-same : (xs ys : List ℕ) → All (λ m. m < 2 ^ slots) xs → All (λ m. m < 2 ^ slots) ys → length xs ≡ length ys → mask_lines xs ≡ mask_lines ys → xs ≡ ys
-masks-same [] [] small other size same = refl
-masks-same [] (y ∷ ys) small other size same = absurd (omega arith)
-masks-same (x ∷ xs) [] small other size same = absurd (omega arith)
-masks-same (x ∷ xs) (y ∷ ys) small other size same =
-    let P : ℕ → Type 0 = λ m. m < 2 ^ slots in
-    let first : mask_digits x ≡ mask_digits y = ap (λ (l : List (List ℕ)). get_or l 0 []) same in
-    let here = hex-injective 10 x y (All-head P x xs small) (All-head P y ys other) first in
-    let rest : mask_lines xs ≡ mask_lines ys = cc in
-    let more = masks-same xs ys (All-tail P x xs small) (All-tail P y ys other) (omega arith) rest in
-    cc
-
-abbrev view : ℕ → ℕ → ℕ → List ℕ → CertificateView
+abbrev pub view : ℕ → ℕ → ℕ → List ℕ → CertificateView
 view from pending first masks = record { from = from; pending = pending; first = first; masks = masks }
 
 view-same : (certificate : CertificateView) (from pending first : ℕ) (masks : List ℕ) → from ≡ certificate.from → pending ≡ certificate.pending
@@ -88,248 +85,414 @@ view-same certificate from pending first masks one two three four =
     ap (λ x. view x pending first masks) one
     ∙ ap (λ x. view certificate.from x first masks) two
     ∙ ap (λ x. view certificate.from certificate.pending x masks) three
-    ∙ ap (λ x. view certificate.from certificate.pending certificate.first x) four
+    ∙ ap (view certificate.from certificate.pending certificate.first) four
 
--- A head was read, and masks behind it
+-- Runs that go on
 
-module _ (bytes : List ℕ) (from pending first size : ℕ) (rest : List ℕ) (head : IsReadableHead from pending first size)
-    (is : bytes ≡ text_of (lines_of_head from pending first size) ++ rest) (masks after : List ℕ)
-    (read : rest ≡ text_of (map mask_digits masks) ++ after) (small : All (λ m. m < 2 ^ slots) masks) where
-  -- a plan that the text begins, or is, has so many masks
-  count-of : (certificate : CertificateView) → IsReadable certificate → (other : List ℕ) → HeadSame certificate from pending first size rest other
-      → length certificate.masks ≡ first - from + size
-  count-of certificate readable other same =
-      let some = readable.some in
-      let behind = readable.after in
+pub record GoesOn (runs its : List Run) : Type 0 where
+  pub more : List Run
+  pub is : its ≡ runs ++ more
+
+-- a list of runs with these lines at its front has these runs there
+goes-on : (version : Version) (last last' : Option ℕ) (runs its : List Run) → AreListed version last runs → AreListed version last' its → total runs < 2 ^ 42
+    → total its < 2 ^ 42 → map (run_line version) runs ≡ take (length runs) (lines_of_runs version its) → GoesOn runs its
+goes-on version last last' [] its listed other few short same = record { more = its; is = refl }
+goes-on version last last' (run ∷ runs) [] listed other few short same =
+    absurd (line-not-end version run (ap (λ (l : List (List ℕ)). get_or l 0 []) same))
+goes-on version last last' (run ∷ runs) (it ∷ its) listed other few short same =
+    let line : run_line version run ≡ run_line version it = ap (λ (l : List (List ℕ)). get_or l 0 []) same in
+    let lines : map (run_line version) runs ≡ take (length runs) (lines_of_runs version its) = ap (λ (l : List (List ℕ)). drop 1 l) same in
+    let here = run-same version run it (of-version version last run listed.0 (omega arith)) (of-version version last' it other.0 (omega arith)) line in
+    let rest = goes-on version (Some run.mask) (Some it.mask) runs its listed.1 other.1 (omega arith) (omega arith) lines in
+    record { more = rest.more; is = ap (λ r. r ∷ its) (sym here) ∙ ap (λ l. run ∷ l) rest.is }
+
+-- no cycle is left behind these runs
+all-there : (version : Version) (runs its more : List Run) → AreListed version None its → its ≡ runs ++ more → total its ≡ total runs → more ≡ []
+all-there version runs its more listed is same =
+    let P : List Run → Type 0 = λ l. AreListed version None l in
+    let behind = listed-behind version None runs more (subst P is listed) in
+    let parts = ap total is ∙ total-append runs more in
+    none-left version (last_mask None runs) more behind (omega arith)
+
+line-behind : (version : Version) (runs more : List Run) → get_or (lines_of_runs version (runs ++ more)) (length runs) [] ≡ get_or (lines_of_runs version more) 0 []
+line-behind version [] more = refl
+line-behind version (run ∷ runs) more = line-behind version runs more
+
+lines-behind : (version : Version) (runs : List Run) → drop (length runs) (lines_of_runs version runs) ≡ codes "end" ∷ []
+lines-behind version [] = refl
+lines-behind version (run ∷ runs) = lines-behind version runs
+
+not-nothing : (x r : List ℕ) → x ++ 10 ∷ r ≡ [] → ⊥
+not-nothing x r is =
+    let size = ap length is in
+    let whole = length-append x (10 ∷ r) in
+    omega arith
+
+-- a whole text that begins with these lines has them as its first ones
+front-same : (xs ys : List (List ℕ)) (r : List ℕ) → AllClean xs → AllClean ys → text_of xs ++ r ≡ text_of ys
+    → (xs ≡ take (length xs) ys) × (r ≡ text_of (drop (length xs) ys))
+front-same [] ys r one other same = (refl, same)
+front-same (x ∷ xs) [] r one other same = absurd (not-nothing x (text_of xs ++ r) (sym (text-cons x xs r) ∙ same))
+front-same (x ∷ xs) (y ∷ ys) r one other same =
+    let whole : text_of (y ∷ ys) ≡ y ++ 10 ∷ text_of ys = append_assoc y (10 ∷ []) (text_of ys) in
+    let first = same_line x y (text_of xs ++ r) (text_of ys) one.0 other.0 (sym (text-cons x xs r) ∙ same ∙ whole) in
+    let more = front-same xs ys r one.1 other.1 first.1 in
+    (ap (λ l. l ∷ xs) first.0 ∙ ap (λ l. y ∷ l) more.0, more.1)
+
+-- one line fewer
+less-split : (lines : List (List ℕ)) (bytes rest : List ℕ) (k number : ℕ) → number ≡ k + 1 → number ≤ length lines → bytes ≡ text_of (take number lines) ++ rest
+    → bytes ≡ text_of (take k lines) ++ (get_or lines k [] ++ 10 ∷ rest)
+less-split lines bytes rest k number at within split =
+    split
+    ∙ ap (λ n. text_of (take n lines) ++ rest) at
+    ∙ ap (λ l. text_of l ++ rest) (take_more lines k [] (omega arith))
+    ∙ ap (λ t. t ++ rest) (text_of-append (take k lines) (get_or lines k [] ∷ []))
+    ∙ append_assoc (text_of (take k lines)) (text_of (get_or lines k [] ∷ [])) rest
+    ∙ ap (λ t. text_of (take k lines) ++ t) (text-cons (get_or lines k []) [] rest)
+
+less-within : (k number n : ℕ) → number ≡ k + 1 → number ≤ n → k ≤ n
+less-within k number n at within = omega arith
+
+abbrev begins-less : (version : Version) (bytes : List ℕ) (k number : ℕ) → number ≡ k + 1 → BeginsIn version bytes number → BeginsIn version bytes k
+begins-less version bytes k number at begins = record {
+  certificate = begins.certificate;
+  readable = begins.readable;
+  within = less-within k number (length (plan_lines version begins.certificate)) at begins.within;
+  rest = get_or (plan_lines version begins.certificate) k [] ++ 10 ∷ begins.rest;
+  split = less-split (plan_lines version begins.certificate) bytes begins.rest k number at begins.within begins.split;
+}
+
+module _ (version : Version) (bytes : List ℕ) (from pending first size : ℕ) (rest : List ℕ) (head : IsReadableHead version from pending first size)
+    (is : bytes ≡ text_of (lines_of_head version from pending first size) ++ rest) (masks after : List ℕ) (runs : List Run)
+    (read : AreRead version rest after masks runs) (few : total runs ≤ first - from + size) where
+  abbrev count : ℕ
+  count = first - from + size
+
+  small : total runs < 2 ^ 42
+  small = let near = head.near in let short = head.few in omega arith
+
+  lines-clean : AllClean (map (run_line version) runs)
+  lines-clean = clean-runs version runs small
+
+  -- what a certificate of the text has behind the same head
+  record SameHead (certificate : CertificateView) (other : List ℕ) : Type 0 where
+    head_is : HeadSame certificate from pending first size rest other
+    count_is : total (runs_in version certificate) ≡ count
+    short : total (runs_in version certificate) < 2 ^ 42
+    listed : AreListed version None (runs_in version certificate)
+
+  same-head : (certificate : CertificateView) (other : List ℕ) → IsReadable version certificate → bytes ≡ text_of (head_lines version certificate) ++ other
+      → SameHead certificate other
+  same-head certificate other readable its =
+      let same = head-same version bytes rest other certificate from pending first size readable head is its in
       let one = same.from_is in
       let two = same.first_is in
       let three = same.length_is in
-      counted (length certificate.masks) certificate.first certificate.from from first size some three one two
-    where
-      counted : (n f g from first size : ℕ) → 1 ≤ n - (f - g) → n - (f - g) ≡ size → g ≡ from → f ≡ first → n ≡ first - from + size
-      counted n f g from first size some whole one two = omega arith
-
-  -- what a plan has behind its head, where the text begins with lines of it
-  behind-head : (certificate : CertificateView) (j k : ℕ) (r : List ℕ) → k ≡ 5 + j → bytes ≡ text_of (take k (plan_lines certificate)) ++ r
-      → bytes ≡ text_of (head_lines certificate) ++ (text_of (take j (mask_lines certificate.masks)) ++ r)
-  behind-head certificate j k r at split =
-      split
-      ∙ ap (λ l. text_of l ++ r) (take-plan certificate j k at)
-      ∙ ap (λ t. t ++ r) (text_of-append (head_lines certificate) (take j (mask_lines certificate.masks)))
-      ∙ append_assoc (text_of (head_lines certificate)) (text_of (take j (mask_lines certificate.masks))) r
-
-  -- the certificate with these masks, and zeros behind them
-  abbrev padded : CertificateView
-  padded = record { from = from; pending = pending; first = first; masks = masks ++ replicate (first - from + size - length masks) 0 }
-
-  padded-count : length masks ≤ first - from + size → length padded.masks ≡ first - from + size
-  padded-count few =
-      let all = length-append masks (replicate (first - from + size - length masks) 0) in
-      let zeros : length (replicate (first - from + size - length masks) 0) ≡ first - from + size - length masks = length-replicate (first - from + size - length masks) 0 in
-      summed (length padded.masks) (length masks) (length (replicate (first - from + size - length masks) 0)) (first - from + size) all zeros few
-    where
-      summed : (n a b c : ℕ) → n ≡ a + b → b ≡ c - a → a ≤ c → n ≡ c
-      summed n a b c all zeros few = omega arith
-
-  padded-length : length masks ≤ first - from + size → length_of padded ≡ size
-  padded-length few = counted-length padded size (padded-count few)
-
-  padded-readable : length masks ≤ first - from + size → IsReadable padded
-  padded-readable few =
-      counted-readable padded size head (padded-count few)
-      (All-append (λ m. m < 2 ^ slots) masks (replicate (first - from + size - length masks) 0) small
-      (All-replicate (λ m. m < 2 ^ slots) (first - from + size - length masks) 0 (omega arith)))
-
-  padded-begins : (k : ℕ) → k ≡ 5 + length masks → length masks ≤ first - from + size → BeginsAsPlan bytes k
-  padded-begins k at few =
-      let lines = count-lines padded in
-      let count = padded-count few in
-      let inside : k ≤ length (plan_lines padded) = omega arith in
-      let zeros : List ℕ = replicate (first - from + size - length masks) 0 in
-      let front : take (length masks) (mask_lines padded.masks) ≡ map mask_digits masks
-      = ap (λ l. take (length masks) (l ++ codes "end" ∷ [])) (map-append mask_digits masks zeros)
-      ∙ ap (take (length masks)) (append_assoc (map mask_digits masks) (map mask_digits zeros) (codes "end" ∷ []))
-      ∙ ap (λ n. take n (map mask_digits masks ++ (map mask_digits zeros ++ codes "end" ∷ []))) (sym (length-map masks mask_digits))
-      ∙ take-append_seam (map mask_digits masks) (map mask_digits zeros ++ codes "end" ∷ []) in
+      let some = readable.some in
+      let all = total-listed version certificate.masks in
+      let most = few-listed version certificate readable in
       record {
-        certificate = padded;
-        readable = padded-readable few;
-        within = inside;
-        rest = after;
-        split = is
-            ∙ ap (λ n. text_of (lines_of_head from pending first n) ++ rest) (sym (padded-length few))
-            ∙ ap (λ t. text_of (head_lines padded) ++ t) read
-            ∙ ap (λ l. text_of (head_lines padded) ++ (text_of l ++ after)) (sym front)
-            ∙ sym (append_assoc (text_of (head_lines padded)) (text_of (take (length masks) (mask_lines padded.masks))) after)
-            ∙ ap (λ t. t ++ after) (sym (text_of-append (head_lines padded) (take (length masks) (mask_lines padded.masks))))
-            ∙ ap (λ l. text_of l ++ after) (sym (take-plan padded (length masks) k at));
+        head_is = same;
+        count_is = omega arith;
+        short = omega arith;
+        listed = listed-are version certificate.masks readable.masks;
       }
 
-  -- a line behind these masks that no plan has there
-  module _ (number : ℕ) (at : number ≡ 6 + length masks) (few : length masks ≤ first - from + size)
-      (none : (certificate : CertificateView) → IsReadable certificate → length certificate.masks ≡ first - from + size → (later : List ℕ)
-      → after ≡ get_or (mask_lines certificate.masks) (length masks) [] ++ 10 ∷ later → ⊥) where
-    body-none : BeginsAsPlan bytes number → ⊥
-    body-none begins =
-        let c = begins.certificate in
-        let j = length masks in
-        let ml = mask_lines c.masks in
-        let whole = behind-head c (j + 1) number begins.rest (omega arith) begins.split in
-        let same = head-same bytes rest (text_of (take (j + 1) ml) ++ begins.rest) c from pending first size begins.readable head is whole in
-        let count = count-of c begins.readable (text_of (take (j + 1) ml) ++ begins.rest) same in
-        let lines = count-mask_lines c.masks in
-        let inside : j < length ml = omega arith in
-        let parts = next-line (map mask_digits masks) ml after begins.rest j (clean-masks masks) (clean-mask_lines c.masks)
-        (length-map masks mask_digits) inside (sym read ∙ same.rest_is) in
-        none c begins.readable count begins.rest parts.1
+  -- what a plan has where the text begins with its lines up to the one behind these runs
+  record Behind (certificate : CertificateView) (later : List ℕ) : Type 0 where
+    more : List Run
+    are : runs_in version certificate ≡ runs ++ more
+    listed : AreListed version (last_mask None runs) more
+    count_is : total runs + total more ≡ count
+    line : after ≡ get_or (lines_of_runs version more) 0 [] ++ 10 ∷ later
 
-    pub body-wrong : IsFirstWrongLine bytes number
-    body-wrong =
-        record {
-          count = 5 + length masks;
-          at = omega arith;
-          other = λ certificate readable plan.
-              let same = head-same bytes rest (text_of (mask_lines certificate.masks)) certificate from pending first size readable head is (plan ∙ whole-split certificate) in
-              let count = count-of certificate readable (text_of (mask_lines certificate.masks)) same in
-              body-none (begins-by bytes certificate number readable (omega arith) plan);
-          before = padded-begins (5 + length masks) refl few;
-          wrong = body-none;
-        }
+  behind : (number : ℕ) → number ≡ 6 + length runs → (begins : BeginsIn version bytes number) → Behind begins.certificate begins.rest
+  behind number at begins =
+      let c = begins.certificate in
+      let j = length runs in
+      let its = runs_in version c in
+      let lines = body_in version c in
+      let whole = behind-head version bytes c (j + 1) number begins.rest (omega arith) begins.split in
+      let same = same-head c (text_of (take (j + 1) lines) ++ begins.rest) begins.readable whole in
+      let all = count-lines version c in
+      let within = begins.within in
+      let body = count-body version its in
+      let inside : j < length lines = omega arith in
+      let parts = next-line (map (run_line version) runs) lines after begins.rest j lines-clean (clean-body version its same.short)
+      (length-map runs (run_line version)) inside (sym read.read ∙ same.head_is.rest_is) in
+      let on = goes-on version None None runs its read.listed same.listed small same.short parts.0 in
+      let P : List Run → Type 0 = λ l. AreListed version None l in
+      let totals = ap total on.is ∙ total-append runs on.more in
+      let sum = same.count_is in
+      record {
+        more = on.more;
+        are = on.is;
+        listed = listed-behind version None runs on.more (subst P on.is same.listed);
+        count_is = omega arith;
+        line = parts.1
+            ∙ ap (λ l. get_or (lines_of_runs version l) j [] ++ 10 ∷ begins.rest) on.is
+            ∙ ap (λ l. l ++ 10 ∷ begins.rest) (line-behind version runs on.more);
+      }
 
-  -- no line with a mask
-  wrong-mask-of : (number : ℕ) → number ≡ 6 + length masks → length masks < first - from + size
-      → ((mask : ℕ) (later : List ℕ) → mask < 2 ^ slots → after ≡ mask_digits mask ++ 10 ∷ later → ⊥) → IsFirstWrongLine bytes number
-  wrong-mask-of number at few none =
-      body-wrong number at (omega arith) (λ certificate readable count later line.
-      let j = length masks in
-      let inside : j < length certificate.masks = omega arith in
-      none (get_or certificate.masks j 0) later (readable.masks j 0 inside)
-      (line ∙ ap (λ x. x ++ 10 ∷ later) (mask-line-at certificate.masks j inside)))
+  -- what a plan has whose text this is
+  record OfPlan (certificate : CertificateView) : Type 0 where
+    same : SameHead certificate (text_of (body_in version certificate))
+    more : List Run
+    are : runs_in version certificate ≡ runs ++ more
+    rest_is : after ≡ text_of (drop (length runs) (body_in version certificate))
+
+  of-plan : (certificate : CertificateView) → IsPlanIn version bytes certificate → OfPlan certificate
+  of-plan certificate plan =
+      let lines = body_in version certificate in
+      let its = runs_in version certificate in
+      let same = same-head certificate (text_of lines) plan.readable (plan.text ∙ whole-split version certificate) in
+      let parts = front-same (map (run_line version) runs) lines after lines-clean (clean-body version its same.short) (sym read.read ∙ same.head_is.rest_is) in
+      let size : length (map (run_line version) runs) ≡ length runs = length-map runs (run_line version) in
+      let front : map (run_line version) runs ≡ take (length runs) lines = parts.0 ∙ ap (λ k. take k lines) size in
+      let on = goes-on version None None runs its read.listed same.listed small same.short front in
+      record { same = same; more = on.more; are = on.is; rest_is = parts.1 ∙ ap (λ k. text_of (drop k lines)) size }
+
+  front-split : bytes ≡ text_of (lines_of_head version from pending first size ++ map (run_line version) runs) ++ after
+  front-split =
+      is
+      ∙ ap (λ t. text_of (lines_of_head version from pending first size) ++ t) read.read
+      ∙ sym (append_assoc (text_of (lines_of_head version from pending first size)) (text_of (map (run_line version) runs)) after)
+      ∙ ap (λ t. t ++ after) (sym (text_of-append (lines_of_head version from pending first size) (map (run_line version) runs)))
+
+  abbrev heads : List (List ℕ)
+  heads = lines_of_head version from pending first size
+
+  abbrev tail : List Run
+  tail = filling version (last_mask None runs) (first - from + size - total runs)
+
+  front-begins : BeginsIn version bytes (5 + length runs)
+  front-begins =
+      filler-begins version from pending first size runs read.listed few bytes (lines_of_head version from pending first size ++ map (run_line version) runs) after
+      (5 + length runs) head front-split (omega arith) lines-are
+    where
+      lines-are : heads ++ map (run_line version) runs ≡ take (5 + length runs) (heads ++ (map (run_line version) (runs ++ tail) ++ codes "end" ∷ []))
+      lines-are =
+          let five : 5 + length runs ≡ suc (suc (suc (suc (suc (length runs))))) = omega arith in
+          let front : take (length runs) (map (run_line version) (runs ++ tail) ++ codes "end" ∷ []) ≡ map (run_line version) runs
+          = ap (λ l. take (length runs) (l ++ codes "end" ∷ [])) (map-append (run_line version) runs tail)
+          ∙ ap (take (length runs)) (append_assoc (map (run_line version) runs) (map (run_line version) tail) (codes "end" ∷ []))
+          ∙ ap (λ n. take n (map (run_line version) runs ++ (map (run_line version) tail ++ codes "end" ∷ []))) (sym (length-map runs (run_line version)))
+          ∙ take-append_seam (map (run_line version) runs) (map (run_line version) tail ++ codes "end" ∷ []) in
+          rw five (ap (λ l. heads ++ l) (sym front))
+
+  -- a line behind these runs that no plan has there
+  body-wrong : (number : ℕ) → number ≡ 6 + length runs
+      → ((more : List Run) (later : List ℕ) → AreListed version (last_mask None runs) more → total runs + total more ≡ count
+      → after ≡ get_or (lines_of_runs version more) 0 [] ++ 10 ∷ later → ⊥)
+      → IsWrongIn version bytes number
+  body-wrong number at none =
+      record {
+        count = 5 + length runs;
+        at = omega arith;
+        other = λ certificate plan.
+            let of = of-plan certificate plan in
+            let size = ap length of.are ∙ length-append runs of.more in
+            wrong (begins-by version bytes certificate number plan.readable (omega arith) plan.text);
+        before = front-begins;
+        wrong = wrong;
+      }
+    where
+      wrong : BeginsIn version bytes number → ⊥
+      wrong begins = let back = behind number at begins in none back.more begins.rest back.listed back.count_is back.line
+
+  -- no run that may follow
+  wrong-run-of : (number : ℕ) → number ≡ 6 + length runs → total runs < count
+      → ((run : Run) (later : List ℕ) → MayFollow version (last_mask None runs) run → run.count ≤ count - total runs → after ≡ run_line version run ++ 10 ∷ later → ⊥)
+      → IsWrongIn version bytes number
+  wrong-run-of number at less none = body-wrong number at by
+    where
+      by : (more : List Run) (later : List ℕ) → AreListed version (last_mask None runs) more → total runs + total more ≡ count
+          → after ≡ get_or (lines_of_runs version more) 0 [] ++ 10 ∷ later → ⊥
+      by [] later listed sum line = omega arith
+      by (run ∷ more) later listed sum line = none run later listed.0 (omega arith) line
 
   -- no last line
-  wrong-end-of : (number : ℕ) → number ≡ 6 + length masks → length masks ≡ first - from + size
-      → ((later : List ℕ) → after ≡ codes "end" ++ 10 ∷ later → ⊥) → IsFirstWrongLine bytes number
-  wrong-end-of number at all none =
-      body-wrong number at (omega arith) (λ certificate readable count later line.
-      none later (line ∙ ap (λ x. x ++ 10 ∷ later) (mask-line-end certificate.masks (length masks) (all ∙ sym count))))
+  wrong-end-of : (number : ℕ) → number ≡ 6 + length runs → total runs ≡ count → ((later : List ℕ) → after ≡ codes "end" ++ 10 ∷ later → ⊥)
+      → IsWrongIn version bytes number
+  wrong-end-of number at all none = body-wrong number at by
+    where
+      by : (more : List Run) (later : List ℕ) → AreListed version (last_mask None runs) more → total runs + total more ≡ count
+          → after ≡ get_or (lines_of_runs version more) 0 [] ++ 10 ∷ later → ⊥
+      by [] later listed sum line = none later line
+      by (run ∷ more) later listed sum line = let some = listed.0.some in omega arith
 
-  -- All masks and the last line were read
+  -- All runs and the last line were read
 
-  module _ (all : length masks ≡ first - from + size) (tail : List ℕ) (ends : after ≡ codes "end" ++ 10 ∷ tail) where
+  module _ (all : total runs ≡ count) (tail : List ℕ) (ends : after ≡ codes "end" ++ 10 ∷ tail) where
     abbrev made : CertificateView
-    made = record { from = from; pending = pending; first = first; masks = masks }
+    made = view from pending first masks
+
+    made-count : length masks ≡ count
+    made-count = ap length read.are ∙ length-spread runs ∙ all
 
     made-length : length_of made ≡ size
-    made-length = counted-length made size all
+    made-length = counted-length made size made-count
 
-    made-readable : IsReadable made
-    made-readable = counted-readable made size head all small
+    made-readable : IsReadable version made
+    made-readable =
+        let P : List ℕ → Type 0 = λ l. All (λ m. m < mask_bound version) l in
+        counted-readable version made size head made-count (subst P (sym read.are) (masks-below version None runs read.listed))
 
-    body-is : rest ≡ text_of (mask_lines masks) ++ tail
-    body-is = front-more rest (map mask_digits masks) after (codes "end") tail read ends
+    made-runs : runs_in version made ≡ runs
+    made-runs = ap (listed_runs version) read.are ∙ listed-spread version runs read.listed
 
-    made-is : bytes ≡ plan_text made ++ tail
+    body-is : rest ≡ text_of (lines_of_runs version runs) ++ tail
+    body-is = front-more rest (map (run_line version) runs) after (codes "end") tail read.read ends
+
+    made-is : bytes ≡ text_in version made ++ tail
     made-is =
         is
-        ∙ ap (λ n. text_of (lines_of_head from pending first n) ++ rest) (sym made-length)
-        ∙ ap (λ t. text_of (head_lines made) ++ t) body-is
-        ∙ sym (append_assoc (text_of (head_lines made)) (text_of (mask_lines masks)) tail)
-        ∙ ap (λ t. t ++ tail) (sym (whole-split made))
+        ∙ ap (λ n. text_of (lines_of_head version from pending first n) ++ rest) (sym made-length)
+        ∙ ap (λ t. text_of (head_lines version made) ++ t) body-is
+        ∙ ap (λ l. text_of (head_lines version made) ++ (text_of (lines_of_runs version l) ++ tail)) (sym made-runs)
+        ∙ sym (append_assoc (text_of (head_lines version made)) (text_of (body_in version made)) tail)
+        ∙ ap (λ t. t ++ tail) (sym (whole-split version made))
 
-    other-masks : (certificate : CertificateView) → IsReadable certificate → bytes ≡ plan_text certificate
-        → (mask_lines masks ≡ mask_lines certificate.masks) × (tail ≡ [])
-    other-masks certificate readable plan =
-        let same = head-same bytes rest (text_of (mask_lines certificate.masks)) certificate from pending first size readable head is (plan ∙ whole-split certificate) in
-        let count = count-of certificate readable (text_of (mask_lines certificate.masks)) same in
-        let mine = count-mask_lines masks in
-        let its = count-mask_lines certificate.masks in
-        same_front (mask_lines masks) (mask_lines certificate.masks) tail [] (clean-mask_lines masks) (clean-mask_lines certificate.masks) (omega arith)
-        (sym body-is ∙ same.rest_is ∙ sym (append-nil (text_of (mask_lines certificate.masks))))
+    plan-runs : (certificate : CertificateView) → IsPlanIn version bytes certificate → (runs_in version certificate ≡ runs) × (tail ≡ [])
+    plan-runs certificate plan =
+        let of = of-plan certificate plan in
+        let sum = of.same.count_is in
+        let none = all-there version runs (runs_in version certificate) of.more of.same.listed of.are (omega arith) in
+        let same : runs_in version certificate ≡ runs = of.are ∙ ap (λ l. runs ++ l) none ∙ append-nil runs in
+        let last : codes "end" ++ 10 ∷ tail ≡ codes "end" ++ 10 ∷ []
+        = sym ends ∙ of.rest_is ∙ ap (λ l. text_of (drop (length runs) (lines_of_runs version l))) same ∙ ap text_of (lines-behind version runs) in
+        let parts = same_line (codes "end") (codes "end") tail [] (literal-clean (codes "end") refl) (literal-clean (codes "end") refl) last in
+        (same, parts.1)
 
-    wrong-behind-of : (number : ℕ) → number ≡ 7 + length masks → (tail ≡ [] → ⊥) → IsFirstWrongLine bytes number
+    wrong-behind-of : (number : ℕ) → number ≡ 7 + length runs → (tail ≡ [] → ⊥) → IsWrongIn version bytes number
     wrong-behind-of number at some =
-        let lines = count-lines made in
+        let lines = count-lines version made in
+        let size = ap length made-runs in
         record {
-          count = 6 + length masks;
+          count = 6 + length runs;
           at = omega arith;
-          other = λ certificate readable plan. some (other-masks certificate readable plan).1;
+          other = λ certificate plan. some (plan-runs certificate plan).1;
           before = record {
             certificate = made;
             readable = made-readable;
             within = omega arith;
             rest = tail;
-            split = made-is ∙ ap (λ l. text_of l ++ tail) (sym (take_all (6 + length masks) (plan_lines made) (omega arith)));
+            split = made-is ∙ ap (λ l. text_of l ++ tail) (sym (take_all (6 + length runs) (plan_lines version made) (omega arith)));
           };
           wrong = λ begins.
-              let c = begins.certificate in
-              let j = length masks + 2 in
-              let whole = behind-head c j number begins.rest (omega arith) begins.split in
-              let same = head-same bytes rest (text_of (take j (mask_lines c.masks)) ++ begins.rest) c from pending first size begins.readable head is whole in
-              let count = count-of c begins.readable (text_of (take j (mask_lines c.masks)) ++ begins.rest) same in
+              let next : number ≡ 6 + length runs + 1 = omega arith in
+              let back = behind (6 + length runs) refl (begins-less version bytes (6 + length runs) number next begins) in
+              let none = none-left version (last_mask None runs) back.more back.listed (let sum = back.count_is in omega arith) in
+              let same = ap length back.are ∙ length-append runs back.more in
+              let empty = ap length none in
               let within = begins.within in
-              let its = count-lines c in
+              let its = count-lines version begins.certificate in
               absurd (omega arith);
         }
 
-    made-back : (certificate : CertificateView) → IsReadable certificate → bytes ≡ plan_text certificate → made ≡ certificate
-    made-back certificate readable plan =
-        let same = head-same bytes rest (text_of (mask_lines certificate.masks)) certificate from pending first size readable head is (plan ∙ whole-split certificate) in
-        let count = count-of certificate readable (text_of (mask_lines certificate.masks)) same in
-        let masks_are = masks-same masks certificate.masks small readable.masks (omega arith) (other-masks certificate readable plan).0 in
+    made-back : (certificate : CertificateView) → IsPlanIn version bytes certificate → made ≡ certificate
+    made-back certificate plan =
+        let of = of-plan certificate plan in
+        let same = of.same.head_is in
+        let masks_are : masks ≡ certificate.masks
+        = read.are ∙ ap spread (sym (plan-runs certificate plan).0) ∙ spread-listed version certificate.masks in
         view-same certificate from pending first masks (sym same.from_is) (sym same.pending_is) (sym same.first_is) masks_are
 
 -- The same without modules
 
-pub wrong-mask : (bytes : List ℕ) (from pending first size : ℕ) (rest : List ℕ) → IsReadableHead from pending first size
-    → bytes ≡ text_of (lines_of_head from pending first size) ++ rest → (count number : ℕ) → count ≡ first - from + size
-    → IsWrongMask rest count number → IsFirstWrongLine bytes number
-wrong-mask bytes from pending first size rest head is count number counted wrong =
+abbrev behind_first : Version → ℕ → ℕ → ℕ → ℕ → List (List ℕ)
+behind_first version from pending first size =
+    (codes "from " ++ decimal from)
+    ∷ ((codes "pending " ++ mask_digits pending)
+    ∷ ((codes "first " ++ decimal first)
+    ∷ ((codes "length " ++ decimal size)
+    ∷ [])))
+
+begun-by : (version : Version) (bytes : List ℕ) (from pending first size : ℕ) (rest : List ℕ) → bytes ≡ text_of (lines_of_head version from pending first size) ++ rest
+    → bytes ≡ first_line version ++ 10 ∷ (text_of (behind_first version from pending first size) ++ rest)
+begun-by version bytes from pending first size rest is = is ∙ text-cons (first_line version) (behind_first version from pending first size) rest
+
+pub wrong-run : (version : Version) (bytes : List ℕ) (from pending first size : ℕ) (rest : List ℕ) → IsReadableHead version from pending first size
+    → bytes ≡ text_of (lines_of_head version from pending first size) ++ rest → (count number : ℕ) → count ≡ first - from + size
+    → IsWrongRun version rest count number → IsFirstWrongLine bytes number
+wrong-run version bytes from pending first size rest head is count number counted wrong =
     let more = wrong.more in
-    wrong-mask-of bytes from pending first size rest head is wrong.masks wrong.after wrong.read wrong.below number wrong.at (omega arith) wrong.none
+    let few : total wrong.runs ≤ first - from + size = omega arith in
+    first-wrong version bytes (text_of (behind_first version from pending first size) ++ rest) number (begun-by version bytes from pending first size rest is)
+    (wrong-run-of version bytes from pending first size rest head is wrong.masks wrong.rest wrong.runs wrong.read few number wrong.at (omega arith)
+    (λ run later may less line. wrong.none run later may (omega arith) line))
 
-pub wrong-end : (bytes : List ℕ) (from pending first size : ℕ) (rest : List ℕ) → IsReadableHead from pending first size
-    → bytes ≡ text_of (lines_of_head from pending first size) ++ rest → (masks after : List ℕ) → rest ≡ text_of (map mask_digits masks) ++ after
-    → All (λ m. m < 2 ^ slots) masks → length masks ≡ first - from + size → (number : ℕ) → number ≡ 6 + length masks
+pub wrong-end : (version : Version) (bytes : List ℕ) (from pending first size : ℕ) (rest : List ℕ) → IsReadableHead version from pending first size
+    → bytes ≡ text_of (lines_of_head version from pending first size) ++ rest → (masks after : List ℕ) (number : ℕ)
+    → IsBody version rest after masks (first - from + size) number
     → ((later : List ℕ) → after ≡ codes "end" ++ 10 ∷ later → ⊥) → IsFirstWrongLine bytes number
-wrong-end bytes from pending first size rest head is masks after read small all number at none =
-    wrong-end-of bytes from pending first size rest head is masks after read small number at all none
+wrong-end version bytes from pending first size rest head is masks after number body none =
+    let all = body.all in
+    first-wrong version bytes (text_of (behind_first version from pending first size) ++ rest) number (begun-by version bytes from pending first size rest is)
+    (wrong-end-of version bytes from pending first size rest head is masks after body.runs body.read (omega arith) number body.at all none)
 
-pub wrong-behind : (bytes : List ℕ) (from pending first size : ℕ) (rest : List ℕ) → IsReadableHead from pending first size
-    → bytes ≡ text_of (lines_of_head from pending first size) ++ rest → (masks after : List ℕ) → rest ≡ text_of (map mask_digits masks) ++ after
-    → All (λ m. m < 2 ^ slots) masks → length masks ≡ first - from + size → (tail : List ℕ) → after ≡ codes "end" ++ 10 ∷ tail
-    → (number : ℕ) → number ≡ 7 + length masks → (tail ≡ [] → ⊥) → IsFirstWrongLine bytes number
-wrong-behind bytes from pending first size rest head is masks after read small all tail ends number at some =
-    wrong-behind-of bytes from pending first size rest head is masks after read small all tail ends number at some
+pub wrong-behind : (version : Version) (bytes : List ℕ) (from pending first size : ℕ) (rest : List ℕ) → IsReadableHead version from pending first size
+    → bytes ≡ text_of (lines_of_head version from pending first size) ++ rest → (masks after : List ℕ) (number : ℕ)
+    → IsBody version rest after masks (first - from + size) number → (tail : List ℕ) → after ≡ codes "end" ++ 10 ∷ tail
+    → (tail ≡ [] → ⊥) → IsFirstWrongLine bytes (number + 1)
+wrong-behind version bytes from pending first size rest head is masks after number body tail ends some =
+    let all = body.all in
+    let at = body.at in
+    first-wrong version bytes (text_of (behind_first version from pending first size) ++ rest) (number + 1) (begun-by version bytes from pending first size rest is)
+    (wrong-behind-of version bytes from pending first size rest head is masks after body.runs body.read (omega arith) all tail ends (number + 1) (omega arith) some)
 
 -- what was read, where nothing follows the last line
 pub record WasRead (bytes : List ℕ) (certificate : CertificateView) : Type 0 where
-  pub plan : bytes ≡ plan_text certificate
-  pub readable : IsReadable certificate
-  pub back : (other : CertificateView) → IsReadable other → bytes ≡ plan_text other → certificate ≡ other
+  pub plan : IsPlanOf bytes certificate
+  pub readable : IsReadable Two certificate
+  pub back : (other : CertificateView) → IsPlanOf bytes other → certificate ≡ other
 
-pub was-read : (bytes : List ℕ) (from pending first size : ℕ) (rest : List ℕ) → IsReadableHead from pending first size
-    → bytes ≡ text_of (lines_of_head from pending first size) ++ rest → (masks after : List ℕ) → rest ≡ text_of (map mask_digits masks) ++ after
-    → All (λ m. m < 2 ^ slots) masks → length masks ≡ first - from + size → (tail : List ℕ) → after ≡ codes "end" ++ 10 ∷ tail → tail ≡ []
+-- version 2 names all slots
+pub readable-wider : (version : Version) (certificate : CertificateView) → IsReadable version certificate → IsReadable Two certificate
+readable-wider version certificate readable = record {
+  from = readable.from;
+  pending = mask-wider version certificate.pending readable.pending;
+  first = readable.first;
+  after = readable.after;
+  near = readable.near;
+  some = readable.some;
+  few = readable.few;
+  masks = λ i d within. mask-wider version (get_or certificate.masks i d) (readable.masks i d within);
+}
+
+pub was-read : (version : Version) (bytes : List ℕ) (from pending first size : ℕ) (rest : List ℕ) → IsReadableHead version from pending first size
+    → bytes ≡ text_of (lines_of_head version from pending first size) ++ rest → (masks after : List ℕ) (number : ℕ)
+    → IsBody version rest after masks (first - from + size) number → (tail : List ℕ) → after ≡ codes "end" ++ 10 ∷ tail → tail ≡ []
     → (certificate : CertificateView) → certificate.from ≡ from → certificate.pending ≡ pending → certificate.first ≡ first → certificate.masks ≡ masks
     → WasRead bytes certificate
-was-read bytes from pending first size rest head is masks after read small all tail ends none certificate one two three four =
+was-read version bytes from pending first size rest head is masks after number body tail ends none certificate one two three four =
+    let all = body.all in
+    let few : total body.runs ≤ first - from + size = omega arith in
+    let readable = made-readable version bytes from pending first size rest head is masks after body.runs body.read few all tail ends in
+    let begun = begun-by version bytes from pending first size rest is in
     let there : WasRead bytes (view from pending first masks) = record {
-      plan = made-is bytes from pending first size rest head is masks after read small all tail ends
-          ∙ ap (λ t. plan_text (view from pending first masks) ++ t) none
-          ∙ append-nil (plan_text (view from pending first masks));
-      readable = made-readable bytes from pending first size rest head is masks after read small all tail ends;
-      back = λ other readable plan. made-back bytes from pending first size rest head is masks after read small all tail ends other readable plan;
+      plan = record {
+        version = version;
+        readable = readable;
+        text = made-is version bytes from pending first size rest head is masks after body.runs body.read few all tail ends
+            ∙ ap (λ t. text_in version (view from pending first masks) ++ t) none
+            ∙ append-nil (text_in version (view from pending first masks));
+      };
+      readable = readable-wider version (view from pending first masks) readable;
+      back = λ other plan.
+          made-back version bytes from pending first size rest head is masks after body.runs body.read few all tail ends other
+          (plan-in version bytes (text_of (behind_first version from pending first size) ++ rest) other begun plan);
     } in
     let P : CertificateView → Type 0 = λ c. WasRead bytes c in
     subst P (view-same certificate from pending first masks (sym one) (sym two) (sym three) (sym four)) there
 
--- a fault of the masks is one of the text
-pub mask-fault : (bytes rest : List ℕ) (count : ℕ) (fault : PlanTextFault) → IsMaskFault rest count fault
-    → ((number : ℕ) → IsWrongMask rest count number → IsFirstWrongLine bytes number) → IsTextFault bytes fault
-mask-fault bytes rest count (Line number) wrong text = text number wrong
-mask-fault bytes rest count Memory wrong text = tt
+-- a fault of the runs is one of the text
+pub run-fault : (version : Version) (bytes rest : List ℕ) (count : ℕ) (fault : PlanTextFault) → IsRunFault version rest count fault
+    → ((number : ℕ) → IsWrongRun version rest count number → IsFirstWrongLine bytes number) → IsTextFault bytes fault
+run-fault version bytes rest cycles (Line number) wrong text = text number wrong
+run-fault version bytes rest cycles Memory wrong text = tt
 
-pub fault-back : (bytes : List ℕ) (fault : PlanTextFault) → IsTextFault bytes fault → (certificate : CertificateView) → IsReadable certificate
-    → bytes ≡ plan_text certificate → fault ≡ Memory
-fault-back bytes (Line number) wrong certificate readable plan = absurd (wrong.other certificate readable plan)
-fault-back bytes Memory wrong certificate readable plan = refl
+pub fault-back : (bytes : List ℕ) (fault : PlanTextFault) → IsTextFault bytes fault → (certificate : CertificateView) → IsPlanOf bytes certificate
+    → fault ≡ Memory
+fault-back bytes (Line number) wrong certificate plan = absurd (wrong.other certificate plan)
+fault-back bytes Memory wrong certificate plan = refl

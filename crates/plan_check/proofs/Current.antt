@@ -1,15 +1,16 @@
 -- The current entries of slots: what they send is what their slots send.
 use Rattle.std.proofs.Common.{◌≡◌, ◌≢◌, ℕ, ◌+◌, ◌-◌, ◌<◌, ◌≤◌, true, false, Option, Some, None, IfSome, IsSomeAnd, option_map, List, Contains, slice_get, length, get_or, set, refl, sym, ap, ◌∙◌, subst, ⊎_elim, nat_le, arith, get_or-set_other, get_or-set_same}
+use Rattle.std.proofs.Math.ListN.{length-set}
 use Rattle.std.specs.Option.{option_and_then, option_map_or}
 use Rattle.std.proofs.lemmas.Bool.{cases_eq, cases_lt, cases_order, le-leb, leb-true}
 use Rattle.std.proofs.lemmas.Option.{get_or_from_slice_get, none-some, same_Some, slice_get-get_or, slice_get_within}
 use Rattle.requirement_table.specs.declared.entries.Placed.{Placed}
 use Rattle.requirement_table.specs.Instance.{Instance, MaySend, instance_of, release_of}
-use Rattle.requirement_table.specs.Slots.{slots}
+use Rattle.requirement_table.specs.Slots.{most_slots}
 use Rattle.requirement_table.specs.Table.{GoesBefore, IsFreeAt, IsWellPlaced, free_from, instance_in, is_over}
 use Rattle.requirement_table.proofs.Shared.{IsFound, MaySend-from_instance, found-in, instance_in-found}
 use Rattle.plan_check.specs.declared.rows.Due.{Due}
-use Rattle.plan_check.specs.Rows.{AreCurrent, ArePassed, IsCurrent, due_by, due_of}
+use Rattle.plan_check.specs.Rows.{AreAbsent, AreCurrent, ArePassed, AreSlotsBelow, IsCurrent, IsPassed, IsRow, due_by, due_of}
 
 over-sends : (end : Option ℕ) (deadline release c : ℕ) → option_map_or (λ from. nat_le from c) (option_map (λ e. e + deadline - 1) end) false ≡ true
     → IfSome end (λ e. release < e) → release ≤ c → c < release + deadline → ⊥
@@ -106,8 +107,8 @@ module _ (placed : List Placed) (c slot place : ℕ) (well : IsWellPlaced placed
   current-due = by-entry (slice_get placed place) refl
 
 -- what is over by a cycle is over by the next one
-pub passed-later : (placed : List Placed) (c : ℕ) (places : List ℕ) → AreCurrent placed c places → ArePassed placed (c + 1) places
-passed-later placed c places current = record {
+pub passed-later : (placed : List Placed) (c slots : ℕ) (places : List ℕ) → AreCurrent placed c slots places → ArePassed placed (c + 1) slots places
+passed-later placed c slots places current = record {
   count = current.count;
   each = λ slot known j p before at of_slot. over-later (free_from p) c ((current.each slot known).passed j p before at of_slot);
 }
@@ -122,14 +123,63 @@ filled-next P table k x d within before here s low =
     (λ (other : s ≢ k). subst (P s) (sym (get_or-set_other table k s x d other)) (before s (omega arith)))
     (cases_eq s k)
 
+-- what stands behind the place is not changed
+pub kept-behind : {X : Type 0} (P : ℕ → X → Type 0) (table : List X) (k n : ℕ) (x d : X) → ((s : ℕ) → k ≤ s → s < n → P s (get_or table s d))
+    → (s : ℕ) → k + 1 ≤ s → s < n → P s (get_or (set table k x) s d)
+kept-behind P table k n x d before s behind within =
+    let other : s ≢ k = λ same. omega arith in
+    subst (P s) (sym (get_or-set_other table k s x d other)) (before s (omega arith) within)
+
+-- the places are those of the current entries one slot further
+pub places-next : (placed : List Placed) (c slots : ℕ) (places : List ℕ) (k i x : ℕ) → i ≡ k → k < length places
+    → ((s : ℕ) → s < k → IsCurrent placed c s (get_or places s 0)) → IsCurrent placed c k x
+    → (s : ℕ) → s < k + 1 → IsCurrent placed c s (get_or (set places i x) s 0)
+places-next placed c slots places k i x same within before here =
+    rw same (filled-next (λ s place. IsCurrent placed c s place) places k x 0 within before here)
+
+pub places-later : (placed : List Placed) (c slots : ℕ) (places : List ℕ) (k i x : ℕ) → i ≡ k
+    → ((s : ℕ) → k ≤ s → s < slots → IsPassed placed c s (get_or places s 0))
+    → (s : ℕ) → k + 1 ≤ s → s < slots → IsPassed placed c s (get_or (set places i x) s 0)
+places-later placed c slots places k i x same before =
+    rw same (kept-behind (λ s place. IsPassed placed c s place) places k slots x 0 before)
+
 -- a row is filled one slot further
-pub row-next : (placed : List Placed) (c : ℕ) (places : List ℕ) (row : List (Option Due)) (k i : ℕ) (x : Option Due) → IsWellPlaced placed
-    → AreCurrent placed c places → i ≡ k → k < slots → length row ≡ slots
+pub row-next : (placed : List Placed) (c slots : ℕ) (places : List ℕ) (row : List (Option Due)) (k i : ℕ) (x : Option Due) → IsWellPlaced placed
+    → AreCurrent placed c slots places → i ≡ k → k < slots → slots ≤ most_slots → length row ≡ most_slots
     → ((s : ℕ) → s < k → get_or row s None ≡ option_map due_of (instance_in placed s c))
     → x ≡ option_and_then (due_by c) (slice_get placed (get_or places i 0))
     → (s : ℕ) → s < k + 1 → get_or (set row i x) s None ≡ option_map due_of (instance_in placed s c)
-row-next placed c places row k i x well current same known count before is =
+row-next placed c slots places row k i x well current same below known count before is =
     let at : x ≡ option_and_then (due_by c) (slice_get placed (get_or places k 0)) = rw same at is in
     rw same
     (filled-next (λ s due. due ≡ option_map due_of (instance_in placed s c)) row k x None (omega arith) before
-    (at ∙ current-due placed c k (get_or places k 0) well (current.each k known)))
+    (at ∙ current-due placed c k (get_or places k 0) well (current.each k below)))
+
+pub absent-next : (slots k i : ℕ) (row : List (Option Due)) (x : Option Due) → AreAbsent slots row → i ≡ k → k < slots → AreAbsent slots (set row i x)
+absent-next slots k i row x absent same below = record {
+  count = length-set row i x ∙ absent.count;
+  none = λ slot above.
+      let other : slot ≢ i = λ is. omega arith in
+      get_or-set_other row i slot x None other ∙ absent.none slot above;
+}
+
+-- no instance is of a slot above those of the entries
+absent-instance : (placed : List Placed) (c slots slot : ℕ) → IsWellPlaced placed → AreSlotsBelow slots placed → slots ≤ slot → instance_in placed slot c ≡ None
+absent-instance placed c slots slot well below above =
+    none-of (instance_in placed slot c) (λ i is.
+    let found = found-in placed slot c i well is in
+    let low = below found.stands.0 i.placed found.stands.1 in
+    let entry = ap (λ (p : Placed). p.entry.slot) found.stands.2 in
+    let of_slot = found.of_slot in
+    omega arith)
+
+pub row-whole : (placed : List Placed) (c slots n : ℕ) (row : List (Option Due)) → IsWellPlaced placed → AreSlotsBelow slots placed → AreAbsent slots row → slots ≤ n
+    → ((s : ℕ) → s < n → get_or row s None ≡ option_map due_of (instance_in placed s c)) → IsRow placed c row
+row-whole placed c slots n row well below absent all each = record {
+  count = absent.count;
+  each = λ slot known.
+      ⊎_elim
+      (λ (low : slot < slots). each slot (omega arith))
+      (λ (high : slots ≤ slot). absent.none slot high ∙ ap (option_map due_of) (sym (absent-instance placed c slots slot well below high)))
+      (cases_lt slot slots);
+}

@@ -2,10 +2,13 @@
 use Rattle.std.proofs.Common.{◌≡◌, ℕ, ◌+◌, ◌^◌, ◌<◌, ◌&&◌, true, false, nat_le, List, [], ◌∷◌, ◌++◌, codes, get_or, refl, sym, ap, ◌∙◌, arith}
 use Rattle.std.specs.Fmt.{decimal}
 use Rattle.std.proofs.lemmas.Bool.{and_from, and_parts, le-leb, leb-true}
-use Rattle.requirement_table.specs.Slots.{slots}
 use Rattle.plan_check.specs.Certificate.{CertificateView, length_of}
-use Rattle.plan_check.specs.PlanText.{IsFirstWrongLine, IsReadable, IsReadableHead, lines_of_head, mask_digits, text_of}
-use Rattle.plan_check.proofs.PlanReads.{begins-head, clean-take, clean-head, front-more, head-wrong, near-false, number-same, word-number}
+use Rattle.plan_check.specs.declared.plan_runs.Version.{Version}
+use Rattle.plan_check.specs.declared.plan_runs.Version.TheVariants.{One}
+use Rattle.plan_check.specs.PlanText.{BeginsAsPlan, IsFirstWrongLine, IsReadable, IsReadableHead, first_line, lines_of_head, mask_bound, text_in, text_of}
+use Rattle.plan_check.proofs.PlanReads.{BeginsIn, IsWrongIn, begins-by, begins-head, clean-take, clean-head, first-wrong, front-more, head-wrong, near-false, number-same, text-cons, word-number}
+use Rattle.plan_check.proofs.Runs.{few-masks}
+use Rattle.text_fields.specs.MaskText.{mask_digits}
 use Rattle.text_fields.proofs.Shared.{same_line}
 
 abbrev from_digits : ℕ → List ℕ
@@ -20,60 +23,98 @@ first_digits n = codes "first " ++ decimal n
 abbrev length_digits : ℕ → List ℕ
 length_digits n = codes "length " ++ decimal n
 
-pub wrong-head : (bytes : List ℕ) → ((after : List ℕ) → bytes ≡ codes "fttcan plan 1" ++ 10 ∷ after → ⊥) → IsFirstWrongLine bytes 1
+-- the head of some plan
+abbrev easy_head : (version : Version) (from : ℕ) → from < 2 ^ 42 → IsReadableHead version from 0 from 1
+easy_head version from small = record {
+  from_below = small;
+  pending_below = few-masks version 0 (omega arith);
+  first_below = small;
+  after = omega arith;
+  near = omega arith;
+  some = omega arith;
+  few = omega arith;
+}
+
+pub wrong-head : (bytes : List ℕ) → ((version : Version) (after : List ℕ) → bytes ≡ first_line version ++ 10 ∷ after → ⊥) → IsFirstWrongLine bytes 1
 wrong-head bytes none =
-    let head : IsReadableHead 0 0 0 1 = record { from_below = omega arith; pending_below = omega arith; first_below = omega arith; after = omega arith; near = omega arith; some = omega arith; few = omega arith } in
-    head-wrong bytes [] bytes 0 1 refl tt refl (omega arith) refl
-    (begins-head bytes [] bytes 0 0 0 1 0 head refl (omega arith) refl)
-    (λ certificate readable same after is. none after is)
+    let before : BeginsIn One bytes 0 = begins-head One bytes [] bytes 0 0 0 1 0 (easy_head One 0 (omega arith)) refl (omega arith) refl in
+    record {
+      count = 0;
+      at = refl;
+      other = λ certificate plan. wrong (begins plan.version certificate plan.readable plan.text);
+      before = record {
+        version = One;
+        certificate = before.certificate;
+        readable = before.readable;
+        within = before.within;
+        rest = before.rest;
+        split = before.split;
+      };
+      wrong = wrong;
+    }
+  where
+    wrong : BeginsAsPlan bytes 1 → ⊥
+    wrong begun = none begun.version begun.rest (begun.split ∙ text-cons (first_line begun.version) [] begun.rest)
+
+    begins : (version : Version) (certificate : CertificateView) → IsReadable version certificate → bytes ≡ text_in version certificate → BeginsAsPlan bytes 1
+    begins version certificate readable text =
+        let in_version = begins-by version bytes certificate 1 readable (omega arith) text in
+        record {
+          version = version;
+          certificate = in_version.certificate;
+          readable = in_version.readable;
+          within = in_version.within;
+          rest = in_version.rest;
+          split = in_version.split;
+        }
 
 -- the text behind the head
-module _ (bytes rest : List ℕ) (first_line : bytes ≡ codes "fttcan plan 1" ++ 10 ∷ rest) where
-  one : bytes ≡ text_of (codes "fttcan plan 1" ∷ []) ++ rest
-  one = front-more bytes [] bytes (codes "fttcan plan 1") rest refl first_line
+module _ (version : Version) (bytes rest : List ℕ) (begun : bytes ≡ first_line version ++ 10 ∷ rest) where
+  one : bytes ≡ text_of (first_line version ∷ []) ++ rest
+  one = front-more bytes [] bytes (first_line version) rest refl begun
 
-  pub wrong-from : ((n : ℕ) (after : List ℕ) → n < 2 ^ 42 → rest ≡ from_digits n ++ 10 ∷ after → ⊥) → IsFirstWrongLine bytes 2
-  wrong-from none =
-      let head : IsReadableHead 0 0 0 1 = record { from_below = omega arith; pending_below = omega arith; first_below = omega arith; after = omega arith; near = omega arith; some = omega arith; few = omega arith } in
-      head-wrong bytes (codes "fttcan plan 1" ∷ []) rest 1 2 one (clean-take 1 (lines_of_head 0 0 0 1) (clean-head 0 0 0 1 (omega arith) (omega arith) (omega arith)))
+  wrong-from-of : ((n : ℕ) (after : List ℕ) → n < 2 ^ 42 → rest ≡ from_digits n ++ 10 ∷ after → ⊥) → IsWrongIn version bytes 2
+  wrong-from-of none =
+      let head = easy_head version 0 (omega arith) in
+      head-wrong version bytes (first_line version ∷ []) rest 1 2 one (clean-take 1 (lines_of_head version 0 0 0 1) (clean-head version 0 0 0 1 (omega arith) (omega arith) (omega arith)))
       refl (omega arith) refl
-      (begins-head bytes (codes "fttcan plan 1" ∷ []) rest 0 0 0 1 1 head one (omega arith) refl)
+      (begins-head version bytes (first_line version ∷ []) rest 0 0 0 1 1 head one (omega arith) refl)
       (λ certificate readable same after is. none certificate.from after readable.from is)
 
   module _ (rest2 : List ℕ) (from : ℕ) (second : rest ≡ from_digits from ++ 10 ∷ rest2) (from_small : from < 2 ^ 42) where
-    two : bytes ≡ text_of (codes "fttcan plan 1" ∷ (from_digits from ∷ [])) ++ rest2
-    two = front-more bytes (codes "fttcan plan 1" ∷ []) rest (from_digits from) rest2 one second
+    two : bytes ≡ text_of (first_line version ∷ (from_digits from ∷ [])) ++ rest2
+    two = front-more bytes (first_line version ∷ []) rest (from_digits from) rest2 one second
 
-    wrong-pending-of : ((m : ℕ) (after : List ℕ) → m < 2 ^ slots → rest2 ≡ pending_digits m ++ 10 ∷ after → ⊥) → IsFirstWrongLine bytes 3
+    wrong-pending-of : ((m : ℕ) (after : List ℕ) → m < mask_bound version → rest2 ≡ pending_digits m ++ 10 ∷ after → ⊥) → IsWrongIn version bytes 3
     wrong-pending-of none =
-        let head : IsReadableHead from 0 from 1 = record { from_below = from_small; pending_below = omega arith; first_below = from_small; after = omega arith; near = omega arith; some = omega arith; few = omega arith } in
-        head-wrong bytes (codes "fttcan plan 1" ∷ (from_digits from ∷ [])) rest2 2 3 two
-        (clean-take 2 (lines_of_head from 0 from 1) (clean-head from 0 from 1 from_small from_small (omega arith)))
+        let head = easy_head version from from_small in
+        head-wrong version bytes (first_line version ∷ (from_digits from ∷ [])) rest2 2 3 two
+        (clean-take 2 (lines_of_head version from 0 from 1) (clean-head version from 0 from 1 from_small from_small (omega arith)))
         refl (omega arith) refl
-        (begins-head bytes (codes "fttcan plan 1" ∷ (from_digits from ∷ [])) rest2 from 0 from 1 2 head two (omega arith) refl)
+        (begins-head version bytes (first_line version ∷ (from_digits from ∷ [])) rest2 from 0 from 1 2 head two (omega arith) refl)
         (λ certificate readable same after is. none certificate.pending after readable.pending is)
 
-    module _ (rest3 : List ℕ) (pending : ℕ) (third : rest2 ≡ pending_digits pending ++ 10 ∷ rest3) (pending_small : pending < 2 ^ slots) where
-      three : bytes ≡ text_of (codes "fttcan plan 1" ∷ (from_digits from ∷ (pending_digits pending ∷ []))) ++ rest3
-      three = front-more bytes (codes "fttcan plan 1" ∷ (from_digits from ∷ [])) rest2 (pending_digits pending) rest3 two third
+    module _ (rest3 : List ℕ) (pending : ℕ) (third : rest2 ≡ pending_digits pending ++ 10 ∷ rest3) (pending_small : pending < mask_bound version) where
+      three : bytes ≡ text_of (first_line version ∷ (from_digits from ∷ (pending_digits pending ∷ []))) ++ rest3
+      three = front-more bytes (first_line version ∷ (from_digits from ∷ [])) rest2 (pending_digits pending) rest3 two third
 
-      three-wrong : ((certificate : CertificateView) → IsReadable certificate → certificate.from ≡ from → (after : List ℕ)
-          → rest3 ≡ first_digits certificate.first ++ 10 ∷ after → ⊥) → IsFirstWrongLine bytes 4
+      three-wrong : ((certificate : CertificateView) → IsReadable version certificate → certificate.from ≡ from → (after : List ℕ)
+          → rest3 ≡ first_digits certificate.first ++ 10 ∷ after → ⊥) → IsWrongIn version bytes 4
       three-wrong none =
-          let head : IsReadableHead from pending from 1 = record { from_below = from_small; pending_below = pending_small; first_below = from_small; after = omega arith; near = omega arith; some = omega arith; few = omega arith } in
-          head-wrong bytes (codes "fttcan plan 1" ∷ (from_digits from ∷ (pending_digits pending ∷ []))) rest3 3 4 three
-          (clean-take 3 (lines_of_head from pending from 1) (clean-head from pending from 1 from_small from_small (omega arith)))
+          let head : IsReadableHead version from pending from 1 = record { from_below = from_small; pending_below = pending_small; first_below = from_small; after = omega arith; near = omega arith; some = omega arith; few = omega arith } in
+          head-wrong version bytes (first_line version ∷ (from_digits from ∷ (pending_digits pending ∷ []))) rest3 3 4 three
+          (clean-take 3 (lines_of_head version from pending from 1) (clean-head version from pending from 1 from_small from_small (omega arith)))
           refl (omega arith) refl
-          (begins-head bytes (codes "fttcan plan 1" ∷ (from_digits from ∷ (pending_digits pending ∷ []))) rest3 from pending from 1 3 head three (omega arith) refl)
+          (begins-head version bytes (first_line version ∷ (from_digits from ∷ (pending_digits pending ∷ []))) rest3 from pending from 1 3 head three (omega arith) refl)
           (λ certificate readable same after is.
           none certificate readable
           (number-same (codes "from ") certificate.from from readable.from from_small (ap (λ (l : List (List ℕ)). get_or l 1 []) same)) after is)
 
-      wrong-first-of : ((n : ℕ) (after : List ℕ) → n < 2 ^ 42 → rest3 ≡ first_digits n ++ 10 ∷ after → ⊥) → IsFirstWrongLine bytes 4
+      wrong-first-of : ((n : ℕ) (after : List ℕ) → n < 2 ^ 42 → rest3 ≡ first_digits n ++ 10 ∷ after → ⊥) → IsWrongIn version bytes 4
       wrong-first-of none = three-wrong (λ certificate readable same after is. none certificate.first after readable.first is)
 
       module _ (rest4 : List ℕ) (first : ℕ) (fourth : rest3 ≡ first_digits first ++ 10 ∷ rest4) (first_small : first < 2 ^ 42) where
-        wrong-near-of : (nat_le from first && nat_le first (from + 200000)) ≡ false → IsFirstWrongLine bytes 4
+        wrong-near-of : (nat_le from first && nat_le first (from + 200000)) ≡ false → IsWrongIn version bytes 4
         wrong-near-of test =
             three-wrong (λ certificate readable same after is.
             let line = same_line (first_digits certificate.first) (first_digits first) after rest4
@@ -84,28 +125,28 @@ module _ (bytes rest : List ℕ) (first_line : bytes ≡ codes "fttcan plan 1" +
             near-false from first test (omega arith) (omega arith))
 
         module _ (test : (nat_le from first && nat_le first (from + 200000)) ≡ true) where
-          four : bytes ≡ text_of (codes "fttcan plan 1" ∷ (from_digits from ∷ (pending_digits pending ∷ (first_digits first ∷ [])))) ++ rest4
-          four = front-more bytes (codes "fttcan plan 1" ∷ (from_digits from ∷ (pending_digits pending ∷ []))) rest3 (first_digits first) rest4 three fourth
+          four : bytes ≡ text_of (first_line version ∷ (from_digits from ∷ (pending_digits pending ∷ (first_digits first ∷ [])))) ++ rest4
+          four = front-more bytes (first_line version ∷ (from_digits from ∷ (pending_digits pending ∷ []))) rest3 (first_digits first) rest4 three fourth
 
-          four-wrong : ((certificate : CertificateView) → IsReadable certificate → (after : List ℕ)
-              → rest4 ≡ length_digits (length_of certificate) ++ 10 ∷ after → ⊥) → IsFirstWrongLine bytes 5
+          four-wrong : ((certificate : CertificateView) → IsReadable version certificate → (after : List ℕ)
+              → rest4 ≡ length_digits (length_of certificate) ++ 10 ∷ after → ⊥) → IsWrongIn version bytes 5
           four-wrong none =
               let parts = and_parts (nat_le from first) (nat_le first (from + 200000)) test in
               let behind = leb-true from first parts.0 in
               let close = leb-true first (from + 200000) parts.1 in
-              let head : IsReadableHead from pending first 1 = record { from_below = from_small; pending_below = pending_small; first_below = first_small; after = behind; near = close; some = omega arith; few = omega arith } in
-              head-wrong bytes (codes "fttcan plan 1" ∷ (from_digits from ∷ (pending_digits pending ∷ (first_digits first ∷ [])))) rest4 4 5 four
-              (clean-take 4 (lines_of_head from pending first 1) (clean-head from pending first 1 from_small first_small (omega arith)))
+              let head : IsReadableHead version from pending first 1 = record { from_below = from_small; pending_below = pending_small; first_below = first_small; after = behind; near = close; some = omega arith; few = omega arith } in
+              head-wrong version bytes (first_line version ∷ (from_digits from ∷ (pending_digits pending ∷ (first_digits first ∷ [])))) rest4 4 5 four
+              (clean-take 4 (lines_of_head version from pending first 1) (clean-head version from pending first 1 from_small first_small (omega arith)))
               refl (omega arith) refl
-              (begins-head bytes (codes "fttcan plan 1" ∷ (from_digits from ∷ (pending_digits pending ∷ (first_digits first ∷ [])))) rest4 from pending first 1 4 head four (omega arith) refl)
+              (begins-head version bytes (first_line version ∷ (from_digits from ∷ (pending_digits pending ∷ (first_digits first ∷ [])))) rest4 from pending first 1 4 head four (omega arith) refl)
               (λ certificate readable same after is. none certificate readable after is)
 
-          wrong-length-of : ((n : ℕ) (after : List ℕ) → n < 2 ^ 42 → rest4 ≡ length_digits n ++ 10 ∷ after → ⊥) → IsFirstWrongLine bytes 5
+          wrong-length-of : ((n : ℕ) (after : List ℕ) → n < 2 ^ 42 → rest4 ≡ length_digits n ++ 10 ∷ after → ⊥) → IsWrongIn version bytes 5
           wrong-length-of none =
               four-wrong (λ certificate readable after is. let few = readable.few in none (length_of certificate) after (omega arith) is)
 
           wrong-range-of : (rest5 : List ℕ) (size : ℕ) → rest4 ≡ length_digits size ++ 10 ∷ rest5 → size < 2 ^ 42
-              → (nat_le 1 size && nat_le size 200000) ≡ false → IsFirstWrongLine bytes 5
+              → (nat_le 1 size && nat_le size 200000) ≡ false → IsWrongIn version bytes 5
           wrong-range-of rest5 size fifth size_small range =
               four-wrong (λ certificate readable after is.
               let few = readable.few in
@@ -116,31 +157,35 @@ module _ (bytes rest : List ℕ) (first_line : bytes ≡ codes "fttcan plan 1" +
               let holds = and_from (nat_le 1 size) (nat_le size 200000) (le-leb 1 size (omega arith)) (le-leb size 200000 (omega arith)) in
               absurd (cc))
 
-pub wrong-pending : (bytes rest rest2 : List ℕ) (from : ℕ) → bytes ≡ codes "fttcan plan 1" ++ 10 ∷ rest → rest ≡ from_digits from ++ 10 ∷ rest2 → from < 2 ^ 42
-    → ((m : ℕ) (after : List ℕ) → m < 2 ^ slots → rest2 ≡ pending_digits m ++ 10 ∷ after → ⊥) → IsFirstWrongLine bytes 3
-wrong-pending bytes rest rest2 from e1 e2 s2 none = wrong-pending-of bytes rest e1 rest2 from e2 s2 none
+pub wrong-from : (version : Version) (bytes rest : List ℕ) → bytes ≡ first_line version ++ 10 ∷ rest
+    → ((n : ℕ) (after : List ℕ) → n < 2 ^ 42 → rest ≡ from_digits n ++ 10 ∷ after → ⊥) → IsFirstWrongLine bytes 2
+wrong-from version bytes rest e1 none = first-wrong version bytes rest 2 e1 (wrong-from-of version bytes rest e1 none)
 
-pub wrong-first : (bytes rest rest2 rest3 : List ℕ) (from pending : ℕ) → bytes ≡ codes "fttcan plan 1" ++ 10 ∷ rest → rest ≡ from_digits from ++ 10 ∷ rest2
-    → from < 2 ^ 42 → rest2 ≡ pending_digits pending ++ 10 ∷ rest3 → pending < 2 ^ slots
+pub wrong-pending : (version : Version) (bytes rest rest2 : List ℕ) (from : ℕ) → bytes ≡ first_line version ++ 10 ∷ rest → rest ≡ from_digits from ++ 10 ∷ rest2 → from < 2 ^ 42
+    → ((m : ℕ) (after : List ℕ) → m < mask_bound version → rest2 ≡ pending_digits m ++ 10 ∷ after → ⊥) → IsFirstWrongLine bytes 3
+wrong-pending version bytes rest rest2 from e1 e2 s2 none = first-wrong version bytes rest 3 e1 (wrong-pending-of version bytes rest e1 rest2 from e2 s2 none)
+
+pub wrong-first : (version : Version) (bytes rest rest2 rest3 : List ℕ) (from pending : ℕ) → bytes ≡ first_line version ++ 10 ∷ rest → rest ≡ from_digits from ++ 10 ∷ rest2
+    → from < 2 ^ 42 → rest2 ≡ pending_digits pending ++ 10 ∷ rest3 → pending < mask_bound version
     → ((n : ℕ) (after : List ℕ) → n < 2 ^ 42 → rest3 ≡ first_digits n ++ 10 ∷ after → ⊥) → IsFirstWrongLine bytes 4
-wrong-first bytes rest rest2 rest3 from pending e1 e2 s2 e3 s3 none = wrong-first-of bytes rest e1 rest2 from e2 s2 rest3 pending e3 s3 none
+wrong-first version bytes rest rest2 rest3 from pending e1 e2 s2 e3 s3 none = first-wrong version bytes rest 4 e1 (wrong-first-of version bytes rest e1 rest2 from e2 s2 rest3 pending e3 s3 none)
 
-pub wrong-near : (bytes rest rest2 rest3 rest4 : List ℕ) (from pending first : ℕ) → bytes ≡ codes "fttcan plan 1" ++ 10 ∷ rest
-    → rest ≡ from_digits from ++ 10 ∷ rest2 → from < 2 ^ 42 → rest2 ≡ pending_digits pending ++ 10 ∷ rest3 → pending < 2 ^ slots
+pub wrong-near : (version : Version) (bytes rest rest2 rest3 rest4 : List ℕ) (from pending first : ℕ) → bytes ≡ first_line version ++ 10 ∷ rest
+    → rest ≡ from_digits from ++ 10 ∷ rest2 → from < 2 ^ 42 → rest2 ≡ pending_digits pending ++ 10 ∷ rest3 → pending < mask_bound version
     → rest3 ≡ first_digits first ++ 10 ∷ rest4 → first < 2 ^ 42 → (nat_le from first && nat_le first (from + 200000)) ≡ false → IsFirstWrongLine bytes 4
-wrong-near bytes rest rest2 rest3 rest4 from pending first e1 e2 s2 e3 s3 e4 s4 test =
-    wrong-near-of bytes rest e1 rest2 from e2 s2 rest3 pending e3 s3 rest4 first e4 s4 test
+wrong-near version bytes rest rest2 rest3 rest4 from pending first e1 e2 s2 e3 s3 e4 s4 test =
+    first-wrong version bytes rest 4 e1 (wrong-near-of version bytes rest e1 rest2 from e2 s2 rest3 pending e3 s3 rest4 first e4 s4 test)
 
-pub wrong-length : (bytes rest rest2 rest3 rest4 : List ℕ) (from pending first : ℕ) → bytes ≡ codes "fttcan plan 1" ++ 10 ∷ rest
-    → rest ≡ from_digits from ++ 10 ∷ rest2 → from < 2 ^ 42 → rest2 ≡ pending_digits pending ++ 10 ∷ rest3 → pending < 2 ^ slots
+pub wrong-length : (version : Version) (bytes rest rest2 rest3 rest4 : List ℕ) (from pending first : ℕ) → bytes ≡ first_line version ++ 10 ∷ rest
+    → rest ≡ from_digits from ++ 10 ∷ rest2 → from < 2 ^ 42 → rest2 ≡ pending_digits pending ++ 10 ∷ rest3 → pending < mask_bound version
     → rest3 ≡ first_digits first ++ 10 ∷ rest4 → first < 2 ^ 42 → (nat_le from first && nat_le first (from + 200000)) ≡ true
     → ((n : ℕ) (after : List ℕ) → n < 2 ^ 42 → rest4 ≡ length_digits n ++ 10 ∷ after → ⊥) → IsFirstWrongLine bytes 5
-wrong-length bytes rest rest2 rest3 rest4 from pending first e1 e2 s2 e3 s3 e4 s4 test none =
-    wrong-length-of bytes rest e1 rest2 from e2 s2 rest3 pending e3 s3 rest4 first e4 s4 test none
+wrong-length version bytes rest rest2 rest3 rest4 from pending first e1 e2 s2 e3 s3 e4 s4 test none =
+    first-wrong version bytes rest 5 e1 (wrong-length-of version bytes rest e1 rest2 from e2 s2 rest3 pending e3 s3 rest4 first e4 s4 test none)
 
-pub wrong-length-range : (bytes rest rest2 rest3 rest4 rest5 : List ℕ) (from pending first size : ℕ) → bytes ≡ codes "fttcan plan 1" ++ 10 ∷ rest
-    → rest ≡ from_digits from ++ 10 ∷ rest2 → from < 2 ^ 42 → rest2 ≡ pending_digits pending ++ 10 ∷ rest3 → pending < 2 ^ slots
+pub wrong-length-range : (version : Version) (bytes rest rest2 rest3 rest4 rest5 : List ℕ) (from pending first size : ℕ) → bytes ≡ first_line version ++ 10 ∷ rest
+    → rest ≡ from_digits from ++ 10 ∷ rest2 → from < 2 ^ 42 → rest2 ≡ pending_digits pending ++ 10 ∷ rest3 → pending < mask_bound version
     → rest3 ≡ first_digits first ++ 10 ∷ rest4 → first < 2 ^ 42 → (nat_le from first && nat_le first (from + 200000)) ≡ true
     → rest4 ≡ length_digits size ++ 10 ∷ rest5 → size < 2 ^ 42 → (nat_le 1 size && nat_le size 200000) ≡ false → IsFirstWrongLine bytes 5
-wrong-length-range bytes rest rest2 rest3 rest4 rest5 from pending first size e1 e2 s2 e3 s3 e4 s4 test e5 s5 range =
-    wrong-range-of bytes rest e1 rest2 from e2 s2 rest3 pending e3 s3 rest4 first e4 s4 test rest5 size e5 s5 range
+wrong-length-range version bytes rest rest2 rest3 rest4 rest5 from pending first size e1 e2 s2 e3 s3 e4 s4 test e5 s5 range =
+    first-wrong version bytes rest 5 e1 (wrong-range-of version bytes rest e1 rest2 from e2 s2 rest3 pending e3 s3 rest4 first e4 s4 test rest5 size e5 s5 range)

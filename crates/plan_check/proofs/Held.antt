@@ -9,7 +9,7 @@ use Rattle.std.proofs.lemmas.List.Folds.{Any-from_list_any, list_any-from_Any}
 use Rattle.requirement_table.specs.declared.entries.Placed.{Placed}
 use Rattle.requirement_table.specs.Flags.{IsFlaggedOnce, IsGoodCycle, waits}
 use Rattle.requirement_table.specs.Instance.{Exists, Instance, IsLastCycle, IsReleasedIn, MaySend, deadline_of, release_of, released_by}
-use Rattle.requirement_table.specs.Slots.{slots}
+use Rattle.requirement_table.specs.Slots.{most_slots}
 use Rattle.requirement_table.specs.Table.{IsInRange, IsWellPlaced, held_before, instance_in, is_last_in, releases_in}
 use Rattle.requirement_table.proofs.Shared.{IsReleasedIn-from_released_by, found-in, found-of, released_by-released}
 use Rattle.plan_check.specs.PlanKept.{HasPending, IsOwed, IsOwedIn}
@@ -178,7 +178,7 @@ module _ (placed : List Placed) (flags : ℕ → ℕ → Bool) (from : ℕ) (pen
       }
 
   -- an instance that is not sent in a good cycle is held in the next one
-  holder-next : (n slot : ℕ) → slot < slots → IsGoodCycle placed flags from pending n → waits placed flags from pending n slot ≡ true
+  holder-next : (n slot : ℕ) → slot < most_slots → IsGoodCycle placed flags from pending n → waits placed flags from pending n slot ≡ true
       → flags (from + n) slot ≡ false → IsHolder placed flags from pending n slot → IsHolder placed flags from pending (suc n) slot
   holder-next n slot known good waiting unflagged holder =
       let p = holder.owing.entry in
@@ -218,7 +218,7 @@ module _ (placed : List Placed) (flags : ℕ → ℕ → Bool) (from : ℕ) (pen
       (λ (now : releases_in placed (from + n) slot ≡ true). holder-released n slot now)
       (or_cases (held_before placed flags from pending n slot) (releases_in placed (from + n) slot) waiting)
 
-  holder-before : (n slot : ℕ) → slot < slots → HasPending placed from pending → ((m : ℕ) → m < n → IsGoodCycle placed flags from pending m)
+  holder-before : (n slot : ℕ) → slot < most_slots → HasPending placed from pending → ((m : ℕ) → m < n → IsGoodCycle placed flags from pending m)
       → held_before placed flags from pending n slot ≡ true → IsHolder placed flags from pending n slot
   holder-before zero slot known valid good held = holder-pending slot valid (sym (before-zero placed flags from pending slot) ∙ held)
   holder-before (suc n) slot known valid good held =
@@ -227,7 +227,7 @@ module _ (placed : List Placed) (flags : ℕ → ℕ → Bool) (from : ℕ) (pen
       (holder-waits n slot (λ before. holder-before n slot known valid (λ m below. good m (omega arith)) before) parts.0)
 
   -- after good cycles, a slot that waits holds an instance that is to be sent
-  pub holder-of : (n slot : ℕ) → slot < slots → HasPending placed from pending → ((m : ℕ) → m < n → IsGoodCycle placed flags from pending m)
+  pub holder-of : (n slot : ℕ) → slot < most_slots → HasPending placed from pending → ((m : ℕ) → m < n → IsGoodCycle placed flags from pending m)
       → waits placed flags from pending n slot ≡ true → IsHolder placed flags from pending n slot
   holder-of n slot known valid good waiting = holder-waits n slot (λ before. holder-before n slot known valid good before) waiting
 

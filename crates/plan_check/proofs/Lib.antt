@@ -4,9 +4,13 @@ mod CycleSteps
 mod FirstBreach
 mod HeadReads
 mod Held
+mod LineReads
 mod PlanReads
 mod Repeated
 mod Rounds
+mod RunLoop
+mod Runs
 mod SlotSets
+mod Spaces
 mod Taken
 mod TextLines

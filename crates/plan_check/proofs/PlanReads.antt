@@ -1,16 +1,19 @@
 -- Texts that begin as the text of a plan, and the first line that is wrong.
-use Rattle.std.proofs.Common.{◌≡◌, ℕ, zero, suc, ◌+◌, ◌-◌, ◌^◌, ◌<◌, ◌≤◌, ◌&&◌, true, false, not, nat_eq, nat_le, List, [], ◌∷◌, ◌++◌, All, codes, drop, get_or, length, map, replicate, take, refl, sym, ap, ◌∙◌, arith, append_assoc}
+use Rattle.std.proofs.Common.{◌≡◌, ℕ, zero, suc, ◌+◌, ◌-◌, ◌^◌, ◌<◌, ◌≤◌, ◌&&◌, true, false, not, nat_eq, nat_le, List, [], ◌∷◌, ◌++◌, All, None, codes, drop, get_or, length, map, take, subst, refl, sym, ap, ◌∙◌, arith, append_assoc}
 use Rattle.std.specs.Fmt.{decimal}
 use Rattle.std.specs.List.{list_all}
 use Rattle.std.proofs.lemmas.Bool.{and_from, and_parts, le-leb}
 use Rattle.std.proofs.lemmas.Fmt.{decimal_injective}
-use Rattle.std.proofs.lemmas.List.{append_cancel_left, length-append, length-map, length-replicate, length-take-le, map-append, take-append-drop, take_more}
-use Rattle.std.proofs.lemmas.List.Elements.{All-append, All-cons, All-nil, All-replicate}
-use Rattle.requirement_table.specs.Slots.{slots}
+use Rattle.std.proofs.lemmas.List.{append_cancel_left, length-append, length-map, length-take-le, append-nil, take-append-drop, take-append-le, take_more}
 use Rattle.plan_check.specs.Certificate.{CertificateView, length_of}
-use Rattle.plan_check.specs.PlanText.{BeginsAsPlan, IsFirstWrongLine, IsReadable, IsReadableHead, head_lines, lines_of_head, mask_digits, mask_lines, plan_lines, plan_text, text_of}
+use Rattle.plan_check.specs.declared.plan_runs.Run.{Run}
+use Rattle.plan_check.specs.declared.plan_runs.Version.{Version}
+use Rattle.plan_check.specs.declared.plan_runs.Version.TheVariants.{One, Two}
+use Rattle.plan_check.specs.PlanText.{AreListed, BeginsAsPlan, IsFirstWrongLine, IsPlanOf, IsReadable, IsReadableHead, first_line, head_lines, last_mask, lines_of_head, lines_of_runs, listed_runs, mask_bound, plan_lines, run_line, spread, text_in, text_of, total}
 use Rattle.text_fields.specs.Lines.{HasNoFeed}
-use Rattle.text_fields.proofs.Shared.{no_feed-append, no_feed-decimal, no_feed-hex, same_line}
+use Rattle.text_fields.specs.MaskText.{mask_digits}
+use Rattle.text_fields.proofs.Shared.{no_feed-append, no_feed-decimal, no_feed-mask, same_line}
+use Rattle.plan_check.proofs.Runs.{filling, filling-listed, filling-total, length-spread, listed-append, listed-spread, masks-below, total-append, total-listed}
 use Rattle.plan_check.proofs.TextLines.{text_of-append}
 
 abbrev pub AllClean : List (List ℕ) → Type 0
@@ -49,10 +52,6 @@ clean-take zero xs clean = tt
 clean-take (suc k) [] clean = tt
 clean-take (suc k) (x ∷ xs) clean = (clean.0, clean-take k xs clean.1)
 
-pub clean-masks : (masks : List ℕ) → AllClean (map mask_digits masks)
-clean-masks [] = tt
-clean-masks (m ∷ masks) = (no_feed-hex 10 m, clean-masks masks)
-
 pub literal-clean : (word : List ℕ) → list_all (λ b. not (nat_eq b 10)) word ≡ true → HasNoFeed word
 literal-clean [] test i within = absurd (omega arith)
 literal-clean (b ∷ word) test zero within = λ is. let one = (and_parts (not (nat_eq b 10)) (list_all (λ c. not (nat_eq c 10)) word) test).0 in let same = ap (λ c. not (nat_eq c 10)) is in absurd (cc)
@@ -62,40 +61,159 @@ literal-clean (b ∷ word) test (suc i) within =
 pub word-number : (word : List ℕ) (n : ℕ) → list_all (λ b. not (nat_eq b 10)) word ≡ true → n < 2 ^ 42 → HasNoFeed (word ++ decimal n)
 word-number word n test small = no_feed-append word (decimal n) (literal-clean word test) (no_feed-decimal n (omega arith))
 
-pub clean-head : (from pending first length : ℕ) → from < 2 ^ 42 → first < 2 ^ 42 → length < 2 ^ 42 → AllClean (lines_of_head from pending first length)
-clean-head from pending first length small near few = (
-  literal-clean (codes "fttcan plan 1") refl,
+pub clean-first : (version : Version) → HasNoFeed (first_line version)
+clean-first One = literal-clean (codes "fttcan plan 1") refl
+clean-first Two = literal-clean (codes "fttcan plan 2") refl
+
+pub clean-run : (version : Version) (run : Run) → run.count < 2 ^ 42 → HasNoFeed (run_line version run)
+clean-run One run small = no_feed-mask run.mask
+clean-run Two run small =
+    no_feed-append (mask_digits run.mask ++ codes " ") (decimal run.count)
+    (no_feed-append (mask_digits run.mask) (codes " ") (no_feed-mask run.mask) (literal-clean (codes " ") refl)) (no_feed-decimal run.count (omega arith))
+
+pub clean-runs : (version : Version) (runs : List Run) → total runs < 2 ^ 42 → AllClean (map (run_line version) runs)
+clean-runs version [] few = tt
+clean-runs version (run ∷ runs) few = (clean-run version run (omega arith), clean-runs version runs (omega arith))
+
+pub clean-body : (version : Version) (runs : List Run) → total runs < 2 ^ 42 → AllClean (lines_of_runs version runs)
+clean-body version runs few =
+    clean-append (map (run_line version) runs) (codes "end" ∷ []) (clean-runs version runs few) (literal-clean (codes "end") refl, tt)
+
+pub clean-head : (version : Version) (from pending first length : ℕ) → from < 2 ^ 42 → first < 2 ^ 42 → length < 2 ^ 42
+    → AllClean (lines_of_head version from pending first length)
+clean-head version from pending first length small near few = (
+  clean-first version,
   (
     word-number (codes "from ") from refl small,
     (
-      no_feed-append (codes "pending ") (mask_digits pending) (literal-clean (codes "pending ") refl) (no_feed-hex 10 pending),
+      no_feed-append (codes "pending ") (mask_digits pending) (literal-clean (codes "pending ") refl) (no_feed-mask pending),
       (word-number (codes "first ") first refl near, (word-number (codes "length ") length refl few, tt)),
     ),
   ),
 )
 
-pub clean-plan : (certificate : CertificateView) → IsReadable certificate → AllClean (plan_lines certificate)
-clean-plan certificate readable =
+-- a readable certificate has few masks
+pub few-listed : (version : Version) (certificate : CertificateView) → IsReadable version certificate → length certificate.masks ≤ 400000
+few-listed version certificate readable =
     let few = readable.few in
-    clean-append (head_lines certificate) (mask_lines certificate.masks)
-    (clean-head certificate.from certificate.pending certificate.first (length_of certificate) readable.from readable.first (omega arith))
-    (clean-append (map mask_digits certificate.masks) (codes "end" ∷ []) (clean-masks certificate.masks) (literal-clean (codes "end") refl, tt))
+    let near = readable.near in
+    let after = readable.after in
+    omega arith
+
+pub clean-plan : (version : Version) (certificate : CertificateView) → IsReadable version certificate → AllClean (plan_lines version certificate)
+clean-plan version certificate readable =
+    let few = readable.few in
+    let all = few-listed version certificate readable in
+    let count = total-listed version certificate.masks in
+    clean-append (head_lines version certificate) (lines_of_runs version (listed_runs version certificate.masks))
+    (clean-head version certificate.from certificate.pending certificate.first (length_of certificate) readable.from readable.first (omega arith))
+    (clean-body version (listed_runs version certificate.masks) (omega arith))
+
+-- One version
+
+-- the same as for any version, where the first line says which one it is
+pub record IsPlanIn (version : Version) (bytes : List ℕ) (certificate : CertificateView) : Type 0 where
+  pub readable : IsReadable version certificate
+  pub text : bytes ≡ text_in version certificate
+
+pub record BeginsIn (version : Version) (bytes : List ℕ) (count : ℕ) : Type 0 where
+  pub certificate : CertificateView
+  pub readable : IsReadable version certificate
+  pub within : count ≤ length (plan_lines version certificate)
+  pub rest : List ℕ
+  pub split : bytes ≡ text_of (take count (plan_lines version certificate)) ++ rest
+
+pub record IsWrongIn (version : Version) (bytes : List ℕ) (number : ℕ) : Type 0 where
+  pub count : ℕ
+  pub at : number ≡ count + 1
+  pub other : (certificate : CertificateView) → IsPlanIn version bytes certificate → ⊥
+  pub before : BeginsIn version bytes count
+  pub wrong : BeginsIn version bytes number → ⊥
+
+-- the lines behind the first one
+abbrev behind_first : Version → CertificateView → List (List ℕ)
+behind_first version certificate =
+    ((codes "from " ++ decimal certificate.from)
+    ∷ ((codes "pending " ++ mask_digits certificate.pending)
+    ∷ ((codes "first " ++ decimal certificate.first)
+    ∷ ((codes "length " ++ decimal (length_of certificate))
+    ∷ [])))) ++ lines_of_runs version (listed_runs version certificate.masks)
+
+apart : (a b : ℕ) → a ≡ b → a ≡ 49 → b ≡ 50 → ⊥
+apart a b same one two = omega arith
+
+version-same : (v w : Version) → first_line v ≡ first_line w → v ≡ w
+version-same One One same = refl
+version-same One Two same = absurd (apart _ _ (ap (λ (l : List ℕ). get_or l 12 0) same) refl refl)
+version-same Two One same = absurd (apart _ _ (ap (λ (l : List ℕ). get_or l 12 0) (sym same)) refl refl)
+version-same Two Two same = refl
+
+-- a text is of the version that its first line says
+pub this-version : (version other : Version) (bytes after more : List ℕ) → bytes ≡ first_line version ++ 10 ∷ after → bytes ≡ first_line other ++ 10 ∷ more
+    → other ≡ version
+this-version version other bytes after more begun is =
+    version-same other version (same_line (first_line other) (first_line version) more after (clean-first other) (clean-first version) (sym is ∙ begun)).0
+
+begins-by_count : (version w : Version) (bytes after : List ℕ) (k : ℕ) (c : CertificateView) (rest : List ℕ) → bytes ≡ first_line version ++ 10 ∷ after → 1 ≤ k
+    → IsReadable w c → k ≤ length (plan_lines w c) → bytes ≡ text_of (take k (plan_lines w c)) ++ rest → BeginsIn version bytes k
+begins-by_count version w bytes after zero c rest begun some readable within split = absurd (omega arith)
+begins-by_count version w bytes after (suc k) c rest begun some readable within split =
+    let first : bytes ≡ first_line w ++ 10 ∷ (text_of (take k (behind_first w c)) ++ rest) = split ∙ text-cons (first_line w) (take k (behind_first w c)) rest in
+    let P : Version → Type 0 = λ v. BeginsIn v bytes (suc k) in
+    let here : BeginsIn w bytes (suc k) = record { certificate = c; readable = readable; within = within; rest = rest; split = split } in
+    subst P (this-version version w bytes after (text_of (take k (behind_first w c)) ++ rest) begun first) here
+
+begins-in : (version : Version) (bytes after : List ℕ) (k : ℕ) → bytes ≡ first_line version ++ 10 ∷ after → 1 ≤ k → BeginsAsPlan bytes k → BeginsIn version bytes k
+begins-in version bytes after k begun some begins =
+    begins-by_count version begins.version bytes after k begins.certificate begins.rest begun some begins.readable begins.within begins.split
+
+pub plan-in : (version : Version) (bytes after : List ℕ) (certificate : CertificateView) → bytes ≡ first_line version ++ 10 ∷ after → IsPlanOf bytes certificate
+    → IsPlanIn version bytes certificate
+plan-in version bytes after certificate begun plan =
+    let w = plan.version in
+    let first : bytes ≡ first_line w ++ 10 ∷ (text_of (behind_first w certificate) ++ [])
+    = plan.text ∙ sym (append-nil (text_in w certificate)) ∙ text-cons (first_line w) (behind_first w certificate) [] in
+    let P : Version → Type 0 = λ v. IsPlanIn v bytes certificate in
+    let here : IsPlanIn w bytes certificate = record { readable = plan.readable; text = plan.text } in
+    subst P (this-version version w bytes after (text_of (behind_first w certificate) ++ []) begun first) here
+
+-- what is wrong in the version that the first line says is wrong
+pub first-wrong : (version : Version) (bytes after : List ℕ) (number : ℕ) → bytes ≡ first_line version ++ 10 ∷ after → IsWrongIn version bytes number
+    → IsFirstWrongLine bytes number
+first-wrong version bytes after number begun wrong =
+    let at = wrong.at in
+    record {
+      count = wrong.count;
+      at = at;
+      other = λ certificate plan. wrong.other certificate (plan-in version bytes after certificate begun plan);
+      before = record {
+        version = version;
+        certificate = wrong.before.certificate;
+        readable = wrong.before.readable;
+        within = wrong.before.within;
+        rest = wrong.before.rest;
+        split = wrong.before.split;
+      };
+      wrong = λ begins. wrong.wrong (begins-in version bytes after number begun (omega arith) begins);
+    }
 
 -- The head
 
 -- how many lines a plan has
-pub count-lines : (certificate : CertificateView) → length (plan_lines certificate) ≡ 6 + length certificate.masks
-count-lines certificate =
-    let masks = length-append (map mask_digits certificate.masks) (codes "end" ∷ []) in
-    let size = length-map certificate.masks mask_digits in
+pub count-lines : (version : Version) (certificate : CertificateView)
+    → length (plan_lines version certificate) ≡ 6 + length (listed_runs version certificate.masks)
+count-lines version certificate =
+    let runs = listed_runs version certificate.masks in
+    let lines = length-append (map (run_line version) runs) (codes "end" ∷ []) in
+    let size : length (map (run_line version) runs) ≡ length runs = length-map runs (run_line version) in
     omega arith
 
 -- a text of a plan begins with each number of its lines
-pub begins-by : (bytes : List ℕ) (certificate : CertificateView) (k : ℕ) → IsReadable certificate → k ≤ 6 + length certificate.masks
-    → bytes ≡ plan_text certificate → BeginsAsPlan bytes k
-begins-by bytes certificate k readable within is =
-    let lines = plan_lines certificate in
-    let size = count-lines certificate in
+pub begins-by : (version : Version) (bytes : List ℕ) (certificate : CertificateView) (k : ℕ) → IsReadable version certificate
+    → k ≤ 6 + length (listed_runs version certificate.masks) → bytes ≡ text_in version certificate → BeginsIn version bytes k
+begins-by version bytes certificate k readable within is =
+    let lines = plan_lines version certificate in
+    let size = count-lines version certificate in
     record {
       certificate = certificate;
       readable = readable;
@@ -117,28 +235,28 @@ next-line lines its rest other k clean its_clean size inside same =
     same_front lines (take k its) rest (get_or its k [] ++ 10 ∷ other) clean (clean-take k its its_clean) (omega arith) whole
 
 -- a line of the head that no plan has behind the lines before it
-pub head-wrong : (bytes : List ℕ) (lines : List (List ℕ)) (rest : List ℕ) (k number : ℕ) → bytes ≡ text_of lines ++ rest → AllClean lines → length lines ≡ k
-    → k ≤ 4 → number ≡ k + 1 → BeginsAsPlan bytes k
-    → ((certificate : CertificateView) → IsReadable certificate → take k (plan_lines certificate) ≡ lines → (after : List ℕ)
-    → rest ≡ get_or (plan_lines certificate) k [] ++ 10 ∷ after → ⊥)
-    → IsFirstWrongLine bytes number
-head-wrong bytes lines rest k number is clean size early at before none =
+pub head-wrong : (version : Version) (bytes : List ℕ) (lines : List (List ℕ)) (rest : List ℕ) (k number : ℕ) → bytes ≡ text_of lines ++ rest → AllClean lines
+    → length lines ≡ k → k ≤ 4 → number ≡ k + 1 → BeginsIn version bytes k
+    → ((certificate : CertificateView) → IsReadable version certificate → take k (plan_lines version certificate) ≡ lines → (after : List ℕ)
+    → rest ≡ get_or (plan_lines version certificate) k [] ++ 10 ∷ after → ⊥)
+    → IsWrongIn version bytes number
+head-wrong version bytes lines rest k number is clean size early at before none =
     record {
       count = k;
       at = at;
-      other = λ certificate readable plan. wrong (begins-by bytes certificate number readable (omega arith) plan);
+      other = λ certificate plan. wrong (begins-by version bytes certificate number plan.readable (omega arith) plan.text);
       before = before;
       wrong = wrong;
     }
   where
-    wrong : BeginsAsPlan bytes number → ⊥
+    wrong : BeginsIn version bytes number → ⊥
     wrong begins =
         let c = begins.certificate in
-        let plan = plan_lines c in
+        let plan = plan_lines version c in
         let within = begins.within in
         let inside : k < length plan = omega arith in
         let split : bytes ≡ text_of (take (k + 1) plan) ++ begins.rest = rw at at begins.split in
-        let parts = next-line lines plan rest begins.rest k clean (clean-plan c begins.readable) size inside (sym is ∙ split) in
+        let parts = next-line lines plan rest begins.rest k clean (clean-plan version c begins.readable) size inside (sym is ∙ split) in
         none c begins.readable (sym parts.0) begins.rest parts.1
 
 -- a certificate with as many masks as its head says
@@ -151,9 +269,11 @@ counted-length certificate size count =
     sum-less : (a b : ℕ) → a + b - a ≡ b
     sum-less a b = omega arith
 
-pub counted-readable : (certificate : CertificateView) (size : ℕ) → IsReadableHead certificate.from certificate.pending certificate.first size
-    → length certificate.masks ≡ certificate.first - certificate.from + size → All (λ m. m < 2 ^ slots) certificate.masks → IsReadable certificate
-counted-readable certificate size head count small =
+pub counted-readable : (version : Version) (certificate : CertificateView) (size : ℕ)
+    → IsReadableHead version certificate.from certificate.pending certificate.first size
+    → length certificate.masks ≡ certificate.first - certificate.from + size → All (λ m. m < mask_bound version) certificate.masks
+    → IsReadable version certificate
+counted-readable version certificate size head count small =
     let whole = counted-length certificate size count in
     let some = head.some in
     let few = head.few in
@@ -168,30 +288,65 @@ counted-readable certificate size head count small =
       masks = small;
     }
 
--- a certificate with a given head
-abbrev pub filler : ℕ → ℕ → ℕ → ℕ → CertificateView
-filler from pending first length = record { from = from; pending = pending; first = first; masks = replicate (first - from + length) 0 }
+-- the certificate with these runs and others behind them, as many as its head says
+abbrev pub filler : Version → ℕ → ℕ → ℕ → ℕ → List Run → CertificateView
+filler version from pending first size runs = record {
+  from = from;
+  pending = pending;
+  first = first;
+  masks = spread (runs ++ filling version (last_mask None runs) (first - from + size - total runs));
+}
 
-filler-count : (from pending first size : ℕ) → length (filler from pending first size).masks ≡ first - from + size
-filler-count from pending first size = length-replicate (first - from + size) 0
+module _ (version : Version) (from pending first size : ℕ) (runs : List Run) (listed : AreListed version None runs) (few : total runs ≤ first - from + size) where
+  abbrev tail_runs : List Run
+  tail_runs = filling version (last_mask None runs) (first - from + size - total runs)
 
-filler-readable : (from pending first length : ℕ) → IsReadableHead from pending first length → IsReadable (filler from pending first length)
-filler-readable from pending first size head =
-    counted-readable (filler from pending first size) size head (filler-count from pending first size)
-    (All-replicate (λ mask. mask < 2 ^ slots) (first - from + size) 0 (omega arith))
+  all-listed : AreListed version None (runs ++ tail_runs)
+  all-listed = listed-append version None runs tail_runs listed (filling-listed version (last_mask None runs) (first - from + size - total runs))
+
+  filler-runs : listed_runs version (filler version from pending first size runs).masks ≡ runs ++ tail_runs
+  filler-runs = listed-spread version (runs ++ tail_runs) all-listed
+
+  filler-count : length (filler version from pending first size runs).masks ≡ first - from + size
+  filler-count =
+      let all = length-spread (runs ++ tail_runs) in
+      let parts = total-append runs tail_runs in
+      let more = filling-total version (last_mask None runs) (first - from + size - total runs) in
+      omega arith
+
+  filler-readable : IsReadableHead version from pending first size → IsReadable version (filler version from pending first size runs)
+  filler-readable head =
+      counted-readable version (filler version from pending first size runs) size head filler-count (masks-below version None (runs ++ tail_runs) all-listed)
+
+  filler-length : length_of (filler version from pending first size runs) ≡ size
+  filler-length = counted-length (filler version from pending first size runs) size filler-count
+
+  -- lines of the head, and lines of these runs behind it, begin a plan
+  pub filler-begins : (bytes : List ℕ) (lines : List (List ℕ)) (rest : List ℕ) (k : ℕ) → IsReadableHead version from pending first size → bytes ≡ text_of lines ++ rest
+      → k ≤ 5 + length runs
+      → lines ≡ take k (lines_of_head version from pending first size ++ (map (run_line version) (runs ++ tail_runs) ++ codes "end" ∷ [])) → BeginsIn version bytes k
+  filler-begins bytes lines rest k head is early same =
+      let c = filler version from pending first size runs in
+      let count = count-lines version c in
+      let all = ap length filler-runs ∙ length-append runs tail_runs in
+      let these : lines_of_head version from pending first size ++ (map (run_line version) (runs ++ tail_runs) ++ codes "end" ∷ []) ≡ plan_lines version c
+      = ap (λ n. lines_of_head version from pending first n ++ (map (run_line version) (runs ++ tail_runs) ++ codes "end" ∷ [])) (sym filler-length)
+      ∙ ap (λ l. head_lines version c ++ (map (run_line version) l ++ codes "end" ∷ [])) (sym filler-runs) in
+      record {
+        certificate = c;
+        readable = filler-readable head;
+        within = omega arith;
+        rest = rest;
+        split = is ∙ ap (λ l. text_of l ++ rest) (same ∙ ap (take k) these);
+      }
 
 -- lines of the head begin a plan
-pub begins-head : (bytes : List ℕ) (lines : List (List ℕ)) (rest : List ℕ) (from pending first length k : ℕ) → IsReadableHead from pending first length
-    → bytes ≡ text_of lines ++ rest → k ≤ 5 → lines ≡ take k (plan_lines (filler from pending first length)) → BeginsAsPlan bytes k
-begins-head bytes lines rest from pending first size k head is early same =
-    let count = count-lines (filler from pending first size) in
-    record {
-      certificate = filler from pending first size;
-      readable = filler-readable from pending first size head;
-      within = omega arith;
-      rest = rest;
-      split = is ∙ ap (λ l. text_of l ++ rest) same;
-    }
+pub begins-head : (version : Version) (bytes : List ℕ) (lines : List (List ℕ)) (rest : List ℕ) (from pending first size k : ℕ)
+    → IsReadableHead version from pending first size → bytes ≡ text_of lines ++ rest → k ≤ 5
+    → lines ≡ take k (lines_of_head version from pending first size) → BeginsIn version bytes k
+begins-head version bytes lines rest from pending first size k head is early same =
+    filler-begins version from pending first size [] tt (omega arith) bytes lines rest k head is (omega arith)
+    (same ∙ sym (take-append-le k (lines_of_head version from pending first size) (map (run_line version) (filling version None (first - from + size - 0)) ++ codes "end" ∷ []) early))
 
 -- the number behind a word is known by the line
 pub number-same : (word : List ℕ) (m n : ℕ) → m < 2 ^ 42 → n < 2 ^ 42 → word ++ decimal m ≡ word ++ decimal n → m ≡ n
@@ -201,16 +356,3 @@ pub near-false : (from first : ℕ) → (nat_le from first && nat_le first (from
 near-false from first test after near =
     let holds = and_from (nat_le from first) (nat_le first (from + 200000)) (le-leb from first after) (le-leb first (from + 200000) near) in
     absurd (cc)
-
-pub masks-more : (text rest after masks new : List ℕ) (mask : ℕ) → text ≡ text_of (map mask_digits masks) ++ rest → rest ≡ mask_digits mask ++ 10 ∷ after
-    → new ≡ masks ++ mask ∷ [] → text ≡ text_of (map mask_digits new) ++ after
-masks-more text rest after masks new mask is next made =
-    front-more text (map mask_digits masks) rest (mask_digits mask) after is next
-    ∙ ap (λ l. text_of l ++ after) (sym (map-append mask_digits masks (mask ∷ [])))
-    ∙ ap (λ l. text_of (map mask_digits l) ++ after) (sym made)
-
-pub all-snoc : (masks new : List ℕ) (mask : ℕ) → new ≡ masks ++ mask ∷ [] → All (λ m. m < 2 ^ slots) masks → mask < 2 ^ slots
-    → All (λ m. m < 2 ^ slots) new
-all-snoc masks new mask made all small =
-    let P : ℕ → Type 0 = λ m. m < 2 ^ slots in
-    rw made (All-append P masks (mask ∷ []) all (All-cons P mask [] small (All-nil P)))

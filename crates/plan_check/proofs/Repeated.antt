@@ -5,7 +5,7 @@ use Rattle.std.proofs.lemmas.Bool.{cases_lt, cond-true, cond-false}
 use Rattle.std.proofs.lemmas.Bool.Decides.{nat_tests}
 use Rattle.requirement_table.specs.declared.entries.Placed.{Placed}
 use Rattle.requirement_table.specs.Flags.{IsGoodCycle}
-use Rattle.requirement_table.specs.Slots.{contains_slot, slots, sum_where}
+use Rattle.requirement_table.specs.Slots.{contains_slot, most_slots, sum_where}
 use Rattle.requirement_table.specs.Table.{IsWellPlaced, is_last_in, releases_in, worst_in}
 use Rattle.requirement_table.proofs.Shared.{GoesRound, SameAgain, same-again, sum_where-same}
 use Rattle.plan_check.specs.Certificate.{CertificateView, IsCertificate, flags_of, length_of, place_of}
@@ -119,7 +119,7 @@ module _ (placed : List Placed) (window : ℕ) (certificate : CertificateView) (
       let at : certificate.from + (n + length_of certificate) ≡ certificate.from + n + length_of certificate = omega arith in
       ap (λ c. releases_in placed c slot) at ∙ (again-at n slot late).releases
 
-  held-on : (j n slot : ℕ) → certificate.first - certificate.from + j ≡ n → slot < slots
+  held-on : (j n slot : ℕ) → certificate.first - certificate.from + j ≡ n → slot < most_slots
       → is_held placed certificate (n + length_of certificate) slot ≡ is_held placed certificate n slot
   held-on zero n slot at known =
       let before = certificate.first - certificate.from in
@@ -140,7 +140,7 @@ module _ (placed : List Placed) (window : ℕ) (certificate : CertificateView) (
       ∙ ap (λ b. (is_held placed certificate m slot || releases_in placed (certificate.from + m) slot) && not b) (flagged-again m slot (omega arith))
       ∙ sym (before-suc placed flags certificate.from pending m slot))
 
-  waiting-again : (n slot : ℕ) → certificate.first - certificate.from ≤ n → slot < slots
+  waiting-again : (n slot : ℕ) → certificate.first - certificate.from ≤ n → slot < most_slots
       → is_waiting placed certificate (n + length_of certificate) slot ≡ is_waiting placed certificate n slot
   waiting-again n slot late known =
       ap (λ b. b || releases_in placed (certificate.from + (n + length_of certificate)) slot)
@@ -152,9 +152,9 @@ module _ (placed : List Placed) (window : ℕ) (certificate : CertificateView) (
       let c = certificate.from + n in
       let far = certificate.from + (n + length_of certificate) in
       let at : far ≡ c + length_of certificate = omega arith in
-      sum_where-same slots (is_flagged certificate (n + length_of certificate)) (is_flagged certificate n) (worst_in placed far)
+      sum_where-same most_slots (is_flagged certificate (n + length_of certificate)) (is_flagged certificate n) (worst_in placed far)
       (λ slot known. flagged-again n slot late)
-      ∙ sum_where-costs slots (is_flagged certificate n) (worst_in placed far) (worst_in placed c)
+      ∙ sum_where-costs most_slots (is_flagged certificate n) (worst_in placed far) (worst_in placed c)
       (λ slot known. ap (λ x. worst_in placed x slot) at ∙ (again-at n slot late).cost)
 
   good-again : (n : ℕ) → certificate.first - certificate.from ≤ n → IsGoodAt placed window certificate n → IsGoodAt placed window certificate (n + length_of certificate)

@@ -5,7 +5,7 @@ use Rattle.std.proofs.Math.Nat.{le-max_left, le-max_right}
 use Rattle.std.proofs.lemmas.Bool.{cases_lt, eqb-true, and_parts, false_from_ne_true, not-true}
 use Rattle.requirement_table.specs.declared.entries.Placed.{Placed}
 use Rattle.requirement_table.specs.Instance.{IsLastCycle, MaySend, deadline_of, release_of}
-use Rattle.requirement_table.specs.Slots.{contains_slot, slots}
+use Rattle.requirement_table.specs.Slots.{contains_slot, most_slots}
 use Rattle.requirement_table.specs.Table.{IsWellPlaced, instance_in, is_last_in}
 use Rattle.plan_check.specs.declared.breach.Breach.{Breach}
 use Rattle.plan_check.specs.declared.breach.Breach.TheVariants.{BadLoop, NotReleased, TooWide, Missed, NotClosed}
@@ -21,7 +21,7 @@ passes-none test slot none least = let passes = least.passes in let nothing = no
 
 module _ (placed : List Placed) (window : ℕ) (certificate : CertificateView) (well : IsWellPlaced placed)
     (valid : HasPending placed certificate.from (contains_slot certificate.pending)) where
-  only-owed : ((n : ℕ) → IsGoodAt placed window certificate n) → (c n slot : ℕ) → c ≡ certificate.from + n → slot < slots
+  only-owed : ((n : ℕ) → IsGoodAt placed window certificate n) → (c n slot : ℕ) → c ≡ certificate.from + n → slot < most_slots
       → flags_of certificate c slot ≡ true → IsOwedIn placed certificate.from (contains_slot certificate.pending) c slot
   only-owed good c n slot at known flagged =
       let here : is_flagged certificate n slot ≡ true = rw at at flagged in
@@ -65,7 +65,7 @@ module _ (placed : List Placed) (window : ℕ) (certificate : CertificateView) (
         let second = once.alone (certificate.from + n) (max-below certificate.from (release_of p k) (certificate.from + n) (omega arith) released_now) (omega arith) now in
         omega arith
 
-    released-at : (n slot : ℕ) → slot < slots → is_unreleased placed certificate n slot ≡ true → ⊥
+    released-at : (n slot : ℕ) → slot < most_slots → is_unreleased placed certificate n slot ≡ true → ⊥
     released-at n slot known test =
         let parts = and_parts (is_flagged certificate n slot) (not (is_waiting placed certificate n slot)) test in
         let owing = taken.kept.only (certificate.from + n) slot (omega arith) known parts.0 in
@@ -78,7 +78,7 @@ module _ (placed : List Placed) (window : ℕ) (certificate : CertificateView) (
         let none = not-true (is_waiting placed certificate n slot) parts.1 in
         absurd (cc)
 
-    missed-at : (n slot : ℕ) → slot < slots → ((m : ℕ) → m < n → IsGoodAt placed window certificate m) → is_missed placed certificate n slot ≡ true → ⊥
+    missed-at : (n slot : ℕ) → slot < most_slots → ((m : ℕ) → m < n → IsGoodAt placed window certificate m) → is_missed placed certificate n slot ≡ true → ⊥
     missed-at n slot known good test =
         let parts = and_parts (is_waiting placed certificate n slot && is_last_in placed (certificate.from + n) slot) (not (is_flagged certificate n slot)) test in
         let front = and_parts (is_waiting placed certificate n slot) (is_last_in placed (certificate.from + n) slot) parts.0 in

@@ -3,7 +3,8 @@ use Rattle.std.proofs.Common.{◌≡◌, ℕ, List, [], ◌∷◌, ◌++◌, tru
 use Rattle.std.specs.Cmp.Lexicographic.{other_text, pointwise, same_text}
 use Rattle.std.proofs.lemmas.List.{take-append-drop}
 use Rattle.plan_check.specs.Certificate.{CertificateView}
-use Rattle.plan_check.specs.PlanText.{head_lines, mask_digits, mask_lines, plan_text, text_of}
+use Rattle.plan_check.specs.declared.plan_runs.Version.TheVariants.{Two}
+use Rattle.plan_check.specs.PlanText.{head_lines, lines_of_runs, plan_text, run_line, runs_of, text_of}
 
 pub text_of-append : (xs ys : List (List ℕ)) → text_of (xs ++ ys) ≡ text_of xs ++ text_of ys
 text_of-append [] ys = refl
@@ -11,14 +12,15 @@ text_of-append (x ∷ xs) ys =
     ap (λ t. (x ++ 10 ∷ []) ++ t) (text_of-append xs ys) ∙ sym (append_assoc (x ++ 10 ∷ []) (text_of xs) (text_of ys))
 
 -- the parts of a plan text
-pub whole_text : (certificate : CertificateView) (empty head masks whole : List ℕ) → empty ≡ [] → head ≡ empty ++ text_of (head_lines certificate)
-    → masks ≡ head ++ text_of (map mask_digits certificate.masks) → whole ≡ masks ++ codes "end\n" → whole ≡ plan_text certificate
-whole_text certificate empty head masks whole none first second third =
+pub whole_text : (certificate : CertificateView) (empty head runs whole : List ℕ) → empty ≡ [] → head ≡ empty ++ text_of (head_lines Two certificate)
+    → runs ≡ head ++ text_of (map (run_line Two) (runs_of certificate.masks)) → whole ≡ runs ++ codes "end\n" → whole ≡ plan_text certificate
+whole_text certificate empty head runs whole none first second third =
+    let lines = map (run_line Two) (runs_of certificate.masks) in
     third
-    ∙ ap (λ t. t ++ codes "end\n") (second ∙ ap (λ t. t ++ text_of (map mask_digits certificate.masks)) (first ∙ ap (λ t. t ++ text_of (head_lines certificate)) none))
-    ∙ append_assoc (text_of (head_lines certificate)) (text_of (map mask_digits certificate.masks)) (codes "end\n")
-    ∙ ap (λ t. text_of (head_lines certificate) ++ t) (sym (text_of-append (map mask_digits certificate.masks) (codes "end" ∷ [])))
-    ∙ sym (text_of-append (head_lines certificate) (mask_lines certificate.masks))
+    ∙ ap (λ t. t ++ codes "end\n") (second ∙ ap (λ t. t ++ text_of lines) (first ∙ ap (λ t. t ++ text_of (head_lines Two certificate)) none))
+    ∙ append_assoc (text_of (head_lines Two certificate)) (text_of lines) (codes "end\n")
+    ∙ ap (λ t. text_of (head_lines Two certificate) ++ t) (sym (text_of-append lines (codes "end" ∷ [])))
+    ∙ sym (text_of-append (head_lines Two certificate) (lines_of_runs Two (runs_of certificate.masks)))
 
 -- A word at the front of a line
 

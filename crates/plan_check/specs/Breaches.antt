@@ -3,7 +3,7 @@ use Rattle.std.specs.Prelude.{◌≡◌, ℕ, ◌+◌, ◌<◌, ◌≤◌, Bool,
 use Rattle.requirement_table.specs.declared.entries.Placed.{Placed}
 use Rattle.requirement_table.specs.Flags.{waits}
 use Rattle.requirement_table.specs.Instance.{Instance, release_of}
-use Rattle.requirement_table.specs.Slots.{contains_slot, slots}
+use Rattle.requirement_table.specs.Slots.{contains_slot, most_slots}
 use Rattle.requirement_table.specs.Table.{instance_in, is_last_in, width_in}
 use Rattle.plan_check.specs.declared.breach.Breach.{Breach}
 use Rattle.plan_check.specs.declared.breach.Breach.TheVariants.{BadLoop, NotReleased, TooWide, Missed, NotClosed}
@@ -46,7 +46,7 @@ pub record IsGoodAt (placed : List Placed) (window : ℕ) (certificate : Certifi
 
 -- the slot is the least one that passes the test
 pub record IsLeastSlot (test : ℕ → Bool) (slot : ℕ) : Type 0 where
-  pub known : slot < slots
+  pub known : slot < most_slots
   pub passes : test slot ≡ true
   pub least : (other : ℕ) → other < slot → test other ≡ false
 

@@ -1,21 +1,15 @@
 -- *Plan kept*: what it means that flagged slots keep a table for ever, and when a certificate shows it. No policy, no
 -- order and no planner is named here. Cycles are elementary cycles, lengths are bit times.
 use Rattle.std.specs.Prelude.{◌≡◌, ℕ, ◌+◌, ◌-◌, ◌%◌, ◌<◌, ◌≤◌, max, Bool, true, false, not, ◌&&◌, ◌||◌}
-use Rattle.std.specs.Prelude.{nat_eq, nat_le, List, Contains, Some}
+use Rattle.std.specs.Prelude.{nat_eq, nat_le, List, Contains}
 use Rattle.std.specs.List.{list_any}
 use Rattle.std.specs.Option.{option_map_or}
 use Rattle.requirement_table.specs.declared.entries.Placed.{Placed}
 use Rattle.requirement_table.specs.Flags.{IsFlaggedOnce}
-use Rattle.requirement_table.specs.Instance.{Exists, Instance, IsLastCycle, MaySend, deadline_of, release_of}
-use Rattle.requirement_table.specs.Slots.{contains_slot, slots}
-use Rattle.requirement_table.specs.Table.{free_from, held_before, instance_in, width_in}
+use Rattle.requirement_table.specs.Instance.{Exists, IsLastCycle, MaySend, deadline_of, release_of}
+use Rattle.requirement_table.specs.Slots.{contains_slot, most_slots}
+use Rattle.requirement_table.specs.Table.{IsHeldFrom, free_from, held_before, width_in}
 use Rattle.plan_check.specs.Certificate.{CertificateView, flags_of, length_of}
-
--- the slot's instance that may be sent in the cycle was released before it
-pub record IsHeldFrom (placed : List Placed) (c slot : ℕ) : Type 0 where
-  pub instance : Instance
-  pub found : instance_in placed slot c ≡ Some instance
-  pub before : release_of instance.placed instance.number < c
 
 -- each pending slot has an instance that was released before the cycle and whose last cycle is not below it
 abbrev pub HasPending : List Placed → ℕ → (ℕ → Bool) → Type 0
@@ -44,12 +38,12 @@ pub record IsPlanKept (placed : List Placed) (window from : ℕ) (pending : ℕ 
     : Type 0 where
   pub each : (p : Placed) (k last : ℕ) → IsOwed placed from pending p k → IsLastCycle p k last
       → IsFlaggedOnce flags p.entry.slot (max from (release_of p k)) last
-  pub only : (c slot : ℕ) → from ≤ c → slot < slots → flags c slot ≡ true → IsOwedIn placed from pending c slot
+  pub only : (c slot : ℕ) → from ≤ c → slot < most_slots → flags c slot ≡ true → IsOwedIn placed from pending c slot
   pub fits : (c : ℕ) → from ≤ c → width_in placed c (flags c) ≤ window
 
 -- no slot passes the test
 abbrev pub NoSlot : (ℕ → Bool) → Type 0
-NoSlot test = (slot : ℕ) → slot < slots → test slot ≡ false
+NoSlot test = (slot : ℕ) → slot < most_slots → test slot ≡ false
 
 -- whether a placed entry goes round with the cycles from `first` on, `length` at a time: a live one has had its first
 -- release by `first` and its period divides `length`; one with an end is over by `first`

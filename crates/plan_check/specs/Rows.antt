@@ -1,10 +1,10 @@
 -- What the checker keeps of the table in one cycle: words for contracts inside the crate.
 use Rattle.std.specs.Prelude.{◌≡◌, ℕ, ◌+◌, ◌<◌, ◌≤◌, Bool, true, false, not, ◌&&◌, ◌||◌}
-use Rattle.std.specs.Prelude.{nat_eq, List, length, Option, Some, None, option_map, slice_get, slice_index_or}
+use Rattle.std.specs.Prelude.{nat_eq, List, All, length, Option, Some, None, option_map, slice_get, slice_index_or}
 use Rattle.std.specs.Option.{option_map_or}
 use Rattle.requirement_table.specs.declared.entries.Placed.{Placed}
 use Rattle.requirement_table.specs.Instance.{Instance, deadline_of, instance_of, release_of, worst}
-use Rattle.requirement_table.specs.Slots.{contains_slot, slots, sum_where}
+use Rattle.requirement_table.specs.Slots.{contains_slot, most_slots, sum_where}
 use Rattle.requirement_table.specs.Table.{instance_in, is_over}
 use Rattle.plan_check.specs.declared.breach.Breach.{Breach}
 use Rattle.plan_check.specs.declared.breach.Breach.TheVariants.{BadLoop, NotReleased, TooWide, Missed, NotClosed}
@@ -27,14 +27,18 @@ pub record IsCurrent (placed : List Placed) (c slot place : ℕ) : Type 0 where
   pub of_slot : (p : Placed) → slice_get placed place ≡ Some p → p.entry.slot ≡ slot
   pub not_over : (p : Placed) → slice_get placed place ≡ Some p → is_over c p ≡ false
 
--- for each slot there is a place before which its entries are over
-pub record ArePassed (placed : List Placed) (c : ℕ) (places : List ℕ) : Type 0 where
-  pub count : length places ≡ slots
+-- the slots of the entries are below this number
+abbrev pub AreSlotsBelow : ℕ → List Placed → Type 0
+AreSlotsBelow slots placed = All (λ p. p.entry.slot < slots) placed
+
+-- for each slot below `slots` there is a place before which its entries are over
+pub record ArePassed (placed : List Placed) (c slots : ℕ) (places : List ℕ) : Type 0 where
+  pub count : length places ≡ most_slots
   pub each : (slot : ℕ) → slot < slots → IsPassed placed c slot (slice_index_or places slot 0)
 
--- for each slot there is the place of its current entry
-pub record AreCurrent (placed : List Placed) (c : ℕ) (places : List ℕ) : Type 0 where
-  pub count : length places ≡ slots
+-- for each slot below `slots` there is the place of its current entry
+pub record AreCurrent (placed : List Placed) (c slots : ℕ) (places : List ℕ) : Type 0 where
+  pub count : length places ≡ most_slots
   pub each : (slot : ℕ) → slot < slots → IsCurrent placed c slot (slice_index_or places slot 0)
 
 -- Instances
@@ -53,8 +57,13 @@ due_by c p = option_map (λ k. due_of (record { placed = p; number = k })) (inst
 
 -- for each slot there is what is kept of its instance that may be sent in the cycle
 pub record IsRow (placed : List Placed) (c : ℕ) (row : List (Option Due)) : Type 0 where
-  pub count : length row ≡ slots
-  pub each : (slot : ℕ) → slot < slots → slice_index_or row slot None ≡ option_map due_of (instance_in placed slot c)
+  pub count : length row ≡ most_slots
+  pub each : (slot : ℕ) → slot < most_slots → slice_index_or row slot None ≡ option_map due_of (instance_in placed slot c)
+
+-- a row with a place for each slot has nothing from the slot `slots` on
+pub record AreAbsent (slots : ℕ) (row : List (Option Due)) : Type 0 where
+  pub count : length row ≡ most_slots
+  pub none : (slot : ℕ) → slots ≤ slot → slice_index_or row slot None ≡ None
 
 -- whether the instance is released in the cycle; whether it is its last one
 abbrev pub is_released : ℕ → Option Due → Bool
@@ -77,12 +86,16 @@ abbrev pub missed_in : List (Option Due) → ℕ → ℕ → ℕ → ℕ → Boo
 missed_in row c held mask slot =
     waits_in row c held slot && is_last c (slice_index_or row slot None) && not (contains_slot mask slot)
 
+-- whether the slot is in the set, and its instance has its last cycle in this one
+abbrev pub ends_in : List (Option Due) → ℕ → ℕ → ℕ → Bool
+ends_in row c set slot = contains_slot set slot && is_last c (slice_index_or row slot None)
+
 -- what the slots of a set cost together, in bit times
 abbrev pub cost_of : Option Due → ℕ
 cost_of due = option_map_or (λ d. worst d.length) due 0
 
 abbrev pub width_of_row : List (Option Due) → ℕ → ℕ
-width_of_row row mask = sum_where slots (contains_slot mask) (λ slot. cost_of (slice_index_or row slot None))
+width_of_row row mask = sum_where most_slots (contains_slot mask) (λ slot. cost_of (slice_index_or row slot None))
 
 -- the cycle has no breach
 pub record IsGoodRow (row : List (Option Due)) (window c held mask : ℕ) : Type 0 where

@@ -3,18 +3,18 @@
 ghost use Rattle.std.specs.Prelude.{◌≡◌, ℕ, ◌+◌, ◌-◌, ◌^◌, ◌<◌, ◌≤◌, ◌↔◌, ◌&&◌, not, if◌then◌else◌, nat_eq};
 ghost use Rattle.std.specs.Prelude.{None, IsOk, IfErr, IfOk, IsSome, IfSome, length, slice_index_or};
 ghost use Rattle.std.specs.List.{list_any};
-ghost use Rattle.requirement_table.specs.Slots.{contains_slot, slots};
+ghost use Rattle.requirement_table.specs.Slots.{contains_slot, most_slots};
 ghost use Rattle.requirement_table.specs.Table.{IsInRange, IsWellPlaced};
 ghost use Rattle.plan_check.specs.Breaches.{IsBreach, IsGoodAt};
 ghost use Rattle.plan_check.specs.Certificate.{length_of};
 ghost use Rattle.plan_check.specs.PlanKept.{HasPending, IsTaken, NoSlot, goes_round, is_bad, is_held};
-ghost use Rattle.plan_check.specs.Rows.{IsGoodRow, IsRowBreach, waits_in};
+ghost use Rattle.plan_check.specs.Rows.{AreAbsent, IsGoodRow, IsRowBreach, waits_in};
 
 use crate::breach::Breach;
 use crate::certificate::Certificate;
-use crate::rows::{Row, ending, places_at, row_at, waiting, width};
+use crate::rows::{Row, fill_row, first_ending, move_places, slots_of, waiting, width};
 use crate::sets::{difference, least, symmetric_difference};
-use requirement_table::{Mask, Placed, SLOTS};
+use requirement_table::{MOST_SLOTS, Mask, Placed};
 
 /// Checks that a certificate keeps the placed entries for ever within a window of `w` bit times.
 ///
@@ -82,10 +82,10 @@ fn check_cycles(
     requires pending { HasPending placed.now certificate.now.from (contains_slot certificate.now.pending) }
     requires cycles { certificate.now.from + length certificate.now.masks ≤ 2 ^ 42 }
     requires rounds { NoSlot (is_bad placed.now certificate.now) }
-    ensures before { IfOk result (λ r. (slot : ℕ) → slot < slots
+    ensures before { IfOk result (λ r. (slot : ℕ) → slot < most_slots
         → contains_slot r.0 slot
         ≡ is_held placed.now certificate.now (certificate.now.first - certificate.now.from) slot) }
-    ensures behind { IfOk result (λ r. (slot : ℕ) → slot < slots
+    ensures behind { IfOk result (λ r. (slot : ℕ) → slot < most_slots
         → contains_slot r.1 slot
         ≡ is_held placed.now certificate.now
         (certificate.now.first - certificate.now.from + length_of certificate.now) slot) }
@@ -94,14 +94,17 @@ fn check_cycles(
     ensures breach { IfErr result (λ breach. IsBreach placed.now w certificate.now breach) }
 {
     let first = certificate.first();
-    let mut places = [0; SLOTS as usize];
+    let slots = slots_of(placed);
+    let mut places = [0; MOST_SLOTS as usize];
+    let mut row = [None; MOST_SLOTS as usize];
     let mut cycle = certificate.from();
     let mut held = certificate.pending();
     let mut before = held;
     for mask in certificate.masks() {
         before = chosen(cycle <= first, held, before);
-        places = places_at(placed, cycle, places);
-        held = check_cycle(&row_at(placed, cycle, &places), w, cycle, held, *mask)?;
+        move_places(placed, cycle, slots, &mut places);
+        fill_row(placed, cycle, slots, &places, &mut row);
+        held = check_cycle(&row, slots, w, cycle, held, *mask)?;
         cycle += 1;
     }
     Ok((before, held))
@@ -116,23 +119,32 @@ fn chosen(first: bool, one: Mask, other: Mask) -> Mask
 
 /// Checks a cycle in which the slots in `held` have an instance that was released before it and is not planned, and
 /// which flags those in `mask`: the slots that have such an instance behind it.
-fn check_cycle(row: &Row, w: u32, cycle: u64, held: Mask, mask: Mask) -> Result<Mask, Breach>
+fn check_cycle(
+    row: &Row,
+    slots: u8,
+    w: u32,
+    cycle: u64,
+    held: Mask,
+    mask: Mask,
+) -> Result<Mask, Breach>
     requires cycle { cycle < 2 ^ 42 }
+    requires known { slots ≤ most_slots }
+    requires absent { AreAbsent slots row.now }
     ensures good { IfOk result (λ _. IsGoodRow row.now w cycle held mask) }
-    ensures held { IfOk result (λ left. (slot : ℕ) → slot < slots
+    ensures held { IfOk result (λ left. (slot : ℕ) → slot < most_slots
         → contains_slot left slot ≡ (waits_in row.now cycle held slot && not (contains_slot mask slot))) }
     ensures breach { IfErr result (λ breach. IsRowBreach row.now w cycle held mask breach) }
 {
-    let waiting = waiting(row, cycle, held);
+    let waiting = waiting(row, slots, cycle, held);
     if let Some(slot) = least(difference(mask, waiting)) {
         return Err(Breach::NotReleased { cycle, slot });
     }
-    let sum = width(row, mask);
+    let sum = width(row, slots, mask);
     if sum > w {
         return Err(Breach::TooWide { cycle, sum });
     }
     let left = difference(waiting, mask);
-    match least(ending(row, cycle, left)) {
+    match first_ending(row, slots, cycle, left) {
         Some(slot) => Err(missed(row, cycle, slot)),
         None => Ok(left),
     }
@@ -140,7 +152,7 @@ fn check_cycle(row: &Row, w: u32, cycle: u64, held: Mask, mask: Mask) -> Result<
 
 /// The breach of an instance that is not planned by its last cycle.
 fn missed(row: &Row, cycle: u64, slot: u8) -> Breach
-    requires known { slot < slots }
+    requires known { slot < most_slots }
     requires some { IsSome (slice_index_or row.now slot None) }
     ensures breach { IfSome (slice_index_or row.now slot None) (λ due. result ≡ Breach.Missed slot due.release cycle) }
 {

@@ -10,6 +10,7 @@ mod certificate;
 mod checking;
 pub mod laws;
 mod plan_reading;
+mod plan_runs;
 mod plan_text;
 mod rows;
 mod sets;

@@ -1,19 +1,19 @@
 //! The lines of a plan text, read one by one.
 
-ghost use Rattle.std.specs.Prelude.{◌≡◌, ℕ, ◌^◌, ◌<◌, ◌++◌, ◌∷◌, List, IfSome, IfNone};
+ghost use Rattle.std.specs.Prelude.{◌≡◌, ◌≢◌, ℕ, ◌^◌, ◌<◌, ◌≤◌, ◌++◌, ◌∷◌, List, IfSome, IfNone, get_or, length, true, false};
 ghost use Rattle.std.specs.Fmt.{decimal};
-ghost use Rattle.requirement_table.specs.Slots.{slots};
 ghost use Rattle.text_fields.specs.Lines.{HasNoFeed};
-ghost use Rattle.plan_check.specs.PlanText.{mask_digits};
+ghost use Rattle.text_fields.specs.MaskText.{mask_digits};
+ghost use Rattle.plan_check.specs.declared.plan_runs.Run.{Run};
+ghost use Rattle.plan_check.specs.declared.plan_runs.Version.{Version};
+ghost use Rattle.plan_check.specs.PlanText.{HasNoSpace, IsOfVersion, MayFollow, first_line, is_other, mask_bound, run_line};
 
+use crate::plan_runs::{Run, Version};
 use requirement_table::Mask;
-use text_fields::{read_decimal, read_hex, split_line};
+use text_fields::{read_decimal, read_mask, split_line};
 
 /// Numbers of a plan text are below this.
 const NUMBERS: u64 = 1 << 42;
-
-/// The number of digits of a mask.
-const DIGITS: usize = 10;
 
 /// What follows the first line of a text, where that is the word.
 pub fn word_line<'a>(text: &'a [u8], word: &[u8]) -> Option<&'a [u8]>
@@ -23,6 +23,19 @@ pub fn word_line<'a>(text: &'a [u8], word: &[u8]) -> Option<&'a [u8]>
 {
     let (line, after) = split_line(text)?;
     if line == word { Some(after) } else { None }
+}
+
+/// The version of a text, by its first line, and what follows that line.
+pub fn version_line(text: &[u8]) -> Option<(Version, &[u8])>
+    ensures found { IfSome result (λ r. text.now ≡ first_line r.0 ++ 10 ∷ r.1.now) }
+    ensures none { IfNone result ((version : Version) (after : List ℕ)
+        → text.now ≡ first_line version ++ 10 ∷ after → ⊥) }
+{
+    if let Some(after) = word_line(text, b"fttcan plan 2") {
+        return Some((Version::Two, after));
+    }
+    let after = word_line(text, b"fttcan plan 1")?;
+    Some((Version::One, after))
 }
 
 /// What the first line of a text says behind the word, and what follows the line.
@@ -53,16 +66,99 @@ pub fn number_line<'a>(text: &'a [u8], word: &[u8]) -> Option<(u64, &'a [u8])>
 }
 
 /// The mask in the first line of a text, behind the word, and what follows the line.
-pub fn mask_line<'a>(text: &'a [u8], word: &[u8]) -> Option<(Mask, &'a [u8])>
+pub fn mask_line<'a>(text: &'a [u8], word: &[u8], version: Version) -> Option<(Mask, &'a [u8])>
     requires word { HasNoFeed word.now }
     ensures found { IfSome result (λ r. text.now ≡ (word.now ++ mask_digits r.0) ++ 10 ∷ r.1.now) }
-    ensures below { IfSome result (λ r. r.0 < 2 ^ slots) }
-    ensures none { IfNone result ((m : ℕ) (after : List ℕ) → m < 2 ^ slots
+    ensures below { IfSome result (λ r. r.0 < mask_bound version) }
+    ensures none { IfNone result ((m : ℕ) (after : List ℕ) → m < mask_bound version
         → text.now ≡ (word.now ++ mask_digits m) ++ 10 ∷ after → ⊥) }
 {
     let (digits, after) = line_behind(text, word)?;
-    let mask = read_mask(digits)?;
+    let mask = mask_of(digits, version)?;
     Some((mask, after))
+}
+
+/// The run in the first line of a text, where it may follow one with the mask `last` and has at most `most` cycles, and
+/// what follows the line.
+pub fn next_run(
+    text: &[u8],
+    version: Version,
+    last: Option<Mask>,
+    most: u64,
+) -> Option<(Run, &[u8])>
+    ensures found { IfSome result (λ r. text.now ≡ run_line version r.0 ++ 10 ∷ r.1.now) }
+    ensures follows { IfSome result (λ r. MayFollow version last r.0) }
+    ensures most { IfSome result (λ r. r.0.count ≤ most) }
+    ensures none { IfNone result ((run : Run) (after : List ℕ) → MayFollow version last run → run.count ≤ most
+        → run.count < 2 ^ 42 → text.now ≡ run_line version run ++ 10 ∷ after → ⊥) }
+{
+    let (line, after) = split_line(text)?;
+    let run = run_of(line, version)?;
+    if 1 <= run.count && run.count <= most && is_other(last, run.mask, version) {
+        Some((run, after))
+    } else {
+        None
+    }
+}
+
+/// Whether a version lists a run with this mask behind one with the mask `last`.
+fn is_other(last: Option<Mask>, mask: Mask, version: Version) -> bool
+    ensures other { result ≡ is_other last mask version }
+{
+    match (version, last) {
+        (Version::Two, Some(last)) => last.bits() != mask.bits(),
+        _ => true,
+    }
+}
+
+/// The run of a line.
+fn run_of(line: &[u8], version: Version) -> Option<Run>
+    ensures found { IfSome result (λ run. line.now ≡ run_line version run) }
+    ensures of_version { IfSome result (IsOfVersion version) }
+    ensures none { IfNone result ((run : Run) → IsOfVersion version run → line.now ≡ run_line version run → ⊥) }
+{
+    match version {
+        Version::One => cycle_of(line),
+        Version::Two => counted_of(line),
+    }
+}
+
+/// The one cycle of a line of version 1.
+fn cycle_of(line: &[u8]) -> Option<Run>
+    ensures found { IfSome result (λ run. line.now ≡ run_line Version.One run) }
+    ensures of_version { IfSome result (IsOfVersion Version.One) }
+    ensures none { IfNone result ((run : Run) → IsOfVersion Version.One run
+        → line.now ≡ run_line Version.One run → ⊥) }
+{
+    let mask = mask_of(line, Version::One)?;
+    Some(Run { mask, count: 1 })
+}
+
+/// The run of a line of version 2.
+fn counted_of(line: &[u8]) -> Option<Run>
+    ensures found { IfSome result (λ run. line.now ≡ run_line Version.Two run) }
+    ensures of_version { IfSome result (IsOfVersion Version.Two) }
+    ensures none { IfNone result ((run : Run) → IsOfVersion Version.Two run
+        → line.now ≡ run_line Version.Two run → ⊥) }
+{
+    let (digits, behind) = split_space(line)?;
+    let mask = mask_of(digits, Version::Two)?;
+    let count = read_number(behind)?;
+    Some(Run { mask, count })
+}
+
+/// What stands before the first space of a line, and what stands behind it; nothing where there is no space.
+fn split_space(line: &[u8]) -> Option<(&[u8], &[u8])>
+    ensures split { IfSome result (λ r. line.now ≡ r.0.now ++ 32 ∷ r.1.now) }
+    ensures front { IfSome result (λ r. HasNoSpace r.0.now) }
+    ensures none { IfNone result (HasNoSpace line.now) }
+{
+    for (end, byte) in line.iter().enumerate() {
+        if *byte == b' ' {
+            return Some((&line[..end], &line[end + 1..]));
+        }
+    }
+    None
 }
 
 /// The number of decimal digits without leading zeros, below 2^42.
@@ -75,12 +171,16 @@ fn read_number(digits: &[u8]) -> Option<u64>
     if number < NUMBERS { Some(number) } else { None }
 }
 
-/// The mask of ten hexadecimal digits in lower case.
-fn read_mask(digits: &[u8]) -> Option<Mask>
+/// The mask of its hexadecimal digits, where the version names its slots.
+fn mask_of(digits: &[u8], version: Version) -> Option<Mask>
     ensures found { IfSome result (λ m. digits.now ≡ mask_digits m) }
-    ensures below { IfSome result (λ m. m < 2 ^ slots) }
-    ensures none { IfNone result ((m : ℕ) → m < 2 ^ slots → digits.now ≡ mask_digits m → ⊥) }
+    ensures below { IfSome result (λ m. m < mask_bound version) }
+    ensures none { IfNone result ((m : ℕ) → m < mask_bound version → digits.now ≡ mask_digits m → ⊥) }
 {
-    let bits = read_hex(digits, DIGITS)?;
-    Some(Mask::from_bits(bits))
+    let bits = read_mask(digits)?;
+    if bits < version.mask_bound() {
+        Some(Mask::from_bits(bits))
+    } else {
+        None
+    }
 }

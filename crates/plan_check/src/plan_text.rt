@@ -1,98 +1,151 @@
 //! The text of a plan, written and read.
 //!
 //! ```text
-//! fttcan plan 1
+//! fttcan plan 2
 //! from FROM
 //! pending MASK
 //! first FIRST
 //! length LENGTH
-//! MASK
+//! MASK COUNT
 //! end
 //! ```
 //!
-//! There is one mask line for each cycle from FROM to FIRST + LENGTH - 1. Each line ends with one line feed. A mask is
-//! ten hexadecimal digits in lower case of the number whose bit s is slot s; the other numbers are decimal, without
-//! leading zeros and below 2^42. FIRST is FROM to FROM + 200,000, and LENGTH is 1 to 200,000. Nothing else stands in
-//! the text.
+//! There is one line `MASK COUNT` for each run of equal masks, from cycle FROM to FIRST + LENGTH - 1. COUNT is the number
+//! of its cycles. Neighbouring lines have different masks, and the counts sum to FIRST + LENGTH - FROM. Each line ends
+//! with one line feed.
+//!
+//! A mask is hexadecimal digits in lower case of the number whose bit s is slot s: ten where all its slots are below 40,
+//! and 24 otherwise. The other numbers are decimal, without leading zeros and below 2^42. FIRST is FROM to
+//! FROM + 200,000, LENGTH is 1 to 200,000, and COUNT is at least 1. Nothing else stands in the text.
+//!
+//! Version 1 is read too. Its first line is `fttcan plan 1`, it has a line `MASK` for each cycle, and it names slots
+//! below 40 alone.
 
 ghost use Rattle.std.specs.Prelude.{◌≡◌, ℕ, ◌+◌, ◌-◌, ◌^◌, ◌<◌, ◌≤◌, ◌++◌, ◌∷◌, [], List, All, Some, IfSome};
-ghost use Rattle.std.specs.Prelude.{IfOk, IfErr, OnOk, ◌&&◌, codes, length, map, nat_le, MatchResult};
-ghost use Rattle.std.specs.Fmt.{decimal};
+ghost use Rattle.std.specs.Prelude.{IfOk, IfErr, OnOk, ◌&&◌, drop, get_or, length, map, nat_le, replicate, MatchResult};
 ghost use Rattle.std.specs.String.{string_bytes};
-ghost use Rattle.requirement_table.specs.Slots.{slots};
-ghost use Rattle.plan_check.specs.Certificate.{CertificateView, length_of};
-ghost use Rattle.plan_check.specs.PlanText.{IsFirstWrongLine, IsMaskFault, IsReadable, IsReadableHead, IsTextFault};
-ghost use Rattle.plan_check.specs.PlanText.{head_lines, lines_of_head, mask_digits, plan_text, text_of};
+ghost use Rattle.plan_check.specs.declared.plan_runs.Version.TheVariants.{Two};
+ghost use Rattle.plan_check.specs.Certificate.{CertificateView};
+ghost use Rattle.plan_check.specs.PlanText.{IsBody, IsFirstWrongLine, IsPlanOf, IsReadable, IsReadableHead, IsRunFault, IsTextFault};
+ghost use Rattle.plan_check.specs.PlanText.{head_lines, lines_of_head, plan_text, run_line, runs_of, text_of};
+ghost use Rattle.text_fields.specs.MaskText.{mask_digits};
 
 use crate::certificate::Certificate;
-use crate::plan_reading::{mask_line, number_line, word_line};
+use crate::plan_reading::{mask_line, next_run, number_line, version_line, word_line};
+use crate::plan_runs::{Run, Version};
 use crate::text_fault::PlanTextFault;
 use requirement_table::Mask;
 use std::alloc::{AllocError, Global};
-use text_fields::push_hex;
 
-/// The text of a certificate.
+/// The text of a certificate, in version 2.
 pub fn write_plan(alloc: Global, certificate: &Certificate) -> Result<Vec<u8>, AllocError>
     ensures text { IfOk result (λ bytes. bytes.items ≡ plan_text certificate.now) }
 {
     let mut text = String::new(alloc);
     push_head(&mut text, certificate)?;
-    push_masks(&mut text, certificate.masks())?;
+    push_runs(&mut text, certificate.masks())?;
     writeln!(text, "end")?;
     Ok(text.into_bytes())
 }
 
 /// Appends the five lines before the masks.
 fn push_head(text: &mut String, certificate: &Certificate) -> Result<(), AllocError>
-    ensures ok { OnOk result (string_bytes text.new ≡ string_bytes text.old ++ text_of (head_lines certificate.now)) }
+    ensures ok { OnOk result (string_bytes text.new
+        ≡ string_bytes text.old ++ text_of (head_lines Version.Two certificate.now)) }
 {
     let from = certificate.from();
     let first = certificate.first();
     let length = certificate.length();
-    write!(text, "fttcan plan 1\nfrom {from}\npending ")?;
-    push_mask(text, certificate.pending())?;
+    write!(text, "fttcan plan 2\nfrom {from}\npending ")?;
+    push_mask_line(text, certificate.pending())?;
     write!(text, "first {first}\nlength {length}\n")
 }
 
-/// Appends a line for each mask.
-fn push_masks(text: &mut String, masks: &[Mask]) -> Result<(), AllocError>
-    ensures ok { OnOk result (string_bytes text.new ≡ string_bytes text.old ++ text_of (map mask_digits masks.now)) }
+/// Appends a line for each run of equal masks.
+fn push_runs(text: &mut String, masks: &[Mask]) -> Result<(), AllocError>
+    ensures ok { OnOk result (string_bytes text.new
+        ≡ string_bytes text.old ++ text_of (map (run_line Version.Two) (runs_of masks.now))) }
 {
-    for mask in masks {
-        push_mask(text, *mask)?;
+    let mut start = 0;
+    while start < masks.len() {
+        let end = end_of_run(masks, start);
+        let run = Run {
+            mask: masks[start],
+            count: (end - start) as u64,
+        };
+        push_run(text, &run)?;
+        start = end;
     }
     Ok(())
 }
 
+/// The place behind the run of equal masks that begins at a place.
+fn end_of_run(masks: &[Mask], start: usize) -> usize
+    requires within { start < length masks.now }
+    ensures behind { start < result }
+    ensures within { result ≤ length masks.now }
+    ensures run { runs_of (drop start masks.now)
+        ≡ record { mask = get_or masks.now start 0; count = result - start } ∷ runs_of (drop result masks.now) }
+{
+    let mask = masks[start].bits();
+    for place in start + 1..masks.len() {
+        if masks[place].bits() != mask {
+            return place;
+        }
+    }
+    masks.len()
+}
+
+/// Appends the line of a run.
+fn push_run(text: &mut String, run: &Run) -> Result<(), AllocError>
+    ensures ok { OnOk result (string_bytes text.new
+        ≡ string_bytes text.old ++ (run_line Version.Two run.now ++ 10 ∷ [])) }
+{
+    let count = run.count;
+    push_mask(text, run.mask)?;
+    write!(text, " {count}\n")
+}
+
 /// Appends the digits of a mask and a line feed.
-fn push_mask(text: &mut String, mask: Mask) -> Result<(), AllocError>
+fn push_mask_line(text: &mut String, mask: Mask) -> Result<(), AllocError>
     ensures ok { OnOk result (string_bytes text.new ≡ string_bytes text.old ++ (mask_digits mask ++ 10 ∷ [])) }
 {
-    push_hex(text, mask.bits() as u64)?;
+    push_mask(text, mask)?;
     writeln!(text)
+}
+
+/// Appends the digits of a mask.
+fn push_mask(text: &mut String, mask: Mask) -> Result<(), AllocError>
+    ensures ok { OnOk result (string_bytes text.new ≡ string_bytes text.old ++ mask_digits mask) }
+{
+    text_fields::push_mask(text, mask.bits())
 }
 
 /// The most cycles from FROM to FIRST, and the most that the repeated part has.
 const MOST: u64 = 200_000;
 
+/// The number of the first line behind the head.
+const BEHIND_HEAD: u64 = 6;
+
 /// The numbers and the pending set in the five lines before the masks.
 #[derive(Drop)]
 struct Head {
+    version: Version,
     from: u64,
     pending: Mask,
     first: u64,
     length: u64,
 }
 
-/// The certificate whose text the bytes are.
+/// The certificate whose text the bytes are, in version 2 or version 1.
 ///
 /// # Errors
 ///
 /// The first line that breaks the form, or want of memory.
 pub fn read_plan(alloc: Global, bytes: &[u8]) -> Result<Certificate, PlanTextFault>
-    ensures plan { IfOk result (λ certificate. bytes.now ≡ plan_text certificate) }
-    ensures readable { IfOk result (λ certificate. IsReadable certificate) }
-    ensures back { (certificate : CertificateView) → IsReadable certificate → bytes.now ≡ plan_text certificate
+    ensures plan { IfOk result (IsPlanOf bytes.now) }
+    ensures readable { IfOk result (IsReadable Version.Two) }
+    ensures back { (certificate : CertificateView) → IsPlanOf bytes.now certificate
         → MatchResult result (λ read. read ≡ certificate) (λ fault. fault ≡ PlanTextFault.Memory) }
     ensures line { IfErr result (λ fault. IsTextFault bytes.now fault) }
 {
@@ -101,8 +154,7 @@ pub fn read_plan(alloc: Global, bytes: &[u8]) -> Result<Certificate, PlanTextFau
         Err(number) => return Err(PlanTextFault::Line { number }),
     };
     let count = head.first - head.from + head.length;
-    let (masks, rest) = read_masks(alloc, rest, count)?;
-    let number = 6 + count;
+    let (masks, rest, number) = read_runs(alloc, rest, head.version, count)?;
     let Some(after) = word_line(rest, b"end") else {
         return Err(PlanTextFault::Line { number });
     };
@@ -114,18 +166,18 @@ pub fn read_plan(alloc: Global, bytes: &[u8]) -> Result<Certificate, PlanTextFau
 
 /// The five lines before the masks, and what follows them, or the number of the first wrong line.
 fn read_head(bytes: &[u8]) -> Result<(Head, &[u8]), u64>
-    ensures found { IfOk result
-        (λ r. bytes.now ≡ text_of (lines_of_head r.0.from r.0.pending r.0.first r.0.length) ++ r.1.now) }
-    ensures ranges { IfOk result (λ r. IsReadableHead r.0.from r.0.pending r.0.first r.0.length) }
+    ensures found { IfOk result (λ r. bytes.now
+        ≡ text_of (lines_of_head r.0.version r.0.from r.0.pending r.0.first r.0.length) ++ r.1.now) }
+    ensures ranges { IfOk result (λ r. IsReadableHead r.0.version r.0.from r.0.pending r.0.first r.0.length) }
     ensures wrong { IfErr result (λ number. IsFirstWrongLine bytes.now number) }
 {
-    let Some(rest) = word_line(bytes, b"fttcan plan 1") else {
+    let Some(begun) = version_line(bytes) else {
         return Err(1);
     };
-    let Some((from, behind_from)) = number_line(rest, b"from ") else {
+    let Some((from, behind_from)) = number_line(begun.1, b"from ") else {
         return Err(2);
     };
-    let Some(pending) = mask_line(behind_from, b"pending ") else {
+    let Some(pending) = mask_line(behind_from, b"pending ", begun.0) else {
         return Err(3);
     };
     let Some((first, behind_first)) = number_line(pending.1, b"first ") else {
@@ -141,6 +193,7 @@ fn read_head(bytes: &[u8]) -> Result<(Head, &[u8]), u64>
         return Err(5);
     }
     let head = Head {
+        version: begun.0,
         from,
         pending: pending.0,
         first,
@@ -163,22 +216,44 @@ fn is_length(length: u64) -> bool
     1 <= length && length <= MOST
 }
 
-/// So many lines with masks, from the sixth line on, and what follows them.
-fn read_masks(alloc: Global, text: &[u8], count: u64) -> Result<(Vec<Mask>, &[u8]), PlanTextFault>
+/// The masks of so many cycles, from the sixth line on, with what follows their lines and the number of the line there.
+fn read_runs(
+    alloc: Global,
+    text: &[u8],
+    version: Version,
+    count: u64,
+) -> Result<(Vec<Mask>, &[u8], u64), PlanTextFault>
     requires few { count ≤ 400000 }
-    ensures found { IfOk result (λ r. text.now ≡ text_of (map mask_digits r.0.items) ++ r.1.now) }
+    ensures found { IfOk result (λ r. IsBody version text.now r.1.now r.0.items count r.2) }
     ensures count { IfOk result (λ r. length r.0.items ≡ count) }
-    ensures below { IfOk result (λ r. All (λ mask. mask < 2 ^ slots) r.0.items) }
-    ensures wrong { IfErr result (λ fault. IsMaskFault text.now count fault) }
+    ensures few { IfOk result (λ r. r.2 ≤ 6 + count) }
+    ensures wrong { IfErr result (IsRunFault version text.now count) }
 {
     let mut masks = Vec::new(alloc);
     let mut rest = text;
-    for place in 0..count {
-        let Some(read) = mask_line(rest, b"") else {
-            return Err(PlanTextFault::Line { number: 6 + place });
+    let mut last = None;
+    let mut left = count;
+    let mut number = BEHIND_HEAD;
+    while left > 0 {
+        let Some(read) = next_run(rest, version, last, left) else {
+            return Err(PlanTextFault::Line { number });
         };
-        masks.push(read.0)?;
+        push_cycles(&mut masks, &read.0)?;
+        last = Some(read.0.mask);
+        left -= read.0.count;
         rest = read.1;
+        number += 1;
     }
-    Ok((masks, rest))
+    Ok((masks, rest, number))
+}
+
+/// Appends the masks of the cycles of a run.
+fn push_cycles(masks: &mut Vec<Mask>, run: &Run) -> Result<(), PlanTextFault>
+    ensures ok { OnOk result (masks.new.items ≡ masks.old.items ++ replicate run.now.count run.now.mask) }
+    ensures memory { IfErr result (λ fault. fault ≡ PlanTextFault.Memory) }
+{
+    for _ in 0..run.count {
+        masks.push(run.mask)?;
+    }
+    Ok(())
 }

@@ -1,14 +1,16 @@
 //! What each slot may send in one cycle.
 
 ghost use Rattle.std.specs.Prelude.{◌≡◌, ℕ, ◌+◌, ◌^◌, ◌<◌, ◌≤◌, ◌&&◌};
-ghost use Rattle.std.specs.Prelude.{if◌then◌else◌, Some, None, length, slice_get, slice_index_or};
+ghost use Rattle.std.specs.Prelude.{if◌then◌else◌, Some, None, MatchOption, length, slice_get, slice_index_or};
 ghost use Rattle.std.specs.Option.{option_and_then};
-ghost use Rattle.requirement_table.specs.Slots.{contains_slot, slots};
+ghost use Rattle.requirement_table.specs.Slots.{contains_slot, most_slots};
 ghost use Rattle.requirement_table.specs.Table.{IsInRange, IsWellPlaced, is_over};
-ghost use Rattle.plan_check.specs.Rows.{AreCurrent, ArePassed, IsCurrent, IsPassed, IsRow, cost_of};
-ghost use Rattle.plan_check.specs.Rows.{due_by, is_last, is_released, waits_in, width_of_row};
+ghost use Rattle.plan_check.specs.Rows.{AreAbsent, AreCurrent, ArePassed, AreSlotsBelow, IsCurrent, IsPassed, IsRow, cost_of};
+ghost use Rattle.plan_check.specs.Rows.{due_by, ends_in, is_last, is_released, waits_in, width_of_row};
+ghost use Rattle.plan_check.specs.Breaches.{IsLeastSlot};
+ghost use Rattle.plan_check.specs.PlanKept.{NoSlot};
 
-use requirement_table::{Mask, Placed, SLOTS, cost, current, due};
+use requirement_table::{MOST_SLOTS, Mask, Placed, cost, current, due};
 
 /// What is kept of an instance that may be sent in a cycle.
 #[derive(Clone, Copy, Debug)]
@@ -22,10 +24,10 @@ pub struct Due {
 }
 
 /// For each slot a place in the list of placed entries.
-pub type Places = [usize; SLOTS as usize];
+pub type Places = [usize; MOST_SLOTS as usize];
 
 /// For each slot what is kept of its instance that may be sent in a cycle.
-pub type Row = [Option<Due>; SLOTS as usize];
+pub type Row = [Option<Due>; MOST_SLOTS as usize];
 
 /// Whether a placed entry is over by `cycle`: its slot is free again, and none of its instances may be sent any more.
 fn is_over(p: &Placed, cycle: u64) -> bool
@@ -52,18 +54,31 @@ fn place_at(placed: &[Placed], cycle: u64, slot: u8, place: usize) -> usize
     placed.len()
 }
 
-/// For each slot the place of its current entry, from places before which its entries are over.
-pub fn places_at(placed: &[Placed], cycle: u64, places: Places) -> Places
+/// The number above all slots of the entries.
+pub fn slots_of(placed: &[Placed]) -> u8
     requires well_placed { IsWellPlaced placed.now }
-    requires passed { ArePassed placed.now cycle places }
-    ensures current { AreCurrent placed.now cycle result }
+    ensures below { AreSlotsBelow result placed.now }
+    ensures known { result ≤ most_slots }
 {
-    let mut next = places;
-    for slot in 0..SLOTS {
-        let index = usize::from(slot);
-        next[index] = place_at(placed, cycle, slot, places[index]);
+    let mut slots = 0;
+    for p in placed {
+        slots = slots.max(p.entry.slot + 1);
     }
-    next
+    slots
+}
+
+/// Brings the places of the current entries of the slots below `slots` to `cycle`: before each of them the slot's
+/// entries are over.
+pub fn move_places(placed: &[Placed], cycle: u64, slots: u8, places: &mut Places)
+    requires well_placed { IsWellPlaced placed.now }
+    requires known { slots ≤ most_slots }
+    requires passed { ArePassed placed.now cycle slots places.old }
+    ensures current { AreCurrent placed.now cycle slots places.new }
+{
+    for slot in 0..slots {
+        let index = usize::from(slot);
+        places[index] = place_at(placed, cycle, slot, places[index]);
+    }
 }
 
 /// What is kept of the instance of the entry at a place, where there is one, that may be sent in `cycle`.
@@ -82,56 +97,76 @@ fn due_at(placed: &[Placed], cycle: u64, place: usize) -> Option<Due>
     })
 }
 
-/// What each slot may send in `cycle`, by the places of their current entries.
-pub fn row_at(placed: &[Placed], cycle: u64, places: &Places) -> Row
+/// Fills the row of the slots below `slots` with what each may send in `cycle`, by the places of their current entries.
+pub fn fill_row(placed: &[Placed], cycle: u64, slots: u8, places: &Places, row: &mut Row)
     requires well_placed { IsWellPlaced placed.now }
     requires cycle { cycle < 2 ^ 42 }
-    requires current { AreCurrent placed.now cycle places.now }
-    ensures row { IsRow placed.now cycle result }
+    requires known { slots ≤ most_slots }
+    requires below { AreSlotsBelow slots placed.now }
+    requires current { AreCurrent placed.now cycle slots places.now }
+    requires absent { AreAbsent slots row.old }
+    ensures row { IsRow placed.now cycle row.new }
+    ensures absent { AreAbsent slots row.new }
 {
-    let mut row = [None; SLOTS as usize];
-    for slot in 0..SLOTS {
+    for slot in 0..slots {
         let index = usize::from(slot);
         row[index] = due_at(placed, cycle, places[index]);
     }
-    row
 }
 
 /// The slots with an instance that is not planned before `cycle`: those in `held`, and those that release one in it.
-pub fn waiting(row: &Row, cycle: u64, held: Mask) -> Mask
-    ensures slots { (slot : ℕ) → slot < slots → contains_slot result slot ≡ waits_in row.now cycle held slot }
+pub fn waiting(row: &Row, slots: u8, cycle: u64, held: Mask) -> Mask
+    requires known { slots ≤ most_slots }
+    requires absent { AreAbsent slots row.now }
+    ensures slots { (slot : ℕ) → slot < most_slots → contains_slot result slot ≡ waits_in row.now cycle held slot }
 {
-    let mut waiting = held;
-    for slot in 0..SLOTS {
-        if is_released(row[usize::from(slot)], cycle) {
-            waiting = waiting.with(slot);
-        }
-    }
-    waiting
+    Mask::from_bits(held.bits() | released(row, slots, cycle))
 }
 
-/// The slots of a set whose instance has its last cycle in `cycle`.
-pub fn ending(row: &Row, cycle: u64, set: Mask) -> Mask
-    requires cycle { cycle < 2 ^ 42 }
-    ensures slots { (slot : ℕ) → slot < slots
-        → contains_slot result slot ≡ (contains_slot set slot && is_last cycle (slice_index_or row.now slot None)) }
+/// The number of the set of the slots that release an instance in `cycle`. It is made from its highest bit to its
+/// lowest, which costs less than to add one slot at a time.
+fn released(row: &Row, slots: u8, cycle: u64) -> u128
+    requires known { slots ≤ most_slots }
+    requires absent { AreAbsent slots row.now }
+    ensures below { result < 2 ^ most_slots }
+    ensures slots { (slot : ℕ) → contains_slot result slot ≡ is_released cycle (slice_index_or row.now slot None) }
 {
-    let mut ending = set;
-    for slot in 0..SLOTS {
-        if !is_last(row[usize::from(slot)], cycle) {
-            ending = ending.without(slot);
+    let mut bits = 0;
+    for slot in (0..slots).rev() {
+        bits = 2 * bits + u128::from(is_released(row[usize::from(slot)], cycle));
+    }
+    bits
+}
+
+/// The least slot of a set whose instance has its last cycle in `cycle`.
+pub fn first_ending(row: &Row, slots: u8, cycle: u64, set: Mask) -> Option<u8>
+    requires cycle { cycle < 2 ^ 42 }
+    requires known { slots ≤ most_slots }
+    requires absent { AreAbsent slots row.now }
+    ensures least { MatchOption result (NoSlot (ends_in row.now cycle set)) (IsLeastSlot (ends_in row.now cycle set)) }
+{
+    if set.bits() == 0 {
+        return None;
+    }
+    for slot in 0..slots {
+        if is_last(row[usize::from(slot)], cycle) && set.has(slot) {
+            return Some(slot);
         }
     }
-    ending
+    None
 }
 
 /// What the slots of a set cost together, in bit times.
-pub fn width(row: &Row, mask: Mask) -> u32
+pub fn width(row: &Row, slots: u8, mask: Mask) -> u32
+    requires known { slots ≤ most_slots }
+    requires absent { AreAbsent slots row.now }
     ensures width { result ≡ width_of_row row.now mask }
 {
     let mut sum = 0;
-    for slot in 0..SLOTS {
-        sum += cost_if(mask.has(slot), row[usize::from(slot)]);
+    let mut left = mask.bits();
+    for slot in 0..slots {
+        sum += cost_if(left % 2 == 1, row[usize::from(slot)]);
+        left /= 2;
     }
     sum
 }

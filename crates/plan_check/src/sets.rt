@@ -1,7 +1,7 @@
 //! Sets of slots, taken together.
 
 ghost use Rattle.std.specs.Prelude.{◌≡◌, ℕ, ◌<◌, ◌&&◌, not, MatchOption};
-ghost use Rattle.requirement_table.specs.Slots.{contains_slot, slots};
+ghost use Rattle.requirement_table.specs.Slots.{contains_slot, most_slots};
 ghost use Rattle.plan_check.specs.Breaches.{IsLeastSlot};
 ghost use Rattle.plan_check.specs.PlanKept.{NoSlot, differ};
 
@@ -9,7 +9,7 @@ use requirement_table::Mask;
 
 /// The slots of one set that don't stand in the other.
 pub fn difference(one: Mask, other: Mask) -> Mask
-    ensures slots { (slot : ℕ) → slot < slots
+    ensures slots { (slot : ℕ) → slot < most_slots
         → contains_slot result slot ≡ (contains_slot one slot && not (contains_slot other slot)) }
 {
     Mask::from_bits(one.bits() & !other.bits())
@@ -17,7 +17,7 @@ pub fn difference(one: Mask, other: Mask) -> Mask
 
 /// The slots that stand in just one of two sets.
 pub fn symmetric_difference(one: Mask, other: Mask) -> Mask
-    ensures slots { (slot : ℕ) → slot < slots
+    ensures slots { (slot : ℕ) → slot < most_slots
         → contains_slot result slot ≡ differ (contains_slot one slot) (contains_slot other slot) }
 {
     Mask::from_bits(one.bits() ^ other.bits())

@@ -12,7 +12,7 @@ use Rattle.std.proofs.lemmas.Option.{slice_get_within, get_or_from_slice_get, sl
 use Rattle.can_frame.specs.declared.data_frame.TimedFrame.{TimedFrame}
 use Rattle.requirement_table.specs.declared.entries.Placed.{Placed}
 use Rattle.requirement_table.specs.Instance.{latest, instance_of, release_of}
-use Rattle.requirement_table.specs.Slots.{slots}
+use Rattle.requirement_table.specs.Slots.{most_slots}
 use Rattle.requirement_table.specs.Table.{IsInRange, IsWellPlaced}
 use Rattle.requirement_table.proofs.Shared.{MaySend-from_instance, latest-of_sent}
 use Rattle.node_model.specs.Opening.{first_identifier}
@@ -296,7 +296,7 @@ tallies-before frames placed sent tallies none are =
 
 -- a frame that is of no slot
 pub tallies-strange : (frames : List TimedFrame) (placed : List Placed) (sent : TimedFrame) (tallies : List Tally) → IsWellPlaced placed
-    → ((slot : ℕ) → slot < slots → sent.frame.identifier ≡ first_identifier + slot → ⊥)
+    → ((slot : ℕ) → slot < most_slots → sent.frame.identifier ≡ first_identifier + slot → ⊥)
     → AreTallies frames placed tallies → AreTallies (frames ++ sent ∷ []) placed tallies
 tallies-strange frames placed sent tallies well strange are =
     tallies-same frames placed sent tallies (λ place p here.

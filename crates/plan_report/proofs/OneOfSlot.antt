@@ -6,7 +6,7 @@ use Rattle.std.proofs.lemmas.Option.{slice_get_within, get_or_from_slice_get}
 use Rattle.requirement_table.specs.declared.entries.Placed.{Placed}
 use Rattle.requirement_table.specs.Instance.{MaySend, instance_of}
 use Rattle.requirement_table.specs.Table.{IsWellPlaced, GoesBefore, free_from, is_over}
-use Rattle.requirement_table.specs.Slots.{slots}
+use Rattle.requirement_table.specs.Slots.{most_slots}
 use Rattle.requirement_table.proofs.Shared.{MaySend-from_instance}
 use Rattle.plan_report.specs.Current.{ArePassed, IsCurrent, IsTheOne}
 
@@ -42,7 +42,7 @@ pub record IsFirst (placed : List Placed) (slot cycle place : ℕ) : Type 0 wher
   pub here : (p : Placed) → slice_get placed place ≡ Some p → (p.entry.slot ≡ slot) × (is_over cycle p ≡ false)
 
 -- as it is found from the place before which all are over
-pub is-first : (placed : List Placed) (places : List ℕ) (slot cycle from place : ℕ) → slot < slots → ArePassed placed places cycle
+pub is-first : (placed : List Placed) (places : List ℕ) (slot cycle from place : ℕ) → slot < most_slots → ArePassed placed places cycle
     → from ≡ slice_index places slot
     → ((other : ℕ) (p : Placed) → from ≤ other → other < place → slice_get placed other ≡ Some p → p.entry.slot ≡ slot → is_over cycle p ≡ true)
     → ((p : Placed) → slice_get placed place ≡ Some p → (p.entry.slot ≡ slot) × (is_over cycle p ≡ false))

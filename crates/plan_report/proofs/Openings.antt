@@ -7,7 +7,7 @@ use Rattle.std.proofs.lemmas.List.Sums.{sum_by_push}
 use Rattle.requirement_table.specs.declared.entries.Placed.{Placed}
 use Rattle.requirement_table.specs.Instance.{Instance, worst_of}
 use Rattle.requirement_table.specs.Opening.{Opening, width_of}
-use Rattle.requirement_table.specs.Slots.{contains_slot, slots}
+use Rattle.requirement_table.specs.Slots.{contains_slot, most_slots}
 use Rattle.requirement_table.specs.Table.{instance_in, width_in, worst_in}
 use Rattle.change_protocol.specs.Applied.{without_end}
 use Rattle.planner_policies.proofs.Shared.{sum_where-costs}
@@ -29,7 +29,7 @@ unended (Some i) = refl
 -- so the opening has the same width
 width-same : (placed : List Placed) (o : Opening) → IsSameIn placed o → width_in placed o.cycle (contains_slot o.mask) ≡ width_of o
 width-same placed o same =
-    sum_where-costs slots (contains_slot o.mask) (worst_in placed o.cycle) (worst_in o.placed o.cycle)
+    sum_where-costs most_slots (contains_slot o.mask) (worst_in placed o.cycle) (worst_in o.placed o.cycle)
     (λ s below. sym (unended (instance_in placed s o.cycle)) ∙ ap (λ i. option_map_or worst_of i 0) (sym (same s)) ∙ unended (instance_in o.placed s o.cycle))
 
 next_of-push : (before : List Event) (event : Event) → next_of (before ++ event ∷ []) ≡ next_of before + cond (is_open event) 1 0

@@ -1,14 +1,16 @@
 -- The widths of opened cycles, slot by slot and event by event.
-use Rattle.std.proofs.Common.{◌≡◌, ℕ, suc, ◌+◌, ◌<◌, ◌≤◌, Bool, true, false, cond, Option, Some, None, IfSome, List, ◌∷◌, ◌++◌, length, drop, get_or, slice_get, nat_le, refl, sym, ap, subst, ◌∙◌, arith, append_assoc, Contains}
+use Rattle.std.proofs.Common.{◌≡◌, ℕ, zero, suc, ◌+◌, ◌<◌, ◌≤◌, ◌==◌, ◌&&◌, not, inl, inr, Bool, true, false, cond, Option, Some, None, IfSome, List, ◌∷◌, ◌++◌, length, drop, get_or, slice_get, nat_le, refl, sym, ap, subst, ◌∙◌, arith, append_assoc, Contains}
 use Rattle.std.specs.Option.{option_map_or}
-use Rattle.std.proofs.lemmas.Bool.{leb-true, le-leb}
-use Rattle.std.proofs.lemmas.Option.{get_or_from_slice_get, slice_get-get_or, slice_get_within}
+use Rattle.std.proofs.lemmas.Bool.{cases_eq, cond-false, cond-true, eq-eqb, leb-true, le-leb, ne_eqb}
+use Rattle.std.proofs.lemmas.Option.{slice_get-get_or}
 use Rattle.std.proofs.Math.Seq.{drop-cons}
 use Rattle.requirement_table.specs.declared.entries.Placed.{Placed}
 use Rattle.requirement_table.specs.Instance.{Instance, MaySend, worst, worst_of}
-use Rattle.requirement_table.specs.Slots.{sum_where}
+use Rattle.requirement_table.specs.Slots.{contains_slot, most_slots, sum_where}
 use Rattle.requirement_table.specs.Table.{IsInRange, IsWellPlaced, free_from, instance_in, is_over, worst_in}
-use Rattle.requirement_table.proofs.Shared.{MaySend-from_instance, instance_in-found, instance_in-sound, instance_of-sent}
+use Rattle.requirement_table.proofs.Shared.{MaySend-from_instance, instance_in-found, instance_in-sound, instance_of-sent, sum_where-same}
+use Rattle.node_model.specs.Node.{least_where}
+use Rattle.node_model.proofs.Shared.{IsLeastBelow, least_where-least}
 use Rattle.plan_report.specs.Current.{ArePassed, IsCurrent, IsTheOne}
 use Rattle.plan_report.specs.declared.current.Current.{Current}
 use Rattle.master_core.specs.declared.event.Event.{Event}
@@ -39,14 +41,6 @@ worst-found placed slot cycle found well one =
     (instance_in-found placed well found.place found.number cycle found.placed one.here sends) in
     ap (λ o. option_map_or worst_of o 0) is
 
-pub worst-range : (placed : List Placed) (slot cycle : ℕ) (found : Current) → IsWellPlaced placed → IsTheOne placed slot cycle found
-    → worst found.placed.entry.length ≤ 135
-worst-range placed slot cycle found well one =
-    let range : IsInRange found.placed = subst IsInRange (get_or_from_slice_get placed found.place found.placed found.placed one.here)
-    (well.in_range found.place found.placed (slice_get_within placed found.place found.placed one.here)) in
-    let few = range.entry.length in
-    omega arith
-
 -- it is nothing where no entry may
 pub worst-none : (placed : List Placed) (slot cycle : ℕ) → IsWellPlaced placed → IsCurrent placed slot cycle None → worst_in placed cycle slot ≡ 0
 worst-none placed slot cycle well none = by (instance_in placed slot cycle) (instance_in-sound placed slot cycle)
@@ -62,13 +56,52 @@ worst-none placed slot cycle well none = by (instance_in placed slot cycle) (ins
         let nothing = none place i.placed there sound.1 in
         absurd (let no : ⊥ = cc in no)
 
-pub sum-none : (p : ℕ → Bool) (f : ℕ → ℕ) → 0 ≡ sum_where 0 p f
-unfolding sum_where
-sum-none p f = refl
+-- Sets of slots
 
-pub sum-next : (n : ℕ) (p : ℕ → Bool) (f : ℕ → ℕ) → sum_where (n + 1) p f ≡ sum_where n p f + cond (p n) (f n) 0
+-- the least slot of a set is one of its slots
+pub least-in : (set slot : ℕ) → least_where most_slots (contains_slot set) ≡ Some slot → IsLeastBelow most_slots (contains_slot set) (Some slot)
+least-in set slot is = subst (IsLeastBelow most_slots (contains_slot set)) is (least_where-least most_slots (contains_slot set))
+
+sum-nothing : (n : ℕ) (p : ℕ → Bool) (f : ℕ → ℕ) → ((s : ℕ) → s < n → p s ≡ false) → sum_where n p f ≡ 0
 unfolding sum_where
-sum-next n p f = let next : n + 1 ≡ suc n = omega arith in ap (λ m. sum_where m p f) next
+sum-nothing zero p f none = refl
+sum-nothing (suc n) p f none =
+    let front = sum-nothing n p f (λ s below. none s (omega arith)) in
+    let here : cond (p n) (f n) 0 ≡ 0 = cond-false (p n) (f n) 0 (none n (omega arith)) in
+    omega arith
+
+-- a set without a slot costs nothing
+pub sum-empty : (set : ℕ) (f : ℕ → ℕ) → least_where most_slots (contains_slot set) ≡ None → sum_where most_slots (contains_slot set) f ≡ 0
+sum-empty set f none =
+    let empty : IsLeastBelow most_slots (contains_slot set) None =
+    subst (IsLeastBelow most_slots (contains_slot set)) none (least_where-least most_slots (contains_slot set)) in
+    sum-nothing most_slots (contains_slot set) f empty
+
+sum-but_one : (n slot : ℕ) (p q : ℕ → Bool) (f : ℕ → ℕ) → slot < n → p slot ≡ true → q slot ≡ false
+    → ((s : ℕ) → s < n → (s ≡ slot → ⊥) → q s ≡ p s) → sum_where n q f + f slot ≡ sum_where n p f
+unfolding sum_where
+sum-but_one zero slot p q f below has lacks others = absurd (omega arith)
+sum-but_one (suc n) slot p q f below has lacks others =
+    elim (cases_eq n slot) as (λ _. (sum_where n q f + cond (q n) (f n) 0) + f slot ≡ sum_where n p f + cond (p n) (f n) 0) [
+      | inl same ↦
+          let front : sum_where n q f ≡ sum_where n p f = sum_where-same n q p f (λ s h. others s (omega arith) (λ is. omega arith)) in
+          let with_it : cond (p n) (f n) 0 ≡ f slot = subst (λ k. cond (p k) (f k) 0 ≡ f slot) (sym same) (cond-true (p slot) (f slot) 0 has) in
+          let without_it : cond (q n) (f n) 0 ≡ 0 = subst (λ k. cond (q k) (f k) 0 ≡ 0) (sym same) (cond-false (q slot) (f slot) 0 lacks) in
+          omega arith
+      | inr other ↦
+          let front = sum-but_one n slot p q f (omega arith) has lacks (λ s h. others s (omega arith)) in
+          let here : cond (q n) (f n) 0 ≡ cond (p n) (f n) 0 = ap (λ b. cond b (f n) 0) (others n (omega arith) other) in
+          omega arith
+    ]
+
+-- what a set costs without one of its slots, and what this slot costs
+pub sum-without : (set rest slot : ℕ) (f : ℕ → ℕ) → slot < most_slots → contains_slot set slot ≡ true
+    → ((s : ℕ) → contains_slot rest s ≡ (not (s == slot) && contains_slot set s))
+    → sum_where most_slots (contains_slot rest) f + f slot ≡ sum_where most_slots (contains_slot set) f
+sum-without set rest slot f below has without =
+    sum-but_one most_slots slot (contains_slot set) (contains_slot rest) f below has
+    (without slot ∙ ap (λ b. not b && contains_slot set slot) (eq-eqb slot slot refl))
+    (λ s _ other. without s ∙ ap (λ b. not b && contains_slot set s) (ne_eqb s slot other))
 
 -- Events
 

@@ -2,13 +2,13 @@
 use Rattle.std.specs.Prelude.{◌≡◌, ℕ, ◌<◌, true, List, length, Option, Some, None, slice_get, slice_index}
 use Rattle.requirement_table.specs.declared.entries.Placed.{Placed}
 use Rattle.requirement_table.specs.Instance.{instance_of}
-use Rattle.requirement_table.specs.Slots.{slots}
+use Rattle.requirement_table.specs.Slots.{most_slots}
 use Rattle.requirement_table.specs.Table.{is_over}
 use Rattle.plan_report.specs.declared.current.Current.{Current}
 
 -- of each slot all entries before its place are over by the cycle
 abbrev pub ArePassed : List Placed → List ℕ → ℕ → Type 0
-ArePassed placed places cycle = (slot place : ℕ) (p : Placed) → slot < slots
+ArePassed placed places cycle = (slot place : ℕ) (p : Placed) → slot < most_slots
     → place < slice_index places slot → slice_get placed place ≡ Some p
     → p.entry.slot ≡ slot → is_over cycle p ≡ true
 

@@ -3,11 +3,11 @@
 
 ghost use Rattle.std.specs.Prelude.{◌≡◌, ℕ, ◌<◌, ◌≤◌, ◌==◌, ◌&&◌, not, List, Some, false, true, slice_get};
 ghost use Rattle.requirement_table.specs.declared.entries.Placed.{Placed};
-ghost use Rattle.requirement_table.specs.Slots.{slots};
+ghost use Rattle.requirement_table.specs.Slots.{most_slots};
 ghost use Rattle.requirement_table.specs.Table.{IsInRange, IsWellPlaced, free_from, is_over};
 ghost use Rattle.plan_report.specs.Current.{ArePassed, IsCurrent};
 
-use requirement_table::{Placed, SLOTS, current};
+use requirement_table::{MOST_SLOTS, Placed, current};
 
 /// The entry of a slot that may send in a cycle.
 #[derive(Clone, Copy, Debug)]
@@ -24,7 +24,7 @@ pub struct Current {
 #[derive(Drop, Debug)]
 pub struct Places {
     /// The place of each slot.
-    pub first: [usize; SLOTS as usize],
+    pub first: [usize; MOST_SLOTS as usize],
 }
 
 impl Places {
@@ -33,7 +33,7 @@ impl Places {
         ensures passed { (placed : List Placed) (cycle : ℕ) → ArePassed placed result.first cycle }
     {
         Places {
-            first: [0; SLOTS as usize],
+            first: [0; MOST_SLOTS as usize],
         }
     }
 
@@ -41,7 +41,7 @@ impl Places {
     /// asked is asked later.
     pub fn find(&mut self, placed: &[Placed], slot: u8, cycle: u64) -> Option<Current>
         requires well_placed { IsWellPlaced placed.now }
-        requires slot { slot < slots }
+        requires slot { slot < most_slots }
         requires passed { ArePassed placed.now self.old.first cycle }
         ensures found { IsCurrent placed.now slot cycle result }
         ensures passed { ArePassed placed.now self.new.first cycle }

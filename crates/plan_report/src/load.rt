@@ -1,8 +1,9 @@
 //! The widths of the synchronous windows of all opened cycles: the worst lengths of the flagged slots together, in
 //! bit times.
 
-ghost use Rattle.std.specs.Prelude.{◌≡◌, ℕ, ◌+◌, ◌*◌, ◌^◌, ◌<◌, ◌≤◌, ◌++◌, ◌∷◌, [], List, if◌then◌else◌};
-ghost use Rattle.requirement_table.specs.Slots.{contains_slot, slots};
+ghost use Rattle.std.specs.Prelude.{◌≡◌, ℕ, ◌+◌, ◌*◌, ◌^◌, ◌<◌, ◌≤◌, ◌++◌, ◌∷◌, [], List};
+ghost use Rattle.requirement_table.specs.Instance.{worst};
+ghost use Rattle.requirement_table.specs.Slots.{contains_slot, most_slots};
 ghost use Rattle.requirement_table.specs.Table.{IsWellPlaced, width_in, worst_in};
 ghost use Rattle.plan_report.specs.Current.{ArePassed};
 ghost use Rattle.plan_report.specs.Opened.{load_of, opened_width, opened_widths};
@@ -10,7 +11,8 @@ ghost use Rattle.plan_report.specs.Opened.{load_of, opened_width, opened_widths}
 use crate::current::Places;
 use crate::tally::{greater, lesser};
 use master_core::Event;
-use requirement_table::{Mask, Placed, SLOTS, cost};
+use node_model::least_slot;
+use requirement_table::{Mask, Placed, cost};
 
 /// The least and the greatest of some widths, where there are any, and their sum, in bit times.
 #[derive(Clone, Copy, Debug)]
@@ -71,7 +73,7 @@ fn with_event(load: &Load, places: &mut Places, placed: &[Placed], next: u64, ev
     ensures passed { ArePassed placed.now places.new.first next }
     ensures load { (widths : List ℕ) → load.now ≡ load_of widths
         → result ≡ load_of (widths ++ opened_width placed.now next event.now) }
-    ensures sum { result.sum ≤ load.now.sum + 5400 }
+    ensures sum { result.sum ≤ load.now.sum + most_slots * worst 8 }
 {
     match event {
         Event::Submit { .. } => *load,
@@ -86,27 +88,27 @@ fn width(places: &mut Places, placed: &[Placed], cycle: u64, mask: Mask) -> u32
     requires passed { ArePassed placed.now places.old.first cycle }
     ensures passed { ArePassed placed.now places.new.first cycle }
     ensures width { result ≡ width_in placed.now cycle (contains_slot mask) }
-    ensures range { result ≤ 5400 }
+    ensures range { result ≤ most_slots * worst 8 }
 {
     let mut width = 0;
-    for slot in 0..SLOTS {
-        width += slot_width(places, placed, slot, cycle, mask);
+    let mut left = mask;
+    while let Some(slot) = least_slot(left) {
+        left.known();
+        left = left.without(slot);
+        left.known();
+        width += slot_width(places, placed, slot, cycle);
     }
     width
 }
 
-/// The worst length of the frame that a slot sends in a cycle, where it is flagged.
-fn slot_width(places: &mut Places, placed: &[Placed], slot: u8, cycle: u64, mask: Mask) -> u32
+/// The worst length of the frame that a slot sends in a cycle.
+fn slot_width(places: &mut Places, placed: &[Placed], slot: u8, cycle: u64) -> u32
     requires well_placed { IsWellPlaced placed.now }
-    requires slot { slot < slots }
+    requires slot { slot < most_slots }
     requires passed { ArePassed placed.now places.old.first cycle }
     ensures passed { ArePassed placed.now places.new.first cycle }
-    ensures width { result ≡ (if contains_slot mask slot then worst_in placed.now cycle slot else 0) }
-    ensures range { result ≤ 135 }
+    ensures width { result ≡ worst_in placed.now cycle slot }
 {
-    if !mask.has(slot) {
-        return 0;
-    }
     match places.find(placed, slot, cycle) {
         Some(found) => cost(found.placed.entry.length),
         None => 0,

@@ -3,7 +3,7 @@
 ghost use Rattle.std.specs.Prelude.{◌≡◌, ℕ, ◌+◌, ◌-◌, ◌^◌, ◌<◌, ◌≤◌, ◌++◌, ◌∷◌, []};
 ghost use Rattle.std.specs.Prelude.{List, All, IfOk, MatchOption, length};
 ghost use Rattle.can_frame.specs.declared.data_frame.TimedFrame.{TimedFrame};
-ghost use Rattle.requirement_table.specs.Slots.{slots};
+ghost use Rattle.requirement_table.specs.Slots.{most_slots};
 ghost use Rattle.requirement_table.specs.Table.{IsWellPlaced};
 ghost use Rattle.requirement_table.specs.Instance.{release_of};
 ghost use Rattle.node_model.specs.Opening.{first_identifier};
@@ -15,7 +15,7 @@ use crate::current::Places;
 use crate::tally::{NOTHING, Tally};
 use can_frame::TimedFrame;
 use node_model::FIRST_IDENTIFIER;
-use requirement_table::{Placed, SLOTS};
+use requirement_table::{MOST_SLOTS, Placed};
 use std::alloc::{AllocError, Global};
 
 /// What was sent of each of these entries in a trace.
@@ -51,12 +51,12 @@ fn triggers_with(seen: u64, sent: &TimedFrame) -> u64
 
 /// The slot of a frame, where it is one of a slot.
 fn slot_of(sent: &TimedFrame) -> Option<u8>
-    ensures slot { MatchOption result ((slot : ℕ) → slot < slots
+    ensures slot { MatchOption result ((slot : ℕ) → slot < most_slots
         → sent.now.frame.identifier ≡ first_identifier + slot → ⊥)
-        (λ slot. (slot < slots) × (sent.now.frame.identifier ≡ first_identifier + slot)) }
+        (λ slot. (slot < most_slots) × (sent.now.frame.identifier ≡ first_identifier + slot)) }
 {
     let id = sent.frame.id();
-    if id < FIRST_IDENTIFIER || FIRST_IDENTIFIER + u16::from(SLOTS) <= id {
+    if id < FIRST_IDENTIFIER || FIRST_IDENTIFIER + u16::from(MOST_SLOTS) <= id {
         return None;
     }
     Some((id - FIRST_IDENTIFIER) as u8)

@@ -22,8 +22,8 @@ use std::alloc::{AllocError, Global};
 /// were not, and a row of the widths of the synchronous windows in bit times.
 ///
 /// The trace is that of the cycles that the master opened. It takes time for the frames, the entries, the requests
-/// and the events together, and for 40 walks over the entries; and memory for a row of numbers for each entry and
-/// each identifier, and for the text.
+/// and the events together, and for one walk over the entries for each slot. It takes memory for a row of numbers for
+/// each entry and each identifier, and for the text.
 ///
 /// # Errors
 ///

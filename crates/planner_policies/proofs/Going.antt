@@ -1,12 +1,13 @@
 -- Plannings with the same instances, and plannings that go on, have the same plan.
-use Rattle.std.proofs.Common.{◌≡◌, ℕ, zero, suc, ◌+◌, ◌<◌, ◌≤◌, ◌&&◌, Bool, true, nat_lt, List, refl, sym, ap, ◌∙◌, arith, add-one}
+use Rattle.std.proofs.Common.{◌≡◌, ℕ, zero, suc, ◌+◌, ◌<◌, ◌≤◌, ◌&&◌, List, refl, sym, ap, ◌∙◌, arith}
 use Rattle.std.proofs.lemmas.Bool.{lt-ltb}
 use Rattle.requirement_table.specs.declared.entries.Placed.{Placed}
-use Rattle.requirement_table.specs.Slots.{contains_slot, set_of, slots}
+use Rattle.requirement_table.specs.Slots.{contains_slot, set_of, most_slots}
 use Rattle.requirement_table.specs.Table.{instance_in, releases_in}
 use Rattle.requirement_table.proofs.Shared.{contains_slot-set_of, set_of-same}
 use Rattle.planner_policies.specs.Plan.{IsMissAt, IsMissIn, Planning, is_missed_at, is_missed_in, left_after, mask_at, pending_at, pending_before, planned_at, planned_in}
-use Rattle.planner_policies.proofs.Steps.{Agree, AreAlike, alike-from_same, left-alike, missed-alike, planned-alike, with_table}
+use Rattle.planner_policies.proofs.Steps.{alike-from_same, left-alike, missed-alike, planned-alike}
+use Rattle.planner_policies.proofs.Filling.{AreAlike}
 
 pub before-next : (plan : Planning) (n slot : ℕ) → pending_before plan (suc n) slot ≡ left_after plan (plan.from + n) (pending_before plan n) slot
 unfolding pending_before
@@ -17,19 +18,19 @@ unfolding pending_before
 before-first plan slot = refl
 
 -- a slot is in the set of the pending ones where it is pending
-pub pending-test : (plan : Planning) (n slot : ℕ) → slot < slots → contains_slot (pending_at plan n) slot ≡ pending_before plan n slot
+pub pending-test : (plan : Planning) (n slot : ℕ) → slot < most_slots → contains_slot (pending_at plan n) slot ≡ pending_before plan n slot
 pending-test plan n slot known =
-    contains_slot-set_of slots (pending_before plan n) slot ∙ ap (λ b. b && pending_before plan n slot) (lt-ltb slot slots known)
+    contains_slot-set_of most_slots (pending_before plan n) slot ∙ ap (λ b. b && pending_before plan n slot) (lt-ltb slot most_slots known)
 
 module _ (plan : Planning) (placed : List Placed) (n : ℕ)
-    (same : (k slot : ℕ) → k < n → slot < slots → instance_in placed slot (plan.from + k) ≡ instance_in plan.placed slot (plan.from + k))
-    (releases : (k slot : ℕ) → k < n → slot < slots → releases_in placed (plan.from + k) slot ≡ releases_in plan.placed (plan.from + k) slot) where
+    (same : (k slot : ℕ) → k < n → slot < most_slots → instance_in placed slot (plan.from + k) ≡ instance_in plan.placed slot (plan.from + k))
+    (releases : (k slot : ℕ) → k < n → slot < most_slots → releases_in placed (plan.from + k) slot ≡ releases_in plan.placed (plan.from + k) slot) where
   alike-at : (m : ℕ) → m < n → AreAlike plan.policy plan.placed placed (plan.from + m) (plan.from + m)
   alike-at m within =
       alike-from_same plan.policy plan.placed placed (plan.from + m) (plan.from + m) refl (λ slot known. same m slot within known)
       (λ slot known. releases m slot within known)
 
-  pub same-pending : (m slot : ℕ) → m ≤ n → slot < slots → pending_before (record plan { placed = placed }) m slot ≡ pending_before plan m slot
+  pub same-pending : (m slot : ℕ) → m ≤ n → slot < most_slots → pending_before (record plan { placed = placed }) m slot ≡ pending_before plan m slot
   same-pending zero slot within known = before-first (record plan { placed = placed }) slot ∙ sym (before-first plan slot)
   same-pending (suc m) slot within known =
       before-next (record plan { placed = placed }) m slot
@@ -37,12 +38,12 @@ module _ (plan : Planning) (placed : List Placed) (n : ℕ)
       (alike-at m (omega arith)) (λ other below. same-pending m other (omega arith) below) slot known
       ∙ sym (before-next plan m slot)
 
-  pub same-planned : (m slot : ℕ) → m < n → slot < slots → planned_at (record plan { placed = placed }) m slot ≡ planned_at plan m slot
+  pub same-planned : (m slot : ℕ) → m < n → slot < most_slots → planned_at (record plan { placed = placed }) m slot ≡ planned_at plan m slot
   same-planned m slot within known =
       planned-alike plan placed plan.from plan.pending (plan.from + m) (plan.from + m) (pending_before plan m) (pending_before (record plan { placed = placed }) m)
       (alike-at m within) (λ other below. same-pending m other (omega arith) below) slot known
 
-  pub same-missed : (m slot : ℕ) → m < n → slot < slots → is_missed_at (record plan { placed = placed }) m slot ≡ is_missed_at plan m slot
+  pub same-missed : (m slot : ℕ) → m < n → slot < most_slots → is_missed_at (record plan { placed = placed }) m slot ≡ is_missed_at plan m slot
   same-missed m slot within known =
       missed-alike plan placed plan.from plan.pending (plan.from + m) (plan.from + m) (pending_before plan m) (pending_before (record plan { placed = placed }) m)
       (alike-at m within) (λ other below. same-pending m other (omega arith) below) slot known
@@ -55,7 +56,7 @@ alike-later : (plan : Planning) (n m : ℕ) → AreAlike plan.policy plan.placed
 alike-later plan n m =
     alike-from_same plan.policy plan.placed plan.placed ((plan.from + n) + m) (plan.from + (n + m)) (omega arith) (λ slot known. refl) (λ slot known. refl)
 
-pub on-pending : (plan : Planning) (n m slot : ℕ) → slot < slots → pending_before plan (n + m) slot ≡ pending_before (later_plan plan n) m slot
+pub on-pending : (plan : Planning) (n m slot : ℕ) → slot < most_slots → pending_before plan (n + m) slot ≡ pending_before (later_plan plan n) m slot
 on-pending plan n zero slot known =
     let at : n + 0 ≡ n = omega arith in
     ap (λ k. pending_before plan k slot) at ∙ sym (pending-test plan n slot known) ∙ sym (before-first (later_plan plan n) slot)
@@ -67,12 +68,12 @@ on-pending plan n (suc m) slot known =
     (pending_before plan (n + m)) (alike-later plan n m) (λ other below. on-pending plan n m other below) slot known
     ∙ sym (before-next (later_plan plan n) m slot)
 
-pub on-planned : (plan : Planning) (n m slot : ℕ) → slot < slots → planned_at plan (n + m) slot ≡ planned_at (later_plan plan n) m slot
+pub on-planned : (plan : Planning) (n m slot : ℕ) → slot < most_slots → planned_at plan (n + m) slot ≡ planned_at (later_plan plan n) m slot
 on-planned plan n m slot known =
     planned-alike (later_plan plan n) plan.placed plan.from plan.pending ((plan.from + n) + m) (plan.from + (n + m)) (pending_before (later_plan plan n) m)
     (pending_before plan (n + m)) (alike-later plan n m) (λ other below. on-pending plan n m other below) slot known
 
-pub on-missed : (plan : Planning) (n m slot : ℕ) → slot < slots → is_missed_at plan (n + m) slot ≡ is_missed_at (later_plan plan n) m slot
+pub on-missed : (plan : Planning) (n m slot : ℕ) → slot < most_slots → is_missed_at plan (n + m) slot ≡ is_missed_at (later_plan plan n) m slot
 on-missed plan n m slot known =
     missed-alike (later_plan plan n) plan.placed plan.from plan.pending ((plan.from + n) + m) (plan.from + (n + m)) (pending_before (later_plan plan n) m)
     (pending_before plan (n + m)) (alike-later plan n m) (λ other below. on-pending plan n m other below) slot known
@@ -82,22 +83,22 @@ on-missed plan n m slot known =
 alike-itself : (plan : Planning) (c : ℕ) → AreAlike plan.policy plan.placed plan.placed c c
 alike-itself plan c = alike-from_same plan.policy plan.placed plan.placed c c refl (λ slot known. refl) (λ slot known. refl)
 
-pub state-planned : (plan : Planning) (n : ℕ) → set_of slots (planned_in plan (plan.from + n) (contains_slot (pending_at plan n))) ≡ mask_at plan n
+pub state-planned : (plan : Planning) (n : ℕ) → set_of most_slots (planned_in plan (plan.from + n) (contains_slot (pending_at plan n))) ≡ mask_at plan n
 state-planned plan n =
-    set_of-same slots (planned_in plan (plan.from + n) (contains_slot (pending_at plan n))) (planned_at plan n)
+    set_of-same most_slots (planned_in plan (plan.from + n) (contains_slot (pending_at plan n))) (planned_at plan n)
     (planned-alike plan plan.placed plan.from plan.pending (plan.from + n) (plan.from + n) (pending_before plan n) (contains_slot (pending_at plan n))
     (alike-itself plan (plan.from + n)) (pending-test plan n))
 
-pub state-left : (plan : Planning) (n : ℕ) → set_of slots (left_after plan (plan.from + n) (contains_slot (pending_at plan n))) ≡ pending_at plan (n + 1)
+pub state-left : (plan : Planning) (n : ℕ) → set_of most_slots (left_after plan (plan.from + n) (contains_slot (pending_at plan n))) ≡ pending_at plan (n + 1)
 state-left plan n =
-    set_of-same slots (left_after plan (plan.from + n) (contains_slot (pending_at plan n))) (pending_before plan (n + 1))
+    set_of-same most_slots (left_after plan (plan.from + n) (contains_slot (pending_at plan n))) (pending_before plan (n + 1))
     (λ slot known.
     left-alike plan plan.placed plan.from plan.pending (plan.from + n) (plan.from + n) (pending_before plan n) (contains_slot (pending_at plan n))
     (alike-itself plan (plan.from + n)) (pending-test plan n) slot known
     ∙ sym (before-next plan n slot)
     ∙ (let next : suc n ≡ n + 1 = omega arith in ap (λ k. pending_before plan k slot) next))
 
-pub state-missed : (plan : Planning) (n slot : ℕ) → slot < slots
+pub state-missed : (plan : Planning) (n slot : ℕ) → slot < most_slots
     → is_missed_in plan (plan.from + n) (contains_slot (pending_at plan n)) slot ≡ is_missed_at plan n slot
 state-missed plan n slot known =
     missed-alike plan plan.placed plan.from plan.pending (plan.from + n) (plan.from + n) (pending_before plan n) (contains_slot (pending_at plan n))

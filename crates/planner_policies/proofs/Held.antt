@@ -1,5 +1,5 @@
 -- Which slots have an instance that was released before a cycle.
-use Rattle.std.proofs.Common.{◌≡◌, ℕ, ◌^◌, ◌<◌, ◌&&◌, not, Bool, true, false, nat_eq, nat_lt, zero, suc, Option, Some, None, List, IsPermutation, refl, sym, ap, ◌∙◌, arith}
+use Rattle.std.proofs.Common.{◌≡◌, ℕ, ◌^◌, ◌<◌, ◌&&◌, not, Bool, true, false, nat_eq, nat_lt, Option, Some, None, List, IsPermutation, refl, sym, ap, ◌∙◌}
 use Rattle.std.specs.List.{list_any}
 use Rattle.std.specs.Option.{option_map_or}
 use Rattle.std.proofs.lemmas.Bool.{lt-ltb, ltb-true, eq-eqb, eqb-true, and_parts, and_from}
@@ -7,11 +7,12 @@ use Rattle.std.proofs.lemmas.List.Folds.{Any-from_list_any, list_any-from_Any}
 use Rattle.std.proofs.lemmas.List.Sorted.{list_any-IsPermutation}
 use Rattle.requirement_table.specs.declared.entries.Placed.{Placed}
 use Rattle.requirement_table.specs.Instance.{instance_of, release_of}
-use Rattle.requirement_table.specs.Slots.{contains_slot, set_of, slots, sum_where}
-use Rattle.requirement_table.specs.Table.{IsWellPlaced, instance_in}
+use Rattle.requirement_table.specs.Slots.{contains_slot, set_of, most_slots}
+use Rattle.requirement_table.specs.Table.{IsHeldFrom, IsWellPlaced, instance_in}
 use Rattle.requirement_table.proofs.Shared.{MaySend-from_instance, contains_slot-none, found-in, found-of, set_of-contains_slot, set_of-same}
 use Rattle.planner_policies.specs.Due.{holds_of, is_held_in}
-use Rattle.planner_policies.specs.Plan.{IsHeldFrom, IsValid}
+use Rattle.planner_policies.specs.Plan.{IsValid}
+use Rattle.planner_policies.proofs.Sums.{sum_where-none}
 
 held-parts : (o : Option ℕ) (p : Placed) (c : ℕ) → option_map_or (λ k. nat_lt (release_of p k) c) o false ≡ true
     → (k : ℕ) × (o ≡ Some k) × (release_of p k < c)
@@ -45,11 +46,6 @@ held-test placed c slot well held =
           (number ∙ lt-ltb (release_of i.placed i.number) c held.before),
     )
 
-sum_where-none : (n : ℕ) (f : ℕ → ℕ) → sum_where n (λ _. false) f ≡ 0
-unfolding sum_where
-sum_where-none zero f = refl
-sum_where-none (suc n) f = let rest = sum_where-none n f in omega arith
-
 set_of-none : (n : ℕ) → set_of n (λ _. false) ≡ 0
 unfolding set_of
 set_of-none n = sum_where-none n (λ slot. 2 ^ slot)
@@ -74,10 +70,10 @@ valid-sound placed rows c pending rest well same left none slot waiting =
     held-from placed c slot well (list_any-IsPermutation (holds_of c slot) placed rows same ∙ held)
 
 pub valid-complete : (placed rows : List Placed) (c pending rest : ℕ) → IsWellPlaced placed → IsPermutation placed rows → IsRest rows c pending rest
-    → rest < 2 ^ slots → IsValid placed c pending → rest ≡ 0
+    → rest < 2 ^ most_slots → IsValid placed c pending → rest ≡ 0
 valid-complete placed rows c pending rest well same left below valid =
-    set_of-contains_slot slots rest below
-    ∙ set_of-same slots (contains_slot rest) (λ _. false)
+    set_of-contains_slot most_slots rest below
+    ∙ set_of-same most_slots (contains_slot rest) (λ _. false)
     (λ slot known. left slot ∙ left-none (contains_slot pending slot) (list_any (holds_of c slot) rows)
     (λ waiting. sym (list_any-IsPermutation (holds_of c slot) placed rows same) ∙ held-test placed c slot well (valid slot waiting)))
-    ∙ set_of-none slots
+    ∙ set_of-none most_slots

@@ -1,5 +1,9 @@
 pub mod Shared
 mod Cycles
+mod DueSlots
+mod EachLoop
+mod EachThatFits
+mod Filling
 mod Filtered
 mod Fits
 mod FrontExists
@@ -13,4 +17,7 @@ mod Loops
 mod Pairs
 mod Rows
 mod Steps
+mod Sums
+mod TakenEach
+mod TakenFront
 mod Waiting

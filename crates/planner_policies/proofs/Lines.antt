@@ -1,5 +1,5 @@
 -- Lists of instances in key order, and one more put in.
-use Rattle.std.proofs.Common.{◌≡◌, ◌≢◌, ℕ, zero, suc, ◌+◌, ◌-◌, ◌<◌, ◌≤◌, Bool, true, false, List, [], ◌∷◌, ◌++◌, All, AllPairs, length, get_or, set, take, drop, refl, sym, ap, ◌∙◌, ◌⊎◌, inl, inr, ⊎_elim, arith}
+use Rattle.std.proofs.Common.{◌≡◌, ◌≢◌, ℕ, zero, suc, ◌+◌, ◌<◌, ◌≤◌, true, false, List, [], ◌∷◌, ◌++◌, All, length, get_or, set, take, drop, refl, sym, ap, ◌∙◌, ◌⊎◌, inl, inr, ⊎_elim, arith}
 use Rattle.std.proofs.lemmas.List.{get_or-drop, length-drop, get_or-set_other, get_or-set_same, get_or-take, length-take-le, take-append-drop, take-take}
 use Rattle.std.proofs.Math.ListN.{length-set}
 use Rattle.std.proofs.lemmas.Bool.{cases_eq}
@@ -46,19 +46,17 @@ same-read (x ∷ xs) (suc i) d e within = same-read xs i d e (omega arith)
 
 -- the instances from `place` on, which do not go before `due`, have moved up by one
 pub record IsMovedUp (was now : List Due) (due : Due) (place count : ℕ) : Type 0 where
-  pub room : count < 40
-  pub before : length was ≡ 40
-  pub after : length now ≡ 40
+  pub room : count < length was
+  pub after : length now ≡ length was
   pub within : place ≤ count
   pub front : (k : ℕ) (d : Due) → k < place → get_or now k d ≡ get_or was k d
   pub moved : (k : ℕ) (d : Due) → place ≤ k → k < count → get_or now (k + 1) d ≡ get_or was k d
   pub behind : (k : ℕ) (d : Due) → place ≤ k → k < count → is_due_by (get_or was k d) due ≡ false
 
-pub moved_up-start : (was : List Due) (due : Due) (count : ℕ) → count < 40 → length was ≡ 40 → IsMovedUp was was due count count
-moved_up-start was due count room size = record {
+pub moved_up-start : (was : List Due) (due : Due) (count : ℕ) → count < length was → IsMovedUp was was due count count
+moved_up-start was due count room = record {
   room = room;
-  before = size;
-  after = size;
+  after = refl;
   within = omega arith;
   front = λ k d below. refl;
   moved = λ k d above below. absurd (omega arith);
@@ -73,7 +71,6 @@ moved_up-next was now due e place less count next before wrong =
     let within = before.within in
     record {
       room = room;
-      before = before.before;
       after = length-set now place (get_or now less e) ∙ size;
       within = omega arith;
       front = λ k d below. let other : k ≢ place = omega arith in get_or-set_other now place k (get_or now less e) d other ∙ before.front k d (omega arith);
@@ -105,7 +102,7 @@ front-before : (was now : List Due) (due e : Due) (less place count : ℕ) → p
     → IsLined (take count was) → is_due_by (get_or now less e) due ≡ true → (k : ℕ) → k < place → is_due_by (get_or was k e) due ≡ true
 front-before was now due e less place count next moved lined last k below =
     let room = moved.room in
-    let size = moved.before in
+    let size = moved.after in
     let within = moved.within in
     let at : get_or now less e ≡ get_or was less e = moved.front less e (omega arith) in
     let here : is_due_by (get_or was less e) due ≡ true = ap (λ x. is_due_by x due) (sym at) ∙ last in
@@ -125,7 +122,7 @@ all-before : (was now : List Due) (due : Due) (place count : ℕ) → IsMovedUp 
     → All (λ other. is_due_by other due ≡ true) (take place was)
 all-before was now due place count moved lined (inl none) = λ k d below. absurd (omega (arith, length-take-le place was))
 all-before was now due place count moved lined (inr last) = λ k d below.
-    let size = moved.before in
+    let size = moved.after in
     let room = moved.room in
     let within = moved.within in
     let under : k < place = omega (arith, length-take-le place was) in
@@ -135,7 +132,7 @@ all-before was now due place count moved lined (inr last) = λ k d below.
 all-behind : (was now : List Due) (due : Due) (place count : ℕ) → IsMovedUp was now due place count
     → All (λ other. is_due_by other due ≡ false) (drop place (take count was))
 all-behind was now due place count moved = λ k d below.
-    let size = moved.before in
+    let size = moved.after in
     let room = moved.room in
     let within = moved.within in
     let under : place + k < count = omega (arith, length-drop place (take count was), length-take-le count was) in
@@ -145,7 +142,7 @@ all-behind was now due place count moved = λ k d below.
 pub put_in : (was now old : List Due) (due : Due) (place count : ℕ) → IsMovedUp was now due place count → take count was ≡ old → IsLined old
     → IsAtPlace now due place → IsPutIn due old (take (count + 1) (set now place due))
 put_in was now old due place count moved view lined at =
-    let size = moved.before in
+    let size = moved.after in
     let room = moved.room in
     let within = moved.within in
     let shown : IsLined (take count was) = rw view lined in
@@ -155,7 +152,7 @@ put_in was now old due place count moved view lined at =
       back = drop place (take count was);
       was = sym view ∙ sym (take-append-drop place (take count was)) ∙ ap (λ xs. xs ++ drop place (take count was)) (take-take place count was within);
       is = ap (λ n. take n (set now place due)) next
-          ∙ moved-up place count was now due (moved.after ∙ sym size) (omega arith) within moved.front moved.moved;
+          ∙ moved-up place count was now due moved.after (omega arith) within moved.front moved.moved;
       before = all-before was now due place count moved shown at;
       behind = all-behind was now due place count moved;
     }

@@ -1,48 +1,26 @@
--- What is planned is the longest front, in key order, of the pending slots that fits the window.
-use Rattle.std.proofs.Common.{◌≡◌, ◌≢◌, ℕ, zero, suc, ◌+◌, ◌-◌, ◌<◌, ◌≤◌, ◌&&◌, ◌||◌, ◌↔◌, not, Bool, true, false, nat_eq, nat_le, if◌then◌else◌, List, [], ◌∷◌, ◌++◌, All, AllPairs, Contains, length, get_or, take, drop, length-take, refl, sym, ap, ◌∙◌, ⊎_elim, arith}
+-- With the filling `Prefix` what is planned is the longest front, in key order, of the pending slots that fits the window.
+use Rattle.std.proofs.Common.{◌≡◌, ◌≢◌, ℕ, suc, ◌+◌, ◌-◌, ◌<◌, ◌≤◌, ◌&&◌, ◌↔◌, not, Bool, true, false, nat_eq, nat_le, List, [], ◌∷◌, All, AllPairs, Contains, length, get_or, take, drop, sym, ap, ◌∙◌, ⊎_elim, arith}
 use Rattle.std.specs.List.{list_any, sum_by}
-use Rattle.std.proofs.lemmas.Bool.{and_from, and_parts, both_ways, cases_eq, cases_lt, cases_order, eq-eqb, eqb-true, false_from_ne_true, le-leb, leb-true, ne_eqb, not-true, not_from_false}
+use Rattle.std.proofs.lemmas.Bool.{and_from, and_parts, both_ways, cases_eq, cases_lt, cases_order, eq-eqb, eqb-true, false_from_ne_true, le-leb, leb-true, not-true, not_from_false}
 use Rattle.std.proofs.lemmas.List.{get_or-drop, get_or-take, length-drop, length-take-le, take-take}
 use Rattle.std.proofs.lemmas.List.Elements.{All-contains, All-head, All-tail, All-take}
 use Rattle.std.proofs.lemmas.List.Folds.{Any-from_list_any, list_any_at}
 use Rattle.std.proofs.lemmas.List.Sums.{sum_by-cons, sum_by-take-le}
-use Rattle.requirement_table.specs.Slots.{slots, sum_where}
+use Rattle.requirement_table.specs.Slots.{most_slots, sum_where}
 use Rattle.requirement_table.specs.Table.{width_in, worst_in}
 use Rattle.requirement_table.proofs.Shared.{sum_where-same}
 use Rattle.planner_policies.specs.Order.{IsInKeyOrder, IsLongestFront}
+use Rattle.planner_policies.specs.declared.Fill.TheVariants.{Prefix}
 use Rattle.planner_policies.specs.Plan.{Planning, is_by, left_after, pending_in, planned_in}
+use Rattle.planner_policies.proofs.Filling.{in-front, same-test}
 use Rattle.planner_policies.proofs.KeyOrder.{is_by-antisym, is_by-refl}
 use Rattle.planner_policies.proofs.Lines.{same-read}
-use Rattle.planner_policies.proofs.Pairs.{pairs-head, pairs-tail}
+use Rattle.planner_policies.proofs.Pairs.{pairs-head, pairs-tail, pairs-take}
+use Rattle.planner_policies.proofs.Sums.{sum_where-none, sum_where-with}
 
 -- the test of a list
 abbrev pub has : List ℕ → ℕ → Bool
 has xs slot = list_any (λ x. nat_eq x slot) xs
-
-sum_where-none : (n : ℕ) (f : ℕ → ℕ) → sum_where n (λ _. false) f ≡ 0
-unfolding sum_where
-sum_where-none zero f = refl
-sum_where-none (suc n) f = let rest = sum_where-none n f in omega arith
-
--- one more slot adds what it costs
-sum_where-with : (n x : ℕ) (p : ℕ → Bool) (f : ℕ → ℕ) → x < n → p x ≡ false
-    → sum_where n (λ s. nat_eq x s || p s) f ≡ f x + sum_where n p f
-unfolding sum_where
-sum_where-with zero x p f within none = absurd (omega arith)
-sum_where-with (suc n) x p f within none =
-    ⊎_elim
-    (λ (same : x ≡ n).
-    let is : nat_eq x n ≡ true = eq-eqb x n same in
-    let no : p n ≡ false = ap p (sym same) ∙ none in
-    let low : sum_where n (λ s. nat_eq x s || p s) f ≡ sum_where n p f
-    = sum_where-same n (λ s. nat_eq x s || p s) p f (λ s below. ap (λ b. b || p s) (ne_eqb x s (λ (e : x ≡ s). omega arith))) in
-    let cost : f x ≡ f n = ap f same in
-    rw (is, no, low) (omega arith))
-    (λ (other : x ≢ n).
-    let is : nat_eq x n ≡ false = ne_eqb x n other in
-    let low = sum_where-with n x p f (omega arith) none in
-    rw (is, low) (omega arith))
-    (cases_eq x n)
 
 not-in : (x : ℕ) (xs : List ℕ) → All (λ w. x ≢ w) xs → has xs x ≡ false
 not-in x xs apart =
@@ -60,11 +38,6 @@ sum_where-list n (x ∷ xs) f below distinct =
     ∙ ap (λ m. f x + m) (sum_where-list n xs f (All-tail (λ w. w < n) x xs below) (pairs-tail (λ v w. v ≢ w) x xs distinct))
     ∙ sym (sum_by-cons f x xs)
 
-pub same-test : (a b : Bool) → (a ≡ true → b ≡ true) → (b ≡ true → a ≡ true) → a ≡ b
-same-test true b there back = sym (there refl)
-same-test false true there back = back refl
-same-test false false there back = refl
-
 -- the elements of a list of distinct numbers stand at one place each
 one-place : (xs : List ℕ) (i j d : ℕ) → AllPairs (λ v w. v ≢ w) xs → i < length xs → j < length xs → get_or xs i d ≡ get_or xs j d → i ≡ j
 one-place xs i j d distinct in_i in_j same =
@@ -77,7 +50,7 @@ one-place xs i j d distinct in_i in_j same =
 
 -- the slots up to the i-th one are those that go before it
 up-to : (plan : Planning) (c : ℕ) (before : ℕ → Bool) (order : List ℕ) (i slot other : ℕ) → IsInKeyOrder plan c before order → i < length order
-    → get_or order i slot ≡ slot → other < slots
+    → get_or order i slot ≡ slot → other < most_slots
     → (pending_in plan.placed c before other && is_by plan.policy plan.placed c other slot) ≡ has (take (suc i) order) other
 up-to plan c before order i slot other sorted within at known =
     same-test (pending_in plan.placed c before other && is_by plan.policy plan.placed c other slot) (has (take (suc i) order) other)
@@ -120,30 +93,24 @@ up-to plan c before order i slot other sorted within at known =
     (cases_eq j i) in
     and_from (pending_in plan.placed c before other) (is_by plan.policy plan.placed c other slot) pending by)
 
-pairs-take : {X : Type 0} (R : X → X → Type 0) (n : ℕ) (xs : List X) → AllPairs R xs → AllPairs R (take n xs)
-pairs-take R n xs pairs i j d before within =
-    let short : j < n = omega (arith, length-take n xs) in
-    let early : i < n = omega arith in
-    let long : j < length xs = omega (arith, length-take n xs) in
-    rw (get_or-take n xs i d early, get_or-take n xs j d short) (pairs i j d before long)
-
 -- what the slots up to the i-th one cost together
 width-up-to : (plan : Planning) (c : ℕ) (before : ℕ → Bool) (order : List ℕ) (i slot : ℕ) → IsInKeyOrder plan c before order → i < length order
     → get_or order i slot ≡ slot
     → width_in plan.placed c (λ other. pending_in plan.placed c before other && is_by plan.policy plan.placed c other slot)
     ≡ sum_by (worst_in plan.placed c) (take (suc i) order)
 width-up-to plan c before order i slot sorted within at =
-    sum_where-same slots (λ other. pending_in plan.placed c before other && is_by plan.policy plan.placed c other slot) (has (take (suc i) order))
+    sum_where-same most_slots (λ other. pending_in plan.placed c before other && is_by plan.policy plan.placed c other slot) (has (take (suc i) order))
     (worst_in plan.placed c) (λ other known. up-to plan c before order i slot other sorted within at known)
-    ∙ sum_where-list slots (take (suc i) order) (worst_in plan.placed c) (All-take (λ x. x < slots) (suc i) order sorted.known)
+    ∙ sum_where-list most_slots (take (suc i) order) (worst_in plan.placed c) (All-take (λ x. x < most_slots) (suc i) order sorted.known)
     (pairs-take (λ v w. v ≢ w) (suc i) order sorted.distinct)
 
-pub planned-iff : (plan : Planning) (c : ℕ) (before : ℕ → Bool) (order : List ℕ) (n slot : ℕ) → IsInKeyOrder plan c before order
-    → IsLongestFront (worst_in plan.placed c) plan.window order n → slot < slots → (planned_in plan c before slot ≡ true) ↔ Contains (take n order) slot
-planned-iff plan c before order n slot sorted front known = (
+pub planned-iff : (plan : Planning) (c : ℕ) (before : ℕ → Bool) (order : List ℕ) (n slot : ℕ) → plan.fill ≡ Prefix → IsInKeyOrder plan c before order
+    → IsLongestFront (worst_in plan.placed c) plan.window order n → slot < most_slots → (planned_in plan c before slot ≡ true) ↔ Contains (take n order) slot
+planned-iff plan c before order n slot prefix sorted front known = (
   λ planned.
       let w = width_in plan.placed c (λ other. pending_in plan.placed c before other && is_by plan.policy plan.placed c other slot) in
-      let parts = and_parts (pending_in plan.placed c before slot) (nat_le w plan.window) planned in
+      let taken = in-front plan.policy plan.window plan.placed c (pending_in plan.placed c before) plan.fill slot prefix in
+      let parts = and_parts (pending_in plan.placed c before slot) (nat_le w plan.window) (sym taken ∙ planned) in
       let stands = (sorted.pending slot known).0 parts.0 in
       let i = stands.0 in
       let within = stands.1 in
@@ -163,12 +130,13 @@ planned-iff plan c before order n slot sorted front known = (
       let less : sum_by (worst_in plan.placed c) (take (suc i) order) ≤ sum_by (worst_in plan.placed c) (take n order)
       = rw (← take-take (suc i) n order below) (sum_by-take-le (worst_in plan.placed c) (take n order) (suc i)) in
       let fits = front.fits in
-      and_from (pending_in plan.placed c before slot) _ pending (le-leb _ plan.window (rw width (omega arith))),
+      in-front plan.policy plan.window plan.placed c (pending_in plan.placed c before) plan.fill slot prefix
+      ∙ and_from (pending_in plan.placed c before slot) _ pending (le-leb _ plan.window (rw width (omega arith))),
 )
 
-pub left-iff : (plan : Planning) (c : ℕ) (before : ℕ → Bool) (order : List ℕ) (n slot : ℕ) → IsInKeyOrder plan c before order
-    → IsLongestFront (worst_in plan.placed c) plan.window order n → slot < slots → (left_after plan c before slot ≡ true) ↔ Contains (drop n order) slot
-left-iff plan c before order n slot sorted front known = (
+pub left-iff : (plan : Planning) (c : ℕ) (before : ℕ → Bool) (order : List ℕ) (n slot : ℕ) → plan.fill ≡ Prefix → IsInKeyOrder plan c before order
+    → IsLongestFront (worst_in plan.placed c) plan.window order n → slot < most_slots → (left_after plan c before slot ≡ true) ↔ Contains (drop n order) slot
+left-iff plan c before order n slot prefix sorted front known = (
   λ left.
       let parts = and_parts (pending_in plan.placed c before slot) (not (planned_in plan c before slot)) left in
       let stands = (sorted.pending slot known).0 parts.0 in
@@ -177,7 +145,7 @@ left-iff plan c before order n slot sorted front known = (
       ⊎_elim
       (λ (below : i < n).
       let bound = front.within in
-      let planned = (planned-iff plan c before order n slot sorted front known).1
+      let planned = (planned-iff plan c before order n slot prefix sorted front known).1
       (i, omega (arith, length-take-le n order), get_or-take n order i slot below ∙ stands.2) in
       absurd (both_ways (planned_in plan c before slot) (not-true (planned_in plan c before slot) parts.1) planned))
       (λ (behind : n ≤ i).
@@ -192,7 +160,7 @@ left-iff plan c before order n slot sorted front known = (
       and_from (pending_in plan.placed c before slot) (not (planned_in plan c before slot)) pending
       (not_from_false (planned_in plan c before slot)
       (false_from_ne_true (planned_in plan c before slot) (λ planned.
-      let early = (planned-iff plan c before order n slot sorted front known).0 planned in
+      let early = (planned-iff plan c before order n slot prefix sorted front known).0 planned in
       let bound = front.within in
       let below : early.0 < n = omega (arith, early.1, length-take-le n order) in
       let same = one-place order early.0 i slot sorted.distinct (omega arith) within (sym (get_or-take n order early.0 slot below) ∙ early.2 ∙ sym at) in

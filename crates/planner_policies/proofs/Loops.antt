@@ -5,7 +5,7 @@ use Rattle.std.proofs.lemmas.Bool.{cases_lt}
 use Rattle.std.proofs.lemmas.Bool.Decides.{nat_tests}
 use Rattle.requirement_table.specs.declared.entries.Placed.{Placed}
 use Rattle.requirement_table.specs.Instance.{Instance, deadline_of}
-use Rattle.requirement_table.specs.Slots.{contains_slot, slots}
+use Rattle.requirement_table.specs.Slots.{contains_slot, most_slots}
 use Rattle.requirement_table.specs.Table.{IsWellPlaced, instance_in}
 use Rattle.requirement_table.proofs.Shared.{GoesRound, IsMoved, SameAgain, instance-again, later, moved-again, same-again}
 use Rattle.planner_policies.specs.declared.Policy.{Policy}
@@ -13,7 +13,8 @@ use Rattle.planner_policies.specs.declared.Policy.TheVariants.{Rm, Dm, Edf}
 use Rattle.planner_policies.specs.Loop.{RepeatsFrom, settled_at}
 use Rattle.planner_policies.specs.Plan.{HasNoMiss, NeverMisses, Planning, by_number, is_missed_at, key_of, pending_at, pending_before, planned_at}
 use Rattle.planner_policies.proofs.Going.{before-next, pending-test}
-use Rattle.planner_policies.proofs.Steps.{AreAlike, left-alike, missed-alike, planned-alike}
+use Rattle.planner_policies.proofs.Steps.{left-alike, missed-alike, planned-alike}
+use Rattle.planner_policies.proofs.Filling.{AreAlike}
 
 -- an entry that repeats from a cycle goes round
 goes-round : (b d : ℕ) (p : Placed) → RepeatsFrom b d p → GoesRound b d p
@@ -100,7 +101,7 @@ module _ (plan : Planning) (n m : ℕ) (well : IsWellPlaced plan.placed) (furthe
       let at : plan.from + (m + k) ≡ (plan.from + (n + k)) + (m - n) = omega arith in
       rw at (alike-later plan.policy plan.placed (plan.from + n) (m - n) (plan.from + (n + k)) well repeats (omega arith))
 
-  pub loop-pending : (k slot : ℕ) → slot < slots → pending_before plan (m + k) slot ≡ pending_before plan (n + k) slot
+  pub loop-pending : (k slot : ℕ) → slot < most_slots → pending_before plan (m + k) slot ≡ pending_before plan (n + k) slot
   loop-pending zero slot known =
       let at_m : m + 0 ≡ m = omega arith in
       let at_n : n + 0 ≡ n = omega arith in
@@ -114,17 +115,17 @@ module _ (plan : Planning) (n m : ℕ) (well : IsWellPlaced plan.placed) (furthe
       (alike-on k) (λ other below. loop-pending k other below) slot known
       ∙ sym (before-next plan (n + k) slot) ∙ ap (λ x. pending_before plan x slot) (sym at_n)
 
-  pub loop-planned : (k slot : ℕ) → slot < slots → planned_at plan (m + k) slot ≡ planned_at plan (n + k) slot
+  pub loop-planned : (k slot : ℕ) → slot < most_slots → planned_at plan (m + k) slot ≡ planned_at plan (n + k) slot
   loop-planned k slot known =
       planned-alike plan plan.placed plan.from plan.pending (plan.from + (n + k)) (plan.from + (m + k)) (pending_before plan (n + k)) (pending_before plan (m + k))
       (alike-on k) (λ other below. loop-pending k other below) slot known
 
-  loop-missed : (k slot : ℕ) → slot < slots → is_missed_at plan (m + k) slot ≡ is_missed_at plan (n + k) slot
+  loop-missed : (k slot : ℕ) → slot < most_slots → is_missed_at plan (m + k) slot ≡ is_missed_at plan (n + k) slot
   loop-missed k slot known =
       missed-alike plan plan.placed plan.from plan.pending (plan.from + (n + k)) (plan.from + (m + k)) (pending_before plan (n + k)) (pending_before plan (m + k))
       (alike-on k) (λ other below. loop-pending k other below) slot known
 
-  none-below : HasNoMiss plan m → (bound t slot : ℕ) → t < bound → slot < slots → is_missed_at plan t slot ≡ false
+  none-below : HasNoMiss plan m → (bound t slot : ℕ) → t < bound → slot < most_slots → is_missed_at plan t slot ≡ false
   none-below none zero t slot below known = absurd (omega arith)
   none-below none (suc bound) t slot below known =
       ⊎_elim

@@ -1,11 +1,11 @@
 -- The instance of the least slot of those in their last cycle.
-use Rattle.std.proofs.Common.{◌≡◌, ◌≢◌, ℕ, ◌<◌, ◌≤◌, Bool, true, false, nat_lt, if◌then◌else◌, Option, Some, None, List, ◌∷◌, [], ◌++◌, All, Any, refl, arith}
+use Rattle.std.proofs.Common.{◌≡◌, ◌≢◌, ℕ, ◌≤◌, Bool, true, false, nat_eq, nat_lt, if◌then◌else◌, Option, Some, None, List, ◌∷◌, [], ◌++◌, All, Any, refl, ⊎_elim, arith}
 use Rattle.std.proofs.lemmas.List.Elements.{All-push, All-weaker, Contains-append_left}
 use Rattle.std.proofs.lemmas.List.Quantifiers.{Any-push}
-use Rattle.std.proofs.lemmas.Bool.{ltb-true, ltb-false}
+use Rattle.std.proofs.lemmas.Bool.{cases_Bool, eqb-false, eqb-true, ltb-true, ltb-false}
 use Rattle.planner_policies.specs.declared.due.Due.{Due}
 use Rattle.planner_policies.specs.declared.state.Miss.{Miss}
-use Rattle.planner_policies.specs.Due.{IsLeastMissed, lesser_miss, miss_of}
+use Rattle.planner_policies.specs.Due.{IsLeastMissed, lesser_miss, miss_of, with_missed}
 
 any-front : {X : Type 0} (P : X → Type 0) (xs ys : List X) → Any P xs → Any P (xs ++ ys)
 any-front P xs ys any =
@@ -45,3 +45,12 @@ least_missed-other c line d (Some miss) least other = (
   any-front (λ due. (due.last ≡ c) × (miss ≡ miss_of due)) line (d ∷ []) least.0,
   All-push (λ due. due.last ≡ c → miss.slot ≤ due.slot) line d least.1 (λ last. absurd (other last)),
 )
+
+-- one more instance, whether or not it is in its last cycle
+pub least_missed-with : (c : ℕ) (line : List Due) (d : Due) (least : Option Miss) → IsLeastMissed c line least
+    → IsLeastMissed c (line ++ d ∷ []) (with_missed c least d)
+least_missed-with c line d least is =
+    ⊎_elim
+    (λ (here : nat_eq d.last c ≡ true). rw here (least_missed-more c line d least is (eqb-true d.last c here)))
+    (λ (other : nat_eq d.last c ≡ false). rw other (least_missed-other c line d least is (eqb-false d.last c other)))
+    (cases_Bool (nat_eq d.last c))

@@ -1,5 +1,6 @@
 -- What holds of each two elements of a list, one before the other.
-use Rattle.std.proofs.Common.{◌≡◌, ◌≢◌, ℕ, zero, suc, ◌+◌, ◌<◌, ◌≤◌, List, [], ◌∷◌, ◌++◌, All, AllPairs, length, get_or, map, eqb, refl, arith}
+use Rattle.std.proofs.Common.{◌≡◌, ◌≢◌, ℕ, zero, suc, ◌<◌, ◌≤◌, List, [], ◌∷◌, ◌++◌, All, AllPairs, length, map, take, length-take, eqb, arith}
+use Rattle.std.proofs.lemmas.List.{get_or-take}
 use Rattle.std.proofs.lemmas.List.Elements.{All-cons, All-contains, All-head, All-map, All-nil, All-tail}
 use Rattle.std.proofs.lemmas.List.Folds.{Any-from_list_any}
 use Rattle.std.proofs.lemmas.Bool.{eqb-true}
@@ -44,6 +45,29 @@ pairs-map R f [] pairs = λ i j d before within. absurd (omega arith)
 pairs-map R f (x ∷ xs) pairs =
     pairs-cons R (f x) (map f xs) (All-map (R (f x)) f xs (pairs-head (λ v w. R (f v) (f w)) x xs pairs))
     (pairs-map R f xs (pairs-tail (λ v w. R (f v) (f w)) x xs pairs))
+
+-- what holds of each two elements of a list, of its parts
+pub pairs-before : {X : Type 0} (R : X → X → Type 0) (xs : List X) (x : X) (ys : List X) → AllPairs R (xs ++ (x ∷ ys)) → All (λ w. R w x) xs
+pairs-before R [] x ys pairs = All-nil (λ w. R w x)
+pairs-before R (w ∷ xs) x ys pairs =
+    All-cons (λ v. R v x) w xs (All-head (R w) x ys (all-parts (R w) xs (x ∷ ys) (pairs-head R w (xs ++ (x ∷ ys)) pairs)).1)
+    (pairs-before R xs x ys (pairs-tail R w (xs ++ (x ∷ ys)) pairs))
+
+pub pairs-behind : {X : Type 0} (R : X → X → Type 0) (xs : List X) (x : X) (ys : List X) → AllPairs R (xs ++ (x ∷ ys)) → All (R x) ys
+pairs-behind R [] x ys pairs = pairs-head R x ys pairs
+pairs-behind R (w ∷ xs) x ys pairs = pairs-behind R xs x ys (pairs-tail R w (xs ++ (x ∷ ys)) pairs)
+
+pub pairs-front : {X : Type 0} (R : X → X → Type 0) (xs ys : List X) → AllPairs R (xs ++ ys) → AllPairs R xs
+pairs-front R [] ys pairs = λ i j d before within. absurd (omega arith)
+pairs-front R (x ∷ xs) ys pairs =
+    pairs-cons R x xs (all-parts (R x) xs ys (pairs-head R x (xs ++ ys) pairs)).0 (pairs-front R xs ys (pairs-tail R x (xs ++ ys) pairs))
+
+pub pairs-take : {X : Type 0} (R : X → X → Type 0) (n : ℕ) (xs : List X) → AllPairs R xs → AllPairs R (take n xs)
+pairs-take R n xs pairs i j d before within =
+    let short : j < n = omega (arith, length-take n xs) in
+    let early : i < n = omega arith in
+    let long : j < length xs = omega (arith, length-take n xs) in
+    rw (get_or-take n xs i d early, get_or-take n xs j d short) (pairs i j d before long)
 
 -- distinct numbers below n are at most n
 pub count-distinct : (xs : List ℕ) (n : ℕ) → All (λ x. x < n) xs → AllPairs (λ v w. v ≢ w) xs → length xs ≤ n

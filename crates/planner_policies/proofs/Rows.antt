@@ -1,16 +1,16 @@
 -- The instances that are pending in a cycle, found among the rows of a table.
-use Rattle.std.proofs.Common.{◌≡◌, ◌≢◌, ℕ, ◌+◌, ◌<◌, ◌≤◌, ◌&&◌, ◌||◌, Bool, true, false, nat_eq, if◌then◌else◌, Option, Some, None, is_some, List, [], ◌∷◌, All, AllPairs, Contains, IsPermutation, length, get_or, map, take, slice_get, refl, sym, ap, ◌∙◌, ⊎_elim, arith}
+use Rattle.std.proofs.Common.{◌≡◌, ◌≢◌, ℕ, ◌+◌, ◌<◌, ◌≤◌, ◌&&◌, ◌||◌, Bool, true, false, nat_eq, if◌then◌else◌, Option, Some, None, is_some, List, [], ◌∷◌, All, AllPairs, Contains, IsPermutation, length, get_or, map, take, slice_get, length-take, length-append, refl, sym, ap, ◌∙◌, ⊎_elim, arith}
 use Rattle.std.specs.List.{count_by, list_any}
-use Rattle.std.proofs.lemmas.Bool.{both_ways, eq-eqb, eqb-true, and_parts, and_from, or_cases, or_from, or_left, or_parts, or_right}
+use Rattle.std.proofs.lemmas.Bool.{both_ways, cases_lt, eq-eqb, eqb-true, and_parts, and_from, or_cases, or_from, or_left, or_parts, or_right}
 use Rattle.std.proofs.lemmas.Option.{slice_get-get_or, same_Some}
 use Rattle.std.proofs.lemmas.List.{length-map}
 use Rattle.std.proofs.lemmas.List.Elements.{All-contains, All-contains_itself, All-cons, All-head, All-map, All-nil, All-tail, All-weaker}
 use Rattle.std.proofs.lemmas.List.Folds.{Any-from_list_any, list_any-append, list_any-from_Any, list_any_kept, list_any_more}
-use Rattle.std.proofs.lemmas.List.Sorted.{All-permutation, list_any-IsPermutation, sum_by-IsPermutation}
+use Rattle.std.proofs.lemmas.List.Sorted.{All-permutation, length_permutation, list_any-IsPermutation, sum_by-IsPermutation}
 use Rattle.std.proofs.lemmas.List.Sums.{get_or-le-sum_by, sum_by-cons, sum_by_more_le}
 use Rattle.requirement_table.specs.declared.entries.Placed.{Placed}
 use Rattle.requirement_table.specs.Instance.{Exists, IsReleasedIn, MaySend, instance_of, release_of, released_by}
-use Rattle.requirement_table.specs.Slots.{contains_slot, slots}
+use Rattle.requirement_table.specs.Slots.{contains_slot, most_slots}
 use Rattle.requirement_table.specs.Table.{IsInRange, IsWellPlaced, instance_in, releases_in}
 use Rattle.requirement_table.proofs.Shared.{IsReleasedIn-from_released_by, MaySend-from_instance, found-in, found-of, instance_of-sent, one_instance, released_by-released}
 use Rattle.planner_policies.specs.declared.due.Due.{Due}
@@ -197,7 +197,8 @@ pub record IsLineOf (plan : Planning) (c : ℕ) (before : ℕ → Bool) (rows : 
   pub distinct : AllPairs (λ one other. one.slot ≢ other.slot) line
   pub lined : IsLined line
   pub sources : All (λ due. list_any (sends_of c due.slot) rows ≡ true) line
-  pub all : (slot : ℕ) → slot < slots → pending_in plan.placed c before slot ≡ true → list_any (sends_of c slot) rows ≡ true
+  pub few : length line ≤ length rows
+  pub all : (slot : ℕ) → slot < most_slots → pending_in plan.placed c before slot ≡ true → list_any (sends_of c slot) rows ≡ true
       → list_any (λ due. nat_eq due.slot slot) line ≡ true
 
 pub line_of-start : (plan : Planning) (c : ℕ) (before : ℕ → Bool) → IsLineOf plan c before [] []
@@ -206,6 +207,7 @@ line_of-start plan c before = record {
   distinct = λ i j d before within. absurd (omega arith);
   lined = λ i j d before within. absurd (omega arith);
   sources = λ k d within. absurd (omega arith);
+  few = omega arith;
   all = λ slot known pending sends. sends;
 }
 
@@ -219,6 +221,7 @@ line_of-none plan c before rows k d line well within stands so_far none = record
   lined = so_far.lined;
   sources = All-weaker (λ due. list_any (sends_of c due.slot) (take k rows) ≡ true) (λ due. list_any (sends_of c due.slot) (take (k + 1) rows) ≡ true)
       (λ due found. list_any_kept (sends_of c due.slot) rows k found) line so_far.sources;
+  few = let few = so_far.few in omega (arith, length-take k rows, length-take (k + 1) rows);
   all = λ slot known pending found.
       ⊎_elim
       (λ (earlier : list_any (sends_of c slot) (take k rows) ≡ true). so_far.all slot known pending earlier)
@@ -228,21 +231,21 @@ line_of-none plan c before rows k d line well within stands so_far none = record
       (sym (list_any_more (sends_of c slot) rows k d within) ∙ found));
 }
 
--- a slot that the line has not got, and below 40
+-- a slot that the line has not got
 slots-apart : (c slot : ℕ) (rows : List Placed) (line : List Due) → list_any (sends_of c slot) rows ≡ false
     → All (λ due. list_any (sends_of c due.slot) rows ≡ true) line → All (λ due. slot ≢ due.slot) line
 slots-apart c slot rows line none sources =
     All-weaker (λ due. list_any (sends_of c due.slot) rows ≡ true) (λ due. slot ≢ due.slot)
     (λ due found same. both_ways (list_any (sends_of c slot) rows) none (ap (λ s. list_any (sends_of c s) rows) same ∙ found)) line sources
 
-pub room-for : (plan : Planning) (c : ℕ) (before : ℕ → Bool) (slot : ℕ) (line : List Due) → slot < slots → All (IsDueIn plan c before) line
-    → AllPairs (λ one other. one.slot ≢ other.slot) line → All (λ due. slot ≢ due.slot) line → length line < 40
+pub room-for : (plan : Planning) (c : ℕ) (before : ℕ → Bool) (slot : ℕ) (line : List Due) → slot < most_slots → All (IsDueIn plan c before) line
+    → AllPairs (λ one other. one.slot ≢ other.slot) line → All (λ due. slot ≢ due.slot) line → length line < most_slots
 room-for plan c before slot line known each distinct apart =
     let f : Due → ℕ = λ due. due.slot in
-    let below = All-cons (λ x. x < slots) slot (map f line) known
-    (All-map (λ x. x < slots) f line (All-weaker (IsDueIn plan c before) (λ due. due.slot < slots) (λ due is. is.known) line each)) in
+    let below = All-cons (λ x. x < most_slots) slot (map f line) known
+    (All-map (λ x. x < most_slots) f line (All-weaker (IsDueIn plan c before) (λ due. due.slot < most_slots) (λ due is. is.known) line each)) in
     let different = pairs-cons (λ v w. v ≢ w) slot (map f line) (All-map (λ x. slot ≢ x) f line apart) (pairs-map (λ v w. v ≢ w) f line distinct) in
-    let count = count-distinct (slot ∷ map f line) slots below different in
+    let count = count-distinct (slot ∷ map f line) most_slots below different in
     let size : length (map f line) ≡ length line = length-map line f in
     omega arith
 
@@ -267,10 +270,20 @@ more-of plan c before rows k d line due well same within stands so_far pending =
       apart = slots-apart c due.slot (take k rows) line (fresh plan.placed rows c due.slot k d well same within sends) so_far.sources;
     }
 
-pub room-of : (plan : Planning) (c : ℕ) (before : ℕ → Bool) (rows : List Placed) (k : ℕ) (d : Placed) (line : List Due) (due : Due)
-    → IsLineOf plan c before (take k rows) line → IsMore plan c before rows k d line due → length line < 40
-room-of plan c before rows k d line due so_far more =
-    room-for plan c before due.slot line more.in'.known so_far.each so_far.distinct more.apart
+-- a line with room for each slot, or for each row, has room for one more
+pub room-of : (plan : Planning) (c : ℕ) (before : ℕ → Bool) (rows : List Placed) (k : ℕ) (d : Placed) (line : List Due) (due : Due) (room : ℕ)
+    → IsLineOf plan c before (take k rows) line → IsMore plan c before rows k d line due → k < length rows → IsPermutation plan.placed rows
+    → (room < most_slots → length plan.placed ≤ room) → length line < room
+room-of plan c before rows k d line due room so_far more within same enough =
+    ⊎_elim
+    (λ (less : room < most_slots).
+    let rows_fit = enough less in
+    let few = so_far.few in
+    omega (arith, length_permutation plan.placed rows same, length-take k rows))
+    (λ (all : most_slots ≤ room).
+    let slots_fit = room-for plan c before due.slot line more.in'.known so_far.each so_far.distinct more.apart in
+    omega arith)
+    (cases_lt room most_slots)
 
 -- a row with something to send, which was put in its place
 pub line_of-more : (plan : Planning) (c : ℕ) (before : ℕ → Bool) (rows : List Placed) (k : ℕ) (d : Placed) (line after : List Due) (due : Due)
@@ -298,6 +311,9 @@ line_of-more plan c before rows k d line after due within so_far more put =
       sources = rw put.is
           (all-join (λ other. list_any (sends_of c other.slot) (take (k + 1) rows) ≡ true) front due back (rw put.was at sources)
           (next due.slot ∙ or_right (list_any (sends_of c due.slot) (take k rows)) (sends_of c due.slot (get_or rows k d)) more.sends));
+      few = let few = so_far.few in
+          omega
+          (arith, length-take k rows, length-take (k + 1) rows, length-append front back, length-append front (due ∷ back), ap length put.was, ap length put.is);
       all = λ slot known pending found.
           let p : Due → Bool = λ other. nat_eq other.slot slot in
           let parts : list_any p after ≡ (list_any p front || list_any p (due ∷ back)) = ap (list_any p) put.is ∙ list_any-append p front (due ∷ back) in

@@ -1,13 +1,15 @@
 -- What the code keeps of an instance that is pending in a cycle: words for contracts inside the crate.
-use Rattle.std.specs.Prelude.{◌≡◌, ◌≢◌, ℕ, ◌+◌, ◌<◌, ◌≤◌, Bool, true, false, ◌||◌, ◌&&◌}
-use Rattle.std.specs.Prelude.{nat_eq, nat_le, nat_lt, if◌then◌else◌, List, ◌∷◌, ◌++◌, All}
+use Rattle.std.specs.Prelude.{◌≡◌, ◌≢◌, ℕ, ◌+◌, ◌-◌, ◌^◌, ◌<◌, ◌≤◌, Bool, true, false, ◌||◌, ◌&&◌}
+use Rattle.std.specs.Prelude.{nat_eq, nat_le, nat_lt, if◌then◌else◌, List, [], ◌∷◌, ◌++◌, All}
 use Rattle.std.specs.Prelude.{AllPairs, Any, length, sum_by, take, Option, Some, None}
 use Rattle.std.specs.List.{list_any}
 use Rattle.std.specs.Option.{option_map_or}
 use Rattle.requirement_table.specs.declared.entries.Placed.{Placed}
 use Rattle.requirement_table.specs.Instance.{Instance, MaySend, deadline_of, instance_of, release_of, worst_of}
-use Rattle.requirement_table.specs.Slots.{slots}
+use Rattle.requirement_table.specs.Slots.{contains_slot, most_slots}
 use Rattle.requirement_table.specs.Table.{instance_in}
+use Rattle.planner_policies.specs.declared.Fill.{Fill}
+use Rattle.planner_policies.specs.declared.Fill.TheVariants.{Prefix, Skip}
 use Rattle.planner_policies.specs.declared.Policy.{Policy}
 use Rattle.planner_policies.specs.declared.Policy.TheVariants.{Rm, Dm, Edf}
 use Rattle.planner_policies.specs.declared.state.Miss.{Miss}
@@ -47,7 +49,7 @@ IsLined line = AllPairs (λ one other. is_due_by one other ≡ true) line
 
 -- it is kept of the slot's instance, which is pending in the cycle
 pub record IsDueIn (plan : Planning) (c : ℕ) (before : ℕ → Bool) (due : Due) : Type 0 where
-  pub known : due.slot < slots
+  pub known : due.slot < most_slots
   pub pending : pending_in plan.placed c before due.slot ≡ true
   pub instance : Instance
   pub found : instance_in plan.placed due.slot c ≡ Some instance
@@ -80,7 +82,7 @@ pub record IsWholeLine (plan : Planning) (c : ℕ) (before : ℕ → Bool) (line
   pub each : All (IsDueIn plan c before) line
   pub distinct : AllPairs (λ one other. one.slot ≢ other.slot) line
   pub lined : IsLined line
-  pub all : (slot : ℕ) → slot < slots → pending_in plan.placed c before slot ≡ true
+  pub all : (slot : ℕ) → slot < most_slots → pending_in plan.placed c before slot ≡ true
       → list_any (λ due. nat_eq due.slot slot) line ≡ true
 
 -- the first n fit the window together, and one more does not
@@ -89,6 +91,24 @@ pub record IsLongestFit (window : ℕ) (line : List Due) (n : ℕ) : Type 0 wher
   pub fits : sum_by (λ due. due.cost) (take n line) ≤ window
   pub next : n < length line → window < sum_by (λ due. due.cost) (take (n + 1) line)
 
+-- what a filling takes of a line, and what it leaves, where so much of the window is left
+abbrev pub taken_of : Fill → ℕ → List Due → List Due
+taken_of fill room [] = []
+taken_of Prefix room (due ∷ line) = if nat_le due.cost room then due ∷ taken_of Prefix (room - due.cost) line else []
+taken_of Skip room (due ∷ line) =
+    if nat_le due.cost room then due ∷ taken_of Skip (room - due.cost) line else taken_of Skip room line
+
+abbrev pub left_of : Fill → ℕ → List Due → List Due
+left_of fill room [] = []
+left_of Prefix room (due ∷ line) = if nat_le due.cost room then left_of Prefix (room - due.cost) line else due ∷ line
+left_of Skip room (due ∷ line) =
+    if nat_le due.cost room then left_of Skip (room - due.cost) line else due ∷ left_of Skip room line
+
+-- the set of the slots of instances
+pub record IsSetOf (mask : ℕ) (line : List Due) : Type 0 where
+  pub slots : (slot : ℕ) → contains_slot mask slot ≡ list_any (λ due. nat_eq due.slot slot) line
+  pub below : mask < 2 ^ most_slots
+
 -- of a miss, where there is one, and that of an instance in its last cycle, the one of the lesser slot
 abbrev pub miss_of : Due → Miss
 miss_of due = record { slot = due.slot; release = due.release; cycle = due.last }
@@ -96,6 +116,10 @@ miss_of due = record { slot = due.slot; release = due.release; cycle = due.last 
 abbrev pub lesser_miss : Option Miss → Due → Miss
 lesser_miss None due = miss_of due
 lesser_miss (Some miss) due = if nat_lt miss.slot due.slot then miss else miss_of due
+
+-- of a miss, where there is one, and that of an instance where this is its last cycle, the one of the lesser slot
+abbrev pub with_missed : ℕ → Option Miss → Due → Option Miss
+with_missed c least due = if nat_eq due.last c then Some (lesser_miss least due) else least
 
 -- the instance of the least slot of those whose last cycle this is
 abbrev pub IsLeastMissed : ℕ → List Due → Option Miss → Type 0

@@ -1,4 +1,5 @@
--- Plans: which slots are planned in which cycle, by a policy. Cycles are elementary cycles, lengths are bit times.
+-- Plans: which slots are planned in which cycle, by a policy and a filling. Cycles are elementary cycles, lengths are
+-- bit times.
 --
 -- The words are over tests of slots. A slot stands for its instance that may be sent in the cycle: there is at most
 -- one, in a list that is well placed. All words are total, also behind a first miss, and are cited where there is none.
@@ -7,29 +8,40 @@ use Rattle.std.specs.Prelude.{nat_lt, nat_le, nat_eq, List, Some}
 use Rattle.std.specs.Option.{option_map_or}
 use Rattle.requirement_table.specs.declared.entries.Placed.{Placed}
 use Rattle.requirement_table.specs.Instance.{Instance, deadline_of, release_of}
-use Rattle.requirement_table.specs.Slots.{contains_slot, set_of, slots}
-use Rattle.requirement_table.specs.Table.{instance_in, is_last_in, releases_in, width_in}
+use Rattle.requirement_table.specs.Slots.{contains_slot, set_of, most_slots}
+use Rattle.requirement_table.specs.Table.{IsHeldFrom, instance_in, is_last_in, releases_in, width_in, worst_in}
+use Rattle.planner_policies.specs.declared.Fill.{Fill}
+use Rattle.planner_policies.specs.declared.Fill.TheVariants.{Prefix, Skip}
 use Rattle.planner_policies.specs.declared.Policy.{Policy}
 use Rattle.planner_policies.specs.declared.Policy.TheVariants.{Rm, Dm, Edf}
 
--- what is planned: the placed entries, by which policy, the length of the largest synchronous window, the first cycle
--- that is planned, and the set of the slots with an instance that was released before it and is not sent yet
+-- what is planned: the placed entries, by which policy and with which filling, the length of the largest synchronous
+-- window, the first cycle that is planned, and the set of the slots with an instance that was released before it and is
+-- not sent yet
 pub record Planning : Type 0 where
   pub placed : List Placed
   pub policy : Policy
+  pub fill : Fill
   pub window : ℕ
   pub from : ℕ
   pub pending : ℕ
 
--- a list of placed entries and the policy that orders their instances
+-- a list of placed entries, the policy that orders their instances, and the filling that takes of them
 pub record Ranking : Type 0 where
   pub placed : List Placed
   pub policy : Policy
+  pub fill : Fill
 
 -- the planning of such a list within a window, from a cycle on, before which the slots of the set are pending
 abbrev pub planning_of : Ranking → ℕ → ℕ → ℕ → Planning
-planning_of ranking window from pending =
-    record { placed = ranking.placed; policy = ranking.policy; window = window; from = from; pending = pending }
+planning_of ranking window from pending = record {
+  placed = ranking.placed;
+  policy = ranking.policy;
+  fill = ranking.fill;
+  window = window;
+  from = from;
+  pending = pending;
+}
 
 -- Key order
 
@@ -63,15 +75,36 @@ is_by policy placed c one other =
 abbrev pub pending_in : List Placed → ℕ → (ℕ → Bool) → ℕ → Bool
 pending_in placed c before slot = before slot || releases_in placed c slot
 
--- the slot is taken where all pending ones up to it in key order, itself included, fit the window together: so what is
--- taken is the longest front, in key order, that fits
-abbrev pub is_taken : Policy → ℕ → List Placed → ℕ → (ℕ → Bool) → ℕ → Bool
-is_taken policy window placed c pending slot =
+-- whether slot `one` goes before slot `other` in key order
+abbrev pub goes_before : Policy → List Placed → ℕ → ℕ → ℕ → Bool
+goes_before policy placed c one other = not (is_by policy placed c other one)
+
+-- the filling `Prefix` takes a pending slot where all pending ones up to it in key order, itself included, fit the
+-- window together: so what is taken is the longest front, in key order, that fits
+abbrev pub is_in_front : Policy → ℕ → List Placed → ℕ → (ℕ → Bool) → ℕ → Bool
+is_in_front policy window placed c pending slot =
     pending slot && nat_le (width_in placed c (λ other. pending other && is_by policy placed c other slot)) window
+
+-- the filling `Skip` takes a pending slot where its worst length and those of the taken slots before it in key order sum
+-- to at most the window. `n` bounds how deep this is asked: it changes nothing where fewer than `n` slots go before the
+-- slot
+unfoldable pub is_fitting : ℕ → Policy → ℕ → List Placed → ℕ → (ℕ → Bool) → ℕ → Bool
+is_fitting zero policy window placed c pending slot = false
+is_fitting (suc n) policy window placed c pending slot =
+    pending slot
+    && nat_le (worst_in placed c slot
+    + width_in placed c (λ other. is_fitting n policy window placed c pending other
+    && goes_before policy placed c other slot)) window
+
+-- which of the pending slots a filling takes
+unfoldable pub is_taken : Policy → Fill → ℕ → List Placed → ℕ → (ℕ → Bool) → ℕ → Bool
+is_taken policy Prefix window placed c pending slot = is_in_front policy window placed c pending slot
+is_taken policy Skip window placed c pending slot = is_fitting most_slots policy window placed c pending slot
 
 -- the slots that are planned in a cycle, and those that are left
 abbrev pub planned_in : Planning → ℕ → (ℕ → Bool) → ℕ → Bool
-planned_in plan c before slot = is_taken plan.policy plan.window plan.placed c (pending_in plan.placed c before) slot
+planned_in plan c before slot =
+    is_taken plan.policy plan.fill plan.window plan.placed c (pending_in plan.placed c before) slot
 
 abbrev pub left_after : Planning → ℕ → (ℕ → Bool) → ℕ → Bool
 left_after plan c before slot = pending_in plan.placed c before slot && not (planned_in plan c before slot)
@@ -82,7 +115,7 @@ is_missed_in plan c before slot = left_after plan c before slot && is_last_in pl
 
 -- the least slot with an instance that is missed in a cycle, and the cycle of the instance's release
 pub record IsMissIn (plan : Planning) (c : ℕ) (before : ℕ → Bool) (slot release : ℕ) : Type 0 where
-  pub known : slot < slots
+  pub known : slot < most_slots
   pub missed : is_missed_in plan c before slot ≡ true
   pub least : (other : ℕ) → other < slot → is_missed_in plan c before other ≡ false
   pub instance : Instance
@@ -91,7 +124,7 @@ pub record IsMissIn (plan : Planning) (c : ℕ) (before : ℕ → Bool) (slot re
 
 -- no instance is missed in a cycle
 abbrev pub HasNoMissIn : Planning → ℕ → (ℕ → Bool) → Type 0
-HasNoMissIn plan c before = (slot : ℕ) → slot < slots → is_missed_in plan c before slot ≡ false
+HasNoMissIn plan c before = (slot : ℕ) → slot < most_slots → is_missed_in plan c before slot ≡ false
 
 -- Cycle after cycle: the n-th cycle of a planning, counted from 0, is `from + n`
 
@@ -105,11 +138,11 @@ abbrev pub planned_at : Planning → ℕ → ℕ → Bool
 planned_at plan n slot = planned_in plan (plan.from + n) (pending_before plan n) slot
 
 abbrev pub mask_at : Planning → ℕ → ℕ
-mask_at plan n = set_of slots (planned_at plan n)
+mask_at plan n = set_of most_slots (planned_at plan n)
 
 -- the set of the slots that are pending before the n-th cycle
 abbrev pub pending_at : Planning → ℕ → ℕ
-pending_at plan n = set_of slots (pending_before plan n)
+pending_at plan n = set_of most_slots (pending_before plan n)
 
 -- whether the slot's instance is left in the n-th cycle, which is its last one
 abbrev pub is_missed_at : Planning → ℕ → ℕ → Bool
@@ -117,11 +150,11 @@ is_missed_at plan n slot = is_missed_in plan (plan.from + n) (pending_before pla
 
 -- no instance is missed in the first n cycles
 abbrev pub HasNoMiss : Planning → ℕ → Type 0
-HasNoMiss plan n = (m slot : ℕ) → m < n → slot < slots → is_missed_at plan m slot ≡ false
+HasNoMiss plan n = (m slot : ℕ) → m < n → slot < most_slots → is_missed_at plan m slot ≡ false
 
 -- no instance is ever missed
 abbrev pub NeverMisses : Planning → Type 0
-NeverMisses plan = (m slot : ℕ) → slot < slots → is_missed_at plan m slot ≡ false
+NeverMisses plan = (m slot : ℕ) → slot < most_slots → is_missed_at plan m slot ≡ false
 
 -- the least slot with an instance that is missed in the n-th cycle, and the cycle of the instance's release
 abbrev pub IsMissAt : Planning → ℕ → ℕ → ℕ → Type 0
@@ -137,12 +170,6 @@ pub record IsFirstMiss (plan : Planning) (slot release cycle : ℕ) : Type 0 whe
 -- which slots are planned, by the number of the cycle itself
 abbrev pub flags_of : Planning → ℕ → ℕ → Bool
 flags_of plan c slot = planned_at plan (c - plan.from) slot
-
--- the slot's instance that may be sent in the cycle was released before it
-pub record IsHeldFrom (placed : List Placed) (c slot : ℕ) : Type 0 where
-  pub instance : Instance
-  pub found : instance_in placed slot c ≡ Some instance
-  pub before : release_of instance.placed instance.number < c
 
 -- *Valid*: each pending slot has an instance that was released before the cycle and whose last cycle is not below it
 abbrev pub IsValid : List Placed → ℕ → ℕ → Type 0

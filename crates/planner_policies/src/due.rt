@@ -17,7 +17,7 @@ pub struct Due {
     pub key: u64,
     /// The priority of the entry.
     pub priority: u8,
-    /// The slot, 0 to 39.
+    /// The slot, 0 to 95.
     pub slot: u8,
     /// The worst length of the frame, in bit times.
     pub cost: u32,

@@ -4,17 +4,16 @@ ghost use Rattle.std.specs.Prelude.{◌≡◌, ◌<◌, [], length};
 ghost use Rattle.planner_policies.specs.Due.{IsLined, IsPutIn};
 
 use crate::due::Due;
-use requirement_table::SLOTS;
 use std::marker::Model;
 
-/// A list of at most one instance a slot. Contracts see the list.
+/// A list of at most `ROOM` instances, one a slot. Contracts see the list.
 #[derive(Drop)]
-pub struct Line {
-    places: [Due; SLOTS as usize],
+pub struct Line<const ROOM: usize> {
+    places: [Due; ROOM],
     count: usize,
 }
 
-impl Model for Line {
+impl<const ROOM: usize> Model for Line<ROOM> {
     ghost use Rattle.std.specs.Prelude.{◌≡◌, ◌≤◌, List, length, take};
     ghost use Rattle.planner_policies.specs.declared.due.Due.{Due};
 
@@ -22,23 +21,23 @@ impl Model for Line {
 
     ghost view = { λ l. take l.count l.places };
 
-    ghost invariant = { λ l. (l.count ≤ 40) × (length l.places ≡ 40) };
+    ghost invariant = { λ l. (l.count ≤ ROOM) × (length l.places ≡ ROOM) };
 }
 
-impl Line {
+impl<const ROOM: usize> Line<ROOM> {
     /// The line of nothing.
-    pub fn new() -> Line
+    pub fn new() -> Self
         ensures empty { result ≡ [] }
     {
         Line {
-            places: [Due::NONE; SLOTS as usize],
+            places: [Due::NONE; ROOM],
             count: 0,
         }
     }
 
     /// Puts an instance behind those that go before it, and before the others.
     pub fn put(&mut self, due: Due)
-        requires room { length self.old < 40 }
+        requires room { length self.old < ROOM }
         requires lined { IsLined self.old }
         ensures put { IsPutIn due self.old self.new }
     {

@@ -1,18 +1,27 @@
 //! The plan of one cycle.
 
 ghost use Rattle.std.specs.Prelude.{◌≡◌, ℕ, ◌+◌, ◌^◌, ◌<◌, ◌≤◌, ◌↔◌, nat_eq, []};
-ghost use Rattle.std.specs.Prelude.{sum_by, take, All, IsTrue, IfOk, IfErr};
+ghost use Rattle.std.specs.Prelude.{sum_by, take, All, IsTrue, IfOk, IfErr, length, None, Some};
+ghost use Rattle.planner_policies.specs.declared.Fill.TheVariants.{Prefix, Skip};
 ghost use Rattle.std.specs.List.{list_any};
-ghost use Rattle.requirement_table.specs.Slots.{contains_slot, set_of, slots};
+ghost use Rattle.requirement_table.specs.Slots.{contains_slot, set_of, most_slots};
 ghost use Rattle.requirement_table.specs.Table.{IsInRange, IsWellPlaced, width_in};
-ghost use Rattle.planner_policies.specs.Due.{IsLeastMissed, IsLongestFit, IsWholeLine, is_held_in, lesser_miss};
+ghost use Rattle.planner_policies.specs.Due.{IsLeastMissed, IsLongestFit, IsSetOf, IsWholeLine, is_held_in, left_of, lesser_miss};
+ghost use Rattle.planner_policies.specs.Due.{taken_of, with_missed};
 ghost use Rattle.planner_policies.specs.Plan.{HasNoMissIn, IsMissIn, IsValid, left_after, planned_in, planning_of};
 
+use crate::Fill;
 use crate::due::{Due, due_of};
 use crate::line::Line;
 use crate::ranking::Ranked;
 use crate::state::{Miss, PlanState};
-use requirement_table::{Mask, Placed, current_instance};
+use requirement_table::{MOST_SLOTS, Mask, Placed, current_instance};
+
+/// A table of at most so many entries has a shorter line, which is made in less time.
+const FEW: usize = 40;
+
+/// A line of this room holds what is pending in any table: one instance a slot.
+const ALL: usize = MOST_SLOTS as usize;
 
 /// Whether a state can be planned from: each pending slot has an instance that was released before the cycle and whose
 /// last cycle is not below it.
@@ -43,8 +52,8 @@ fn is_held(placed: &Placed, cycle: u64) -> bool
     }
 }
 
-/// Plans the cycle of the state, within a window of `w` bit times: the slots that are planned in it, and the state at
-/// the next cycle.
+/// Plans the cycle of the state, by the policy and the filling of the list, within a window of `w` bit times: the slots
+/// that are planned in it, and the state at the next cycle.
 ///
 /// The state is valid.
 ///
@@ -55,11 +64,11 @@ pub fn plan_cycle(ranked: &Ranked, w: u32, state: &PlanState) -> Result<(Mask, P
     requires cycle { state.now.cycle < 2 ^ 42 }
     requires valid { IsValid ranked.now.placed state.now.cycle state.now.pending }
     ensures planned { let plan = planning_of ranked.now w state.now.cycle state.now.pending in
-        IfOk result (λ r. r.0 ≡ set_of slots (planned_in plan state.now.cycle (contains_slot state.now.pending))) }
+        IfOk result (λ r. r.0 ≡ set_of most_slots (planned_in plan state.now.cycle (contains_slot state.now.pending))) }
     ensures next_cycle { IfOk result (λ r. r.1.cycle ≡ state.now.cycle + 1) }
     ensures left { let plan = planning_of ranked.now w state.now.cycle state.now.pending in
         IfOk result
-        (λ r. r.1.pending ≡ set_of slots (left_after plan state.now.cycle (contains_slot state.now.pending))) }
+        (λ r. r.1.pending ≡ set_of most_slots (left_after plan state.now.cycle (contains_slot state.now.pending))) }
     ensures next_valid { IfOk result (λ r. IsValid ranked.now.placed r.1.cycle r.1.pending) }
     ensures none_missed { let plan = planning_of ranked.now w state.now.cycle state.now.pending in
         IfOk result (λ _. HasNoMissIn plan state.now.cycle (contains_slot state.now.pending)) }
@@ -94,7 +103,7 @@ pub fn plan_with_width(ranked: &Ranked, w: u32, state: &PlanState) -> Result<Pla
     requires cycle { state.now.cycle < 2 ^ 42 }
     requires valid { IsValid ranked.now.placed state.now.cycle state.now.pending }
     ensures planned { let plan = planning_of ranked.now w state.now.cycle state.now.pending in
-        IfOk result (λ r. r.mask ≡ set_of slots (planned_in plan state.now.cycle (contains_slot state.now.pending))) }
+        IfOk result (λ r. r.mask ≡ set_of most_slots (planned_in plan state.now.cycle (contains_slot state.now.pending))) }
     ensures width { let plan = planning_of ranked.now w state.now.cycle state.now.pending in
         IfOk result (λ r. r.width ≡ width_in plan.placed state.now.cycle
         (planned_in plan state.now.cycle (contains_slot state.now.pending))) }
@@ -102,7 +111,7 @@ pub fn plan_with_width(ranked: &Ranked, w: u32, state: &PlanState) -> Result<Pla
     ensures next_cycle { IfOk result (λ r. r.next.cycle ≡ state.now.cycle + 1) }
     ensures left { let plan = planning_of ranked.now w state.now.cycle state.now.pending in
         IfOk result
-        (λ r. r.next.pending ≡ set_of slots (left_after plan state.now.cycle (contains_slot state.now.pending))) }
+        (λ r. r.next.pending ≡ set_of most_slots (left_after plan state.now.cycle (contains_slot state.now.pending))) }
     ensures next_valid { IfOk result (λ r. IsValid ranked.now.placed r.next.cycle r.next.pending) }
     ensures none_missed { let plan = planning_of ranked.now w state.now.cycle state.now.pending in
         IfOk result (λ _. HasNoMissIn plan state.now.cycle (contains_slot state.now.pending)) }
@@ -120,20 +129,38 @@ pub fn plan_with_width(ranked: &Ranked, w: u32, state: &PlanState) -> Result<Pla
             },
         });
     }
-    let line = line_of(ranked, w, state);
-    let front = front_of(line.as_slice(), w);
-    let (_, left) = line.as_slice().split_at(front.count);
-    match missed(left, state.cycle) {
-        Some(miss) => Err(miss),
-        None => Ok(Planned {
-            mask: front.mask,
-            width: front.width,
-            next: PlanState {
-                cycle: state.cycle + 1,
-                pending: slots_of(left),
-            },
-        }),
+    if ranked.rows().len() <= FEW {
+        plan_rows::<FEW>(ranked, w, state)
+    } else {
+        plan_rows::<ALL>(ranked, w, state)
     }
+}
+
+/// Plans the cycle of the state as `plan_with_width` does, by a line with room for all that is pending.
+fn plan_rows<const ROOM: usize>(ranked: &Ranked, w: u32, state: &PlanState) -> Result<Planned, Miss>
+    requires cycle { state.now.cycle < 2 ^ 42 }
+    requires valid { IsValid ranked.now.placed state.now.cycle state.now.pending }
+    requires most { ROOM ≤ most_slots }
+    requires room { ROOM < most_slots → length ranked.now.placed ≤ ROOM }
+    ensures planned { let plan = planning_of ranked.now w state.now.cycle state.now.pending in
+        IfOk result (λ r. r.mask ≡ set_of most_slots (planned_in plan state.now.cycle (contains_slot state.now.pending))) }
+    ensures width { let plan = planning_of ranked.now w state.now.cycle state.now.pending in
+        IfOk result (λ r. r.width ≡ width_in plan.placed state.now.cycle
+        (planned_in plan state.now.cycle (contains_slot state.now.pending))) }
+    ensures fits { IfOk result (λ r. r.width ≤ w) }
+    ensures next_cycle { IfOk result (λ r. r.next.cycle ≡ state.now.cycle + 1) }
+    ensures left { let plan = planning_of ranked.now w state.now.cycle state.now.pending in
+        IfOk result
+        (λ r. r.next.pending ≡ set_of most_slots (left_after plan state.now.cycle (contains_slot state.now.pending))) }
+    ensures next_valid { IfOk result (λ r. IsValid ranked.now.placed r.next.cycle r.next.pending) }
+    ensures none_missed { let plan = planning_of ranked.now w state.now.cycle state.now.pending in
+        IfOk result (λ _. HasNoMissIn plan state.now.cycle (contains_slot state.now.pending)) }
+    ensures missed { let plan = planning_of ranked.now w state.now.cycle state.now.pending in
+        IfErr result (λ miss. IsMissIn plan state.now.cycle (contains_slot state.now.pending) miss.slot miss.release) }
+    ensures missed_cycle { IfErr result (λ miss. miss.cycle ≡ state.now.cycle) }
+{
+    let line = line_of::<ROOM>(ranked, w, state);
+    plan_line(line.as_slice(), ranked.fill(), w, state.cycle)
 }
 
 /// The slots that are planned in the cycle of the state, within a window of `w` bit times, whether or not an instance
@@ -144,10 +171,26 @@ pub fn cycle_mask(ranked: &Ranked, w: u32, state: &PlanState) -> Mask
     requires cycle { state.now.cycle < 2 ^ 42 }
     requires valid { IsValid ranked.now.placed state.now.cycle state.now.pending }
     ensures planned { let plan = planning_of ranked.now w state.now.cycle state.now.pending in
-        result ≡ set_of slots (planned_in plan state.now.cycle (contains_slot state.now.pending)) }
+        result ≡ set_of most_slots (planned_in plan state.now.cycle (contains_slot state.now.pending)) }
 {
-    let line = line_of(ranked, w, state);
-    front_of(line.as_slice(), w).mask
+    if ranked.rows().len() <= FEW {
+        mask_of_rows::<FEW>(ranked, w, state)
+    } else {
+        mask_of_rows::<ALL>(ranked, w, state)
+    }
+}
+
+/// The slots that `cycle_mask` gives, by a line with room for all that is pending.
+fn mask_of_rows<const ROOM: usize>(ranked: &Ranked, w: u32, state: &PlanState) -> Mask
+    requires cycle { state.now.cycle < 2 ^ 42 }
+    requires valid { IsValid ranked.now.placed state.now.cycle state.now.pending }
+    requires most { ROOM ≤ most_slots }
+    requires room { ROOM < most_slots → length ranked.now.placed ≤ ROOM }
+    ensures planned { let plan = planning_of ranked.now w state.now.cycle state.now.pending in
+        result ≡ set_of most_slots (planned_in plan state.now.cycle (contains_slot state.now.pending)) }
+{
+    let line = line_of::<ROOM>(ranked, w, state);
+    mask_of_line(line.as_slice(), ranked.fill(), w)
 }
 
 /// Whether the table is empty. Then nothing is pending in the cycle of the state, and no line has to be made.
@@ -163,21 +206,104 @@ fn is_idle(ranked: &Ranked, w: u32, state: &PlanState) -> bool
 }
 
 /// The instances that are pending in the cycle of the state, in key order.
-fn line_of(ranked: &Ranked, w: u32, state: &PlanState) -> Line
+fn line_of<const ROOM: usize>(ranked: &Ranked, w: u32, state: &PlanState) -> Line<ROOM>
     requires cycle { state.now.cycle < 2 ^ 42 }
     requires valid { IsValid ranked.now.placed state.now.cycle state.now.pending }
+    requires room { ROOM < most_slots → length ranked.now.placed ≤ ROOM }
     ensures line { IsWholeLine (planning_of ranked.now w state.now.cycle state.now.pending) state.now.cycle
         (contains_slot state.now.pending) result }
     ensures well_placed { IsWellPlaced ranked.now.placed }
 {
     let rows = ranked.rows();
-    let mut line = Line::new();
+    let mut line = Line::<ROOM>::new();
     for row in rows {
         if let Some(due) = due_of(ranked.policy(), row, state) {
             line.put(due);
         }
     }
     line
+}
+
+/// Plans a line of instances in a cycle, within a window of `w` bit times.
+fn plan_line(line: &[Due], fill: Fill, w: u32, cycle: u64) -> Result<Planned, Miss>
+    requires known { All (λ due. due.slot < most_slots) line.now }
+    requires cycle { cycle < 2 ^ 42 }
+    ensures planned { IfOk result (λ r. IsSetOf r.mask (taken_of fill w line.now)) }
+    ensures width { IfOk result (λ r. r.width ≡ sum_by (λ due. due.cost) (taken_of fill w line.now)) }
+    ensures fits { IfOk result (λ r. r.width ≤ w) }
+    ensures next_cycle { IfOk result (λ r. r.next.cycle ≡ cycle + 1) }
+    ensures left { IfOk result (λ r. IsSetOf r.next.pending (left_of fill w line.now)) }
+    ensures none_missed { IfOk result (λ _. IsLeastMissed cycle (left_of fill w line.now) None) }
+    ensures missed { IfErr result (λ miss. IsLeastMissed cycle (left_of fill w line.now) (Some miss)) }
+{
+    match fill {
+        Fill::Prefix => plan_front(line, w, cycle),
+        Fill::Skip => plan_each(line, w, cycle),
+    }
+}
+
+/// The slots of what a filling takes of a line, within a window of `w` bit times.
+fn mask_of_line(line: &[Due], fill: Fill, w: u32) -> Mask
+    requires known { All (λ due. due.slot < most_slots) line.now }
+    ensures planned { IsSetOf result (taken_of fill w line.now) }
+{
+    match fill {
+        Fill::Prefix => front_of(line, w).mask,
+        Fill::Skip => each_of(line, w, 0).mask,
+    }
+}
+
+/// Plans a line of instances with the filling `Prefix`: its first ones, as many as fit the window together.
+fn plan_front(line: &[Due], w: u32, cycle: u64) -> Result<Planned, Miss>
+    requires known { All (λ due. due.slot < most_slots) line.now }
+    requires cycle { cycle < 2 ^ 42 }
+    ensures planned { IfOk result (λ r. IsSetOf r.mask (taken_of Prefix w line.now)) }
+    ensures width { IfOk result (λ r. r.width ≡ sum_by (λ due. due.cost) (taken_of Prefix w line.now)) }
+    ensures fits { IfOk result (λ r. r.width ≤ w) }
+    ensures next_cycle { IfOk result (λ r. r.next.cycle ≡ cycle + 1) }
+    ensures left { IfOk result (λ r. IsSetOf r.next.pending (left_of Prefix w line.now)) }
+    ensures none_missed { IfOk result (λ _. IsLeastMissed cycle (left_of Prefix w line.now) None) }
+    ensures missed { IfErr result (λ miss. IsLeastMissed cycle (left_of Prefix w line.now) (Some miss)) }
+{
+    let front = front_of(line, w);
+    let (_, left) = line.split_at(front.count);
+    match missed(left, cycle) {
+        Some(miss) => Err(miss),
+        None => Ok(Planned {
+            mask: front.mask,
+            width: front.width,
+            next: PlanState {
+                cycle: cycle + 1,
+                pending: slots_of(left),
+            },
+        }),
+    }
+}
+
+/// Plans a line of instances with the filling `Skip`: each one that still fits.
+fn plan_each(line: &[Due], w: u32, cycle: u64) -> Result<Planned, Miss>
+    requires known { All (λ due. due.slot < most_slots) line.now }
+    requires cycle { cycle < 2 ^ 42 }
+    ensures planned { IfOk result (λ r. IsSetOf r.mask (taken_of Skip w line.now)) }
+    ensures width { IfOk result (λ r. r.width ≡ sum_by (λ due. due.cost) (taken_of Skip w line.now)) }
+    ensures fits { IfOk result (λ r. r.width ≤ w) }
+    ensures next_cycle { IfOk result (λ r. r.next.cycle ≡ cycle + 1) }
+    ensures left { IfOk result (λ r. IsSetOf r.next.pending (left_of Skip w line.now)) }
+    ensures none_missed { IfOk result (λ _. IsLeastMissed cycle (left_of Skip w line.now) None) }
+    ensures missed { IfErr result (λ miss. IsLeastMissed cycle (left_of Skip w line.now) (Some miss)) }
+{
+    let each = each_of(line, w, cycle);
+    match each.least {
+        Some(miss) => Err(miss),
+        None => Ok(Planned {
+            mask: each.mask,
+            width: each.width,
+            next: PlanState {
+                cycle: cycle + 1,
+                pending: each.left,
+            },
+        }),
+    }
 }
 
 /// The first instances of a line, as many as fit a window together.
@@ -193,12 +319,12 @@ struct Front {
 
 /// The first instances of a line, as many as fit a window of `w` bit times together.
 fn front_of(line: &[Due], w: u32) -> Front
-    requires known { All (λ due. due.slot < slots) line.now }
+    requires known { All (λ due. due.slot < most_slots) line.now }
     ensures longest { IsLongestFit w line.now result.count }
     ensures width { result.width ≡ sum_by (λ due. due.cost) (take result.count line.now) }
     ensures slots { (slot : ℕ)
         → contains_slot result.mask slot ≡ list_any (λ due. nat_eq due.slot slot) (take result.count line.now) }
-    ensures below { result.mask < 2 ^ slots }
+    ensures below { result.mask < 2 ^ most_slots }
 {
     let mut width = 0;
     let mut mask = Mask::empty();
@@ -222,11 +348,68 @@ fn front_of(line: &[Due], w: u32) -> Front
     }
 }
 
+/// What the filling `Skip` takes of a line, and what it leaves.
+#[derive(Drop)]
+struct Each {
+    /// The slots of the instances that are taken.
+    mask: Mask,
+    /// What these cost together, in bit times.
+    width: u32,
+    /// The slots of those that are left.
+    left: Mask,
+    /// Of those that are left in their last cycle, the one of the least slot.
+    least: Option<Miss>,
+}
+
+/// The instances of a line in a cycle that the filling `Skip` takes, within a window of `w` bit times, and those that it
+/// leaves.
+fn each_of(line: &[Due], w: u32, cycle: u64) -> Each
+    requires known { All (λ due. due.slot < most_slots) line.now }
+    ensures width { result.width ≡ sum_by (λ due. due.cost) (taken_of Skip w line.now) }
+    ensures fits { result.width ≤ w }
+    ensures taken { IsSetOf result.mask (taken_of Skip w line.now) }
+    ensures left { IsSetOf result.left (left_of Skip w line.now) }
+    ensures least { IsLeastMissed cycle (left_of Skip w line.now) result.least }
+{
+    let mut width = 0;
+    let mut mask = Mask::empty();
+    let mut left = Mask::empty();
+    let mut least = None;
+    for due in line {
+        if due.cost <= w - width {
+            width += due.cost;
+            mask = mask.with(due.slot);
+        } else {
+            left = left.with(due.slot);
+            least = with_missed(least, due, cycle);
+        }
+    }
+    mask.known();
+    left.known();
+    Each {
+        mask,
+        width,
+        left,
+        least,
+    }
+}
+
+/// Of a miss, where there is one, and that of an instance where this is its last cycle, the one of the lesser slot.
+fn with_missed(least: Option<Miss>, due: &Due, cycle: u64) -> Option<Miss>
+    ensures result { result ≡ with_missed cycle least due.now }
+{
+    if due.last == cycle {
+        Some(lesser(least, due))
+    } else {
+        least
+    }
+}
+
 /// The slots of instances.
 fn slots_of(line: &[Due]) -> Mask
-    requires known { All (λ due. due.slot < slots) line.now }
+    requires known { All (λ due. due.slot < most_slots) line.now }
     ensures slots { (slot : ℕ) → contains_slot result slot ≡ list_any (λ due. nat_eq due.slot slot) line.now }
-    ensures below { result < 2 ^ slots }
+    ensures below { result < 2 ^ most_slots }
 {
     let mut slots = Mask::empty();
     for due in line {

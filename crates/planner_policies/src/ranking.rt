@@ -3,18 +3,19 @@
 ghost use Rattle.std.specs.Prelude.{◌≡◌, All, IfOk, IsPermutation};
 ghost use Rattle.requirement_table.specs.Table.{IsInRange, IsWellPlaced, not_over};
 
-use crate::Policy;
+use crate::{Fill, Policy};
 use requirement_table::{Placed, drop_over};
 use std::alloc::{AllocError, Global};
 use std::marker::Model;
 
-/// A list of placed entries, and the policy by which they are planned. Contracts see these two.
+/// A list of placed entries, the policy by which they are planned, and the filling. Contracts see these three.
 #[derive(Drop, Debug)]
 pub struct Ranked {
     placed: Vec<Placed>,
     /// The same entries in key order, by their own numbers: for `Edf` in the order that breaks ties.
     rows: Vec<Placed>,
     policy: Policy,
+    fill: Fill,
 }
 
 impl Model for Ranked {
@@ -24,15 +25,20 @@ impl Model for Ranked {
 
     ghost Value = { Ranking };
 
-    ghost view = { λ r. record { placed = r.placed.items; policy = r.policy } };
+    ghost view = { λ r. record { placed = r.placed.items; policy = r.policy; fill = r.fill } };
 
     ghost invariant = { λ r. IsWellPlaced r.placed.items × IsPermutation r.placed.items r.rows.items };
 }
 
-/// The entries, in their order, with the policy by which they are planned. The list is well placed.
-pub fn rank(alloc: Global, placed: &[Placed], policy: Policy) -> Result<Ranked, AllocError>
+/// The entries, in their order, with the policy by which they are planned and the filling. The list is well placed.
+pub fn rank(
+    alloc: Global,
+    placed: &[Placed],
+    policy: Policy,
+    fill: Fill,
+) -> Result<Ranked, AllocError>
     requires well_placed { IsWellPlaced placed.now }
-    ensures ranked { IfOk result (λ ranked. ranked ≡ record { placed = placed.now; policy = policy }) }
+    ensures ranked { IfOk result (λ ranked. ranked ≡ record { placed = placed.now; policy = policy; fill = fill }) }
 {
     let list = placed.to_vec(alloc)?;
     let mut rows = placed.to_vec(alloc)?;
@@ -41,6 +47,7 @@ pub fn rank(alloc: Global, placed: &[Placed], policy: Policy) -> Result<Ranked, 
         placed: list,
         rows,
         policy,
+        fill,
     })
 }
 
@@ -61,6 +68,13 @@ impl Ranked {
         self.policy
     }
 
+    /// The filling.
+    pub fn fill(&self) -> Fill
+        ensures value { result ≡ self.now.fill }
+    {
+        self.fill
+    }
+
     /// The placed entries, as they were handed in.
     pub fn placed(&self) -> &[Placed]
         ensures list { result.now ≡ self.now.placed }
@@ -71,7 +85,7 @@ impl Ranked {
 
     /// Drops the entries that are over by `cycle`, in place and without memory.
     pub fn drop_over(&mut self, cycle: u64)
-        ensures left { self.new ≡ record { placed = not_over cycle self.old.placed; policy = self.old.policy } }
+        ensures left { self.new ≡ record self.old { placed = not_over cycle self.old.placed } }
     {
         drop_over(&mut self.placed, cycle);
         drop_over(&mut self.rows, cycle);

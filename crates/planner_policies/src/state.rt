@@ -14,7 +14,7 @@ pub struct PlanState {
 /// An instance that is not planned by its last cycle.
 #[derive(Clone, Copy, PartialEq, Eq, Debug)]
 pub struct Miss {
-    /// The slot, 0 to 39.
+    /// The slot, 0 to 95.
     pub slot: u8,
     /// The cycle in which the instance was released.
     pub release: u64,

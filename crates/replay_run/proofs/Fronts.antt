@@ -95,7 +95,7 @@ module _ (layout : CycleLayout) (known : IsLayout layout) (requests : List Reque
       → (start_of layout opening ≤ at) × (at < end_of_cycle layout opening)
   in_cycle opening past at frame (inl trigger) =
       let longer = add-mul opening.cycle 1 layout.cycle in
-      (omega (arith, trigger.time), omega (arith, trigger.time, longer, known.cycle_range.above))
+      (trigger.begun, omega (arith, trigger.within, longer, known.room))
   in_cycle opening past at frame (inr (inl request)) =
       let allowed = request.may_start.allowed in
       (omega (arith, allowed.opened), omega (arith, allowed.whole))

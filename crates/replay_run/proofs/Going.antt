@@ -3,7 +3,7 @@ use Rattle.std.proofs.Common.{◌≡◌, ◌≢◌, ℕ, ◌+◌, ◌*◌, ◌/�
 use Rattle.std.specs.Prelude.{is_some}
 use Rattle.std.specs.List.{range_with_len}
 use Rattle.std.proofs.lemmas.List.{append-nil}
-use Rattle.std.proofs.lemmas.List.Elements.{All-cons, All-nil, All-weaker}
+use Rattle.std.proofs.lemmas.List.Elements.{All-append, All-cons, All-nil, All-weaker}
 use Rattle.can_frame.specs.declared.data_frame.TimedFrame.{TimedFrame}
 use Rattle.trigger_codec.specs.Bytes.{trigger_bytes, trigger_frame, width_told}
 use Rattle.cycle_layout.specs.Layout.{CycleLayout, IsLayout}
@@ -21,7 +21,7 @@ use Rattle.master_core.specs.History.{IsLegal, IsPlainlyLegal, is_open, next_of,
 use Rattle.master_core.specs.Openings.{openings_of}
 use Rattle.master_core.specs.Orders.{IsOrder}
 use Rattle.kept_run.specs.Progress.{AreReady, IsOnTheWay, IsSetting, IsUnderWay, Setting}
-use Rattle.kept_run.proofs.Shared.{CallsBetween, CyclesRun, RanOrder, next_of-push, number-below, way-called, way-run, way-same}
+use Rattle.kept_run.proofs.Shared.{CallsBetween, CyclesRun, RanOrder, next_of-push, number-below, second_identifiers, way-called, way-run, way-same}
 use Rattle.node_model.specs.Node.{NodeView}
 use Rattle.bus_trace.specs.EventRows.{BeginsCycle, rows_of_event, width_told_in}
 use Rattle.bus_trace.specs.Log.{events_rows, triggers_in}
@@ -115,10 +115,12 @@ sends laws setting history trace frames nodes new order ordered did way =
     let range = known.known.window_range.below in
     record {
       trigger = run.trigger;
-      later = run.later;
+      later = run.second ++ run.later;
       frames_are = run.all_frames;
       is_trigger = run.is_trigger;
-      others = All-weaker (λ sent. IsRequestFrame layout opening sent ⊎ IsSlotFrame layout opening sent) (λ sent. sent.frame.identifier ≢ 0) (no-trigger layout opening) run.later run.all;
+      others = All-append (λ sent. sent.frame.identifier ≢ 0) run.second run.later
+          (λ k d within none. let one = second_identifiers layout opening frames run k d within in omega arith)
+          (All-weaker (λ sent. IsRequestFrame layout opening sent ⊎ IsSlotFrame layout opening sent) (λ sent. sent.frame.identifier ≢ 0) (no-trigger layout opening) run.later run.all);
       wide = omega arith;
     }
 

@@ -1,8 +1,10 @@
 -- What proofs of the crates above may take from here: lemmas about the definitions of this crate.
-use Rattle.std.proofs.Common.{◌≡◌, ◌≤◌, ◌-◌, ℕ, zero, suc, List, [], drop, true, nat_eq, refl, sym, ◌∙◌, subst}
+use Rattle.std.proofs.Common.{◌≡◌, ◌≤◌, ◌-◌, ℕ, zero, suc, List, [], drop, true, nat_eq, refl, sym, ◌∙◌, subst, inl, inr, arith}
 use Rattle.std.specs.List.{Any, list_any}
 use Rattle.std.proofs.lemmas.Bool.{eqb-true}
 use Rattle.std.proofs.lemmas.List.Folds.{Any-from_list_any}
+use Rattle.cycle_layout.specs.Layout.{IsSlots}
+use Rattle.requirement_table.specs.Slots.{most_slots}
 use Rattle.async_window.specs.declared.request.Owner.{Owner}
 use Rattle.admission.specs.Verdict.{IsRules}
 use Rattle.input_text.specs.SystemFile.{IsSystem}
@@ -11,11 +13,16 @@ use Rattle.bus_trace.specs.LastRows.{HasLast, rows_in}
 use Rattle.bus_trace.specs.Recent.{LastRows}
 pub use Rattle.replay_run.proofs.Fronts.{cut-at, started-all, started-early, started-within}
 
+few_slots : (slots : ℕ) → IsSlots slots → slots ≤ most_slots
+few_slots slots (inl few) = omega (arith, few)
+few_slots slots (inr many) = omega (arith, many)
+
 -- the rules of a system are in range
 pub is_rules : (system : System) → IsSystem system → IsRules system.rules
 is_rules system is = record {
   some_nodes = is.some_nodes;
   few_nodes = is.few_nodes;
+  few_slots = subst (λ s. s ≤ most_slots) (sym is.same_slots) (few_slots system.layout.slots is.layout.slots_range);
   least_window = subst (λ w. 55 ≤ w) (sym is.same_window) is.layout.window_range.above;
   greatest_window = subst (λ w. w ≤ 16383) (sym is.same_window) is.layout.window_range.below;
   some_cycles = is.some_horizon;

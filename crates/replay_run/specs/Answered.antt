@@ -11,6 +11,13 @@ pub record Answered (old : MasterView) (calls : List Call) (new : MasterView) : 
   pub plain : IsPlainlyLegal old.rules old.history → IsPlainlyLegal new.rules new.history
   pub answers : map call_of new.history ≡ map call_of old.history ++ calls
 
+-- it has answered the first of these calls, and no other
+pub record StoppedIn (old : MasterView) (calls : List Call) (new : MasterView) : Type 0 where
+  pub front : List Call
+  pub back : List Call
+  pub split : calls ≡ front ++ back
+  pub answered : Answered old front new
+
 -- For the master that is driven
 
 pub answered-nothing : (one : MasterView) → Answered one [] one
@@ -23,3 +30,16 @@ answered-more one other third calls later first second = record {
   plain = λ plain. second.plain (first.plain plain);
   answers = second.answers ∙ ap (λ l. l ++ later) first.answers ∙ append_assoc (map call_of one.history) calls later;
 }
+
+pub stopped-later : (one other third : MasterView) (calls later more : List Call) → Answered one calls other → StoppedIn other later third
+    → StoppedIn one (calls ++ (later ++ more)) third
+stopped-later one other third calls later more first stopped = record {
+  front = calls ++ stopped.front;
+  back = stopped.back ++ more;
+  split = ap (λ l. calls ++ (l ++ more)) stopped.split ∙ ap (λ l. calls ++ l) (append_assoc stopped.front stopped.back more)
+      ∙ sym (append_assoc calls stopped.front (stopped.back ++ more));
+  answered = answered-more one other third calls stopped.front first stopped.answered;
+}
+
+pub stopped-at_once : (one other : MasterView) (calls : List Call) → Answered one [] other → StoppedIn one calls other
+stopped-at_once one other calls none = record { front = []; back = calls; split = refl; answered = none }

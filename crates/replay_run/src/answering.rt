@@ -17,7 +17,7 @@ use std::alloc::{AllocError, Global};
 impl Driven for Master {
     ghost use Rattle.std.specs.Prelude.{⊤};
     ghost use Rattle.master_core.specs.History.{next_of};
-    ghost use Rattle.replay_run.specs.Answered.{Answered, answered-nothing, answered-more};
+    ghost use Rattle.replay_run.specs.Answered.{Answered, StoppedIn, answered-nothing, answered-more, stopped-later};
 
     type Stop = AllocError;
 
@@ -27,7 +27,7 @@ impl Driven for Master {
 
     ghost goes_on = { Answered };
 
-    ghost stops = { λ old calls new why. ⊤ };
+    ghost stops = { λ old calls new why. StoppedIn old calls new };
 
     fn open_cycle(&mut self, alloc: Global) -> Result<(), AllocError> {
         self.reserve(alloc, 1)?;
@@ -54,7 +54,8 @@ impl Driven for Master {
 
     ghost ready_still = { λ one other calls ready on. tt };
 
-    ghost stops_later = { λ one other third calls later more why on stopped. tt };
+    ghost stops_later = { λ one other third calls later more why on stopped.
+        stopped-later one other third calls later more on stopped };
 }
 
 /// Answers the steps of a file by a master alone, with no bus. Its history is the one of every run of these steps by

@@ -2,36 +2,46 @@
 
 ghost use Rattle.std.specs.Prelude.{◌≡◌, IfOk, OnOk};
 ghost use Rattle.requirement_table.specs.Table.{IsWellPlaced};
+ghost use Rattle.admission.specs.Verdict.{IsRules, bounds_by};
+ghost use Rattle.replay_run.specs.Asked.{CanApply, bounds_in};
 ghost use Rattle.input_text.specs.StepsFile.{AreLegalSteps};
 ghost use Rattle.replay_run.specs.AskedTable.{after_change, table_of};
 
 use crate::driver::{Driven, drive};
+use admission_rules::Rules;
 use change_protocol::{Act, ApplyFault, Change, apply};
 use input_text::Step;
 use requirement_table::Placed;
 use std::alloc::{AllocError, Global};
 
-/// The placed entries behind some calls on a bus of so many nodes, and the number of cycles that these open.
+/// The placed entries after some calls on a bus of so many nodes and slots, and the number of cycles that these open.
 #[derive(Drop)]
 struct Asked {
     nodes: u8,
+    slots: u8,
     placed: Vec<Placed>,
     next: u64,
 }
 
 /// Applies a change where it breaks no rule and its start has not passed.
 fn ask(asked: &mut Asked, alloc: Global, change: &Change) -> Result<(), AllocError>
-    requires well_placed { IsWellPlaced asked.old.placed.items }
-    ensures well_placed { OnOk result (IsWellPlaced asked.new.placed.items) }
-    ensures nodes { OnOk result (asked.new.nodes ≡ asked.old.nodes) }
+    requires can_apply { CanApply asked.old }
+    ensures can_apply { OnOk result (CanApply asked.new) }
+    ensures bounds { OnOk result (bounds_in asked.new ≡ bounds_in asked.old) }
     ensures next { OnOk result (asked.new.next ≡ asked.old.next) }
     ensures applied { OnOk result (asked.new.placed.items
-        ≡ after_change asked.old.nodes asked.old.placed.items asked.old.next change.now) }
+        ≡ after_change (bounds_in asked.old) asked.old.placed.items asked.old.next change.now) }
 {
     if change.start < asked.next {
         return Ok(());
     }
-    match apply(alloc, asked.placed.as_slice(), asked.nodes, change) {
+    match apply(
+        alloc,
+        asked.placed.as_slice(),
+        asked.nodes,
+        asked.slots,
+        change,
+    ) {
         Ok(list) => {
             asked.placed = list;
             Ok(())
@@ -43,12 +53,11 @@ fn ask(asked: &mut Asked, alloc: Global, change: &Change) -> Result<(), AllocErr
 
 impl Driven for Asked {
     ghost use Rattle.std.specs.Prelude.{⊤};
-    ghost use Rattle.requirement_table.specs.Table.{IsWellPlaced};
-    ghost use Rattle.replay_run.specs.Asked.{GoesOn, on-nothing, on-more};
+    ghost use Rattle.replay_run.specs.Asked.{CanApply, GoesOn, on-nothing, on-more};
 
     type Stop = AllocError;
 
-    ghost is_ready = { λ asked. IsWellPlaced asked.placed.items };
+    ghost is_ready = { CanApply };
 
     ghost cycles = { λ asked. asked.next };
 
@@ -72,24 +81,26 @@ impl Driven for Asked {
 
     ghost in_turn = { on-more };
 
-    ghost ready_still = { λ one other calls ready on. on.well_placed ready };
+    ghost ready_still = { λ one other calls ready on. on.can_apply ready };
 
     ghost stops_later = { λ one other third calls later more why on stopped. tt };
 }
 
-/// The placed entries that the steps of a file ask for, on a bus of so many nodes, where no admission is asked: each
-/// change counts that breaks no rule and whose start is not below the number of cycles in the rows before it.
+/// The placed entries that the steps of a file ask for by these rules, where no admission is asked: each change counts
+/// that breaks no rule and whose start is not below the number of cycles in the rows before it.
 ///
 /// # Errors
 ///
 /// Only where memory runs out.
-pub fn asked_table(alloc: Global, nodes: u8, steps: &[Step]) -> Result<Vec<Placed>, AllocError>
+pub fn asked_table(alloc: Global, rules: &Rules, steps: &[Step]) -> Result<Vec<Placed>, AllocError>
+    requires rules { IsRules rules.now }
     requires steps { AreLegalSteps steps.now }
-    ensures placed { IfOk result (λ placed. placed.items ≡ (table_of nodes steps.now).placed) }
+    ensures placed { IfOk result (λ placed. placed.items ≡ (table_of (bounds_by rules.now) steps.now).placed) }
     ensures well_placed { IfOk result (λ placed. IsWellPlaced placed.items) }
 {
     let mut asked = Asked {
-        nodes,
+        nodes: rules.nodes,
+        slots: rules.slots,
         placed: Vec::new(alloc),
         next: 0,
     };

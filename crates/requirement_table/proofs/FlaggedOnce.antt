@@ -5,7 +5,7 @@ use Rattle.std.proofs.lemmas.Bool.{cases_lt, cases_order, eq-eqb, eqb-true, and_
 use Rattle.std.proofs.lemmas.List.Folds.{Any-from_list_any, list_any-from_Any}
 use Rattle.requirement_table.specs.declared.entries.Placed.{Placed}
 use Rattle.requirement_table.specs.Instance.{Exists, IsLastCycle, IsReleasedIn, MaySend, deadline_of, release_of, released_by}
-use Rattle.requirement_table.specs.Slots.{slots}
+use Rattle.requirement_table.specs.Slots.{most_slots}
 use Rattle.requirement_table.specs.Table.{IsInRange, IsWellPlaced, held_before, is_last_in, releases_in}
 use Rattle.requirement_table.specs.Flags.{IsFlaggedOnce, IsGoodCycle, waits}
 use Rattle.requirement_table.proofs.SlotInstances.{instance_in-found, one_instance}
@@ -129,7 +129,7 @@ released-is placed p k last well one =
     list_any-from_Any (λ q. nat_eq q.entry.slot p.entry.slot && is_some (released_by q (release_of p k))) placed
     (one.place, p, slice_get_within placed one.place p one.stands, get_or_from_slice_get placed one.place p p one.stands, test)
 
-waits-not : (placed : List Placed) (flags : ℕ → ℕ → Bool) (from : ℕ) (held : ℕ → Bool) (m slot : ℕ) → slot < slots
+waits-not : (placed : List Placed) (flags : ℕ → ℕ → Bool) (from : ℕ) (held : ℕ → Bool) (m slot : ℕ) → slot < most_slots
     → IsGoodCycle placed flags from held m → waits placed flags from held m slot ≡ false → flags (from + m) slot ≡ true → ⊥
 waits-not placed flags from held m slot known good none flagged = let waiting = good.holding slot known flagged in absurd (cc)
 
@@ -139,7 +139,7 @@ module _ (placed : List Placed) (flags : ℕ → ℕ → Bool) (from n : ℕ) (h
   slot : ℕ
   slot = p.entry.slot
 
-  known : p.entry.slot < slots
+  known : p.entry.slot < most_slots
   known = (range-of placed p one.place well one.stands).entry.slot
 
   -- once nothing is held behind the release, nothing is until the last cycle

@@ -1,12 +1,12 @@
 -- Entries that are over send nothing and release nothing any more.
-use Rattle.std.proofs.Common.{◌≡◌, ℕ, ◌+◌, ◌-◌, ◌<◌, ◌≤◌, Bool, true, false, not, cond, ◌&&◌, ◌||◌, nat_eq, nat_le, Option, Some, None, IfSome, option_map, is_some, List, [], ◌∷◌, filter, All, slice_get, if◌then◌else◌, refl, sym, ap, ◌∙◌, subst, arith}
+use Rattle.std.proofs.Common.{◌≡◌, ℕ, ◌+◌, ◌-◌, ◌<◌, ◌≤◌, Bool, true, false, not, cond, ◌&&◌, ◌||◌, nat_eq, nat_le, Option, Some, None, IfSome, option_map, is_some, List, [], ◌∷◌, filter, All, slice_get, if◌then◌else◌, refl, sym, ap, ◌∙◌, arith}
 use Rattle.std.specs.List.{filter_map, cons_option, list_any}
 use Rattle.std.specs.Option.{option_map_or}
 use Rattle.std.proofs.lemmas.Bool.{leb-true}
 use Rattle.std.proofs.lemmas.List.Elements.{All-filter, All-head, All-tail}
 use Rattle.std.proofs.lemmas.List.Kept.{AllPairs-filter}
 use Rattle.requirement_table.specs.declared.entries.Placed.{Placed}
-use Rattle.requirement_table.specs.Instance.{Exists, IsReleasedIn, MaySend, instance_of, release_of, released_by}
+use Rattle.requirement_table.specs.Instance.{instance_of, release_of, released_by}
 use Rattle.requirement_table.specs.Table.{GoesBefore, IsInRange, IsWellPlaced, instance_in, is_over, not_over, releases_in, sendable}
 use Rattle.requirement_table.proofs.Latest.{IsReleasedIn-from_released_by, MaySend-from_instance}
 

@@ -7,7 +7,7 @@ use Rattle.std.proofs.lemmas.Option.{slice_get_within, get_or_from_slice_get, sa
 use Rattle.std.proofs.lemmas.List.Folds.{Any-from_list_any, list_any-from_Any}
 use Rattle.requirement_table.specs.declared.entries.Placed.{Placed}
 use Rattle.requirement_table.specs.Instance.{Instance, MaySend, IsReleasedIn, release_of, instance_of, released_by}
-use Rattle.requirement_table.specs.Slots.{contains_slot, slots}
+use Rattle.requirement_table.specs.Slots.{contains_slot, most_slots}
 use Rattle.requirement_table.specs.Table.{IsInRange, IsFreeAt, GoesBefore, IsWellPlaced, sendable, instance_in, releases_in, released_in}
 use Rattle.requirement_table.proofs.SlotSets.{contains_slot-set_of}
 use Rattle.requirement_table.proofs.Latest.{latest-of_sent, instance_of-sent, MaySend-from_instance, released_by-released, IsReleasedIn-from_released_by}
@@ -155,7 +155,7 @@ in_range-of placed i p well within at = rw at at (well.in_range i p within)
 
 pub released_in-sound : (placed : List Placed) (slot c : ℕ) → contains_slot (released_in placed c) slot ≡ true → Any (IsReleasedOf slot c) placed
 released_in-sound placed slot c contains =
-    let parts = and_parts (nat_lt slot slots) (releases_in placed c slot) (sym (contains_slot-set_of slots (releases_in placed c) slot) ∙ contains) in
+    let parts = and_parts (nat_lt slot most_slots) (releases_in placed c slot) (sym (contains_slot-set_of most_slots (releases_in placed c) slot) ∙ contains) in
     let any = Any-from_list_any (λ p. nat_eq p.entry.slot slot && is_some (released_by p c)) placed parts.1 in
     (any.0, any.1, any.2, any.3, released-parts slot c any.1 any.4)
 
@@ -167,6 +167,6 @@ released_in-complete placed slot c well any =
     let deadline = range.entry.some_time in
     let period = range.entry.deadline in
     let test = released-test slot c any.1 (omega arith) any.4 in
-    contains_slot-set_of slots (releases_in placed c) slot
-    ∙ and_from _ _ (lt-ltb slot slots (omega arith))
+    contains_slot-set_of most_slots (releases_in placed c) slot
+    ∙ and_from _ _ (lt-ltb slot most_slots (omega arith))
     (list_any-from_Any (λ p. nat_eq p.entry.slot slot && is_some (released_by p c)) placed (any.0, any.1, any.2, any.3, test))

@@ -1,6 +1,6 @@
 -- Lemmas on sets of slots: what a set made of a test contains, and that a set is what it contains.
 use Rattle.std.proofs.Common.{◌≡◌, ◌≢◌, ℕ, zero, suc, ◌+◌, ◌-◌, ◌*◌, ◌%◌, ◌^◌, ◌<◌, ◌≤◌, Bool, true, false, not, ◌&&◌, ◌||◌, nat_eq, nat_lt, if◌then◌else◌, bit_and, bit_or, refl, ◌∙◌, ap, arith, ⊎_elim}
-use Rattle.std.specs.Int.{bit_at, bit_not, w64}
+use Rattle.std.specs.Int.{bit_at, bit_not, w128}
 use Rattle.std.proofs.Math.Nat.{two-pow-succ}
 use Rattle.std.proofs.lemmas.Bool.{cases_eq, cases_lt}
 use Rattle.std.proofs.lemmas.Bool.Decides.{nat_tests}
@@ -17,31 +17,31 @@ pub contains_slot-above : (mask n s : ℕ) → mask < 2 ^ n → n ≤ s → cont
 contains_slot-above mask n s below above = rw (bit_at_above mask n s below above) refl
 
 -- a slot is put in: `mask | 1 << k`
-pub contains_slot-with : (mask k s : ℕ) → k < 64 → contains_slot (bit_or mask (1 * 2 ^ k % 2 ^ 64)) s ≡ (nat_eq s k || contains_slot mask s)
+pub contains_slot-with : (mask k s : ℕ) → k < 128 → contains_slot (bit_or mask (1 * 2 ^ k % 2 ^ 128)) s ≡ (nat_eq s k || contains_slot mask s)
 contains_slot-with mask k s within =
     ⊎_elim
-    (λ (same : s ≡ k). rw same (let bit = bit_at_set_same w64 mask k within in grind (arith, nat_tests)))
-    (λ (other : s ≢ k). let bit = bit_at_set_other w64 mask k within s other in grind (arith, nat_tests))
+    (λ (same : s ≡ k). rw same (let bit = bit_at_set_same w128 mask k within in grind (arith, nat_tests)))
+    (λ (other : s ≢ k). let bit = bit_at_set_other w128 mask k within s other in grind (arith, nat_tests))
     (cases_eq s k)
 
 -- a slot below `n` put into a set of slots below `n`
-pub with-below : (n mask k : ℕ) → n ≤ 64 → mask < 2 ^ n → k < n → bit_or mask (1 * 2 ^ k % 2 ^ 64) < 2 ^ n
-with-below n mask k room below within = rw (one_shl k 64 (omega arith)) (or_lt n mask (2 ^ k) below (pow_below k n within))
+pub with-below : (n mask k : ℕ) → n ≤ 128 → mask < 2 ^ n → k < n → bit_or mask (1 * 2 ^ k % 2 ^ 128) < 2 ^ n
+with-below n mask k room below within = rw (one_shl k 128 (omega arith)) (or_lt n mask (2 ^ k) below (pow_below k n within))
 
 -- a slot is taken out: `mask & !(1 << k)`
-pub contains_slot-without : (mask k s : ℕ) → k < 64 → mask < 2 ^ 64 → contains_slot (bit_and mask (bit_not w64 (1 * 2 ^ k % 2 ^ 64))) s ≡ (not (nat_eq s k) && contains_slot mask s)
+pub contains_slot-without : (mask k s : ℕ) → k < 128 → mask < 2 ^ 128 → contains_slot (bit_and mask (bit_not w128 (1 * 2 ^ k % 2 ^ 128))) s ≡ (not (nat_eq s k) && contains_slot mask s)
 contains_slot-without mask k s within below =
     ⊎_elim
-    (λ (same : s ≡ k). rw same (let bit = bit_at_clear_same w64 mask k within in grind (arith, nat_tests)))
+    (λ (same : s ≡ k). rw same (let bit = bit_at_clear_same w128 mask k within in grind (arith, nat_tests)))
     (λ (other : s ≢ k).
     ⊎_elim
-    (λ (low : s < 64). let bit = bit_at_clear_other w64 mask k within s low other in grind (arith, nat_tests))
-    (λ (high : 64 ≤ s).
-    let fewer = and_le_l mask (bit_not w64 (1 * 2 ^ k % 2 ^ 64)) in
-    let kept = bit_at_above (bit_and mask (bit_not w64 (1 * 2 ^ k % 2 ^ 64))) 64 s (omega arith) high in
-    let was = bit_at_above mask 64 s below high in
+    (λ (low : s < 128). let bit = bit_at_clear_other w128 mask k within s low other in grind (arith, nat_tests))
+    (λ (high : 128 ≤ s).
+    let fewer = and_le_l mask (bit_not w128 (1 * 2 ^ k % 2 ^ 128)) in
+    let kept = bit_at_above (bit_and mask (bit_not w128 (1 * 2 ^ k % 2 ^ 128))) 128 s (omega arith) high in
+    let was = bit_at_above mask 128 s below high in
     grind (arith, nat_tests))
-    (cases_lt s 64))
+    (cases_lt s 128))
     (cases_eq s k)
 
 -- the last slot is in, and no slot behind it

@@ -3,7 +3,7 @@
 use Rattle.std.specs.Prelude.{◌≡◌, ℕ, ◌+◌, ◌<◌, ◌≤◌, Bool, true, false, ◌||◌, List, Contains}
 use Rattle.requirement_table.specs.declared.entries.Placed.{Placed}
 use Rattle.requirement_table.specs.Instance.{MaySend, release_of}
-use Rattle.requirement_table.specs.Slots.{slots}
+use Rattle.requirement_table.specs.Slots.{most_slots}
 use Rattle.requirement_table.specs.Table.{held_before, is_last_in, releases_in}
 
 -- whether the slot holds an instance in the cycle `from + n`: one that was released before it and not sent, or one that
@@ -14,8 +14,8 @@ waits placed flags from held n slot = held_before placed flags from held n slot 
 -- the flags of the cycle `from + n` are of slots that hold an instance, and each instance is flagged whose last cycle
 -- it is
 pub record IsGoodCycle (placed : List Placed) (flags : ℕ → ℕ → Bool) (from : ℕ) (held : ℕ → Bool) (n : ℕ) : Type 0 where
-  pub holding : (slot : ℕ) → slot < slots → flags (from + n) slot ≡ true → waits placed flags from held n slot ≡ true
-  pub in_time : (slot : ℕ) → slot < slots → waits placed flags from held n slot ≡ true
+  pub holding : (slot : ℕ) → slot < most_slots → flags (from + n) slot ≡ true → waits placed flags from held n slot ≡ true
+  pub in_time : (slot : ℕ) → slot < most_slots → waits placed flags from held n slot ≡ true
       → is_last_in placed (from + n) slot ≡ true
       → flags (from + n) slot ≡ true
 

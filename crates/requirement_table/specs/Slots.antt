@@ -2,9 +2,9 @@
 use Rattle.std.specs.Prelude.{ℕ, suc, zero, ◌+◌, ◌^◌, Bool, nat_eq, if◌then◌else◌}
 use Rattle.std.specs.Int.{bit_at}
 
--- the number of slots of the table; slots are numbered from 0
-abbrev pub slots : ℕ
-slots = 40
+-- the greatest number of slots of a table, and the room of a set of slots; slots are numbered from 0
+abbrev pub most_slots : ℕ
+most_slots = 96
 
 -- whether the slot stands in the set
 abbrev pub contains_slot : ℕ → ℕ → Bool

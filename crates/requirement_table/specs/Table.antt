@@ -1,17 +1,17 @@
 -- Lists of placed entries: when a list is well placed, and what its entries release and may send.
 use Rattle.std.specs.Prelude.{◌≡◌, ℕ, zero, suc, ◌+◌, ◌-◌, ◌^◌, ◌<◌, ◌≤◌, Bool, false, not, ◌&&◌}
-use Rattle.std.specs.Prelude.{◌||◌, nat_eq, nat_le, if◌then◌else◌, Option, None, IfSome, IsSomeAnd}
+use Rattle.std.specs.Prelude.{◌||◌, nat_eq, nat_le, if◌then◌else◌, Option, None, Some, IfSome, IsSomeAnd}
 use Rattle.std.specs.Prelude.{is_some, List, filter, All, AllPairs, slice_get, option_map}
 use Rattle.std.specs.Option.{option_map_or}
 use Rattle.std.specs.List.{list_any, filter_map}
 use Rattle.requirement_table.specs.declared.entries.Placed.{Placed}
 use Rattle.requirement_table.specs.declared.entries.Entry.{Entry}
-use Rattle.requirement_table.specs.Instance.{Instance, deadline_of, instance_of, released_by, worst_of}
-use Rattle.requirement_table.specs.Slots.{set_of, slots, sum_where}
+use Rattle.requirement_table.specs.Instance.{Instance, deadline_of, instance_of, release_of, released_by, worst_of}
+use Rattle.requirement_table.specs.Slots.{set_of, most_slots, sum_where}
 
 -- the fields of an entry are in range; how many nodes there are is not known here
 pub record IsEntry (entry : Entry) : Type 0 where
-  pub slot : entry.slot < slots
+  pub slot : entry.slot < most_slots
   pub length : entry.length ≤ 8
   pub phase : entry.phase < 2 ^ 16
   pub period : entry.period < 2 ^ 16
@@ -67,7 +67,13 @@ releases_in placed c slot = list_any (λ p. nat_eq p.entry.slot slot && is_some 
 
 -- the set of the slots with an instance released in cycle `c`
 abbrev pub released_in : List Placed → ℕ → ℕ
-released_in placed c = set_of slots (releases_in placed c)
+released_in placed c = set_of most_slots (releases_in placed c)
+
+-- the slot's instance that may be sent in the cycle was released before it
+pub record IsHeldFrom (placed : List Placed) (c slot : ℕ) : Type 0 where
+  pub instance : Instance
+  pub found : instance_in placed slot c ≡ Some instance
+  pub before : release_of instance.placed instance.number < c
 
 -- whether `c` is the last cycle in which the slot's instance may be sent that may be sent in it
 abbrev pub is_last_in : List Placed → ℕ → ℕ → Bool
@@ -81,7 +87,7 @@ worst_in placed c slot = option_map_or worst_of (instance_in placed slot c) 0
 
 -- what the slots of which `flagged` holds cost together in cycle `c`, in bit times
 abbrev pub width_in : List Placed → ℕ → (ℕ → Bool) → ℕ
-width_in placed c flagged = sum_where slots flagged (worst_in placed c)
+width_in placed c flagged = sum_where most_slots flagged (worst_in placed c)
 
 -- whether the slot holds an instance, released before the cycle `from + n` and not sent before it: `held` are the slots
 -- that hold one before `from`, and `flags c slot` says that the slot is sent in cycle `c`

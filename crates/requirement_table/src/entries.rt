@@ -10,7 +10,7 @@ use std::marker::Model;
 /// Phase, period and deadline are counted in elementary cycles.
 #[derive(Clone, Copy, PartialEq, Eq, Debug)]
 pub struct Entry {
-    /// The slot, 0 to 39. Its frames have the identifier 0x100 + slot.
+    /// The slot, 0 to 95, below the number of slots of the bus. Its frames have the identifier 0x100 + slot.
     pub slot: u8,
     /// The node that sends the frames.
     pub node: u8,

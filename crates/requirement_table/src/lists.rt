@@ -8,7 +8,7 @@ ghost use Rattle.requirement_table.specs.Table.{free_from, is_over, not_over, re
 
 use crate::entries::{Entry, Placed};
 use crate::instances::releases;
-use crate::slots::{Mask, SLOTS};
+use crate::slots::{MOST_SLOTS, Mask};
 use std::alloc::{AllocError, Global};
 
 /// Cycle numbers are below this.
@@ -23,7 +23,7 @@ pub fn well_placed(placed: &[Placed]) -> bool
     ensures well_placed { IsTrue result ↔ IsWellPlaced placed.now }
 {
     // The cycle from which each slot is free; nothing while it has a live entry.
-    let mut free_from = [Some(0); SLOTS as usize];
+    let mut free_from = [Some(0); MOST_SLOTS as usize];
     for p in placed {
         if !is_in_range(p) || !is_free(free_from[usize::from(p.entry.slot)], p.origin) {
             return false;
@@ -47,7 +47,7 @@ fn is_in_range(p: &Placed) -> bool
 fn is_entry(entry: Entry) -> bool
     ensures { IsTrue result ↔ IsEntry entry }
 {
-    entry.slot < SLOTS && entry.length <= 8 && (1..=entry.period).contains(&entry.deadline)
+    entry.slot < MOST_SLOTS && entry.length <= 8 && (1..=entry.period).contains(&entry.deadline)
 }
 
 /// Whether a slot that is free from a cycle on, where it is, is free at `cycle`.

@@ -1,28 +1,28 @@
 //! Sets of slots.
 
 ghost use Rattle.std.specs.Prelude.{◌≡◌, ℕ, ◌^◌, ◌<◌, ◌||◌, ◌&&◌, ◌==◌, not, false};
-ghost use Rattle.requirement_table.specs.Slots.{contains_slot, set_of, slots};
+ghost use Rattle.requirement_table.specs.Slots.{contains_slot, set_of, most_slots};
 
 use std::marker::Model;
 
-/// The number of slots of the table; slots are numbered from 0.
-pub const SLOTS: u8 = 40;
+/// The greatest number of slots of a table, which is the room of a set of slots; slots are numbered from 0.
+pub const MOST_SLOTS: u8 = 96;
 
 /// A set of slots, as the number whose bit s is slot s. It is one word, and contracts see the number.
 #[derive(Clone, Copy, PartialEq, Eq, Debug)]
 pub struct Mask {
-    bits: u64,
+    bits: u128,
 }
 
 impl Model for Mask {
     ghost use Rattle.std.specs.Prelude.{ℕ, ◌^◌, ◌<◌};
-    ghost use Rattle.requirement_table.specs.Slots.{slots};
+    ghost use Rattle.requirement_table.specs.Slots.{most_slots};
 
     ghost Value = { ℕ };
 
     ghost view = { λ m. m.bits };
 
-    ghost invariant = { λ m. m.bits < 2 ^ slots };
+    ghost invariant = { λ m. m.bits < 2 ^ most_slots };
 
     ghost inverse = { λ n. record { bits = n } };
 }
@@ -38,23 +38,23 @@ impl Mask {
 
     /// The set whose number is `bits`: bit s is slot s.
     pub fn from_bits(bits: u128) -> Mask
-        requires { bits < 2 ^ slots }
+        requires { bits < 2 ^ most_slots }
         ensures number { result ≡ bits }
     {
-        Mask { bits: bits as u64 }
+        Mask { bits }
     }
 
     /// The number of the set: bit s is slot s.
     pub fn bits(self) -> u128
         ensures number { result ≡ self }
-        ensures below { result < 2 ^ slots }
+        ensures below { result < 2 ^ most_slots }
     {
-        u128::from(self.bits)
+        self.bits
     }
 
     /// Whether the slot stands in the set.
     pub fn has(&self, slot: u8) -> bool
-        requires { slot < slots }
+        requires { slot < most_slots }
         ensures slot { result ≡ contains_slot self.now slot }
     {
         (self.bits >> slot) & 1 == 1
@@ -62,7 +62,7 @@ impl Mask {
 
     /// The set with the slot in it.
     pub fn with(self, slot: u8) -> Mask
-        requires { slot < slots }
+        requires { slot < most_slots }
         ensures slots { (s : ℕ) → contains_slot result s ≡ ((s == slot) || contains_slot self s) }
     {
         Mask {
@@ -72,7 +72,7 @@ impl Mask {
 
     /// The set with the slot not in it.
     pub fn without(self, slot: u8) -> Mask
-        requires { slot < slots }
+        requires { slot < most_slots }
         ensures slots { (s : ℕ) → contains_slot result s ≡ (not (s == slot) && contains_slot self s) }
     {
         Mask {
@@ -82,8 +82,8 @@ impl Mask {
 
     /// Law: a mask holds no slot but the known ones, and is the set of the slots that it contains.
     pub fn known(self)
-        ensures below { self < 2 ^ slots }
-        ensures slots { self ≡ set_of slots (contains_slot self) }
+        ensures below { self < 2 ^ most_slots }
+        ensures slots { self ≡ set_of most_slots (contains_slot self) }
     {
         let _bits = self.bits;
     }

@@ -6,8 +6,10 @@ mod HexNumbers
 mod HexText
 mod ByteDigits
 mod LineFeeds
+mod MaskDigits
 mod PlainRecords
 mod Ranges
+mod RowByRow
 mod RowDigits
 pub mod Shared
 mod TrimmedRows

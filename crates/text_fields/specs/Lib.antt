@@ -5,3 +5,6 @@ pub mod Decimal
 pub mod Hexadecimal
 pub mod HexPairs
 pub mod Lines
+pub mod MaskText
+pub mod RowByRow
+pub mod Whys

@@ -1,5 +1,5 @@
-//! Fields as text, once for all readers and writers: decimal and hexadecimal numbers, data bytes, whole lines, and rows
-//! of comma-separated fields.
+//! Fields as text, once for all readers and writers: decimal and hexadecimal numbers, sets of slots, data bytes,
+//! whole lines, and rows of comma-separated fields.
 #![tactic(auto)]
 
 mod csv_rows;
@@ -8,6 +8,7 @@ mod decimals;
 mod hex_pairs;
 mod hexadecimal;
 mod lines;
+mod masks;
 mod row_parts;
 
 pub use csv_rows::{field_in, field_of, number, read_next, records_in};
@@ -15,6 +16,7 @@ pub use data_bytes::{DataBytes, read_bytes, read_data};
 pub use decimals::{read_decimal, read_number};
 pub use hexadecimal::{push_hex, read_hex, read_hexadecimal};
 pub use lines::split_line;
+pub use masks::{masks_are_read, push_mask, put_mask, read_mask};
 pub use row_parts::{
     ROOM, put_byte, put_data_bytes, put_decimal, put_hex, put_identifier, put_word, row_from,
 };

@@ -1,18 +1,18 @@
--- The flag of a slot in the bytes of a trigger.
-use Rattle.std.proofs.Common.{◌≡◌, ℕ, zero, suc, ◌+◌, ◌*◌, ◌/◌, ◌%◌, ◌^◌, ◌<◌, slice_index, nat_eq, refl, sym, ap, ◌∙◌, arith}
+-- The flag of a slot in the bytes of a trigger frame.
+use Rattle.std.proofs.Common.{◌≡◌, ℕ, zero, suc, ◌+◌, ◌*◌, ◌/◌, ◌%◌, ◌^◌, ◌<◌, ◌-◌, ◌≤◌, slice_index, nat_eq, refl, sym, ap, ◌∙◌, arith}
 use Rattle.std.specs.Int.{bit_at}
 use Rattle.std.proofs.Math.Nat.{div-div-eq-div-mul}
 use Rattle.std.proofs.lemmas.Nat.{pow-add, div-add-mod'}
 use Rattle.std.proofs.lemmas.Nat.Bits.{bit_at_cat_low}
 use Rattle.requirement_table.specs.Slots.{contains_slot}
-use Rattle.trigger_codec.specs.Bytes.{trigger_bytes}
+use Rattle.trigger_codec.specs.Bytes.{trigger_bytes, second_bytes}
 
 -- the bits of a number from bit `k` on
-bit_at-shifted : (n k j : ℕ) → bit_at (n / 2 ^ k) j ≡ bit_at n (k + j)
+pub bit_at-shifted : (n k j : ℕ) → bit_at (n / 2 ^ k) j ≡ bit_at n (k + j)
 bit_at-shifted n k j = ap (λ m. m % 2) (div-div-eq-div-mul n (2 ^ k) (2 ^ j) ∙ ap (λ m. n / m) (sym (pow-add 2 k j)))
 
 -- the low bits of a number
-bit_at-low : (n w j : ℕ) → j < w → bit_at (n % 2 ^ w) j ≡ bit_at n j
+pub bit_at-low : (n w j : ℕ) → j < w → bit_at (n % 2 ^ w) j ≡ bit_at n j
 bit_at-low n w j below = sym (bit_at_cat_low (n / 2 ^ w) w (n % 2 ^ w) j below) ∙ ap (λ m. bit_at m j) (div-add-mod' n (2 ^ w))
 
 -- the flags of the slots from 8 * i on
@@ -32,3 +32,24 @@ flag-slot cycle l mask slot below =
     ∙ bit_at-shifted mask (8 * (slot / 8)) (slot % 8)
     ∙ ap (bit_at mask) (omega arith) in
     ap (λ b. nat_eq (bit_at b (slot % 8)) 1) byte ∙ ap (λ b. nat_eq b 1) bit
+
+-- the flags of the slots from 40 + 8 * i on
+second_flag_byte : (cycle mask i : ℕ) → i < 7 → slice_index (second_bytes cycle mask) (1 + i) ≡ mask / 2 ^ (40 + 8 * i) % 2 ^ 8
+second_flag_byte cycle mask zero below = refl
+second_flag_byte cycle mask (suc zero) below = refl
+second_flag_byte cycle mask (suc (suc zero)) below = refl
+second_flag_byte cycle mask (suc (suc (suc zero))) below = refl
+second_flag_byte cycle mask (suc (suc (suc (suc zero)))) below = refl
+second_flag_byte cycle mask (suc (suc (suc (suc (suc zero))))) below = refl
+second_flag_byte cycle mask (suc (suc (suc (suc (suc (suc zero)))))) below = refl
+second_flag_byte cycle mask (suc (suc (suc (suc (suc (suc (suc i))))))) below = absurd (omega arith)
+
+pub second-flag-slot : (cycle mask slot : ℕ) → 40 ≤ slot → slot < 96 → nat_eq (bit_at (slice_index (second_bytes cycle mask) (1 + (slot - 40) / 8)) ((slot - 40) % 8)) 1 ≡ contains_slot mask slot
+second-flag-slot cycle mask slot above below =
+    let place = slot - 40 in
+    let byte = second_flag_byte cycle mask (place / 8) (omega arith) in
+    let bit : bit_at (mask / 2 ^ (40 + 8 * (place / 8)) % 2 ^ 8) (place % 8) ≡ bit_at mask slot =
+    bit_at-low (mask / 2 ^ (40 + 8 * (place / 8))) 8 (place % 8) (omega arith)
+    ∙ bit_at-shifted mask (40 + 8 * (place / 8)) (place % 8)
+    ∙ ap (bit_at mask) (omega arith) in
+    ap (λ b. nat_eq (bit_at b (place % 8)) 1) byte ∙ ap (λ b. nat_eq b 1) bit

@@ -1,2 +1,5 @@
 mod EightBytes
 mod Flags
+mod Halves
+pub mod Shared
+mod Told

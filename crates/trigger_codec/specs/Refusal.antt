@@ -1,4 +1,4 @@
--- Why a frame is no trigger.
+-- Why a frame is no first trigger frame, or no second one.
 use Rattle.std.specs.Prelude.{◌≡◌, ◌≢◌, ◌<◌, length}
 use Rattle.can_frame.specs.DataFrame.{DataFrame}
 use Rattle.trigger_codec.specs.declared.trigger_fault.TriggerFault.{TriggerFault}
@@ -13,3 +13,10 @@ Refuses frame (WrongLength dlc) =
     (dlc ≡ length frame.bytes) × (frame.identifier ≡ 0) × (length frame.bytes ≢ 8)
 Refuses frame (Window l) =
     (l ≡ width_told frame.bytes) × (frame.identifier ≡ 0) × (length frame.bytes ≡ 8) × (16383 < width_told frame.bytes)
+
+-- the same for the second frame, whose identifier is 1 and which says no window
+abbrev pub RefusesSecond : DataFrame → TriggerFault → Type 0
+RefusesSecond frame (WrongId id) = (id ≡ frame.identifier) × (frame.identifier ≢ 1)
+RefusesSecond frame (WrongLength dlc) =
+    (dlc ≡ length frame.bytes) × (frame.identifier ≡ 1) × (length frame.bytes ≢ 8)
+RefusesSecond frame (Window l) = ⊥

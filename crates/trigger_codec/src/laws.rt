@@ -1,14 +1,27 @@
 //! Laws about the definitions of this crate. Each function has an empty body, and its contract is the
 //! law.
 
-ghost use Rattle.std.specs.Prelude.{◌≡◌, ℕ, ◌+◌, ◌/◌, ◌%◌, ◌<◌, nat_eq, slice_index};
+ghost use Rattle.std.specs.Prelude.{◌≡◌, ℕ, ◌+◌, ◌-◌, ◌/◌, ◌%◌, ◌^◌, ◌<◌, ◌≤◌, nat_eq, slice_index};
 ghost use Rattle.std.specs.Int.{bit_at};
-ghost use Rattle.requirement_table.specs.Slots.{contains_slot, slots};
-ghost use Rattle.trigger_codec.specs.Bytes.{trigger_bytes};
+ghost use Rattle.requirement_table.specs.Slots.{contains_slot, most_slots};
+ghost use Rattle.trigger_codec.specs.Bytes.{first_slots, flags_of_both, low_slots, high_slots};
+ghost use Rattle.trigger_codec.specs.Bytes.{trigger_bytes, second_bytes};
 
-/// The flag of slot s is bit s modulo 8 of byte 3 + s div 8, bit 0 being the least significant.
+/// The flag of a slot s below 40 is bit s modulo 8 of byte 3 + s div 8 of the first trigger frame. That
+/// of a slot s from 40 on is bit (s - 40) modulo 8 of byte 1 + (s - 40) div 8 of the second one. Bit 0
+/// is the least significant.
 pub fn flags_by_slot()
-    ensures flags { (cycle l mask slot : ℕ) → slot < slots
+    ensures first { (cycle l mask slot : ℕ) → slot < first_slots
         → nat_eq (bit_at (slice_index (trigger_bytes cycle l mask) (3 + slot / 8)) (slot % 8)) 1
         ≡ contains_slot mask slot }
+    ensures second { (cycle mask slot : ℕ) → first_slots ≤ slot → slot < most_slots
+        → nat_eq (bit_at (slice_index (second_bytes cycle mask) (1 + (slot - 40) / 8)) ((slot - 40) % 8)) 1
+        ≡ contains_slot mask slot }
+{}
+
+/// The slots that the two frames of a cycle flag are together those that are flagged. The first frame
+/// alone flags them where all of them are below 40.
+pub fn flags_in_two_parts()
+    ensures both { (mask : ℕ) → mask < 2 ^ most_slots → flags_of_both (low_slots mask) (high_slots mask) ≡ mask }
+    ensures first { (mask : ℕ) → mask < 2 ^ first_slots → low_slots mask ≡ mask }
 {}

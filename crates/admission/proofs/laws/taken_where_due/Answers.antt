@@ -3,6 +3,6 @@ use Rattle.admission.proofs.laws.taken_where_due.Goals as goal
 
 pub returns : goal.returns
 returns c = record {
-  taken = λ rules placed pending from next change verdict well types held opened in_time is.
-      taken-due c.valid_states.ensures.along rules placed pending from next change well types held opened in_time verdict is;
+  taken = λ rules placed pending from next change verdict ranges well types held opened in_time is.
+      taken-due c.valid_states.ensures.along rules ranges placed pending from next change well types held opened in_time verdict is;
 }

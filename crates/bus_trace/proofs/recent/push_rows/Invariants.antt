@@ -1,12 +1,11 @@
-use Rattle.std.proofs.Common.{◌≡◌, ◌++◌, length, ℕ, List}
-use Rattle.bus_trace.specs.LastRows.{HasLast}
-use Rattle.bus_trace.proofs.RowLemmas.{IsKeeping}
+use Rattle.std.proofs.Common.{◌≡◌, length}
+use Rattle.bus_trace.specs.LastRows.{ArePut, rows_in}
 use Rattle.bus_trace.proofs.recent.push_rows.Given as goal
 
 abbrev pub invariant-loop-rest : goal.invariant-loop-rest
 invariant-loop-rest l = record {
   most : l.recent.most ≡ l.fn.recent.most;
-  last : (past : List ℕ) → HasLast past l.fn.recent → IsKeeping l.fn.recent.most l.recent.rows l.rest (past ++ l.text);
+  put : ArePut l.fn.recent l.recent (rows_in l.text) (rows_in l.rest);
 }
 
 abbrev pub decreases-loop-rest : goal.decreases-loop-rest

@@ -1,7 +1,9 @@
 use Rattle.std.proofs.Common.{◌<◌, [], All}
 use Rattle.std.proofs.lemmas.List.Elements.{All-weaker}
+use Rattle.requirement_table.specs.Slots.{most_slots}
+use Rattle.change_protocol.specs.Malformed.{bounds_of}
 use Rattle.change_protocol.specs.Operations.{HasTypes, slot_of}
-use Rattle.change_protocol.proofs.Allowed.{IsAllowed, all-allowed}
+use Rattle.change_protocol.proofs.Allowed.{IsAllowed, allowed-most}
 use Rattle.change_protocol.proofs.Kept.{changed-applied}
 use Rattle.change_protocol.proofs.WellPlaced.{well_placed-applied}
 use Rattle.change_protocol.proofs.applying.apply.Goals as goal
@@ -11,16 +13,16 @@ with_ends-requires-clause-ops c =
     let placed = c.of-table.result.placed.now in
     let start = c.args.change.now.start in
     let ops = c.as_slice-ops.result.now in
-    All-weaker (IsAllowed placed start) (λ op. slot_of op < 40) (λ op allowed. allowed.slot) ops
-    (all-allowed placed c.args.nodes start [] ops c.in_ok-check_operations.ensures.ok)
+    All-weaker (IsAllowed most_slots placed start) (λ op. slot_of op < most_slots) (λ op allowed. allowed.slot) ops
+    (allowed-most placed (bounds_of c.args.nodes c.args.slots) start ops c.requires.slots c.in_ok-check_operations.ensures.ok)
 
 pub place-requires-clause-slots : goal.place-requires-clause-slots
 place-requires-clause-slots c =
     let placed = c.of-table.result.placed.now in
     let start = c.args.change.now.start in
     let ops = c.as_slice-ops.result.now in
-    All-weaker (IsAllowed placed start) (λ op. slot_of op < 40) (λ op allowed. allowed.slot) ops
-    (all-allowed placed c.args.nodes start [] ops c.in_ok-check_operations.ensures.ok)
+    All-weaker (IsAllowed most_slots placed start) (λ op. slot_of op < most_slots) (λ op allowed. allowed.slot) ops
+    (allowed-most placed (bounds_of c.args.nodes c.args.slots) start ops c.requires.slots c.in_ok-check_operations.ensures.ok)
 
 pub returns-clause-well_placed : goal.returns-clause-well_placed
 returns-clause-well_placed c =
@@ -28,9 +30,9 @@ returns-clause-well_placed c =
     let each = rw (c.of-table.ensures, c.as_slice-ops.ensures.list) at c.in_ok-check_operations.ensures.ok in
     let types = rw c.as_slice-ops.ensures.list at c.in_ok-place.ensures.types in
     rw (c.in_ok-place.ensures.list, c.in_ok-list.ensures.list, c.of-table.ensures, c.as_slice-ops.ensures.list)
-    (well_placed-applied c.args.placed.now c.args.nodes c.args.change.now c.requires whole each types)
+    (well_placed-applied c.args.placed.now (bounds_of c.args.nodes c.args.slots) c.args.change.now c.requires.slots c.requires.well_placed whole each types)
 
 pub returns-clause-changed : goal.returns-clause-changed
 returns-clause-changed c =
     rw (c.in_ok-place.ensures.list, c.in_ok-list.ensures.list, c.of-table.ensures, c.as_slice-ops.ensures.list)
-    (changed-applied c.args.placed.now c.args.change.now c.requires.in_range)
+    (changed-applied c.args.placed.now c.args.change.now c.requires.well_placed.in_range)

@@ -9,6 +9,6 @@ pub returns-clause-changed : goal.returns-clause-changed
 returns-clause-changed c placed change well = changed-applied placed change well.in_range
 
 pub returns-clause-well_placed : goal.returns-clause-well_placed
-returns-clause-well_placed c placed nodes change well types formed =
-    let parts = both-none (change_faults change.start change.ops) (op_faults placed nodes change.start [] change.ops) formed in
-    well_placed-applied placed nodes change well parts.0 parts.1 types
+returns-clause-well_placed c placed bounds change room well types formed =
+    let parts = both-none (change_faults change.start change.ops) (op_faults placed bounds change.start [] change.ops) formed in
+    well_placed-applied placed bounds change room well parts.0 parts.1 types

@@ -18,6 +18,10 @@ run_live-requires g c κs within =
           ap (λ (r : Rules). r.window) rules
           ∙ c.rules.ensures.window
           ∙ sym (ap (λ (l : CycleLayout). l.window) (layout ∙ c.in-Ok.ensures.layout));
+      same_slots =
+          ap (λ (r : Rules). r.slots) rules
+          ∙ c.rules.ensures.slots
+          ∙ sym (ap (λ (l : CycleLayout). l.slots) (layout ∙ c.in-Ok.ensures.layout));
       asynchronous = λ k d none. absurd (omega arith);
     } in
     let pass : IsFirst c.in_ok-shared.shared c.in_ok-shared.pass = record {

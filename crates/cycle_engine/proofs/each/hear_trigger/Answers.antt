@@ -1,5 +1,5 @@
-use Rattle.std.proofs.Common.{◌<◌, ◌^◌, arith, refl, ◌∙◌}
-use Rattle.node_model.specs.Node.{after_hearing}
+use Rattle.std.proofs.Common.{◌≡◌, ◌<◌, ◌^◌, ap, arith, refl, sym, ◌∙◌}
+use Rattle.node_model.specs.Node.{after_hearing, opening_identifier}
 use Rattle.cycle_engine.proofs.NodeByNode.{DoneBefore-none, DoneBefore-more, DoneBefore-all, known_at}
 use Rattle.cycle_engine.proofs.Spares.{spares_of-same}
 use Rattle.cycle_engine.proofs.each.hear_trigger.Goals as goal
@@ -11,8 +11,9 @@ pub hear_trigger-requires : goal.hear_trigger-requires
 hear_trigger-requires c = record {
   identifier = c.requires.identifier;
   reading = c.requires.reading;
-  cycle = known_at (λ node. node.next < 2 ^ 42) c.args.nodes.now c.loop-node.node-items c.loop-node.node-index c.node-item.result
-      c.requires.next c.loop-node-test.true (c.loop-node.invariant.done.rest c.loop-node.node-index c.node-item.result (omega arith));
+  cycle = λ one. known_at (λ node. c.args.sent.now.frame.identifier ≡ opening_identifier node.layout.slots → node.next < 2 ^ 42) c.args.nodes.now c.loop-node.node-items
+      c.loop-node.node-index c.node-item.result c.requires.next c.loop-node-test.true (c.loop-node.invariant.done.rest c.loop-node.node-index c.node-item.result (omega arith))
+      (c.requires.identifier ∙ sym (ap opening_identifier one));
 }
 
 pub loop-node-preserved : goal.loop-node-preserved

@@ -1,4 +1,5 @@
-use Rattle.input_text.specs.Generator.{system_made}
+use Rattle.planner_policies.specs.declared.Fill.TheVariants.{Prefix}
+use Rattle.input_text.specs.Generator.{generated_slots, system_made}
 use Rattle.input_text.proofs.generating.system.Goals as goal
 
 pub returns : goal.returns
@@ -7,7 +8,14 @@ returns c =
     record {
       value = λ i. record {
         layout = c.layout.ensures.value i;
-        rules = record { nodes = 8; policy = c.policy.ensures.value i; window = 810; horizon = 10000 };
+        rules = record {
+          nodes = 8;
+          slots = generated_slots;
+          policy = c.policy.ensures.value i;
+          fill = Prefix;
+          window = 810;
+          horizon = 10000;
+        };
         owners = c.in_ok-owners.ensures.value i;
       };
     }

@@ -1,16 +1,16 @@
 -- What the reader gives is the next record of the bytes that it has left.
-use Rattle.std.proofs.Common.{Bor, ◌≡◌, ◌∙◌, ℕ, List, [], Some, Ok, Err, ap, inr, map, refl, rules, subst, sym, ◌++◌, ◌∷◌, true, ◌+◌, arith}
+use Rattle.std.proofs.Common.{◌≡◌, [], Ok, Err, ap, inr, map, rules, subst, sym, ◌++◌, ◌∷◌, true, ◌+◌, arith}
 use Rattle.std.specs.Result.{is_ok}
 use Rattle.csv.specs.Records.{fields_of}
 use Rattle.text_fields.specs.CsvRows.{rows_of, trimmed}
 use Rattle.input_text.specs.RequestRow.{meaning}
 use Rattle.input_text.specs.RequestOwners.{IsOwnedTable}
 use Rattle.input_text.specs.RequestsFile.{AreRequests, requests_of}
-use Rattle.input_text.specs.RowByRow.{IsFirstFault}
+use Rattle.text_fields.specs.RowByRow.{IsFirstFault}
 use Rattle.text_fields.proofs.Shared.{trimmed-more, trimmed-split}
 use Rattle.input_text.proofs.RequestsMean.{fault_computed, requests_computed}
 use Rattle.input_text.proofs.RequestsTogether.{more_legal, none_legal}
-use Rattle.input_text.proofs.RowByRow.{more_items, no_items}
+use Rattle.text_fields.proofs.Shared.{more_items, no_items}
 use Rattle.input_text.proofs.requests.read_requests.Goals as goal
 
 pub loop-requests-init : goal.loop-requests-init

@@ -1,14 +1,14 @@
 -- What the reader gives is the next record of the bytes that it has left.
-use Rattle.std.proofs.Common.{Bor, ◌≡◌, ◌∙◌, ℕ, ◌+◌, ◌≤◌, List, [], ◌∷◌, ◌++◌, Some, Ok, ap, IfOk, inl, inr, length, length-append, map, refl, subst, sym, true, arith}
+use Rattle.std.proofs.Common.{◌≡◌, ◌+◌, ◌≤◌, [], ◌∷◌, ◌++◌, Ok, ap, IfOk, inl, inr, length, length-append, map, refl, subst, sym, arith}
 use Rattle.csv.specs.Records.{fields_of}
 use Rattle.text_fields.specs.CsvRows.{rows_of, trimmed}
 use Rattle.input_text.specs.StepRow.{meaning}
 use Rattle.text_fields.proofs.Shared.{trimmed-more, trimmed-split}
-use Rattle.input_text.proofs.RowByRow.{more_items, no_items}
+use Rattle.text_fields.proofs.Shared.{more_items, no_items}
 use Rattle.input_text.proofs.StepsLegal.{steps_legal}
 use Rattle.input_text.proofs.StepsSaid.{fault_computed, steps_computed}
 use Rattle.std.proofs.lemmas.List.{length-map}
-use Rattle.input_text.specs.RowByRow.{AreItems, IsFirstFault}
+use Rattle.text_fields.specs.RowByRow.{AreItems, IsFirstFault}
 use Rattle.input_text.specs.StepsFile.{AreSteps, Say, steps_of}
 use Rattle.std.proofs.lemmas.Result.{IfErr-weaker, IfOk-weaker, MatchResult-from_both}
 use Rattle.input_text.proofs.steps.read_steps.Goals as goal

@@ -1,4 +1,4 @@
-use Rattle.kept_run.proofs.Ready.{order-before, order-fits, order-learned, order-next, order-right, order-spare, order-window}
+use Rattle.kept_run.proofs.Ready.{order-before, order-fits, order-learned, order-next, order-right, order-slots, order-spare, order-window}
 use Rattle.kept_run.proofs.laws.orders.Goals as goal
 
 pub returns-clause-right : goal.returns-clause-right
@@ -15,6 +15,9 @@ returns-clause-spare c = order-spare
 
 pub returns-clause-window : goal.returns-clause-window
 returns-clause-window c = order-window
+
+pub returns-clause-slots : goal.returns-clause-slots
+returns-clause-slots c = order-slots
 
 pub returns-clause-before : goal.returns-clause-before
 returns-clause-before c = λ setting history trace nodes order way ready is.

@@ -13,10 +13,11 @@ use Rattle.live_run.proofs.closing.run_whole.Goals as goal
 
 pub run_live-requires : goal.run_live-requires
 run_live-requires g c κs within =
-    let (of_t, (of_g, (sync_t, (sync_g, (given, (of_rules, (window, (of_owners, (numbers, (owned, (arrivals, (early, (few, eight))))))))))))) = c.requires in
+    let (of_t, (of_g, (sync_t, (sync_g, (given, (of_rules, (window, (slots, (of_owners, (numbers, (owned, (arrivals, (early, (few, eight)))))))))))))) = c.requires in
     let setting : IsSetting g.setting = subst (λ (s : Setting). IsSetting s) (sym given) (record {
       known = c.is_in_range.ensures.known;
       same_window = window;
+      same_slots = slots;
       asynchronous = c.requests_of_owners.ensures.asynchronous c.args.owners.now c.args.requests.now of_owners owned;
     }) in
     let nodes : AreFresh g.setting c.in_ok-nodes.nodes = subst (λ (s : Setting). AreFresh s c.in_ok-nodes.nodes) (sym given) (record {
@@ -35,7 +36,7 @@ run_live-requires g c κs within =
 pub returns : goal.returns
 returns g c = record {
   run =
-      let (of_t, (of_g, (sync_t, (sync_g, (given, (of_rules, (window, (of_owners, (numbers, (owned, (arrivals, (early, (few, eight))))))))))))) = c.requires in
+      let (of_t, (of_g, (sync_t, (sync_g, (given, (of_rules, (window, (slots, (of_owners, (numbers, (owned, (arrivals, (early, (few, eight)))))))))))))) = c.requires in
       let run = c.in_ok-run.ensures.run in
       let v = c.run_live.new.pass.view in
       let closed = c.close-master.result in

@@ -27,17 +27,20 @@ run_whole-requires g c κs within =
                 (
                   system.same_window,
                   (
-                    subst (λ l. AreOwners l) same system.are_owners,
+                    system.same_slots,
                     (
-                      subst (λ l. All (λ owner. owner.node < c.args.system.now.rules.nodes) l) same system.known_nodes,
+                      subst (λ l. AreOwners l) same system.are_owners,
                       (
-                        subst (λ l. All (λ request. Any (λ owner. owner.id ≡ request.frame.identifier) l) c.args.requests.now) same
-                            (λ k d less. owner-of owners _ (requests.each k d less).owned),
+                        subst (λ l. All (λ owner. owner.node < c.args.system.now.rules.nodes) l) same system.known_nodes,
                         (
-                          requests.in_order,
+                          subst (λ l. All (λ request. Any (λ owner. owner.id ≡ request.frame.identifier) l) c.args.requests.now) same
+                              (λ k d less. owner-of owners _ (requests.each k d less).owned),
                           (
-                            λ k d less. (requests.each k d less).early,
-                            (omega (arith, parted.cycles, c.requires.steps.cycles), omega (arith, parted.scripts.count)),
+                            requests.in_order,
+                            (
+                              λ k d less. (requests.each k d less).early,
+                              (omega (arith, parted.cycles, c.requires.steps.cycles), omega (arith, parted.scripts.count)),
+                            ),
                           ),
                         ),
                       ),

@@ -4,6 +4,7 @@ use Rattle.master_core.proofs.laws.legal_histories.Goals as goal
 pub returns : goal.returns
 returns c = record {
   well_placed = λ rules history legal. (sound-of_legal rules history legal).well_placed;
+  slots = λ rules history legal. (sound-of_legal rules history legal).slots;
   in_time = λ rules history legal. (sound-of_legal rules history legal).in_time;
   valid = valid-of_legal;
 }

@@ -1,10 +1,10 @@
 use Rattle.std.proofs.lemmas.Nat.{or_lt}
-use Rattle.requirement_table.specs.Slots.{slots}
-use Rattle.node_model.proofs.WindowSets.{set_of-either}
+use Rattle.requirement_table.specs.Slots.{most_slots}
+use Rattle.trigger_codec.proofs.Shared.{set_of-either}
 use Rattle.node_model.proofs.due.both.Goals as goal
 
 pub from_bits-requires : goal.from_bits-requires
-from_bits-requires c = or_lt slots c.bits.result c.bits-2.result c.bits.ensures.below c.bits-2.ensures.below
+from_bits-requires c = or_lt most_slots c.bits.result c.bits-2.result c.bits.ensures.below c.bits-2.ensures.below
 
 pub returns : goal.returns
 returns c = record {

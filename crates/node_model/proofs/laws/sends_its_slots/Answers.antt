@@ -1,5 +1,7 @@
-use Rattle.std.proofs.Common.{arith}
-use Rattle.node_model.proofs.InWindow.{due-kept, frame-kept, frames-due, offers-due, opens, stays-in_window}
+use Rattle.std.proofs.Common.{ap, arith}
+use Rattle.node_model.proofs.InWindow.{due-kept, frame-kept, frames-due, offers-due, stays-in_window}
+use Rattle.node_model.specs.Node.{NodeState}
+use Rattle.node_model.proofs.Triggers.{opens-next}
 use Rattle.node_model.proofs.laws.sends_its_slots.Goals as goal
 
 pub returns-clause-offers : goal.returns-clause-offers
@@ -18,4 +20,5 @@ pub returns-clause-takes : goal.returns-clause-takes
 returns-clause-takes c = λ node slot other sent known is within inside. due-kept node sent slot other known is within inside
 
 pub returns-clause-opens : goal.returns-clause-opens
-returns-clause-opens c = λ node l mask sent. opens node sent l mask
+returns-clause-opens c = λ node l mask sent is small below are.
+    ap (λ (n : NodeState). n.opened) (opens-next node l mask is small below sent are).1

@@ -1,5 +1,5 @@
 use Rattle.std.proofs.Common.{sym, ◌∙◌, arith}
-use Rattle.requirement_table.specs.Slots.{contains_slot, slots}
+use Rattle.requirement_table.specs.Slots.{contains_slot, most_slots}
 use Rattle.requirement_table.proofs.Shared.{set_of-contains_slot, set_of-same}
 use Rattle.planner_policies.specs.Plan.{pending_before}
 use Rattle.planner_policies.proofs.Shared.{before-first}
@@ -10,5 +10,5 @@ pub certify-requires-clause-pending : goal.certify-requires-clause-pending
 certify-requires-clause-pending c =
     let plan = plan_from c.args.rules.now c.args.placed.now 0 0 in
     c.empty.ensures.number
-    ∙ sym (set_of-same slots (pending_before plan 0) (contains_slot 0) (λ slot known. before-first plan slot)
-    ∙ sym (set_of-contains_slot slots 0 (omega arith)))
+    ∙ sym (set_of-same most_slots (pending_before plan 0) (contains_slot 0) (λ slot known. before-first plan slot)
+    ∙ sym (set_of-contains_slot most_slots 0 (omega arith)))

@@ -1,7 +1,7 @@
 use Rattle.std.proofs.Common.{◌≡◌, ℕ, ◌-◌, ◌+◌, ◌∙◌, refl, ap, not, ◌&&◌, nat_eq, ◌<◌, ◌≤◌, List, Result, Ok, Err, IsOk, IsErr, length, arith}
 use Rattle.std.specs.List.{list_any}
 use Rattle.requirement_table.specs.declared.entries.Placed.{Placed}
-use Rattle.requirement_table.specs.Slots.{contains_slot, slots}
+use Rattle.requirement_table.specs.Slots.{contains_slot, most_slots}
 use Rattle.plan_check.specs.declared.breach.Breach.TheVariants.{BadLoop}
 use Rattle.plan_check.specs.Certificate.{CertificateView, IsCertificate, length_of}
 use Rattle.plan_check.specs.PlanKept.{IsTaken, differ, goes_round, is_bad, is_held, is_open}
@@ -11,17 +11,17 @@ use Rattle.plan_check.proofs.checking.check.Goals as goal
 
 bad-is : (placed : List Placed) (certificate : CertificateView) (bad first length : ℕ) → first ≡ certificate.first → length ≡ length_of certificate
     → ((slot : ℕ) → contains_slot bad slot ≡ list_any {X = Placed} (λ p. nat_eq p.entry.slot slot && not (goes_round first length p)) placed)
-    → (slot : ℕ) → slot < slots → contains_slot bad slot ≡ is_bad placed certificate slot
+    → (slot : ℕ) → slot < most_slots → contains_slot bad slot ≡ is_bad placed certificate slot
 bad-is placed certificate bad first length same_first same_length made slot known =
     made slot
     ∙ ap (λ n. list_any {X = Placed} (λ p. nat_eq p.entry.slot slot && not (goes_round n length p)) placed) same_first
     ∙ ap (λ n. list_any {X = Placed} (λ p. nat_eq p.entry.slot slot && not (goes_round certificate.first n p)) placed) same_length
 
 open-is : (placed : List Placed) (certificate : CertificateView) (before behind both : ℕ)
-    → ((s : ℕ) → s < slots → contains_slot before s ≡ is_held placed certificate (certificate.first - certificate.from) s)
-    → ((s : ℕ) → s < slots → contains_slot behind s ≡ is_held placed certificate (certificate.first - certificate.from + length_of certificate) s)
-    → ((s : ℕ) → s < slots → contains_slot both s ≡ differ (contains_slot before s) (contains_slot behind s))
-    → (s : ℕ) → s < slots → contains_slot both s ≡ is_open placed certificate s
+    → ((s : ℕ) → s < most_slots → contains_slot before s ≡ is_held placed certificate (certificate.first - certificate.from) s)
+    → ((s : ℕ) → s < most_slots → contains_slot behind s ≡ is_held placed certificate (certificate.first - certificate.from + length_of certificate) s)
+    → ((s : ℕ) → s < most_slots → contains_slot both s ≡ differ (contains_slot before s) (contains_slot behind s))
+    → (s : ℕ) → s < most_slots → contains_slot both s ≡ is_open placed certificate s
 open-is placed certificate before behind both held_before held_behind made s known =
     made s known
     ∙ ap (λ b. differ b (contains_slot behind s)) (held_before s known)

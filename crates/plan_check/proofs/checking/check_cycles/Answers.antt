@@ -3,7 +3,7 @@ use Rattle.std.proofs.lemmas.List.{get_or_default}
 use Rattle.plan_check.specs.Certificate.{CertificateView, IsCertificate, length_of}
 use Rattle.plan_check.specs.Breaches.{IsBreach}
 use Rattle.plan_check.proofs.Current.{passed-later}
-use Rattle.plan_check.proofs.CycleSteps.{before-step, good-more, held-start, mask-flags, passed-start, step-breach, step-good, step-held}
+use Rattle.plan_check.proofs.CycleSteps.{absent-start, before-step, good-more, held-start, mask-flags, passed-start, step-breach, step-good, step-held}
 use Rattle.plan_check.proofs.checking.check_cycles.Goals as goal
 
 is-certificate : (certificate : CertificateView) (first : ℕ) → first ≡ certificate.first → certificate.from ≤ first
@@ -16,7 +16,8 @@ mask-at items masks n mask within is same = is ∙ get_or_default items n mask 0
 pub loop-mask-init : goal.loop-mask-init
 loop-mask-init c = record {
   cycle = let at = c.from-cycle.ensures.value in omega arith;
-  passed = passed-start c.args.placed.now c.from-cycle.result _ refl refl;
+  passed = passed-start c.args.placed.now c.from-cycle.result c.slots_of-slots.result _ refl refl;
+  absent = absent-start c.slots_of-slots.result _ refl refl;
   held = λ s known. held-start c.args.placed.now c.args.certificate.now c.pending-held.result c.pending-held.ensures.value s;
   before = λ wrong s known. absurd (omega arith);
   good = λ n wrong. absurd (omega arith);
@@ -31,8 +32,8 @@ returns-in_err-held-clause-breach c =
     let listed : n < length certificate.masks = let same = ap length c.masks-mask-items.ensures.list in let more = c.loop-mask-test.true in omega arith in
     let mask : c.mask-item.result ≡ get_or certificate.masks n 0 = mask-at c.masks-mask-items.result.now certificate.masks n c.mask-item.result c.loop-mask-test.true c.mask-item.is c.masks-mask-items.ensures.list in
     let found : IsBreach placed c.args.w certificate c.in_err-held.field-0.0
-    = step-breach placed c.args.w certificate n c.loop-mask.cycle c.loop-mask.held c.mask-item.result c.row_at.result c.requires.well_placed
-    c.loop-mask.invariant.cycle c.row_at.ensures.row c.loop-mask.invariant.held
+    = step-breach placed c.args.w certificate n c.loop-mask.cycle c.loop-mask.held c.mask-item.result c.fill_row.new.row c.requires.well_placed
+    c.loop-mask.invariant.cycle c.fill_row.ensures.row c.loop-mask.invariant.held
     (mask-flags certificate n c.mask-item.result is listed mask)
     c.in_err-held.field-0.0 c.requires.rounds listed c.loop-mask.invariant.good c.in_err-held.ensures.breach in
     search (rules, found)
@@ -46,16 +47,17 @@ loop-mask-preserved c =
     let listed : n < length certificate.masks = let same = ap length c.masks-mask-items.ensures.list in let more = c.loop-mask-test.true in omega arith in
     let mask : c.mask-item.result ≡ get_or certificate.masks n 0 = mask-at c.masks-mask-items.result.now certificate.masks n c.mask-item.result c.loop-mask-test.true c.mask-item.is c.masks-mask-items.ensures.list in
     let flags = mask-flags certificate n c.mask-item.result is listed mask in
-    let row = c.row_at.ensures.row in
+    let row = c.fill_row.ensures.row in
     record {
       cycle = let at = c.loop-mask.invariant.cycle in omega arith;
-      passed = passed-later placed c.loop-mask.cycle c.places_at-places.result c.places_at-places.ensures.current;
-      held = step-held placed c.args.w certificate n c.loop-mask.cycle c.loop-mask.held c.mask-item.result c.row_at.result c.requires.well_placed
+      passed = passed-later placed c.loop-mask.cycle c.slots_of-slots.result c.move_places.new.places c.move_places.ensures.current;
+      absent = c.fill_row.ensures.absent;
+      held = step-held placed c.args.w certificate n c.loop-mask.cycle c.loop-mask.held c.mask-item.result c.fill_row.new.row c.requires.well_placed
           c.loop-mask.invariant.cycle row c.loop-mask.invariant.held flags c.in_ok-held.held c.in_ok-held.ensures.held;
       before = before-step placed certificate n c.loop-mask.cycle c.first-first.result c.loop-mask.held c.loop-mask.before c.chosen-before.result
           c.loop-mask.invariant.cycle c.first-first.ensures.value is.after c.chosen-before.ensures.set c.loop-mask.invariant.held c.loop-mask.invariant.before;
       good = good-more placed c.args.w certificate n c.loop-mask.invariant.good
-          (step-good placed c.args.w certificate n c.loop-mask.cycle c.loop-mask.held c.mask-item.result c.row_at.result c.requires.well_placed
+          (step-good placed c.args.w certificate n c.loop-mask.cycle c.loop-mask.held c.mask-item.result c.fill_row.new.row c.requires.well_placed
           c.loop-mask.invariant.cycle row c.loop-mask.invariant.held flags c.in_ok-held.ensures.good);
     }
 

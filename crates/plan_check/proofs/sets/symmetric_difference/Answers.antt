@@ -6,7 +6,7 @@ use Rattle.plan_check.proofs.SlotSets.{contains_slot-symmetric}
 use Rattle.plan_check.proofs.sets.symmetric_difference.Goals as goal
 
 pub from_bits-requires : goal.from_bits-requires
-from_bits-requires c = xor_lt 40 c.bits.result c.bits-2.result c.bits.ensures.below c.bits-2.ensures.below
+from_bits-requires c = xor_lt 96 c.bits.result c.bits-2.result c.bits.ensures.below c.bits-2.ensures.below
 
 pub returns : goal.returns
 returns c = record {

@@ -1,20 +1,50 @@
-use Rattle.std.proofs.Common.{◌+◌, sym, ap, ◌∙◌, arith}
-use Rattle.requirement_table.specs.Slots.{contains_slot, sum_where}
+use Rattle.std.proofs.Common.{sym, arith}
+use Rattle.requirement_table.specs.Slots.{contains_slot}
 use Rattle.requirement_table.specs.Table.{worst_in}
-use Rattle.plan_report.proofs.Widths.{sum-next, sum-none}
+use Rattle.node_model.proofs.Shared.{without-less}
+use Rattle.bus_trace.proofs.Shared.{width-le}
+use Rattle.plan_report.proofs.Widths.{least-in, sum-empty, sum-without}
 use Rattle.plan_report.proofs.load.width.Goals as goal
 
 pub loop-slot-init : goal.loop-slot-init
-loop-slot-init c = record { so_far = sum-none _ _; few = omega arith; passed = c.requires.passed }
+loop-slot-init c = record { so_far = omega arith; passed = c.requires.passed }
+
+pub slot_width-width-requires-clause-slot : goal.slot_width-width-requires-clause-slot
+slot_width-width-requires-clause-slot c = (least-in c.loop-slot.left c.in-Some.slot (sym c.in-Some.ensures.least)).0
+
+pub overflow_add-width : goal.overflow_add-width
+overflow_add-width c =
+    let least = least-in c.loop-slot.left c.in-Some.slot (sym c.in-Some.ensures.least) in
+    let split = sum-without c.loop-slot.left c.without-left.result c.in-Some.slot (worst_in c.args.placed.now c.args.cycle) least.0 least.1 c.without-left.ensures.slots in
+    let all = width-le c.args.placed.now c.args.cycle (contains_slot c.args.mask) c.requires.well_placed in
+    let so_far = c.loop-slot.invariant.so_far in
+    let cost = c.slot_width-width.ensures.width in
+    omega arith
+
+pub without-left-requires : goal.without-left-requires
+without-left-requires c = (least-in c.loop-slot.left c.in-Some.slot (sym c.in-Some.ensures.least)).0
+
+pub loop-slot-smaller : goal.loop-slot-smaller
+loop-slot-smaller c =
+    let least = least-in c.loop-slot.left c.in-Some.slot (sym c.in-Some.ensures.least) in
+    without-less c.loop-slot.left c.without-left.result c.in-Some.slot least.0 c.known.ensures.below c.known-in-Some.ensures.below least.1 c.without-left.ensures.slots
 
 pub loop-slot-preserved : goal.loop-slot-preserved
 loop-slot-preserved c =
-    let few = c.loop-slot.invariant.few in
-    let range = c.slot_width-width.ensures.range in
-    record {
-      so_far = ap (λ w. w + c.slot_width-width.result) c.loop-slot.invariant.so_far
-          ∙ ap (λ w. sum_where c.loop-slot.slot (contains_slot c.args.mask) (worst_in c.args.placed.now c.args.cycle) + w) c.slot_width-width.ensures.width
-          ∙ sym (sum-next c.loop-slot.slot (contains_slot c.args.mask) (worst_in c.args.placed.now c.args.cycle));
-      few = omega arith;
-      passed = c.slot_width-width.ensures.passed;
-    }
+    let least = least-in c.loop-slot.left c.in-Some.slot (sym c.in-Some.ensures.least) in
+    let split = sum-without c.loop-slot.left c.without-left.result c.in-Some.slot (worst_in c.args.placed.now c.args.cycle) least.0 least.1 c.without-left.ensures.slots in
+    let so_far = c.loop-slot.invariant.so_far in
+    let cost = c.slot_width-width.ensures.width in
+    record { so_far = omega arith; passed = c.slot_width-width.ensures.passed }
+
+pub returns-clause-width : goal.returns-clause-width
+returns-clause-width c =
+    let none = sum-empty c.loop-slot.left (worst_in c.args.placed.now c.args.cycle) (sym c.in_default.ensures.least) in
+    let so_far = c.loop-slot.invariant.so_far in
+    omega arith
+
+pub returns-clause-range : goal.returns-clause-range
+returns-clause-range c =
+    let all = width-le c.args.placed.now c.args.cycle (contains_slot c.args.mask) c.requires.well_placed in
+    let so_far = c.loop-slot.invariant.so_far in
+    omega arith

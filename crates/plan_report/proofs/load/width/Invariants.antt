@@ -1,12 +1,15 @@
-use Rattle.std.proofs.Common.{◌≡◌, ◌*◌, ◌≤◌}
-use Rattle.requirement_table.specs.Slots.{contains_slot, sum_where}
-use Rattle.requirement_table.specs.Table.{worst_in}
+use Rattle.std.proofs.Common.{◌≡◌, ◌+◌}
+use Rattle.requirement_table.specs.Slots.{contains_slot, most_slots, sum_where}
+use Rattle.requirement_table.specs.Table.{width_in, worst_in}
 use Rattle.plan_report.specs.Current.{ArePassed}
 use Rattle.plan_report.proofs.load.width.Given as goal
 
+-- the width so far, with what the slots cost that are left, is the whole width
 abbrev pub invariant-loop-slot : goal.invariant-loop-slot
 invariant-loop-slot l = record {
-  so_far : l.width ≡ sum_where l.slot (contains_slot l.mask) (worst_in l.placed l.cycle);
-  few : l.width ≤ 135 * l.slot;
+  so_far : l.width + sum_where most_slots (contains_slot l.left) (worst_in l.placed l.cycle) ≡ width_in l.placed l.cycle (contains_slot l.fn.mask);
   passed : ArePassed l.placed l.places.first l.cycle;
 }
+
+abbrev pub decreases-loop-slot : goal.decreases-loop-slot
+decreases-loop-slot l = l.left

@@ -1,4 +1,4 @@
-use Rattle.std.proofs.Common.{◌≡◌, None, get_or, take, refl, sym, ◌∙◌, arith}
+use Rattle.std.proofs.Common.{rules, ◌≡◌, None, get_or, take}
 use Rattle.std.proofs.lemmas.List.{take_all}
 use Rattle.requirement_table.specs.declared.entries.Placed.{Placed}
 use Rattle.requirement_table.specs.Slots.{contains_slot}
@@ -15,8 +15,8 @@ no_entry = record {
   end = None;
 }
 
-pub put-requires-clause-room : goal.put-requires-clause-room
-put-requires-clause-room c =
+pub put-requires : goal.put-requires
+put-requires g c =
     let ranked = c.args.ranked.now in
     let plan = planning_of ranked c.args.w c.args.state.now.cycle c.args.state.now.pending in
     let cycle = c.args.state.now.cycle in
@@ -26,11 +26,16 @@ put-requires-clause-room c =
     let same = c.rows-rows.ensures.same in
     let pending : IsPending ranked.policy before cycle (get_or rows k no_entry) c.in-Some.due = rw c.policy.ensures.value at c.in-Some.ensures.pending in
     let more = more-of plan cycle before rows k no_entry c.loop-row.line c.in-Some.due c.rows-rows.ensures.well_placed same c.loop-row-test.true
-    (stands-in ranked.placed rows k no_entry same c.loop-row-test.true) c.loop-row.invariant pending in
-    room-of plan cycle before rows k no_entry c.loop-row.line c.in-Some.due c.loop-row.invariant more
+    (stands-in ranked.placed rows k no_entry same c.loop-row-test.true) c.loop-row.invariant pending in (
+      search rules,
+      (
+        room-of plan cycle before rows k no_entry c.loop-row.line c.in-Some.due g.row.ROOM c.loop-row.invariant more c.loop-row-test.true same c.requires.room,
+        c.loop-row.invariant.lined,
+      ),
+    )
 
 pub loop-row-preserved : goal.loop-row-preserved
-loop-row-preserved c =
+loop-row-preserved g c =
     let ranked = c.args.ranked.now in
     let plan = planning_of ranked c.args.w c.args.state.now.cycle c.args.state.now.pending in
     let cycle = c.args.state.now.cycle in
@@ -54,7 +59,7 @@ loop-row-preserved c =
     ]
 
 pub returns-clause-line : goal.returns-clause-line
-returns-clause-line c =
+returns-clause-line g c =
     let ranked = c.args.ranked.now in
     let plan = planning_of ranked c.args.w c.args.state.now.cycle c.args.state.now.pending in
     let cycle = c.args.state.now.cycle in

@@ -5,5 +5,5 @@ use Rattle.planner_policies.proofs.Rows.{IsLineOf}
 use Rattle.planner_policies.proofs.planning.line_of.Given as goal
 
 abbrev pub invariant-loop-row : goal.invariant-loop-row
-invariant-loop-row l = IsLineOf (planning_of l.ranked l.w l.state.cycle l.state.pending) l.state.cycle (contains_slot l.state.pending)
+invariant-loop-row g l = IsLineOf (planning_of l.ranked l.w l.state.cycle l.state.pending) l.state.cycle (contains_slot l.state.pending)
     (take l.row-index l.rows) l.line

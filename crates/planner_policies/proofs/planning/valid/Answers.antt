@@ -1,4 +1,4 @@
-use Rattle.std.proofs.Common.{◌≡◌, take, eqb, arith, ◌∙◌, sym}
+use Rattle.std.proofs.Common.{◌≡◌, take, arith, ◌∙◌, sym}
 use Rattle.std.proofs.lemmas.List.{take_all}
 use Rattle.std.proofs.lemmas.Bool.{eqb-true, eq-eqb}
 use Rattle.planner_policies.proofs.Held.{valid-sound, valid-complete}

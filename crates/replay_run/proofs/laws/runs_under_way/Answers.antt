@@ -16,6 +16,6 @@ returns c = record {
       } in
       let asynchronous = c.requests_of_owners.ensures.asynchronous system.owners requests is.are_owners
       (λ k d within. owner-of system.owners _ (are.each k d within).owned) in
-      let known : IsSetting (setting_of system requests) = record { known = is.layout; same_window = is.same_window; asynchronous = asynchronous } in
+      let known : IsSetting (setting_of system requests) = record { known = is.layout; same_window = is.same_window; same_slots = is.same_slots; asynchronous = asynchronous } in
       is_under_way laws (setting_of system requests) known history trace kept.legal kept.can_trace;
 }

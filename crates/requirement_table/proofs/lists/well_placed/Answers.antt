@@ -1,6 +1,7 @@
 use Rattle.std.proofs.Common.{◌≤◌, None, IsSomeAnd, get_or, take, length-set, sym, ◌∙◌, arith}
 use Rattle.std.proofs.lemmas.List.{take_more}
 use Rattle.std.proofs.lemmas.List.Elements.{All-nil}
+use Rattle.requirement_table.specs.Slots.{most_slots}
 use Rattle.requirement_table.specs.Table.{IsInRange}
 use Rattle.requirement_table.proofs.FreeSlots.{no_entry, free-start, free-more, free-before, well_placed-more}
 use Rattle.requirement_table.proofs.lists.well_placed.Goals as goal
@@ -10,7 +11,7 @@ pub loop-p-init : goal.loop-p-init
 loop-p-init c = record {
   well_placed = record { in_range = All-nil IsInRange; in_order = λ i j d before within. absurd (omega arith) };
   room = omega arith;
-  free = λ slot. free-start 40 slot;
+  free = λ slot. free-start most_slots slot;
 }
 
 pub returns-then-not-is_in_range : goal.returns-then-not-is_in_range
@@ -41,5 +42,5 @@ loop-p-preserved c =
     rw (take_more placed i no_entry c.loop-p-test.true, c.from-in-loop-p.ensures) (record {
       well_placed = well_placed-more (take i placed) p (get_or c.loop-p.free_from p.entry.slot None) c.loop-p.invariant.well_placed range (c.loop-p.invariant.free p.entry.slot range.entry.slot) now;
       room = simp length-set c.loop-p.invariant.room;
-      free = free-more 40 c.loop-p.free_from (take i placed) p c.free_after.result c.loop-p.invariant.room range.entry.slot range c.loop-p.invariant.free now (λ d. rw c.free_after.ensures (λ free. free, λ free. free));
+      free = free-more most_slots c.loop-p.free_from (take i placed) p c.free_after.result c.loop-p.invariant.room range.entry.slot range c.loop-p.invariant.free now (λ d. rw c.free_after.ensures (λ free. free, λ free. free));
     })

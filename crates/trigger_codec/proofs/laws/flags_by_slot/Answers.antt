@@ -1,5 +1,5 @@
-use Rattle.trigger_codec.proofs.Flags.{flag-slot}
+use Rattle.trigger_codec.proofs.Flags.{flag-slot, second-flag-slot}
 use Rattle.trigger_codec.proofs.laws.flags_by_slot.Goals as goal
 
 pub returns : goal.returns
-returns c = record { flags = flag-slot }
+returns c = record { first = flag-slot; second = second-flag-slot }

@@ -1,6 +1,6 @@
-use Rattle.std.proofs.Common.{◌≡◌, arith}
+use Rattle.std.proofs.Common.{◌≡◌, ap, Ok, arith}
 use Rattle.trigger_codec.specs.Bytes.{width_told}
-use Rattle.trigger_codec.proofs.EightBytes.{trigger_frame-read}
+use Rattle.trigger_codec.proofs.EightBytes.{trigger_frame-read, trigger_frame-told}
 use Rattle.trigger_codec.proofs.message.decode.Goals as goal
 
 pub returns-clause-trigger : goal.returns-clause-trigger
@@ -10,3 +10,9 @@ returns-clause-trigger c =
       omega arith,
       rw (c.byte-3.ensures.value, window, c.flags-mask.ensures) (trigger_frame-read frame c.id-id.ensures.legal (omega arith) (omega arith)),
     )
+
+pub returns-clause-every : goal.returns-clause-every
+returns-clause-every c =
+    let frame = c.args.frame.now in
+    let window : c.from-l.result ≡ width_told frame.bytes = omega arith in
+    λ cycle l mask within below is. rw (c.byte-3.ensures.value, window, c.flags-mask.ensures) (ap Ok (trigger_frame-told frame cycle l mask is))

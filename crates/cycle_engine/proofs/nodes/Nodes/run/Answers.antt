@@ -1,6 +1,6 @@
 use Rattle.std.proofs.Common.{◌≡◌, ◌+◌, ◌*◌, [], All, sym, ap, ◌∙◌, subst, arith}
 use Rattle.std.proofs.Math.Nat.{add-mul}
-use Rattle.trigger_codec.specs.Bytes.{trigger_frame}
+use Rattle.trigger_codec.specs.Bytes.{triggers_with}
 use Rattle.bus_line.specs.Trace.{Follows}
 use Rattle.bus_line.specs.Stations.{offers_of}
 use Rattle.node_model.specs.Window.{IsInWindow}
@@ -8,7 +8,7 @@ use Rattle.cycle_engine.specs.Nodes.{NodesView, heard_by, left_in, states_of, Ha
 use Rattle.cycle_engine.specs.Stations.{announced, cycle_line}
 use Rattle.cycle_engine.specs.SyncWindow.{nodes_alone}
 use Rattle.cycle_engine.proofs.Left.{left-heard}
-use Rattle.cycle_engine.proofs.TwoParts.{heard-later}
+use Rattle.cycle_engine.proofs.Announced.{heard-twice}
 use Rattle.cycle_engine.proofs.Spares.{kept-same}
 use Rattle.cycle_engine.proofs.nodes.Nodes.run.Goals as goal
 
@@ -36,7 +36,7 @@ returns-clause-heard c =
     let nodes = states_of c.args.self.now.nodes in
     sent.heard
     ∙ ap (heard_by sent.frames) (ap (λ (v : NodesView). states_of v.nodes) c.self.view_is ∙ part.heard)
-    ∙ heard-later c.run_up_to_window-from.new.frames.items sent.frames nodes
+    ∙ heard-twice c.run_up_to_window-from.new.frames.items sent.frames nodes
     ∙ ap (λ fs. heard_by fs nodes) (sym sent.appended)
 
 pub returns-clause-runs : goal.returns-clause-runs
@@ -51,7 +51,7 @@ returns-clause-runs c =
     let follows : Follows (offers_of cycle_line (nodes_alone layout mid)) [] from ((order.cycle + 1) * layout.cycle) sent.frames =
     subst (λ (v : NodesView). Follows (offers_of cycle_line (nodes_alone layout (states_of v.nodes))) [] from ((order.cycle + 1) * layout.cycle) sent.frames) c.self.view_is
     (subst (λ n. Follows (offers_of cycle_line (nodes_alone layout (states_of c.self.inside.stations.nodes))) [] from ((order.cycle + 1) * n) sent.frames) length (sent.follows layout)) in
-    subst (λ fs. Follows (offers_of cycle_line (announced layout (order.cycle * layout.cycle) (trigger_frame order.cycle order.l order.mask) (states_of c.args.self.now.nodes)))
+    subst (λ fs. Follows (offers_of cycle_line (announced layout (order.cycle * layout.cycle) (triggers_with layout.slots order.cycle order.l order.mask) (states_of c.args.self.now.nodes)))
     [] (order.cycle * layout.cycle) ((order.cycle + 1) * layout.cycle) fs) (sym sent.appended) (part.whole sent.frames follows)
 
 pub invariant_of-self : goal.invariant_of-self

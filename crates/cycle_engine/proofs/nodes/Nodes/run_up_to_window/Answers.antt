@@ -1,17 +1,28 @@
-use Rattle.std.proofs.Common.{◌≡◌, ◌*◌, ◌≤◌, sym, ap, ◌∙◌, subst, arith}
-use Rattle.can_frame.specs.DataFrame.{DataFrame}
-use Rattle.can_frame.specs.Wire.{wire_length}
+use Rattle.std.proofs.Common.{◌≡◌, ◌*◌, ◌∷◌, [], sym, ap, ◌∙◌, subst, arith}
+use Rattle.std.specs.List.{cons_option}
 use Rattle.cycle_layout.specs.Layout.{sync_start}
-use Rattle.trigger_codec.specs.Bytes.{trigger_frame}
+use Rattle.trigger_codec.specs.Bytes.{triggers_with}
 use Rattle.cycle_engine.specs.Nodes.{NodesView, heard_by, left_in, states_of, spares_of}
-use Rattle.cycle_engine.specs.Stations.{AreNodes, StationsView, announced, stationed}
+use Rattle.cycle_engine.specs.Stations.{AreDue, AreNodes, StationsView, announced, due_from, stationed}
 use Rattle.cycle_engine.specs.SyncWindow.{IsBeforeWindow}
 use Rattle.cycle_engine.proofs.Along.{told-heard, told-layout}
 use Rattle.cycle_engine.proofs.Left.{left-heard}
+use Rattle.cycle_engine.proofs.NodesApart.{AreDue-triggers}
 use Rattle.cycle_engine.proofs.OneCycle.{announced-same}
 use Rattle.cycle_engine.proofs.TwoParts.{PartLaws, before-window}
 use Rattle.cycle_engine.proofs.Spares.{kept-same}
 use Rattle.cycle_engine.proofs.nodes.Nodes.run_up_to_window.Goals as goal
+
+pub announce-requires-clause-due : goal.announce-requires-clause-due
+announce-requires-clause-due c =
+    let order = c.args.order.now in
+    let layout = c.layout.result.now in
+    let triggers : c.encode-first.result ∷ cons_option c.second_trigger-second.result [] ≡ triggers_with layout.slots order.cycle order.l order.mask =
+    ap (λ frame. frame ∷ cons_option c.second_trigger-second.result []) c.encode-first.ensures.frame ∙ c.second_trigger-second.ensures.frames order.l in
+    let same : c.self.inside.stations.layout ≡ layout = ap (λ v. v.layout) c.self.view_is ∙ sym c.layout.ensures.layout in
+    subst (λ l. AreDue l (due_from (order.cycle * c.from.result) (c.encode-first.result ∷ cons_option c.second_trigger-second.result []))) (sym same)
+    (subst (λ fs. AreDue layout (due_from (order.cycle * c.from.result) fs)) (sym triggers)
+    (AreDue-triggers layout (order.cycle * c.from.result) order.cycle order.l order.mask))
 
 pub returns-clause-layout : goal.returns-clause-layout
 returns-clause-layout c =
@@ -24,20 +35,22 @@ returns-clause-before_window c =
     let layout = c.args.self.now.layout in
     let nodes = states_of c.args.self.now.nodes in
     let laws : PartLaws = record { joined = c.trace_laws.ensures.joined; along = c.same_along.ensures.along } in
-    let long : (frame : DataFrame) → 47 ≤ wire_length frame = λ frame. omega (arith, c.wire_lengths.ensures.at_least frame) in
     let length : c.from.result ≡ layout.cycle = c.from.ensures ∙ c.cycle.ensures.value ∙ ap (λ l. l.cycle) c.layout.ensures.layout in
     let start : order.cycle * c.from.result ≡ order.cycle * layout.cycle = ap (λ n. order.cycle * n) length in
     let window : c.sync_start-window.result ≡ sync_start layout order.cycle order.l =
     c.sync_start-window.ensures.value ∙ ap (λ l. sync_start l order.cycle order.l) c.layout.ensures.layout in
-    let before : stationed c.announce.new.self ≡ announced layout (order.cycle * layout.cycle) (trigger_frame order.cycle order.l order.mask) nodes =
+    let triggers : c.encode-first.result ∷ cons_option c.second_trigger-second.result [] ≡ triggers_with layout.slots order.cycle order.l order.mask =
+    ap (λ frame. frame ∷ cons_option c.second_trigger-second.result []) c.encode-first.ensures.frame
+    ∙ c.second_trigger-second.ensures.frames order.l ∙ ap (λ l. triggers_with l.slots order.cycle order.l order.mask) c.layout.ensures.layout in
+    let before : stationed c.announce.new.self ≡ announced layout (order.cycle * layout.cycle) (triggers_with layout.slots order.cycle order.l order.mask) nodes =
     ap stationed c.announce.ensures.announced
-    ∙ announced-same _ _ _ _ _ _ _ _ (ap (λ v. v.layout) c.self.view_is) start c.encode-trigger.ensures.frame (ap (λ v. states_of v.nodes) c.self.view_is) in
+    ∙ announced-same _ _ _ _ _ _ _ _ (ap (λ v. v.layout) c.self.view_is) start triggers (ap (λ v. states_of v.nodes) c.self.view_is) in
     let are : AreNodes layout nodes =
     subst (λ (v : NodesView). AreNodes v.layout (states_of v.nodes)) c.self.view_is
     (subst (λ (v : StationsView). AreNodes v.layout (states_of v.nodes)) c.announce.ensures.announced c.announce.ensures.known) in
     subst (λ from. IsBeforeWindow layout order.cycle order.l order.mask nodes (states_of c.run_until.new.stations.nodes) c.run_until.new.out.items from) (sym c.max.ensures)
-    (before-window laws long c.offers_in_range.ensures.in_range c.stays_a_node.ensures.hearing c.sends_its_slots.ensures.stays c.sends_its_slots.ensures.opens
-    layout order.cycle order.l order.mask c.are_known.ensures.known c.requires.cycle c.requires.window c.known.ensures.below nodes are c.requires.next
+    (before-window laws c.wire_lengths.ensures.at_least c.wire_lengths.ensures.at_most c.offers_in_range.ensures.in_range c.stays_a_node.ensures.hearing c.sends_its_slots.ensures.stays c.sends_its_slots.ensures.opens
+    layout order.cycle order.l order.mask c.are_known.ensures.known c.requires.cycle c.requires.window c.requires.slots nodes are c.requires.next
     (stationed c.announce.new.self) (stationed c.run_until.new.stations) _ _ _ _ _ before start window c.requires.empty c.run_until.ensures.ran)
 
 pub invariant_of-self : goal.invariant_of-self

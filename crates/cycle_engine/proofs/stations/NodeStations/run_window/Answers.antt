@@ -1,4 +1,4 @@
-use Rattle.std.proofs.Common.{None, sym, ap, ◌∙◌, subst}
+use Rattle.std.proofs.Common.{sym, ap, ◌∙◌, subst}
 use Rattle.std.proofs.lemmas.List.{take_at}
 use Rattle.cycle_engine.specs.Nodes.{heard_by, states_of}
 use Rattle.cycle_engine.specs.Stations.{AreNodes, AreStations}
@@ -15,7 +15,7 @@ invariant_of-self c =
     let known = ap states_of (take_at _ _ _ (c.run_window.auto.nodes ∙ c.as_mut_slice.ensures.len)) ∙ sent.heard
     ∙ ap (λ nodes. heard_by sent.frames (states_of nodes)) c.as_mut_slice.ensures.value in
     record {
-      are = subst (λ nodes. AreStations (record { layout = layout; trigger = None; nodes = nodes })) (sym known)
+      are = subst (λ nodes. AreStations (nodes_alone layout nodes)) (sym known)
           (AreStations-alone layout (heard_by sent.frames before)
           (subst (AreNodes layout) (told-heard sent.frames (nodes_alone layout before))
           (AreNodes-told layout sent.frames (nodes_alone layout before) c.stays_a_node.ensures.hearing c.nodes_are_apart.ensures.hearing sent.no_trigger c.self.invariant.are.nodes)));

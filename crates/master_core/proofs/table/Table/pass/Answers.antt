@@ -8,5 +8,5 @@ pub returns-then-self-cycle-clause-ranked : goal.returns-then-self-cycle-clause-
 returns-then-self-cycle-clause-ranked c =
     let table = c.args.self.now in
     c.drop_over.ensures.left
-    ∙ ap (λ (l : List Placed). record { placed = l; policy = table.ranked.policy })
+    ∙ ap (λ (l : List Placed). record table.ranked { placed = l })
     (ap (not_over c.args.cycle) c.requires.left ∙ not_over-again table.since c.args.cycle table.placed.items c.requires.since)

@@ -11,10 +11,3 @@ returns-clause-well_placed c = rw c.keep_not_over.ensures.left (not_over-well_pl
 pub returns-clause-instances : goal.returns-clause-instances
 returns-clause-instances c =
     rw c.keep_not_over.ensures.left (λ slot at from. instance_in-not_over c.args.cycle c.args.entries.now slot at from)
-
-pub first_places-self-requires : goal.first_places-self-requires
-first_places-self-requires c = record {
-  well_placed =
-      rw (c.as_slice-2.ensures.value, c.keep_not_over.ensures.left)
-      (not_over-well_placed c.args.cycle c.args.entries.now c.requires.well_placed);
-}

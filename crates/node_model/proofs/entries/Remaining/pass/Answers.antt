@@ -12,10 +12,3 @@ returns-then-self-cycle-clause-well_placed c =
 pub returns-then-self-cycle-clause-instances : goal.returns-then-self-cycle-clause-instances
 returns-then-self-cycle-clause-instances c =
     rw c.drop_over.ensures.left (λ slot at from. instance_in-not_over c.args.cycle c.args.self.now.entries.items slot at from)
-
-pub first_places-self-requires : goal.first_places-self-requires
-first_places-self-requires c = record {
-  well_placed =
-      rw (c.as_slice-then-self-cycle.ensures.value, c.drop_over.ensures.left)
-      (not_over-well_placed c.args.cycle c.args.self.now.entries.items c.requires.well_placed);
-}

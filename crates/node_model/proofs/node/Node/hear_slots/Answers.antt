@@ -16,6 +16,7 @@ returns-clause-heard c =
       opened = option_map opened_of was;
       next = c.self.inside.next;
       frames = c.self.inside.frames;
+      noted = c.self.inside.noted;
     } in
     let marks = c.after_slots-self-inside.ensures.opened
     ∙ mark-sent before.entries c.self.inside.own c.args.sent c.common-own.result c.args.frames.now (option_map opened_of was)

@@ -1,4 +1,4 @@
-use Rattle.std.proofs.Common.{◌≡◌, ◌≤◌, ap, sym, ◌∙◌, subst, arith}
+use Rattle.std.proofs.Common.{◌≡◌, ◌≤◌, ap, sym, ◌∙◌, subst}
 use Rattle.async_window.specs.Mailbox.{IsMail}
 use Rattle.node_model.specs.Node.{NodeView}
 use Rattle.node_model.proofs.Offers.{offered-mail, no-request}

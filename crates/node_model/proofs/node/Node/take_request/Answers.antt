@@ -14,6 +14,7 @@ invariant_of-self-2 c =
         opened = old.node.opened;
         next = old.node.next;
         frames = old.node.frames;
+        noted = old.node.noted;
       };
       own_slots = old.own_slots;
       placed = old.placed;

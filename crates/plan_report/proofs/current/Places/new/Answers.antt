@@ -1,9 +1,10 @@
 use Rattle.std.proofs.Common.{arith}
+use Rattle.requirement_table.specs.Slots.{most_slots}
 use Rattle.plan_report.proofs.OneOfSlot.{zeros-at}
 use Rattle.plan_report.proofs.current.Places.new.Goals as goal
 
 pub returns : goal.returns
 returns c = record {
   passed = λ placed cycle slot place p known before there of_slot.
-      let none = zeros-at 40 slot in absurd (omega arith);
+      let none = zeros-at most_slots slot in absurd (omega arith);
 }

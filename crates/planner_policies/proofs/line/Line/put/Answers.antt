@@ -1,6 +1,4 @@
-use Rattle.std.proofs.Common.{◌≡◌, ◌<◌, suc, ◌-◌, inl, inr, refl, sym, ap, ◌∙◌, length, arith}
-use Rattle.std.proofs.Math.ListN.{length-set}
-use Rattle.std.proofs.lemmas.List.{length-take-le}
+use Rattle.std.proofs.Common.{◌<◌, ◌-◌, inl, inr, refl, sym, ap, ◌∙◌, length, length-take, arith}
 use Rattle.planner_policies.specs.declared.due.Due.{Due}
 use Rattle.planner_policies.proofs.Lines.{moved_up-start, moved_up-next, put_in}
 use Rattle.planner_policies.proofs.line.Line.put.Goals as goal
@@ -10,15 +8,15 @@ abbrev no_due : Due
 no_due = record { key = 0; priority = 0; slot = 0; cost = 0; release = 0; last = 0 }
 
 pub loop-place-init : goal.loop-place-init
-loop-place-init c =
+loop-place-init g c =
     let inside = c.self.inside in
     let within = c.self.invariant.0 in
-    let room : inside.count < 40
-    = omega (arith, ap length c.self.view_is, length-take-le inside.count inside.places, c.self.invariant.1, c.requires.room) in
-    record { count = refl; moved = moved_up-start inside.places c.args.due inside.count room c.self.invariant.1 }
+    let room : inside.count < length inside.places
+    = omega (arith, ap length c.self.view_is, length-take inside.count inside.places, c.self.invariant.1, c.requires.room) in
+    record { count = refl; moved = moved_up-start inside.places c.args.due inside.count room }
 
 pub loop-place-preserved : goal.loop-place-preserved
-loop-place-preserved c =
+loop-place-preserved g c =
     let now = c.loop-place.self-inside.places in
     let place = c.loop-place.place in
     record {
@@ -28,7 +26,7 @@ loop-place-preserved c =
     }
 
 pub returns : goal.returns
-returns c =
+returns g c =
     let inside = c.self.inside in
     let now = c.loop-place.self-inside.places in
     let place = c.loop-place.place in

@@ -1,0 +1,191 @@
+-- The trigger frames that the master has to send go before everything that the nodes offer, one at once behind the other.
+use Rattle.std.proofs.Common.{◌≡◌, ◌≢◌, ℕ, ◌+◌, ◌*◌, ◌^◌, ◌<◌, ◌≤◌, Bool, true, false, cond, List, [], ◌∷◌, ◌++◌, length, map, get_or, All, AllPairs, Contains, Some, inl, inr, refl, sym, ap, ◌∙◌, subst, arith, append_assoc, append-nil}
+use Rattle.std.specs.Prelude.{fold, nat_le}
+use Rattle.std.proofs.lemmas.Bool.{cases_lt, eq-eqb, le-leb}
+use Rattle.std.proofs.lemmas.List.Elements.{All-contains, All-head, All-map, All-tail, Contains-append_cases}
+use Rattle.std.proofs.lemmas.List.Sums.{fold-append}
+use Rattle.can_frame.specs.DataFrame.{DataFrame}
+use Rattle.can_frame.specs.Wire.{wire_length}
+use Rattle.can_frame.specs.declared.data_frame.TimedFrame.{TimedFrame}
+use Rattle.cycle_layout.specs.Layout.{CycleLayout}
+use Rattle.requirement_table.specs.Instance.{worst}
+use Rattle.trigger_codec.specs.Bytes.{triggers_with}
+use Rattle.bus_line.specs.Trace.{Follows, IsNext, end_of, free_after}
+use Rattle.bus_line.specs.Stations.{IsOffered, offers_of, told}
+use Rattle.node_model.specs.Node.{IsNode, NodeState, after_hearing, node_offer, opening_identifier}
+use Rattle.cycle_engine.specs.Nodes.{heard_by}
+use Rattle.cycle_engine.specs.Stations.{DueTrigger, Stationed, all_hear, announced, cycle_line, due_from, frame_by_nodes, offered_by_nodes}
+use Rattle.cycle_engine.specs.SyncWindow.{nodes_alone}
+use Rattle.cycle_engine.proofs.Lists.{All-from_contains, AllPairs-head, AllPairs-tail, Contains-cases, Contains-from_filter_map, Contains-here, Contains-nil}
+use Rattle.cycle_engine.proofs.Hearing.{layout_kept, next_kept}
+use Rattle.cycle_engine.proofs.TriggerFrames.{AtOnce, StartAt, frames_short, low_ids, opens_last}
+
+pub map-same : {X : Type 0} (xs : List X) → map (λ x. x) xs ≡ xs
+map-same [] = refl
+map-same (x ∷ xs) = ap (λ ys. x ∷ ys) (map-same xs)
+
+pub map-twice : {X : Type 0} (f g : X → X) (xs : List X) → map g (map f xs) ≡ map (λ x. g (f x)) xs
+map-twice f g [] = refl
+map-twice f g (x ∷ xs) = ap (λ ys. g (f x) ∷ ys) (map-twice f g xs)
+
+-- nodes that hear one more frame first
+pub heard-first : (sent : TimedFrame) (later : List TimedFrame) (nodes : List NodeState) → heard_by later (all_hear nodes sent) ≡ heard_by (sent ∷ later) nodes
+heard-first sent later nodes = map-twice (λ node. after_hearing node sent) (λ node. fold after_hearing node later) nodes
+
+pub heard-twice : (frames later : List TimedFrame) (nodes : List NodeState) → heard_by later (heard_by frames nodes) ≡ heard_by (frames ++ later) nodes
+heard-twice [] later nodes = ap (heard_by later) (map-same nodes)
+heard-twice (sent ∷ frames) later nodes =
+    ap (heard_by later) (sym (heard-first sent frames nodes)) ∙ heard-twice frames later (all_hear nodes sent) ∙ heard-first sent (frames ++ later) nodes
+
+module _ (in_range : (node : NodeState) (at id : ℕ) → IsNode node → node_offer node at ≡ Some id → (0x100 ≤ id) × (id ≤ 0x7EF)) where
+  pub offers_range : (nodes : List NodeState) (at : ℕ) → All IsNode nodes → All (λ id. (0x100 ≤ id) × (id ≤ 0x7EF)) (offered_by_nodes nodes at)
+  offers_range nodes at are =
+      All-from_contains (λ id. (0x100 ≤ id) × (id ≤ 0x7EF)) (offered_by_nodes nodes at) (λ id has.
+      let found = Contains-from_filter_map (λ node. node_offer node at) nodes id has in
+      in_range found.0 at id (All-contains IsNode nodes found.0 are found.1) found.2)
+
+-- an identifier that one alone offers
+pub only_id : (b : Bool) (id other : ℕ) → Contains (cond b (id ∷ []) []) other → id ≡ other
+only_id true id other has = elim (Contains-cases id [] other has) [ inl same ↦ same | inr none ↦ absurd (Contains-nil other none) ]
+only_id false id other has = absurd (Contains-nil other has)
+
+-- what holds of nothing but the list being not empty
+pub of_some : {X : Type 0} (P : Type 0) (xs : List X) → xs ≢ [] → All (λ _. P) xs → P
+of_some P [] some all = absurd (some refl)
+of_some P (x ∷ xs) some all = All-head (λ _. P) x xs all
+
+-- frames that follow, cut behind the trigger frames
+pub record GoFirst (layout : CycleLayout) (frames : List DataFrame) (nodes : List NodeState) (before : Stationed) (sofar : List TimedFrame) (free until : ℕ) (all : List TimedFrame) : Type 0 where
+  pub sent : List TimedFrame
+  pub later : List TimedFrame
+  pub split : all ≡ sent ++ later
+  pub are : map (λ s. s.frame) sent ≡ frames
+  pub at_once : AtOnce free sent
+  pub now : told cycle_line before (sofar ++ sent) ≡ nodes_alone layout (heard_by sent nodes)
+  pub follows : Follows (offers_of cycle_line before) (sofar ++ sent) (free_after free sent) until later
+  pub known : All IsNode (heard_by sent nodes)
+
+-- trigger frames that nodes can hear: none but the last one opens a cycle, and each is short
+pub record CanBeHeard (layout : CycleLayout) (frames : List DataFrame) (nodes : List NodeState) : Type 0 where
+  pub first : All (λ frame. frame.identifier ≤ 1) frames
+  pub last : AllPairs (λ one other. one.identifier ≢ opening_identifier layout.slots) frames
+  pub short : All (λ frame. wire_length frame ≤ 135) frames
+  pub are : All IsNode nodes
+  pub layouts : All (λ node. node.layout ≡ layout) nodes
+  pub next : frames ≢ [] → All (λ node. node.next < 2 ^ 42) nodes
+
+-- nodes before a cycle can hear its trigger frames
+pub can-be-heard : (layout : CycleLayout) (cycle l mask : ℕ) → ((frame : DataFrame) → wire_length frame ≤ worst (length frame.bytes)) → (nodes : List NodeState) → cycle < 2 ^ 42
+    → All IsNode nodes → All (λ node. node.layout ≡ layout) nodes → All (λ node. node.next ≡ cycle) nodes → CanBeHeard layout (triggers_with layout.slots cycle l mask) nodes
+can-be-heard layout cycle l mask at_most nodes early are layouts at = record {
+  first = low_ids layout.slots cycle l mask;
+  last = opens_last layout.slots cycle l mask;
+  short = frames_short layout.slots cycle l mask at_most;
+  are = are;
+  layouts = layouts;
+  next = λ _ k d within. subst (λ c. c < 2 ^ 42) (sym (at k d within)) early;
+}
+
+module _ (layout : CycleLayout) (low : ℕ) where
+  -- the first of the trigger frames is offered from the time on
+  pub offers_announced : (frame : DataFrame) (later : List DataFrame) (nodes : List NodeState) (at : ℕ) → low ≤ at
+      → IsOffered cycle_line (announced layout low (frame ∷ later) nodes) at frame
+  offers_announced frame later nodes at late = record {
+    contends = subst (λ b. Contains ((cond b (frame.identifier ∷ []) []) ++ offered_by_nodes nodes at) frame.identifier)
+        (sym (le-leb low at late)) (Contains-here frame.identifier (offered_by_nodes nodes at));
+    framed = ap (λ b. cond b frame (frame_by_nodes nodes at frame.identifier)) (sym (eq-eqb frame.identifier frame.identifier refl));
+  }
+
+  -- behind it the others are left
+  pub next_announced : (frame : DataFrame) (later : List DataFrame) (nodes : List NodeState) (sent : TimedFrame) → sent.frame ≡ frame
+      → cycle_line.next (announced layout low (frame ∷ later) nodes) sent ≡ announced layout low later (all_hear nodes sent)
+  next_announced frame later nodes sent is =
+      let first : DueTrigger = record { at = low; frame = frame } in
+      ap (λ b. the_stations (cond b (due_from low later) (first ∷ due_from low later)) (all_hear nodes sent))
+      (eq-eqb frame.identifier sent.frame.identifier (ap (λ f. f.identifier) (sym is)))
+    where
+      the_stations : List DueTrigger → List NodeState → Stationed
+      the_stations triggers nodes = record { layout = layout; triggers = triggers; nodes = nodes }
+
+  module _ (in_range : (node : NodeState) (at id : ℕ) → IsNode node → node_offer node at ≡ Some id → (0x100 ≤ id) × (id ≤ 0x7EF)) where
+    -- it is sent at once
+    pub first_announced : (frame : DataFrame) (later : List DataFrame) (nodes : List NodeState) (before : Stationed) (sofar : List TimedFrame) (free until : ℕ) (sent : TimedFrame)
+        → low ≤ free → frame.identifier ≤ 1 → All IsNode nodes → told cycle_line before sofar ≡ announced layout low (frame ∷ later) nodes
+        → IsNext (offers_of cycle_line before) sofar free until sent → StartAt free sent × (sent.frame ≡ frame)
+    first_announced frame later nodes before sofar free until sent late first are now next =
+        let waiting = announced layout low (frame ∷ later) nodes in
+        let start : sent.start ≡ free = elim (cases_lt free sent.start) [
+          | inl gap ↦ absurd (next.first free frame (omega arith) gap (subst (λ s. IsOffered cycle_line s free frame) (sym now) (offers_announced frame later nodes free late)))
+          | inr no_gap ↦ omega (arith, no_gap, next.when_free)
+        ] in
+        let least : sent.frame.identifier ≤ frame.identifier =
+        next.least.least frame (subst (λ s. IsOffered cycle_line s sent.start frame) (sym now) (offers_announced frame later nodes sent.start (omega (arith, late, start)))) in
+        let offered = subst (λ s. IsOffered cycle_line s sent.start sent.frame) now next.least.offered in
+        let same : frame.identifier ≡ sent.frame.identifier =
+        elim (Contains-append_cases (cond (nat_le low sent.start) (frame.identifier ∷ []) []) (offered_by_nodes nodes sent.start) sent.frame.identifier offered.contends) [
+          | inl here ↦ only_id (nat_le low sent.start) frame.identifier sent.frame.identifier here
+          | inr there ↦ absurd (omega (
+            arith,
+            least,
+            first,
+            (All-contains (λ id. (0x100 ≤ id) × (id ≤ 0x7EF)) (offered_by_nodes nodes sent.start) sent.frame.identifier (offers_range in_range nodes sent.start are) there).0,
+          ))
+        ] in (
+          record { start = start; whole = next.whole },
+          offered.framed ∙ ap (λ b. cond b frame (frame_by_nodes nodes sent.start sent.frame.identifier)) (eq-eqb frame.identifier sent.frame.identifier same),
+        )
+
+    module _ (stays : (node : NodeState) (sent : TimedFrame) → (sent.frame.identifier ≡ opening_identifier node.layout.slots → node.next < 2 ^ 42) → IsNode node → IsNode (after_hearing node sent)) where
+      CanBeHeard-more : (frame : DataFrame) (later : List DataFrame) (nodes : List NodeState) (sent : TimedFrame) → sent.frame ≡ frame → CanBeHeard layout (frame ∷ later) nodes
+          → CanBeHeard layout later (all_hear nodes sent)
+      CanBeHeard-more frame later nodes sent is can =
+          let early = can.next (λ none. absurd (cc)) in
+          record {
+            first = All-tail (λ f. f.identifier ≤ 1) frame later can.first;
+            last = AllPairs-tail (λ one other. one.identifier ≢ opening_identifier layout.slots) frame later can.last;
+            short = All-tail (λ f. wire_length f ≤ 135) frame later can.short;
+            are = All-map IsNode (λ node. after_hearing node sent) nodes (λ k d within. stays (get_or nodes k d) sent (λ _. early k d within) (can.are k d within));
+            layouts = All-map (λ node. node.layout ≡ layout) (λ node. after_hearing node sent) nodes (λ k d within. layout_kept (get_or nodes k d) sent ∙ can.layouts k d within);
+            next = λ some.
+                let other : frame.identifier ≢ opening_identifier layout.slots =
+                of_some (frame.identifier ≢ opening_identifier layout.slots) later some (AllPairs-head (λ one two. one.identifier ≢ opening_identifier layout.slots) frame later can.last) in
+                All-map (λ node. node.next < 2 ^ 42) (λ node. after_hearing node sent) nodes (λ k d within.
+                subst (λ n. n < 2 ^ 42) (sym (next_kept (get_or nodes k d) sent (λ same.
+                other (ap (λ f. f.identifier) (sym is) ∙ same ∙ ap (λ l. opening_identifier l.slots) (can.layouts k d within))))) (early k d within));
+          }
+
+      pub go-first : (frames : List DataFrame) (nodes : List NodeState) (before : Stationed) (sofar : List TimedFrame) (free until : ℕ) (all : List TimedFrame)
+          → low ≤ free → free + length frames * 135 ≤ until → CanBeHeard layout frames nodes → told cycle_line before sofar ≡ announced layout low frames nodes
+          → Follows (offers_of cycle_line before) sofar free until all → GoFirst layout frames nodes before sofar free until all
+      go-first [] nodes before sofar free until all late room can now follows = record {
+        sent = [];
+        later = all;
+        split = refl;
+        are = refl;
+        at_once = tt;
+        now = ap (told cycle_line before) (append-nil sofar) ∙ now ∙ ap (nodes_alone layout) (sym (map-same nodes));
+        follows = subst (λ front. Follows (offers_of cycle_line before) front free until all) (sym (append-nil sofar)) follows;
+        known = subst (All IsNode) (sym (map-same nodes)) can.are;
+      }
+      go-first (frame ∷ rest) nodes before sofar free until [] late room can now nothing =
+          absurd (nothing free frame (omega arith) (omega (arith, room)) (subst (λ s. IsOffered cycle_line s free frame) (sym now) (offers_announced frame rest nodes free late)))
+      go-first (frame ∷ rest) nodes before sofar free until (sent ∷ all) late room can now (next, follows) =
+          let first = first_announced frame rest nodes before sofar free until sent late (All-head (λ f. f.identifier ≤ 1) frame rest can.first) can.are now next in
+          let starts : StartAt free sent = first.0 in
+          let is : sent.frame ≡ frame = first.1 in
+          let long : wire_length frame ≤ 135 = All-head (λ f. wire_length f ≤ 135) frame rest can.short in
+          let ended : end_of sent ≤ free + 135 = omega (arith, long, starts.start, starts.whole, ap wire_length is) in
+          let told_more : told cycle_line before (sofar ++ sent ∷ []) ≡ announced layout low rest (all_hear nodes sent) =
+          fold-append cycle_line.next before sofar (sent ∷ []) ∙ ap (λ s. cycle_line.next s sent) now ∙ next_announced frame rest nodes sent is in
+          let behind = go-first rest (all_hear nodes sent) before (sofar ++ sent ∷ []) (end_of sent) until all (omega (arith, late, starts.start)) (omega (arith, room, ended))
+          (CanBeHeard-more frame rest nodes sent is can) told_more follows in
+          record {
+            sent = sent ∷ behind.sent;
+            later = behind.later;
+            split = ap (λ fs. sent ∷ fs) behind.split;
+            are = ap (λ f. f ∷ map (λ s. s.frame) behind.sent) is ∙ ap (λ fs. frame ∷ fs) behind.are;
+            at_once = (starts, behind.at_once);
+            now = ap (told cycle_line before) (sym (append_assoc sofar (sent ∷ []) behind.sent)) ∙ behind.now ∙ ap (nodes_alone layout) (heard-first sent behind.sent nodes);
+            follows = subst (λ front. Follows (offers_of cycle_line before) front (free_after (end_of sent) behind.sent) until behind.later) (append_assoc sofar (sent ∷ []) behind.sent) behind.follows;
+            known = subst (All IsNode) (heard-first sent behind.sent nodes) behind.known;
+          }

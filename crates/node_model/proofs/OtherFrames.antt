@@ -1,0 +1,43 @@
+-- A frame that is none of the trigger frames, as a node hears it; and what holds after each kind of frame.
+use Rattle.std.proofs.Common.{◌≡◌, ℕ, ◌-◌, ◌<◌, ◌==◌, Bool, true, false, cond, eqb, refl, ◌∙◌, arith}
+use Rattle.std.proofs.lemmas.Bool.{cond-false, eqb-true, ne_eqb}
+use Rattle.can_frame.specs.declared.data_frame.TimedFrame.{TimedFrame}
+use Rattle.node_model.specs.Opening.{first_identifier}
+use Rattle.node_model.specs.Node.{NodeState, after_hearing, after_noting, after_opening, after_request, after_slot, is_own_slot, opening_identifier}
+use Rattle.node_model.specs.Own.{counting}
+
+small-opening : (one : Bool) → cond one 0 1 < 2
+small-opening true = omega arith
+small-opening false = omega arith
+
+-- an identifier above 1 opens no cycle
+pub no-opening : (slots id : ℕ) → 1 < id → (id == opening_identifier slots) ≡ false
+no-opening slots id above = ne_eqb id (opening_identifier slots) (λ same. omega (arith, same, above, small-opening (eqb slots 40)))
+
+-- a frame of such an identifier is one of a slot, or takes away a request, where the node has one
+pub other-frame : (node : NodeState) (sent : TimedFrame) → 1 < sent.frame.identifier
+    → after_hearing node sent
+    ≡ cond (is_own_slot node.entries sent.frame.identifier) (after_slot (counting node) (sent.frame.identifier - first_identifier))
+    (after_request (counting node) sent.frame.identifier)
+other-frame node sent above =
+    cond-false (sent.frame.identifier == opening_identifier node.layout.slots) _ _ (no-opening node.layout.slots sent.frame.identifier above)
+    ∙ cond-false (sent.frame.identifier == 0) _ _ (ne_eqb _ _ (λ zero. omega (arith, zero, above)))
+
+conds : (P : NodeState → Type 0) (b c d : Bool) (w x y z : NodeState) → (b ≡ true → P w) → (b ≡ false → c ≡ true → P x) → P y → P z
+    → P (cond b w (cond c x (cond d y z)))
+conds P true c d w x y z one two three four = one refl
+conds P false true d w x y z one two three four = two refl refl
+conds P false false true w x y z one two three four = three
+conds P false false false w x y z one two three four = four
+
+-- what holds after each kind of frame holds after a frame
+pub after_hearing-keeps : (P : NodeState → Type 0) (node : NodeState) (sent : TimedFrame)
+    → (sent.frame.identifier ≡ opening_identifier node.layout.slots → P (after_opening (counting node) sent.frame))
+    → ((sent.frame.identifier == opening_identifier node.layout.slots) ≡ false → sent.frame.identifier ≡ 0 → P (after_noting (counting node) sent.frame))
+    → P (after_slot (counting node) (sent.frame.identifier - first_identifier))
+    → P (after_request (counting node) sent.frame.identifier)
+    → P (after_hearing node sent)
+after_hearing-keeps P node sent opening noting slot request =
+    conds P (sent.frame.identifier == opening_identifier node.layout.slots) (sent.frame.identifier == 0)
+    (is_own_slot node.entries sent.frame.identifier) _ _ _ _
+    (λ test. opening (eqb-true _ _ test)) (λ other test. noting other (eqb-true sent.frame.identifier 0 test)) slot request

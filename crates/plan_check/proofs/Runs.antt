@@ -1,0 +1,288 @@
+-- Runs of masks: the runs of a list are what the version lists, and what it lists are the runs of a list.
+use Rattle.std.proofs.Common.{◌≡◌, ◌≢◌, ℕ, zero, suc, ◌+◌, ◌-◌, ◌^◌, ◌<◌, ◌≤◌, true, nat_eq, List, [], ◌∷◌, ◌++◌, All, Option, Some, None, drop, get_or, length, map, replicate, refl, sym, ap, ◌∙◌, subst, inl, inr, arith, append_assoc}
+use Rattle.std.proofs.lemmas.Bool.{cases_Bool, eqb-true, eq-eqb}
+use Rattle.std.proofs.lemmas.List.{get_or_default, length-append, length-replicate}
+use Rattle.std.proofs.lemmas.List.Elements.{All-append, All-head, All-nil, All-replicate, All-tail}
+use Rattle.std.proofs.Math.Seq.{drop-cons, drop-length}
+use Rattle.plan_check.specs.declared.plan_runs.Run.{Run}
+use Rattle.plan_check.specs.declared.plan_runs.Version.{Version}
+use Rattle.plan_check.specs.declared.plan_runs.Version.TheVariants.{One, Two}
+use Rattle.plan_check.specs.PlanText.{AreListed, joined, last_mask, listed_runs, mask_bound, runs_of, spread, total}
+
+pub mask-small : (version : Version) (m : ℕ) → m < mask_bound version → m < 2 ^ 96
+mask-small One m small = omega arith
+mask-small Two m small = small
+
+pub mask-wider : (version : Version) (m : ℕ) → m < mask_bound version → m < mask_bound Two
+mask-wider One m small = omega arith
+mask-wider Two m small = small
+
+pub few-masks : (version : Version) (m : ℕ) → m < 2 → m < mask_bound version
+few-masks One m small = omega arith
+few-masks Two m small = omega arith
+
+abbrev pub single : ℕ → Run
+single mask = record { mask = mask; count = 1 }
+
+-- Runs one behind the other
+
+pub listed-append : (version : Version) (last : Option ℕ) (runs more : List Run) → AreListed version last runs → AreListed version (last_mask last runs) more
+    → AreListed version last (runs ++ more)
+listed-append version last [] more front back = back
+listed-append version last (run ∷ runs) more front back = (front.0, listed-append version (Some run.mask) runs more front.1 back)
+
+pub listed-behind : (version : Version) (last : Option ℕ) (runs more : List Run) → AreListed version last (runs ++ more) → AreListed version (last_mask last runs) more
+listed-behind version last [] more all = all
+listed-behind version last (run ∷ runs) more all = listed-behind version (Some run.mask) runs more all.1
+
+pub total-append : (runs more : List Run) → total (runs ++ more) ≡ total runs + total more
+total-append [] more = let none : total more ≡ 0 + total more = omega arith in none
+total-append (run ∷ runs) more = let rest = total-append runs more in omega arith
+
+pub spread-append : (runs more : List Run) → spread (runs ++ more) ≡ spread runs ++ spread more
+spread-append [] more = refl
+spread-append (run ∷ runs) more =
+    ap (λ l. replicate run.count run.mask ++ l) (spread-append runs more) ∙ sym (append_assoc (replicate run.count run.mask) (spread runs) (spread more))
+
+pub length-spread : (runs : List Run) → length (spread runs) ≡ total runs
+length-spread [] = refl
+length-spread (run ∷ runs) =
+    let rest = length-spread runs in
+    let here : length (replicate run.count run.mask) ≡ run.count = length-replicate run.count run.mask in
+    let whole = length-append (replicate run.count run.mask) (spread runs) in
+    omega arith
+
+pub last-append : (last : Option ℕ) (runs : List Run) (run : Run) → last_mask last (runs ++ run ∷ []) ≡ Some run.mask
+last-append last [] run = refl
+last-append last (other ∷ runs) run = last-append (Some other.mask) runs run
+
+pub masks-below : (version : Version) (last : Option ℕ) (runs : List Run) → AreListed version last runs → All (λ m. m < mask_bound version) (spread runs)
+masks-below version last [] listed = All-nil (λ m. m < mask_bound version)
+masks-below version last (run ∷ runs) listed =
+    All-append (λ m. m < mask_bound version) (replicate run.count run.mask) (spread runs)
+    (All-replicate (λ m. m < mask_bound version) run.count run.mask listed.0.below)
+    (masks-below version (Some run.mask) runs listed.1)
+
+-- no cycle is left for runs behind these
+pub none-left : (version : Version) (last : Option ℕ) (runs : List Run) → AreListed version last runs → total runs ≡ 0 → runs ≡ []
+none-left version last [] listed none = refl
+none-left version last (run ∷ runs) listed none = let some = listed.0.some in absurd (omega arith)
+
+-- What a list of masks has as its runs
+
+spread-joined : (mask : ℕ) (runs : List Run) → spread (joined mask runs) ≡ mask ∷ spread runs
+spread-joined mask [] = refl
+spread-joined mask (run ∷ runs) =
+    elim (cases_Bool (nat_eq mask run.mask)) [
+      | inl same ↦
+          let is : mask ≡ run.mask = eqb-true mask run.mask same in
+          let next : run.count + 1 ≡ suc run.count = omega arith in
+          rw same (ap (λ n. replicate n mask ++ spread runs) next ∙ ap (λ m. mask ∷ (replicate run.count m ++ spread runs)) is)
+      | inr other ↦ rw other refl
+    ]
+
+listed-joined : (mask : ℕ) (runs : List Run) → mask < mask_bound Two → AreListed Two None runs → AreListed Two None (joined mask runs)
+listed-joined mask [] small listed = (record { below = small; some = omega arith; follows = tt }, tt)
+listed-joined mask (run ∷ runs) small listed =
+    elim (cases_Bool (nat_eq mask run.mask)) [
+      | inl same ↦
+          let is : run.mask ≡ mask = sym (eqb-true mask run.mask same) in
+          rw same (record { below = small; some = omega arith; follows = tt }, subst (λ m. AreListed Two (Some m) runs) is listed.1)
+      | inr other ↦
+          let differs : mask ≢ run.mask = λ is. let test = eq-eqb mask run.mask is in absurd (cc) in
+          rw other (
+            record { below = small; some = omega arith; follows = tt },
+            (record { below = listed.0.below; some = listed.0.some; follows = differs }, listed.1),
+          )
+    ]
+
+pub spread-listed : (version : Version) (masks : List ℕ) → spread (listed_runs version masks) ≡ masks
+unfolding runs_of
+spread-listed One [] = refl
+spread-listed One (mask ∷ masks) = ap (λ l. mask ∷ l) (spread-listed One masks)
+spread-listed Two [] = refl
+spread-listed Two (mask ∷ masks) = spread-joined mask (runs_of masks) ∙ ap (λ l. mask ∷ l) (spread-listed Two masks)
+
+listed-one : (last : Option ℕ) (masks : List ℕ) → All (λ m. m < mask_bound One) masks → AreListed One last (listed_runs One masks)
+listed-one last [] small = tt
+listed-one last (mask ∷ masks) small =
+    let P : ℕ → Type 0 = λ m. m < mask_bound One in
+    (record { below = All-head P mask masks small; some = omega arith; follows = refl }, listed-one (Some mask) masks (All-tail P mask masks small))
+
+listed-two : (masks : List ℕ) → All (λ m. m < mask_bound Two) masks → AreListed Two None (runs_of masks)
+unfolding runs_of
+listed-two [] small = tt
+listed-two (mask ∷ masks) small =
+    let P : ℕ → Type 0 = λ m. m < mask_bound Two in
+    listed-joined mask (runs_of masks) (All-head P mask masks small) (listed-two masks (All-tail P mask masks small))
+
+pub listed-are : (version : Version) (masks : List ℕ) → All (λ m. m < mask_bound version) masks → AreListed version None (listed_runs version masks)
+listed-are One masks small = listed-one None masks small
+listed-are Two masks small = listed-two masks small
+
+-- the runs have as many cycles as there are masks
+pub total-listed : (version : Version) (masks : List ℕ) → total (listed_runs version masks) ≡ length masks
+total-listed version masks = sym (length-spread (listed_runs version masks)) ∙ ap length (spread-listed version masks)
+
+-- What is listed are the runs of the masks
+
+-- the first run has another mask
+abbrev IsOther : ℕ → List Run → Type 0
+IsOther mask [] = Unit {0}
+IsOther mask (run ∷ runs) = mask ≢ run.mask
+
+joined-other : (mask : ℕ) (runs : List Run) → IsOther mask runs → joined mask runs ≡ single mask ∷ runs
+joined-other mask [] other = refl
+joined-other mask (run ∷ runs) other =
+    elim (cases_Bool (nat_eq mask run.mask)) [
+      | inl same ↦ absurd (other (eqb-true mask run.mask same))
+      | inr differs ↦ rw differs refl
+    ]
+
+abbrev pub run_with : ℕ → ℕ → Run
+run_with mask count = record { mask = mask; count = count }
+
+joined-same : (mask count : ℕ) (runs : List Run) → joined mask (run_with mask count ∷ runs) ≡ run_with mask (count + 1) ∷ runs
+joined-same mask count runs = let same : nat_eq mask mask ≡ true = eq-eqb mask mask refl in rw same refl
+
+pub runs-of_run : (count mask : ℕ) (masks : List ℕ) → IsOther mask (runs_of masks) → 1 ≤ count
+    → runs_of (replicate count mask ++ masks) ≡ run_with mask count ∷ runs_of masks
+unfolding runs_of
+runs-of_run zero mask masks other some = absurd (omega arith)
+runs-of_run (suc zero) mask masks other some = joined-other mask (runs_of masks) other
+runs-of_run (suc (suc count)) mask masks other some =
+    let next : suc count + 1 ≡ suc (suc count) = omega arith in
+    ap (joined mask) (runs-of_run (suc count) mask masks other (omega arith))
+    ∙ joined-same mask (suc count) (runs_of masks)
+    ∙ ap (λ n. run_with mask n ∷ runs_of masks) next
+
+-- The run that begins at a place of a list
+
+other-joined : (mask x : ℕ) (runs : List Run) → mask ≢ x → IsOther mask (joined x runs)
+other-joined mask x [] other = other
+other-joined mask x (run ∷ runs) other =
+    elim (cases_Bool (nat_eq x run.mask)) [
+      | inl same ↦ rw same other
+      | inr differs ↦ rw differs other
+    ]
+
+other-runs : (mask x : ℕ) (masks : List ℕ) → mask ≢ x → IsOther mask (runs_of (x ∷ masks))
+unfolding runs_of
+other-runs mask x masks other = other-joined mask x (runs_of masks) other
+
+runs-of_nothing : (mask : ℕ) → IsOther mask (runs_of [])
+unfolding runs_of
+runs-of_nothing mask = tt
+
+item-cons : (masks : List ℕ) (k x : ℕ) → k < length masks → x ≡ get_or masks k x → drop k masks ≡ x ∷ drop (k + 1) masks
+item-cons masks k x within is =
+    let next : suc k ≡ k + 1 = omega arith in
+    drop-cons masks k x within ∙ ap (λ h. h ∷ drop (suc k) masks) (sym is) ∙ ap (λ n. x ∷ drop n masks) next
+
+replicate-more : (n m : ℕ) (rest : List ℕ) → replicate n m ++ m ∷ rest ≡ replicate (suc n) m ++ rest
+replicate-more zero m rest = refl
+replicate-more (suc n) m rest = ap (λ l. m ∷ l) (replicate-more n m rest)
+
+module _ (masks : List ℕ) (start place m first : ℕ) (some : start < place) (first_is : m ≡ first) (at : first ≡ get_or masks start first)
+    (within : start < length masks) (run : drop start masks ≡ replicate (place - start) m ++ drop place masks) where
+  run-by : IsOther m (runs_of (drop place masks))
+      → runs_of (drop start masks) ≡ run_with (get_or masks start 0) (place - start) ∷ runs_of (drop place masks)
+  run-by other =
+      let mask : m ≡ get_or masks start 0 = first_is ∙ at ∙ get_or_default masks start first 0 within in
+      ap runs_of run
+      ∙ runs-of_run (place - start) m (drop place masks) other (omega arith)
+      ∙ ap (λ x. run_with x (place - start) ∷ runs_of (drop place masks)) mask
+
+  pub run-ends : (x : ℕ) → place < length masks → x ≡ get_or masks place x → (x ≡ m → ⊥)
+      → runs_of (drop start masks) ≡ run_with (get_or masks start 0) (place - start) ∷ runs_of (drop place masks)
+  run-ends x inside is other =
+      let P : List ℕ → Type 0 = λ l. IsOther m (runs_of l) in
+      run-by (subst P (sym (item-cons masks place x inside is)) (other-runs m x (drop (place + 1) masks) (λ same. other (sym same))))
+
+  pub run-all : place ≡ length masks
+      → runs_of (drop start masks) ≡ run_with (get_or masks start 0) (place - start) ∷ runs_of (drop place masks)
+  run-all all =
+      let none : drop place masks ≡ [] = ap (λ k. drop k masks) all ∙ drop-length masks in
+      let P : List ℕ → Type 0 = λ l. IsOther m (runs_of l) in
+      run-by (subst P (sym none) (runs-of_nothing m))
+
+  pub run-longer : (x : ℕ) → place < length masks → x ≡ get_or masks place x → x ≡ m
+      → drop start masks ≡ replicate (place + 1 - start) m ++ drop (place + 1) masks
+  run-longer x inside is same =
+      let count : suc (place - start) ≡ place + 1 - start = omega arith in
+      run
+      ∙ ap (λ l. replicate (place - start) m ++ l) (item-cons masks place x inside is)
+      ∙ ap (λ y. replicate (place - start) m ++ y ∷ drop (place + 1) masks) same
+      ∙ replicate-more (place - start) m (drop (place + 1) masks)
+      ∙ ap (λ n. replicate n m ++ drop (place + 1) masks) count
+
+-- the run of one mask
+pub run-start : (masks : List ℕ) (start m first : ℕ) → start < length masks → m ≡ first → first ≡ get_or masks start first
+    → drop start masks ≡ replicate (start + 1 - start) m ++ drop (start + 1) masks
+run-start masks start m first within is at =
+    let one : 1 ≡ start + 1 - start = omega arith in
+    item-cons masks start first within at
+    ∙ ap (λ x. x ∷ drop (start + 1) masks) (sym is)
+    ∙ ap (λ n. replicate n m ++ drop (start + 1) masks) one
+
+pub no-runs : (masks : List ℕ) (k : ℕ) → length masks ≤ k → k ≤ length masks → runs_of (drop k masks) ≡ []
+unfolding runs_of
+no-runs masks k behind within =
+    let all : k ≡ length masks = omega arith in
+    ap (λ n. runs_of (drop n masks)) all ∙ ap runs_of (drop-length masks)
+
+other-listed : (mask : ℕ) (runs : List Run) → AreListed Two (Some mask) runs → IsOther mask runs
+other-listed mask [] listed = tt
+other-listed mask (run ∷ runs) listed = listed.0.follows
+
+runs-two : (last : Option ℕ) (runs : List Run) → AreListed Two last runs → runs_of (spread runs) ≡ runs
+unfolding runs_of
+runs-two last [] listed = refl
+runs-two last (run ∷ runs) listed =
+    let rest = runs-two (Some run.mask) runs listed.1 in
+    let other : IsOther run.mask (runs_of (spread runs)) = subst (IsOther run.mask) (sym rest) (other-listed run.mask runs listed.1) in
+    runs-of_run run.count run.mask (spread runs) other listed.0.some ∙ ap (λ l. run ∷ l) rest
+
+runs-one : (last : Option ℕ) (runs : List Run) → AreListed One last runs → listed_runs One (spread runs) ≡ runs
+runs-one last [] listed = refl
+runs-one last (run ∷ runs) listed =
+    ap (λ n. map single (replicate n run.mask ++ spread runs)) listed.0.follows
+    ∙ ap (λ n. run_with run.mask n ∷ map single (spread runs)) (sym listed.0.follows)
+    ∙ ap (λ l. run ∷ l) (runs-one (Some run.mask) runs listed.1)
+
+pub listed-spread : (version : Version) (runs : List Run) → AreListed version None runs → listed_runs version (spread runs) ≡ runs
+listed-spread One runs listed = runs-one None runs listed
+listed-spread Two runs listed = runs-two None runs listed
+
+-- Runs of so many cycles that may follow
+
+pub other_mask : Option ℕ → ℕ
+other_mask None = 0
+other_mask (Some zero) = 1
+other_mask (Some (suc mask)) = 0
+
+abbrev pub filling : Version → Option ℕ → ℕ → List Run
+filling One last n = map single (replicate n 0)
+filling Two last zero = []
+filling Two last (suc n) = run_with (other_mask last) (suc n) ∷ []
+
+filled-one : (last : Option ℕ) (n : ℕ) → AreListed One last (map single (replicate n 0))
+filled-one last zero = tt
+filled-one last (suc n) = (record { below = omega arith; some = omega arith; follows = refl }, filled-one (Some 0) n)
+
+filled-two : (last : Option ℕ) (n : ℕ) → AreListed Two last (filling Two last n)
+unfolding other_mask
+filled-two last zero = tt
+filled-two None (suc n) = (record { below = omega arith; some = omega arith; follows = tt }, tt)
+filled-two (Some zero) (suc n) = (record { below = omega arith; some = omega arith; follows = λ same. absurd (omega arith) }, tt)
+filled-two (Some (suc mask)) (suc n) = (record { below = omega arith; some = omega arith; follows = λ same. absurd (omega arith) }, tt)
+
+pub filling-listed : (version : Version) (last : Option ℕ) (n : ℕ) → AreListed version last (filling version last n)
+filling-listed One last n = filled-one last n
+filling-listed Two last n = filled-two last n
+
+pub filling-total : (version : Version) (last : Option ℕ) (n : ℕ) → total (filling version last n) ≡ n
+filling-total One last zero = refl
+filling-total One last (suc n) = let rest = filling-total One last n in omega arith
+filling-total Two last zero = refl
+filling-total Two last (suc n) = let none : suc n + 0 ≡ suc n = omega arith in none

@@ -1,0 +1,27 @@
+use Rattle.plan_check.proofs.LineReads.{counted-parts, counted-same}
+use Rattle.plan_check.proofs.Spaces.{no_space}
+use Rattle.text_fields.specs.MaskText.{mask_digits}
+use Rattle.std.specs.Fmt.{decimal}
+use Rattle.std.proofs.Common.{◌∙◌}
+use Rattle.plan_check.proofs.plan_reading.counted_of.Goals as goal
+
+pub returns-in_err-digits-clause-none : goal.returns-in_err-digits-clause-none
+returns-in_err-digits-clause-none c =
+    rw c.from_residual.ensures
+    (λ run of is. no_space c.args.line.now (mask_digits run.mask) (decimal run.count) c.in_err-digits.ensures.none (is ∙ counted-parts run.mask run.count))
+
+pub returns-in_err-mask-clause-none : goal.returns-in_err-mask-clause-none
+returns-in_err-mask-clause-none c =
+    rw c.from_residual-in_err-mask.ensures
+    (λ run of is.
+    c.in_err-mask.ensures.none run.mask of.below
+    (counted-same c.args.line.now c.in_ok-digits.digits.now c.in_ok-digits.behind.now run.mask run.count c.in_ok-digits.ensures.split
+    c.in_ok-digits.ensures.front is).0)
+
+pub returns-in_err-count-clause-none : goal.returns-in_err-count-clause-none
+returns-in_err-count-clause-none c =
+    rw c.from_residual-in_err-count.ensures
+    (λ run of is.
+    c.in_err-count.ensures.none run.count of.small
+    (counted-same c.args.line.now c.in_ok-digits.digits.now c.in_ok-digits.behind.now run.mask run.count c.in_ok-digits.ensures.split
+    c.in_ok-digits.ensures.front is).1)

@@ -1,0 +1,85 @@
+-- One pass over a line with the filling `Skip`.
+use Rattle.std.proofs.Common.{◌≡◌, ℕ, ◌+◌, ◌-◌, ◌<◌, ◌≤◌, ◌||◌, Bool, true, false, nat_eq, nat_le, if◌then◌else◌, Option, List, [], ◌∷◌, ◌++◌, refl, sym, ap, ◌∙◌, arith}
+use Rattle.std.specs.List.{list_any}
+use Rattle.std.proofs.lemmas.Bool.{eq-eqb, eqb-true, le-leb, lt-leb}
+use Rattle.std.proofs.lemmas.List.{append-nil}
+use Rattle.std.proofs.lemmas.List.Folds.{list_any-append}
+use Rattle.std.proofs.lemmas.List.Sums.{sum_by-append, sum_by-cons}
+use Rattle.requirement_table.specs.Slots.{contains_slot}
+use Rattle.planner_policies.specs.declared.Fill.TheVariants.{Skip}
+use Rattle.planner_policies.specs.declared.due.Due.{Due}
+use Rattle.planner_policies.specs.declared.state.Miss.{Miss}
+use Rattle.planner_policies.specs.Due.{IsLeastMissed, left_of, taken_of, with_missed}
+use Rattle.planner_policies.proofs.DueSlots.{has_slot}
+use Rattle.planner_policies.proofs.TakenEach.{cost_of, left-append, taken-append}
+use Rattle.planner_policies.proofs.Filling.{same-test}
+use Rattle.planner_policies.proofs.Missed.{least_missed-with}
+
+-- the set has the slots of the instances
+abbrev pub HasSlots : ℕ → List Due → Type 0
+HasSlots mask line = (slot : ℕ) → contains_slot mask slot ≡ list_any (has_slot slot) line
+
+-- what is taken of the instances so far, and what is left
+pub record HasGone (window c : ℕ) (line : List Due) (width mask others : ℕ) (least : Option Miss) : Type 0 where
+  pub width_is : width ≡ cost_of (taken_of Skip window line)
+  pub fits : width ≤ window
+  pub taken : HasSlots mask (taken_of Skip window line)
+  pub left : HasSlots others (left_of Skip window line)
+  pub least_is : IsLeastMissed c (left_of Skip window line) least
+
+one-more : (slot : ℕ) (line : List Due) (d : Due) → list_any (has_slot slot) (line ++ d ∷ []) ≡ (nat_eq slot d.slot || list_any (has_slot slot) line)
+one-more slot line d =
+    list_any-append (has_slot slot) line (d ∷ [])
+    ∙ turned (list_any (has_slot slot) line) (nat_eq d.slot slot)
+    ∙ ap (λ b. b || list_any (has_slot slot) line)
+    (same-test (nat_eq d.slot slot) (nat_eq slot d.slot) (λ same. eq-eqb slot d.slot (sym (eqb-true d.slot slot same))) (λ same. eq-eqb d.slot slot (sym (eqb-true slot d.slot same))))
+  where
+    turned : (a b : Bool) → (a || (b || false)) ≡ (b || a)
+    turned true true = refl
+    turned true false = refl
+    turned false true = refl
+    turned false false = refl
+
+module _ (window c : ℕ) (line : List Due) (d : Due) (width mask others : ℕ) (least : Option Miss) (gone : HasGone window c line width mask others least) where
+  room : window - cost_of (taken_of Skip window line) ≡ window - width
+  room = let is = gone.width_is in omega arith
+
+  -- one more instance that fits
+  pub gone-take : (with' : ℕ) → d.cost ≤ window - width → ((slot : ℕ) → contains_slot with' slot ≡ (nat_eq slot d.slot || contains_slot mask slot))
+      → HasGone window c (line ++ d ∷ []) (width + d.cost) with' others least
+  gone-take with' fits made =
+      let small : nat_le d.cost (window - cost_of (taken_of Skip window line)) ≡ true = rw room (le-leb d.cost (window - width) fits) in
+      let taken : taken_of Skip window (line ++ d ∷ []) ≡ taken_of Skip window line ++ d ∷ []
+      = taken-append window line (d ∷ []) ∙ ap (λ b. taken_of Skip window line ++ (if b then d ∷ [] else [])) small in
+      let left : left_of Skip window (line ++ d ∷ []) ≡ left_of Skip window line
+      = left-append window line (d ∷ []) ∙ ap (λ b. left_of Skip window line ++ (if b then [] else d ∷ [])) small ∙ append-nil (left_of Skip window line) in
+      let is = gone.width_is in
+      let sum = sum_by-append (λ (due : Due). due.cost) (taken_of Skip window line) (d ∷ []) in
+      let one = sum_by-cons (λ (due : Due). due.cost) d [] in
+      let room_fits = gone.fits in
+      record {
+        width_is = rw taken (omega arith);
+        fits = omega arith;
+        taken = λ slot. made slot ∙ ap (λ b. nat_eq slot d.slot || b) (gone.taken slot) ∙ sym (one-more slot (taken_of Skip window line) d)
+            ∙ ap (list_any (has_slot slot)) (sym taken);
+        left = λ slot. gone.left slot ∙ ap (list_any (has_slot slot)) (sym left);
+        least_is = rw left gone.least_is;
+      }
+
+  -- one more instance that does not fit
+  pub gone-leave : (with' : ℕ) → window - width < d.cost → ((slot : ℕ) → contains_slot with' slot ≡ (nat_eq slot d.slot || contains_slot others slot))
+      → HasGone window c (line ++ d ∷ []) width mask with' (with_missed c least d)
+  gone-leave with' wide made =
+      let big : nat_le d.cost (window - cost_of (taken_of Skip window line)) ≡ false = rw room (lt-leb d.cost (window - width) wide) in
+      let taken : taken_of Skip window (line ++ d ∷ []) ≡ taken_of Skip window line
+      = taken-append window line (d ∷ []) ∙ ap (λ b. taken_of Skip window line ++ (if b then d ∷ [] else [])) big ∙ append-nil (taken_of Skip window line) in
+      let left : left_of Skip window (line ++ d ∷ []) ≡ left_of Skip window line ++ d ∷ []
+      = left-append window line (d ∷ []) ∙ ap (λ b. left_of Skip window line ++ (if b then [] else d ∷ [])) big in
+      record {
+        width_is = rw taken gone.width_is;
+        fits = gone.fits;
+        taken = λ slot. gone.taken slot ∙ ap (list_any (has_slot slot)) (sym taken);
+        left = λ slot. made slot ∙ ap (λ b. nat_eq slot d.slot || b) (gone.left slot) ∙ sym (one-more slot (left_of Skip window line) d)
+            ∙ ap (list_any (has_slot slot)) (sym left);
+        least_is = rw left (least_missed-with c (left_of Skip window line) d least gone.least_is);
+      }

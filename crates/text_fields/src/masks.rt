@@ -1,0 +1,106 @@
+//! The text of a set of slots: the hexadecimal digits of the number whose bit s is slot s.
+//!
+//! A set has ten digits where all its slots are below 40, and 24 otherwise. So a set has one text.
+
+ghost use Rattle.std.specs.Prelude.{◌≡◌, ℕ, ◌+◌, ◌%◌, ◌^◌, ◌<◌, ◌≤◌, ◌++◌};
+ghost use Rattle.std.specs.Prelude.{IfSome, IfNone, OnOk, Some, List, drop};
+ghost use Rattle.std.specs.String.{string_bytes};
+ghost use Rattle.text_fields.specs.Hexadecimal.{hex_digits};
+ghost use Rattle.text_fields.specs.MaskText.{mask_digits, mask_of, mask_width};
+
+use crate::hexadecimal::{push_hex, read_hex};
+use crate::row_parts::{ROOM, put_hex};
+use std::alloc::AllocError;
+
+/// The number of digits of a set with slots below 40 alone.
+const FEW_DIGITS: u8 = 10;
+
+/// The number of digits of any other set.
+const ALL_DIGITS: u8 = 24;
+
+/// The number above those of all sets with slots below 40 alone.
+const ABOVE_FEW: u128 = 1 << 40;
+
+/// The number above those of sixteen digits.
+const LOW_NUMBERS: u128 = 1 << 64;
+
+/// The number of digits of a set.
+fn mask_width(mask: u128) -> u8
+    ensures value { result ≡ mask_width mask }
+    ensures even { result % 2 ≡ 0 }
+    ensures few { result ≤ 24 }
+{
+    if mask < ABOVE_FEW {
+        FEW_DIGITS
+    } else {
+        ALL_DIGITS
+    }
+}
+
+/// Puts the digits of a set before what stands in a row.
+#[inline(always)]
+pub fn put_mask(row: &mut [u8; ROOM], end: usize, mask: u128) -> usize
+    requires room { 24 ≤ end }
+    requires within { end ≤ 128 }
+    ensures start { result ≤ end }
+    ensures few { end ≤ result + 24 }
+    ensures row { drop result row.new ≡ mask_digits mask ++ drop end row.old }
+{
+    put_hex(row, end, mask, mask_width(mask))
+}
+
+/// Appends the eight digits of a number.
+fn push_high_digits(text: &mut String, number: u64) -> Result<(), AllocError>
+    requires small { number < 16 ^ 8 }
+    ensures ok { OnOk result (string_bytes text.new ≡ string_bytes text.old ++ hex_digits 8 number) }
+{
+    write!(text, "{number:08x}")
+}
+
+/// Appends the sixteen digits of a number.
+fn push_low_digits(text: &mut String, number: u64) -> Result<(), AllocError>
+    ensures ok { OnOk result (string_bytes text.new ≡ string_bytes text.old ++ hex_digits 16 number) }
+{
+    write!(text, "{number:016x}")
+}
+
+/// Appends the 24 digits of a number.
+fn push_all_digits(text: &mut String, number: u128) -> Result<(), AllocError>
+    requires small { number < 2 ^ 96 }
+    ensures ok { OnOk result (string_bytes text.new ≡ string_bytes text.old ++ hex_digits 24 number) }
+{
+    push_high_digits(text, (number / LOW_NUMBERS) as u64)?;
+    push_low_digits(text, (number % LOW_NUMBERS) as u64)
+}
+
+/// Appends the digits of a set.
+pub fn push_mask(text: &mut String, mask: u128) -> Result<(), AllocError>
+    requires small { mask < 2 ^ 96 }
+    ensures ok { OnOk result (string_bytes text.new ≡ string_bytes text.old ++ mask_digits mask) }
+{
+    if mask < ABOVE_FEW {
+        push_hex(text, mask as u64)
+    } else {
+        push_all_digits(text, mask)
+    }
+}
+
+/// The set that a field writes, in the one form that a writer gives.
+pub fn read_mask(field: &[u8]) -> Option<u128>
+    ensures value { result ≡ mask_of field.now }
+    ensures small { IfSome result (λ mask. mask < 2 ^ 96) }
+    ensures found { IfSome result (λ mask. field.now ≡ mask_digits mask) }
+    ensures none { IfNone result ((mask : ℕ) → mask < 2 ^ 96 → field.now ≡ mask_digits mask → ⊥) }
+{
+    if field.len() == usize::from(FEW_DIGITS) {
+        return read_hex(field, usize::from(FEW_DIGITS));
+    }
+    let mask = read_hex(field, usize::from(ALL_DIGITS))?;
+    if ABOVE_FEW <= mask { Some(mask) } else { None }
+}
+
+/// Law: what is written of a set is read as that set, and a set has no other text.
+pub fn masks_are_read()
+    ensures written { (mask : ℕ) → mask < 2 ^ 96 → mask_of (mask_digits mask) ≡ Some mask }
+    ensures one_text { (field : List ℕ) (mask : ℕ) → mask_of field ≡ Some mask → field ≡ mask_digits mask }
+{}
