@@ -1,0 +1,318 @@
+-- What may follow one history may follow another one with the same core.
+use Rattle.std.proofs.Common.{◌≡◌, ℕ, ◌≤◌, Bool, true, false, if◌then◌else◌, List, [], ◌∷◌, ◌++◌, map, refl, sym, ap, ◌∙◌, subst, append_assoc}
+use Rattle.std.proofs.lemmas.List.{append-nil}
+use Rattle.admission.specs.Verdict.{is_accepted, plan_from, trail_of, IsVerdict}
+use Rattle.admission.specs.declared.verdict.Verdict.{Verdict}
+use Rattle.admission_rules.specs.declared.Rules.{Rules}
+use Rattle.change_protocol.specs.Applied.{applied}
+use Rattle.change_protocol.specs.declared.operations.Change.{Change}
+use Rattle.master_core.specs.Calls.{Call, asked, call_of}
+use Rattle.master_core.specs.History.{placed_of, next_of, accepts, IsSince, IsRight, IsRightAnswer, AllAfter, IsLegal, IsPlannedNow, IsPlainlyLegal, plan_of}
+use Rattle.master_core.specs.declared.event.Event.{Event}
+use Rattle.master_core.specs.declared.event.Event.TheVariants.{Submit, Look, Open}
+use Rattle.master_core.specs.Orders.{IsOrder}
+use Rattle.planner_policies.specs.Plan.{mask_at, pending_at}
+use Rattle.requirement_table.specs.declared.entries.Order.{Order}
+use Rattle.requirement_table.specs.declared.entries.Placed.{Placed}
+use Rattle.requirement_table.specs.Slots.{contains_slot}
+use Rattle.requirement_table.specs.Table.{instance_in, width_in}
+use Rattle.change_protocol.specs.declared.operations.Act.TheVariants as act
+use Rattle.standby.specs.Core.{Item, changed, opened, items_of, core_of}
+use Rattle.standby.proofs.Cores.{core_of-append, core_of-cons, core_of-push, learned-core, next-core, placed-core}
+
+-- The place of an item
+
+-- an event of a history that leaves this item, behind the events that leave those before it
+pub record IsLeft (history : List Event) (front : List Item) (item : Item) : Type 0 where
+  pub before : List Event
+  pub event : Event
+  pub behind : List Event
+  pub parts : history ≡ before ++ event ∷ behind
+  pub front_is : core_of before ≡ front
+  pub leaves : items_of event ≡ item ∷ []
+
+-- an event leaves nothing, or one item
+pub data Leaves (items : List Item) : Type 0 where
+  nothing : items ≡ [] → Leaves items
+  one_item : (item : Item) → items ≡ item ∷ [] → Leaves items
+
+leaves-if : (caller : ℕ) (change : Change) (b : Bool) → Leaves (if b then changed caller change ∷ [] else [])
+leaves-if caller change true = one_item (changed caller change) refl
+leaves-if caller change false = nothing refl
+
+pub leaves-event : (event : Event) → Leaves (items_of event)
+leaves-event (Submit caller change from verdict trail) = leaves-if caller change (is_accepted verdict)
+leaves-event (Look caller next) = nothing refl
+leaves-event (Open cycle mask) = one_item (opened cycle mask) refl
+
+record SameParts (one other : Item) (ones others : List Item) : Type 0 where
+  pub head : one ≡ other
+  pub tail : ones ≡ others
+
+same-parts : (one other : Item) (ones others : List Item) → one ∷ ones ≡ other ∷ others → SameParts one other ones others
+same-parts one other ones others is = record { head = cc; tail = cc }
+
+-- behind one event more
+left-later : (event : Event) (later : List Event) (first : List Item) (front : List Item) (item : Item) → items_of event ≡ first → IsLeft later front item
+    → IsLeft (event ∷ later) (first ++ front) item
+left-later event later first front item is left = record {
+  before = event ∷ left.before;
+  event = left.event;
+  behind = left.behind;
+  parts = ap (λ (l : List Event). event ∷ l) left.parts;
+  front_is = core_of-cons event left.before ∙ ap (λ (l : List Item). l ++ core_of left.before) is ∙ ap (λ (l : List Item). first ++ l) left.front_is;
+  leaves = left.leaves;
+}
+
+-- in the rest of a history, or at its first event
+find-behind : (event : Event) (later : List Event) (front back : List Item) (item : Item)
+    → ((front : List Item) → core_of later ≡ front ++ item ∷ back → IsLeft later front item) → Leaves (items_of event)
+    → items_of event ++ core_of later ≡ front ++ item ∷ back → IsLeft (event ∷ later) front item
+find-behind event later front back item find (nothing none) is =
+    left-later event later [] front item none (find front (sym (ap (λ (l : List Item). l ++ core_of later) none) ∙ is))
+find-behind event later [] back item find (one_item x one) is =
+    let parts = same-parts x item (core_of later) back (sym (ap (λ (l : List Item). l ++ core_of later) one) ∙ is) in
+    record {
+      before = [];
+      event = event;
+      behind = later;
+      parts = refl;
+      front_is = refl;
+      leaves = one ∙ ap (λ (i : Item). i ∷ []) parts.head;
+    }
+find-behind event later (y ∷ front) back item find (one_item x one) is =
+    let parts = same-parts x y (core_of later) (front ++ item ∷ back) (sym (ap (λ (l : List Item). l ++ core_of later) one) ∙ is) in
+    left-later event later (y ∷ []) front item (one ∙ ap (λ (i : Item). i ∷ []) parts.head) (find front parts.tail)
+
+pub find-item : (history : List Event) (front back : List Item) (item : Item) → core_of history ≡ front ++ item ∷ back → IsLeft history front item
+find-item [] [] back item is = absurd (cc)
+find-item [] (x ∷ front) back item is = absurd (cc)
+find-item (event ∷ later) front back item is =
+    find-behind event later front back item (λ first rest. find-item later first back item rest) (leaves-event event) (sym (core_of-cons event later) ∙ is)
+
+-- an accepted change leaves an item, and what leaves a change is one
+record IsChange (event : Event) : Type 0 where
+  pub caller : ℕ
+  pub change : Change
+  pub leaves : items_of event ≡ changed caller change ∷ []
+
+accepted-leaves : (event : Event) → accepts event ≡ true → IsChange event
+accepted-leaves (Submit caller change from verdict trail) accepted = record {
+  caller = caller;
+  change = change;
+  leaves = ap (λ (b : Bool). if b then changed caller change ∷ [] else []) accepted;
+}
+accepted-leaves (Look caller next) accepted = absurd (cc)
+accepted-leaves (Open cycle mask) accepted = absurd (cc)
+
+pub change-accepts : (event : Event) (caller : ℕ) (change : Change) → items_of event ≡ changed caller change ∷ [] → accepts event ≡ true
+change-accepts (Submit caller change from verdict trail) asker wanted leaves = by-if caller change asker wanted (is_accepted verdict) leaves
+  where
+    by-if : (caller : ℕ) (change : Change) (asker : ℕ) (wanted : Change) (b : Bool) → (if b then changed caller change ∷ [] else []) ≡ changed asker wanted ∷ []
+        → b ≡ true
+    by-if caller change asker wanted true leaves = refl
+    by-if caller change asker wanted false leaves = absurd (cc)
+change-accepts (Look caller next) asker wanted leaves = absurd (cc)
+change-accepts (Open cycle mask) asker wanted leaves = absurd (cc)
+
+-- no change was accepted since, by the core
+pub since-core : (one other : List Event) (from : ℕ) → core_of one ≡ core_of other → IsSince one from → IsSince other from
+since-core one other from same since front back event parts accepted =
+    let is = accepted-leaves event accepted in
+    let core : core_of one ≡ core_of front ++ changed is.caller is.change ∷ core_of back =
+    same
+    ∙ ap core_of parts
+    ∙ core_of-append front (event ∷ back)
+    ∙ ap (λ (l : List Item). core_of front ++ l) (core_of-cons event back ∙ ap (λ (l : List Item). l ++ core_of back) is.leaves) in
+    let left = find-item one (core_of front) (core_of back) (changed is.caller is.change) core in
+    let early = since left.before left.behind left.event left.parts (change-accepts left.event is.caller is.change left.leaves) in
+    let count : next_of left.before ≡ next_of front = next-core left.before front left.front_is in
+    subst (λ (n : ℕ). n ≤ from) count early
+
+-- What is right behind a history
+
+answer-by : (rules : Rules) (one other : List Event) (change : Change) (from : ℕ) (verdict : Verdict) (trail : List ℕ) → placed_of one ≡ placed_of other
+    → next_of one ≡ next_of other → IsSince other from → IsRightAnswer rules one change from verdict trail → IsRightAnswer rules other change from verdict trail
+answer-by rules one other change from verdict trail placed next since right = record {
+  room = right.room;
+  types = right.types;
+  since = since;
+  opened = subst (λ (n : ℕ). from ≤ n) next right.opened;
+  answer =
+      subst (λ (n : ℕ). IsVerdict rules (placed_of other) (pending_at (plan_of rules (placed_of other)) from) from n change verdict) next
+      (subst (λ (l : List Placed). IsVerdict rules l (pending_at (plan_of rules l) from) from (next_of one) change verdict) placed right.answer);
+  plan =
+      subst (λ (l : List Placed). trail ≡ trail_of (plan_from rules (applied l change) from (pending_at (plan_of rules l) from)) verdict) placed right.plan;
+}
+
+pub right-core : (rules : Rules) (one other : List Event) (event : Event) → core_of one ≡ core_of other → IsRight rules one event → IsRight rules other event
+right-core rules one other (Submit caller change from verdict trail) same right =
+    answer-by rules one other change from verdict trail (placed-core one other same) (next-core one other same) (since-core one other from same right.since) right
+right-core rules one other (Look caller next) same right = right ∙ next-core one other same
+right-core rules one other (Open cycle mask) same right = (
+  right.0 ∙ next-core one other same,
+  right.1 ∙ ap (λ (l : List Placed). mask_at (plan_of rules l) cycle) (placed-core one other same),
+)
+
+now-core : (one other : List Event) (event : Event) → core_of one ≡ core_of other → IsPlannedNow one event → IsPlannedNow other event
+now-core one other (Submit caller change from verdict trail) same now = now ∙ next-core one other same
+now-core one other (Look caller next) same now = tt
+now-core one other (Open cycle mask) same now = tt
+
+-- the order of the next cycle
+pub order-core : (rules : Rules) (one other : List Event) (order : Order) → core_of one ≡ core_of other → IsOrder rules one order → IsOrder rules other order
+order-core rules one other order same is =
+    let placed = placed-core one other same in
+    let next = next-core one other same in
+    record {
+      cycle = is.cycle ∙ next;
+      mask =
+          is.mask
+          ∙ ap (λ (l : List Placed). mask_at (plan_of rules l) (next_of one)) placed
+          ∙ ap (λ (n : ℕ). mask_at (plan_of rules (placed_of other)) n) next;
+      window =
+          is.window
+          ∙ ap (λ (l : List Placed). width_in l (next_of one) (contains_slot order.mask)) placed
+          ∙ ap (λ (n : ℕ). width_in (placed_of other) n (contains_slot order.mask)) next;
+      learned = is.learned ∙ learned-core one other same;
+      fits = is.fits;
+      slots = is.slots;
+      present = λ slot known flagged.
+          let found = is.present slot known flagged in (
+            found.0,
+            ap (λ (l : List Placed). instance_in l slot (next_of other)) (sym placed)
+                ∙ ap (λ (n : ℕ). instance_in (placed_of one) slot n) (sym next)
+                ∙ found.1,
+          );
+    }
+
+-- What follows
+
+-- what goes by the core alone goes on behind each history with the core
+module _ (holds : List Event → Event → Type 0)
+    (by_core : (one other : List Event) (event : Event) → core_of one ≡ core_of other → holds one event → holds other event) where
+  pub after-core : (one other later : List Event) → core_of one ≡ core_of other → AllAfter holds one later → AllAfter holds other later
+  after-core one other [] same all = tt
+  after-core one other (event ∷ later) same all = (
+    by_core one other event same all.0,
+    after-core (one ++ event ∷ []) (other ++ event ∷ []) later
+        (core_of-push one event ∙ ap (λ (l : List Item). l ++ items_of event) same ∙ sym (core_of-push other event)) all.1,
+  )
+
+module _ (holds : List Event → Event → Type 0) where
+  pub after-rest : (before front back : List Event) → AllAfter holds before (front ++ back) → AllAfter holds (before ++ front) back
+  after-rest before [] back all = subst (λ (h : List Event). AllAfter holds h back) (sym (append-nil before)) all
+  after-rest before (event ∷ front) back all =
+      subst (λ (h : List Event). AllAfter holds h back) (append_assoc before (event ∷ []) front) (after-rest (before ++ event ∷ []) front back all.1)
+
+  pub after-front : (before front back : List Event) → AllAfter holds before (front ++ back) → AllAfter holds before front
+  after-front before [] back all = tt
+  after-front before (event ∷ front) back all = (all.0, after-front (before ++ event ∷ []) front back all.1)
+
+  pub after-both : (before front back : List Event) → AllAfter holds before front → AllAfter holds (before ++ front) back → AllAfter holds before (front ++ back)
+  after-both before [] back all more = subst (λ (h : List Event). AllAfter holds h back) (append-nil before) more
+  after-both before (event ∷ front) back all more = (
+    all.0,
+    after-both (before ++ event ∷ []) front back all.1
+        (subst (λ (h : List Event). AllAfter holds h back) (sym (append_assoc before (event ∷ []) front)) more),
+  )
+
+pub legal-on : (rules : Rules) (one other later : List Event) → core_of one ≡ core_of other → IsLegal rules one → IsLegal rules (other ++ later)
+    → IsLegal rules (one ++ later)
+legal-on rules one other later same legal both =
+    after-both (IsRight rules) [] one later legal
+    (after-core (IsRight rules) (right-core rules) other one later (sym same) (after-rest (IsRight rules) [] other later both))
+
+pub plain-on : (rules : Rules) (one other later : List Event) → core_of one ≡ core_of other → IsPlainlyLegal rules one → IsPlainlyLegal rules (other ++ later)
+    → IsPlainlyLegal rules (one ++ later)
+plain-on rules one other later same plain both = record {
+  legal = legal-on rules one other later same plain.legal both.legal;
+  now =
+      after-both IsPlannedNow [] one later plain.now
+      (after-core IsPlannedNow now-core other one later (sym same) (after-rest IsPlannedNow [] other later both.now));
+}
+
+-- The same calls
+
+-- there is one verdict
+pub record OneVerdict : Type 0 where
+  pub same : (rules : Rules) (placed : List Placed) (pending from next : ℕ) (change : Change) (one other : Verdict)
+      → IsVerdict rules placed pending from next change one → IsVerdict rules placed pending from next change other → one ≡ other
+
+record SameAnswer (one other : Verdict) (trail second : List ℕ) : Type 0 where
+  pub verdict : one ≡ other
+  pub plan : trail ≡ second
+
+same-answer : OneVerdict → (rules : Rules) (before : List Event) (change : Change) (from : ℕ) (one other : Verdict) (trail second : List ℕ)
+    → IsRightAnswer rules before change from one trail → IsRightAnswer rules before change from other second → SameAnswer one other trail second
+same-answer verdicts rules before change from one other trail second right also =
+    let pending = pending_at (plan_of rules (placed_of before)) from in
+    let verdict = verdicts.same rules (placed_of before) pending from (next_of before) change one other right.answer also.answer in
+    record {
+      verdict = verdict;
+      plan = right.plan ∙ ap (trail_of (plan_from rules (applied (placed_of before) change) from pending)) verdict ∙ sym also.plan;
+    }
+
+record SameAsked (caller other : ℕ) (change also : Change) : Type 0 where
+  pub caller_is : caller ≡ other
+  pub change_is : change ≡ also
+
+same-asked : (caller other : ℕ) (change also : Change) → asked caller (act.Ask change) ≡ asked other (act.Ask also) → SameAsked caller other change also
+same-asked caller other change also is = record { caller_is = cc; change_is = cc }
+
+-- an event is what was called for, and the one right answer to it
+same-event : OneVerdict → (rules : Rules) (before : List Event) (one other : Event) → call_of one ≡ call_of other
+    → IsRight rules before one → IsPlannedNow before one → IsRight rules before other → IsPlannedNow before other → one ≡ other
+same-event verdicts rules before (Submit caller change from verdict trail) (Submit second also later answer plan) calls right now right2 now2 =
+    let same_call = same-asked caller second change also calls in
+    let same_from : later ≡ from = now2 ∙ sym now in
+    let moved : IsRightAnswer rules before change from answer plan =
+    subst (λ f. IsRightAnswer rules before change f answer plan) same_from (subst (λ c. IsRightAnswer rules before c later answer plan) (sym same_call.change_is) right2) in
+    let same = same-answer verdicts rules before change from verdict answer trail plan right moved in
+    let caller_is = same_call.caller_is in
+    let change_is = same_call.change_is in
+    let verdict_is = same.verdict in
+    let plan_is = same.plan in
+    cc
+same-event verdicts rules before (Submit caller change from verdict trail) (Look second next) calls right now right2 now2 = absurd (cc)
+same-event verdicts rules before (Submit caller change from verdict trail) (Open cycle mask) calls right now right2 now2 = absurd (cc)
+same-event verdicts rules before (Look caller next) (Submit second also later answer plan) calls right now right2 now2 = absurd (cc)
+same-event verdicts rules before (Look caller next) (Look second also) calls right now right2 now2 =
+    let next_is : next ≡ also = right ∙ sym right2 in
+    cc
+same-event verdicts rules before (Look caller next) (Open cycle mask) calls right now right2 now2 = absurd (cc)
+same-event verdicts rules before (Open cycle mask) (Submit second also later answer plan) calls right now right2 now2 = absurd (cc)
+same-event verdicts rules before (Open cycle mask) (Look second next) calls right now right2 now2 = absurd (cc)
+same-event verdicts rules before (Open cycle mask) (Open later slots) calls right now right2 now2 =
+    let cycle_is : cycle ≡ later = right.0 ∙ sym right2.0 in
+    let mask_is : mask ≡ slots = right.1 ∙ ap (mask_at (plan_of rules (placed_of before))) cycle_is ∙ sym right2.1 in
+    cc
+
+record SameCalls (one other : Call) (calls more : List Call) : Type 0 where
+  pub head : one ≡ other
+  pub tail : calls ≡ more
+
+same-calls : (one other : Call) (calls more : List Call) → one ∷ calls ≡ other ∷ more → SameCalls one other calls more
+same-calls one other calls more is = record { head = cc; tail = cc }
+
+same-events : OneVerdict → (rules : Rules) (before one other : List Event) → map call_of one ≡ map call_of other → AllAfter (IsRight rules) before one
+    → AllAfter IsPlannedNow before one → AllAfter (IsRight rules) before other → AllAfter IsPlannedNow before other → one ≡ other
+same-events verdicts rules before [] [] calls right now right2 now2 = refl
+same-events verdicts rules before [] (y ∷ ys) calls right now right2 now2 = absurd (cc)
+same-events verdicts rules before (x ∷ xs) [] calls right now right2 now2 = absurd (cc)
+same-events verdicts rules before (x ∷ xs) (y ∷ ys) calls right now right2 now2 =
+    let parts = same-calls (call_of x) (call_of y) (map call_of xs) (map call_of ys) calls in
+    let event : x ≡ y = same-event verdicts rules before x y parts.head right.0 now.0 right2.0 now2.0 in
+    let rest : xs ≡ ys =
+    same-events verdicts rules (before ++ x ∷ []) xs ys parts.tail right.1 now.1
+    (subst (λ e. AllAfter (IsRight rules) (before ++ e ∷ []) ys) (sym event) right2.1)
+    (subst (λ e. AllAfter IsPlannedNow (before ++ e ∷ []) ys) (sym event) now2.1) in
+    ap (λ e. e ∷ xs) event ∙ ap (λ l. y ∷ l) rest
+
+-- behind two histories with one core the same calls have the same answers
+pub events-on : OneVerdict → (rules : Rules) (one other later also : List Event) → core_of one ≡ core_of other → AllAfter (IsRight rules) one later
+    → AllAfter IsPlannedNow one later → AllAfter (IsRight rules) other also → AllAfter IsPlannedNow other also → map call_of later ≡ map call_of also
+    → later ≡ also
+events-on verdicts rules one other later also same right now right2 now2 calls =
+    same-events verdicts rules one later also calls right now (after-core (IsRight rules) (right-core rules) other one also (sym same) right2)
+    (after-core IsPlannedNow now-core other one also (sym same) now2)

@@ -1,0 +1,5 @@
+mod Behind
+mod Cores
+mod Followed
+mod GoingOn
+mod Triggers

@@ -1,0 +1,42 @@
+use Rattle.std.proofs.Common.{◌∙◌, ◌∷◌, subst}
+use Rattle.std.proofs.lemmas.Result.{on_ok_weaker}
+use Rattle.standby.specs.Handover.{IsBehind}
+use Rattle.standby.specs.declared.told.Told.{Told as ToldOf}
+use Rattle.standby.proofs.Behind.{due-change, due-trigger}
+use Rattle.standby.proofs.Followed.{changed-core, opened-core}
+use Rattle.standby.proofs.told.follow_one.Goals as goal
+
+pub returns-in-Change-clause-behind : goal.returns-in-Change-clause-behind
+returns-in-Change-clause-behind c whole rest legal behind =
+    let rules = c.args.standby.now.rules in
+    let own = c.args.standby.now.history in
+    let at = subst (λ (t : ToldOf). IsBehind rules whole own (t ∷ rest)) c.in-Change.is behind in
+    let due = due-change rules whole own c.in-Change.caller c.in-Change.change rest legal at in
+    on_ok_weaker c.change.result
+    (λ is. due.goes c.change.new.self.history (changed-core rules own c.in-Change.caller c.in-Change.change c.change.new.self.history is)) c.change.ensures.event
+
+pub returns-in-Change-clause-due : goal.returns-in-Change-clause-due
+returns-in-Change-clause-due c whole rest legal behind =
+    let rules = c.args.standby.now.rules in
+    let own = c.args.standby.now.history in
+    let at = subst (λ (t : ToldOf). IsBehind rules whole own (t ∷ rest)) c.in-Change.is behind in
+    let due = due-change rules whole own c.in-Change.caller c.in-Change.change rest legal at in
+    c.change.ensures.due due.before due.from due.verdict due.trail due.same_core due.legal due.right due.accepted
+
+pub returns-in-Trigger-clause-behind : goal.returns-in-Trigger-clause-behind
+returns-in-Trigger-clause-behind c whole rest legal behind =
+    let rules = c.args.standby.now.rules in
+    let own = c.args.standby.now.history in
+    let at = subst (λ (t : ToldOf). IsBehind rules whole own (t ∷ rest)) c.in-Trigger.is behind in
+    let due = due-trigger rules whole own c.in-Trigger.frames rest legal at in
+    on_ok_weaker c.trigger.result
+    (λ is. due.goes c.trigger.new.self.history
+    (opened-core rules own _ c.trigger.new.self.history is)) c.trigger.ensures.event
+
+pub returns-in-Trigger-clause-due : goal.returns-in-Trigger-clause-due
+returns-in-Trigger-clause-due c whole rest legal behind =
+    let rules = c.args.standby.now.rules in
+    let own = c.args.standby.now.history in
+    let at = subst (λ (t : ToldOf). IsBehind rules whole own (t ∷ rest)) c.in-Trigger.is behind in
+    let due = due-trigger rules whole own c.in-Trigger.frames rest legal at in
+    c.trigger.ensures.due (c.as_slice.ensures.list ∙ due.frames_are)
