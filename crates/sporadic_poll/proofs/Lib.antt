@@ -1,0 +1,10 @@
+mod FirstOf
+mod InTime
+mod Linking
+mod OneRide
+mod Released
+mod StreamRows
+mod StreamsMean
+mod StreamsReading
+mod StreamsTogether
+mod Taken
