@@ -5,11 +5,11 @@ use Rattle.plan_check.specs.Certificate.{CertificateView}
 use Rattle.plan_check.specs.PlanText.{IsFirstWrongLine, IsPlanOf}
 use Rattle.async_window.specs.declared.request.Owner.{Owner}
 use Rattle.async_window.specs.declared.request.Request.{Request}
-use Rattle.input_text.specs.SystemFile.{system_of}
-use Rattle.input_text.specs.StepsFile.{steps_of}
-use Rattle.input_text.specs.RequestsFile.{requests_of}
-use Rattle.input_text.specs.declared.steps.Step.{Step}
-use Rattle.input_text.specs.declared.system.System.{System}
+use Rattle.system_file.specs.SystemFile.{system_of}
+use Rattle.steps_file.specs.StepsFile.{steps_of}
+use Rattle.requests_file.specs.RequestsFile.{requests_of}
+use Rattle.steps_file.specs.declared.steps.Step.{Step}
+use Rattle.system_file.specs.declared.system.System.{System}
 use Rattle.command_words.specs.Words.{Command, RunWords, admit, check, command_of, generate, live_of, replay}
 use Rattle.asked_files.specs.declared.stopping.Refusal.{Refusal}
 use Rattle.asked_files.specs.declared.stopping.Source.{Source}

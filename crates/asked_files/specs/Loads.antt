@@ -3,9 +3,9 @@ use Rattle.std.specs.Prelude.{◌≡◌, ℕ, ◌+◌, ◌≤◌, ⊤, ◌⊎◌
 use Rattle.std.specs.Option.{ForSome}
 use Rattle.ftt_io.specs.Counts.{Rose}
 use Rattle.ftt_io.specs.Files.{NamedFiles}
-use Rattle.input_text.specs.SystemFile.{IsSystem}
-use Rattle.input_text.specs.RequestsFile.{AreLegal}
-use Rattle.input_text.specs.StepsFile.{AreLegalSteps}
+use Rattle.system_file.specs.SystemFile.{IsSystem}
+use Rattle.requests_file.specs.RequestsFile.{AreLegal}
+use Rattle.steps_file.specs.StepsFile.{AreLegalSteps}
 use Rattle.plan_check.specs.Certificate.{CertificateView}
 use Rattle.plan_check.specs.declared.plan_runs.Version.TheVariants.{Two}
 use Rattle.plan_check.specs.PlanText.{IsReadable}

@@ -1,9 +1,9 @@
 -- The lines for a file that is refused.
 use Rattle.std.specs.Prelude.{ℕ, List, ◌++◌, codes}
 use Rattle.std.specs.Fmt.{decimal}
-use Rattle.input_text.specs.SystemText.{system_fault_line}
-use Rattle.input_text.specs.StepText.{text_of as steps_line}
-use Rattle.input_text.specs.RequestText.{text_of as requests_line}
+use Rattle.system_file.specs.SystemText.{system_fault_line}
+use Rattle.steps_file.specs.StepText.{text_of as steps_line}
+use Rattle.requests_file.specs.RequestText.{text_of as requests_line}
 use Rattle.asked_files.specs.declared.stopping.Refusal.{Refusal}
 use Rattle.asked_files.specs.declared.stopping.Source.{Source}
 use Rattle.asked_files.specs.Asked.{limit_of}

@@ -3,9 +3,9 @@
 ghost use Rattle.std.specs.Prelude.{◌≡◌, ◌+◌, ◌⊎◌, IfOk, IfErr, IsErrOf, Ok, Some, None, map, option_map, string_bytes};
 ghost use Rattle.std.specs.Option.{ForSome};
 ghost use Rattle.ftt_io.specs.Counts.{Rose};
-ghost use Rattle.input_text.specs.SystemFile.{IsSystem};
-ghost use Rattle.input_text.specs.RequestsFile.{AreLegal};
-ghost use Rattle.input_text.specs.StepsFile.{AreLegalSteps};
+ghost use Rattle.system_file.specs.SystemFile.{IsSystem};
+ghost use Rattle.requests_file.specs.RequestsFile.{AreLegal};
+ghost use Rattle.steps_file.specs.StepsFile.{AreLegalSteps};
 ghost use Rattle.command_words.specs.Words.{admit, check, command_of, file_count, files_named, live_file_count, live_of, named, replay};
 ghost use Rattle.command_words.specs.WordsRead.{command_read, run_read};
 ghost use Rattle.asked_files.specs.Asked.{IsAsked, IsAskedOf, IsLiveAsked, IsPlanIn, IsPlanMeant, job_in, live_log_of, requests_in, steps_in, system_in, within_limit};
@@ -16,12 +16,12 @@ use crate::stopping::{Refusal, Source, Stop};
 use async_window::{Owner, Request};
 use command_words::{Command, RunWords, command_in, live_in};
 use ftt_io::{FetchFault, Shelf};
-use input_text::{
-    RequestFault, Step, StepFault, System, SystemFault, read_requests, read_steps, read_system,
-};
 use plan_check::{Certificate, PlanTextFault, read_plan};
+use requests_file::{RequestFault, read_requests};
 use requirement_table::Mask;
 use std::alloc::Global;
+use steps_file::{Step, StepFault, read_steps};
+use system_file::{System, SystemFault, read_system};
 
 /// What is to be done.
 #[derive(Debug, Drop)]

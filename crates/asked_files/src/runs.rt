@@ -3,8 +3,9 @@
 ghost use Rattle.std.specs.Prelude.{◌≡◌};
 
 use async_window::Request;
-use input_text::{Step, System};
 use std::marker::Model;
+use steps_file::Step;
+use system_file::System;
 
 /// A run: in which system, by which steps, and with which requests. Contracts see the three.
 #[derive(Debug, Drop)]

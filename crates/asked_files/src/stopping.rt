@@ -5,8 +5,10 @@ ghost use Rattle.asked_files.specs.Asked.{limit_of};
 ghost use Rattle.asked_files.specs.Refusals.{length_line, refusal_line, source_word};
 
 use command_words::WordsFault;
-use input_text::{RequestFault, StepFault, SystemFault};
+use requests_file::RequestFault;
 use std::alloc::{AllocError, Global};
+use steps_file::StepFault;
+use system_file::SystemFault;
 
 /// The files that a command reads.
 #[derive(Clone, Copy, PartialEq, Eq, Debug)]

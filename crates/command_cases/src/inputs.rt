@@ -3,9 +3,12 @@
 use crate::marks::plain;
 use async_window::{Owner, Request};
 use change_protocol::{Act, Op};
-use input_text::{Generated, Step, System, generate, read_requests, read_steps, read_system};
+use generated_input::{Generated, generate};
+use requests_file::read_requests;
 use requirement_table::Entry;
 use std::alloc::{AllocError, Global};
+use steps_file::{Step, read_steps};
+use system_file::{System, read_system};
 
 /// The identifiers that have owners where requests are read.
 const OWNERS: [Owner; 2] = [Owner { id: 0x7EF, node: 3 }, Owner { id: 0x200, node: 0 }];

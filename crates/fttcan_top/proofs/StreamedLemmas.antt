@@ -6,10 +6,10 @@ use Rattle.async_window.specs.declared.request.Request.{Request}
 use Rattle.std.specs.Prelude.{is_some}
 use Rattle.ftt_io.specs.Puts.{Puts, PutsPrefix}
 use Rattle.ftt_io.proofs.Shared.{Puts-append, PutsPrefix-append, PutsPrefix-longer}
-use Rattle.input_text.specs.RequestsFile.{AreLegal}
-use Rattle.input_text.specs.SystemFile.{IsSystem}
-use Rattle.input_text.specs.declared.steps.Step.{Step}
-use Rattle.input_text.specs.declared.system.System.{System}
+use Rattle.requests_file.specs.RequestsFile.{AreLegal}
+use Rattle.system_file.specs.SystemFile.{IsSystem}
+use Rattle.steps_file.specs.declared.steps.Step.{Step}
+use Rattle.system_file.specs.declared.system.System.{System}
 use Rattle.master_core.specs.declared.event.Event.{Event}
 use Rattle.bus_trace.specs.LastRows.{last_rows}
 use Rattle.bus_trace.specs.Log.{events_rows, log_text}

@@ -7,7 +7,7 @@ ghost use Rattle.fttcan_top.specs.Summary.{is_asynchronous, history_rows, is_syn
 
 use async_window::LEAST_ASYNCHRONOUS;
 use can_frame::TimedFrame;
-use input_text::GENERATED_SLOTS;
+use generated_input::GENERATED_SLOTS;
 use master_core::Event;
 use node_model::FIRST_IDENTIFIER;
 use std::alloc::{AllocError, Global};

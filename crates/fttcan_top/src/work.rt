@@ -16,7 +16,7 @@ use async_window::{Owner, Request};
 use bus_trace::log_text;
 use can_frame::TimedFrame;
 use ftt_io::Sink;
-use input_text::generate;
+use generated_input::generate;
 use live_run::{Ended, Gate};
 use master_core::{Event, Master};
 use plan_check::{Breach, Certificate, check, write_plan};

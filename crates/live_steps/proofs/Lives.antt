@@ -2,8 +2,8 @@
 use Rattle.std.proofs.Common.{◌≡◌, ◌∙◌, ℕ, ◌+◌, ◌-◌, ◌<◌, ◌≤◌, [], List, All, length, slice_index_or, sum_by, filter, subst, arith}
 use Rattle.turn_lock.specs.History.{own}
 use Rattle.change_protocol.specs.declared.operations.Act.{Act}
-use Rattle.input_text.specs.StepsFile.{count_of}
-use Rattle.input_text.specs.declared.steps.Step.{Step}
+use Rattle.steps_file.specs.StepsFile.{count_of}
+use Rattle.steps_file.specs.declared.steps.Step.{Step}
 use Rattle.master_core.specs.declared.event.Event.{Event}
 use Rattle.live_master.specs.Callers.{is_called_by, number_of}
 use Rattle.live_run.specs.declared.script.Script.{Script}

@@ -5,9 +5,9 @@ use Rattle.std.proofs.lemmas.List.{take_all, take-append-le}
 use Rattle.std.proofs.lemmas.List.Elements.{filter_map-append}
 use Rattle.std.proofs.lemmas.List.Sums.{sum_by-append, sum_by-cons}
 use Rattle.change_protocol.specs.declared.operations.Act.{Act}
-use Rattle.input_text.specs.StepsFile.{count_of}
-use Rattle.input_text.specs.declared.steps.Step.{Step}
-use Rattle.input_text.specs.declared.steps.Step.TheVariants as step
+use Rattle.steps_file.specs.StepsFile.{count_of}
+use Rattle.steps_file.specs.declared.steps.Step.{Step}
+use Rattle.steps_file.specs.declared.steps.Step.TheVariants as step
 use Rattle.live_run.specs.declared.script.Script.{Script}
 use Rattle.live_steps.specs.Live.{act_of, acts_of}
 use Rattle.live_steps.specs.Parts.{AreScripts}

@@ -4,10 +4,10 @@ use Rattle.std.specs.Prelude.{if◌then◌else◌, List, All, Option, Some, None
 use Rattle.can_frame.specs.declared.data_frame.TimedFrame.{TimedFrame}
 use Rattle.change_protocol.specs.declared.operations.Act.{Act}
 use Rattle.async_window.specs.declared.request.Request.{Request}
-use Rattle.input_text.specs.StepsFile.{count_of}
-use Rattle.input_text.specs.declared.steps.Step.{Step}
-use Rattle.input_text.specs.declared.steps.Step.TheVariants as step
-use Rattle.input_text.specs.declared.system.System.{System}
+use Rattle.steps_file.specs.StepsFile.{count_of}
+use Rattle.steps_file.specs.declared.steps.Step.{Step}
+use Rattle.steps_file.specs.declared.steps.Step.TheVariants as step
+use Rattle.system_file.specs.declared.system.System.{System}
 use Rattle.kept_run.specs.Kept.{Kept}
 use Rattle.master_core.specs.declared.event.Event.{Event}
 use Rattle.master_core.specs.History.{next_of}

@@ -1,7 +1,7 @@
 -- The steps of a file, parted among the dispatcher and the operators.
 use Rattle.std.specs.Prelude.{◌≡◌, ℕ, ◌+◌, ◌<◌, List, length, slice_index_or, sum_by}
-use Rattle.input_text.specs.StepsFile.{count_of}
-use Rattle.input_text.specs.declared.steps.Step.{Step}
+use Rattle.steps_file.specs.StepsFile.{count_of}
+use Rattle.steps_file.specs.declared.steps.Step.{Step}
 use Rattle.live_run.specs.declared.script.Script.{Script}
 use Rattle.live_steps.specs.declared.parting.Parts.{Parts}
 use Rattle.live_steps.specs.Live.{acts_of}

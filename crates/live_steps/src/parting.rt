@@ -2,15 +2,15 @@
 
 ghost use Rattle.std.specs.Prelude.{◌≡◌, ℕ, ◌+◌, ◌<◌, ◌≤◌, ◌==◌, [], ◌∷◌, ◌++◌};
 ghost use Rattle.std.specs.Prelude.{if◌then◌else◌, All, length, slice_index_or, sum_by, IfOk, OnOk};
-ghost use Rattle.input_text.specs.StepsFile.{AreLegalSteps, IsStep, count_of};
+ghost use Rattle.steps_file.specs.StepsFile.{AreLegalSteps, IsStep, count_of};
 ghost use Rattle.live_run.specs.declared.script.Script.{Script};
 ghost use Rattle.live_steps.specs.Live.{act_of, acts_of};
 ghost use Rattle.live_steps.specs.Parts.{AreParted};
 
 use change_protocol::Act;
-use input_text::Step;
 use live_run::{ActList, OPERATORS, Script};
 use std::alloc::{AllocError, Global};
+use steps_file::Step;
 
 /// The steps of a file, parted.
 #[derive(Drop)]

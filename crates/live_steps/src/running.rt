@@ -1,19 +1,20 @@
 //! The run of a steps file by threads.
 
 ghost use Rattle.std.specs.Prelude.{◌≡◌, IfOk};
-ghost use Rattle.input_text.specs.RequestsFile.{AreLegal};
-ghost use Rattle.input_text.specs.StepsFile.{AreLegalSteps};
-ghost use Rattle.input_text.specs.SystemFile.{IsSystem};
+ghost use Rattle.requests_file.specs.RequestsFile.{AreLegal};
+ghost use Rattle.steps_file.specs.StepsFile.{AreLegalSteps};
+ghost use Rattle.system_file.specs.SystemFile.{IsSystem};
 ghost use Rattle.live_steps.specs.Live.{IsLive};
 
 use crate::parting::part;
 use async_window::Request;
-use input_text::{Step, System};
 use live_master::laws::events_in_histories;
 use live_run::{Ended, Gate, run_whole};
 use std::alloc::{AllocError, Global};
 use std::sync::Wait;
 use std::thread::Threads;
+use steps_file::Step;
+use system_file::System;
 
 /// Has the steps of a file answered on the bus of a system with these requests, by a dispatcher and eight operators in
 /// threads of their own, which share a master. Each passes the gate as in a run of `live_run`.

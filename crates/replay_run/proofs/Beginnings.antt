@@ -15,9 +15,9 @@ use Rattle.async_window.specs.declared.request.Request.{Request}
 use Rattle.bus_line.specs.Trace.{started_before}
 use Rattle.cycle_engine.specs.Offered.{IsCanTrace}
 use Rattle.kept_run.proofs.Shared.{AllAfter-parts}
-use Rattle.input_text.specs.SystemFile.{IsSystem}
-use Rattle.input_text.specs.declared.steps.Step.{Step}
-use Rattle.input_text.specs.declared.system.System.{System}
+use Rattle.system_file.specs.SystemFile.{IsSystem}
+use Rattle.steps_file.specs.declared.steps.Step.{Step}
+use Rattle.system_file.specs.declared.system.System.{System}
 use Rattle.replay_run.specs.Begun.{IsBegun}
 use Rattle.replay_run.specs.Run.{IsRun}
 use Rattle.replay_run.proofs.Fronts.{cut-at, front-can_trace}

@@ -20,10 +20,10 @@ use Rattle.master_core.specs.History.{IsLegal, next_of}
 use Rattle.master_core.specs.Openings.{openings_of}
 use Rattle.cycle_engine.specs.Cycle.{RunsCycle, cycle_of, frames_in}
 use Rattle.async_window.specs.declared.request.Request.{Request}
-use Rattle.input_text.specs.RequestsFile.{AreLegal}
-use Rattle.input_text.specs.SystemFile.{IsSystem}
-use Rattle.input_text.specs.declared.steps.Step.{Step}
-use Rattle.input_text.specs.declared.system.System.{System}
+use Rattle.requests_file.specs.RequestsFile.{AreLegal}
+use Rattle.system_file.specs.SystemFile.{IsSystem}
+use Rattle.steps_file.specs.declared.steps.Step.{Step}
+use Rattle.system_file.specs.declared.system.System.{System}
 use Rattle.kept_run.specs.Kept.{Kept}
 use Rattle.kept_run.specs.Progress.{IsUnderWay, Setting}
 use Rattle.bus_trace.specs.Log.{end_row, events_rows, log_text, triggers_in, triggers_with}

@@ -7,8 +7,8 @@ use Rattle.cycle_layout.specs.Layout.{IsSlots}
 use Rattle.requirement_table.specs.Slots.{most_slots}
 use Rattle.async_window.specs.declared.request.Owner.{Owner}
 use Rattle.admission.specs.Verdict.{IsRules}
-use Rattle.input_text.specs.SystemFile.{IsSystem}
-use Rattle.input_text.specs.declared.system.System.{System}
+use Rattle.system_file.specs.SystemFile.{IsSystem}
+use Rattle.system_file.specs.declared.system.System.{System}
 use Rattle.bus_trace.specs.LastRows.{HasLast, rows_in}
 use Rattle.bus_trace.specs.Recent.{LastRows}
 pub use Rattle.replay_run.proofs.Fronts.{cut-at, started-all, started-early, started-within}

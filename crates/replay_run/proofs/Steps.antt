@@ -6,8 +6,8 @@ use Rattle.std.proofs.Math.Seq.{drop-cons}
 use Rattle.std.proofs.lemmas.List.{replicate-append-replicate, take-append-drop}
 use Rattle.std.proofs.lemmas.List.Concat.{flat_map-append}
 use Rattle.std.proofs.lemmas.List.Sums.{sum_by_more_le}
-use Rattle.input_text.specs.StepsFile.{AreLegalSteps, IsStep, count_of}
-use Rattle.input_text.specs.declared.steps.Step.{Step}
+use Rattle.steps_file.specs.StepsFile.{AreLegalSteps, IsStep, count_of}
+use Rattle.steps_file.specs.declared.steps.Step.{Step}
 use Rattle.master_core.specs.Calls.{Call, opens}
 use Rattle.replay_run.specs.Run.{calls_of}
 

@@ -7,7 +7,7 @@ use Rattle.change_protocol.specs.Applied.{applied}
 use Rattle.change_protocol.specs.Malformed.{Bounds, first_fault}
 use Rattle.change_protocol.specs.declared.operations.Change.{Change}
 use Rattle.change_protocol.specs.declared.operations.Act.TheVariants as act
-use Rattle.input_text.specs.declared.steps.Step.{Step}
+use Rattle.steps_file.specs.declared.steps.Step.{Step}
 use Rattle.master_core.specs.Calls.{Call, asked, opens}
 use Rattle.replay_run.specs.Run.{calls_of}
 

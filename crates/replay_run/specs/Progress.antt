@@ -2,7 +2,7 @@
 use Rattle.std.specs.Prelude.{◌≡◌, ℕ, ◌+◌, ◌≤◌, List, [], ◌∷◌, ◌++◌, Option, Some, None, Vec, is_some, length, map, vec_len, vec_capacity}
 use Rattle.can_frame.specs.declared.data_frame.TimedFrame.{TimedFrame}
 use Rattle.async_window.specs.declared.request.Request.{Request}
-use Rattle.input_text.specs.declared.system.System.{System}
+use Rattle.system_file.specs.declared.system.System.{System}
 use Rattle.master_core.specs.Calls.{Call, call_of}
 use Rattle.master_core.specs.declared.event.Event.{Event}
 use Rattle.master_core.specs.History.{IsPlainlyLegal, next_of, placed_of}

@@ -3,16 +3,16 @@
 ghost use Rattle.std.specs.Prelude.{IfOk};
 ghost use Rattle.std.specs.Prelude.{◌≡◌};
 ghost use Rattle.admission.specs.Verdict.{IsRules};
-ghost use Rattle.input_text.specs.StepsFile.{AreLegalSteps};
+ghost use Rattle.steps_file.specs.StepsFile.{AreLegalSteps};
 ghost use Rattle.master_core.specs.History.{IsPlainlyLegal};
 ghost use Rattle.replay_run.specs.Run.{AnswersSteps};
 
 use crate::driver::{Driven, drive};
 use admission_rules::Rules;
 use change_protocol::Act;
-use input_text::Step;
 use master_core::Master;
 use std::alloc::{AllocError, Global};
+use steps_file::Step;
 
 impl Driven for Master {
     ghost use Rattle.std.specs.Prelude.{⊤};

@@ -4,15 +4,15 @@ ghost use Rattle.std.specs.Prelude.{◌≡◌, IfOk, OnOk};
 ghost use Rattle.requirement_table.specs.Table.{IsWellPlaced};
 ghost use Rattle.admission.specs.Verdict.{IsRules, bounds_by};
 ghost use Rattle.replay_run.specs.Asked.{CanApply, bounds_in};
-ghost use Rattle.input_text.specs.StepsFile.{AreLegalSteps};
+ghost use Rattle.steps_file.specs.StepsFile.{AreLegalSteps};
 ghost use Rattle.replay_run.specs.AskedTable.{after_change, table_of};
 
 use crate::driver::{Driven, drive};
 use admission_rules::Rules;
 use change_protocol::{Act, ApplyFault, Change, apply};
-use input_text::Step;
 use requirement_table::Placed;
 use std::alloc::{AllocError, Global};
+use steps_file::Step;
 
 /// The placed entries after some calls on a bus of so many nodes and slots, and the number of cycles that these open.
 #[derive(Drop)]

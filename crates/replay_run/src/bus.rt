@@ -5,8 +5,8 @@ ghost use Rattle.std.specs.Prelude.{◌≡◌, ◌+◌, ◌<◌, ◌≤◌, ◌+
 ghost use Rattle.std.specs.Prelude.{List, OnOk, OnErr, IfOk, is_some, length, map};
 ghost use Rattle.can_frame.specs.declared.data_frame.TimedFrame.{TimedFrame};
 ghost use Rattle.change_protocol.specs.declared.operations.Act.TheVariants as act_of;
-ghost use Rattle.input_text.specs.SystemFile.{IsSystem};
-ghost use Rattle.input_text.specs.RequestsFile.{AreLegal};
+ghost use Rattle.system_file.specs.SystemFile.{IsSystem};
+ghost use Rattle.requests_file.specs.RequestsFile.{AreLegal};
 ghost use Rattle.master_core.specs.Calls.{asked, call_of, opens};
 ghost use Rattle.master_core.specs.History.{next_of};
 ghost use Rattle.kept_run.specs.Progress.{AreReady, IsSetting};
@@ -20,11 +20,11 @@ use can_frame::TimedFrame;
 use change_protocol::{Act, Change};
 use cycle_engine::laws::next_cycle;
 use cycle_engine::{Nodes, Segment, run_cycle_in};
-use input_text::System;
 use kept_run::laws::{beginning, calls_between, cycles_run, orders, requests_of_owners};
 use master_core::Master;
 use master_core::laws::opened_cycles;
 use std::alloc::{AllocError, Global};
+use system_file::System;
 
 /// The most frames that start in one cycle: the longest cycle has 100,000 bit times, and the shortest frame 47.
 const MOST_FRAMES: usize = 100_000 / 47 + 1;

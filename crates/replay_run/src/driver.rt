@@ -2,13 +2,13 @@
 
 ghost use Rattle.std.specs.Prelude.{◌≡◌, ℕ, ◌+◌, ◌<◌, ◌≤◌, ◌++◌, ◌∷◌, [], List, OnOk, IfErr, replicate};
 ghost use Rattle.std.specs.List.{flat_map};
-ghost use Rattle.input_text.specs.StepsFile.{AreLegalSteps, IsStep, count_of};
+ghost use Rattle.steps_file.specs.StepsFile.{AreLegalSteps, IsStep, count_of};
 ghost use Rattle.master_core.specs.Calls.{Call, asked, opens};
 ghost use Rattle.replay_run.specs.Run.{calls_of};
 
 use change_protocol::Act;
-use input_text::Step;
 use std::alloc::Global;
+use steps_file::Step;
 
 /// What answers the calls of steps, one after the other.
 ///

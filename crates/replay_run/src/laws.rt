@@ -4,10 +4,10 @@ ghost use Rattle.std.specs.Prelude.{◌≡◌, ℕ, ◌*◌, ◌≤◌, ◌++◌
 ghost use Rattle.can_frame.specs.declared.data_frame.TimedFrame.{TimedFrame};
 ghost use Rattle.admission_rules.specs.declared.Rules.{Rules};
 ghost use Rattle.async_window.specs.declared.request.Request.{Request};
-ghost use Rattle.input_text.specs.RequestsFile.{AreLegal};
-ghost use Rattle.input_text.specs.SystemFile.{IsSystem};
-ghost use Rattle.input_text.specs.declared.steps.Step.{Step};
-ghost use Rattle.input_text.specs.declared.system.System.{System};
+ghost use Rattle.requests_file.specs.RequestsFile.{AreLegal};
+ghost use Rattle.system_file.specs.SystemFile.{IsSystem};
+ghost use Rattle.steps_file.specs.declared.steps.Step.{Step};
+ghost use Rattle.system_file.specs.declared.system.System.{System};
 ghost use Rattle.master_core.specs.declared.event.Event.{Event};
 ghost use Rattle.master_core.specs.History.{IsPlainlyLegal, next_of};
 ghost use Rattle.bus_trace.specs.Log.{events_rows, log_text};

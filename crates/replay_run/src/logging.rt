@@ -3,9 +3,9 @@
 ghost use Rattle.std.specs.Prelude.{◌≡◌, ◌+◌, ◌∷◌, ◌≤◌, ◌<◌, [], List, ℕ, OnOk, OnErr, IfOk, IfErr, is_some};
 ghost use Rattle.std.specs.List.{flat_map};
 ghost use Rattle.can_frame.specs.declared.data_frame.TimedFrame.{TimedFrame};
-ghost use Rattle.input_text.specs.SystemFile.{IsSystem};
-ghost use Rattle.input_text.specs.RequestsFile.{AreLegal};
-ghost use Rattle.input_text.specs.StepsFile.{AreLegalSteps};
+ghost use Rattle.system_file.specs.SystemFile.{IsSystem};
+ghost use Rattle.requests_file.specs.RequestsFile.{AreLegal};
+ghost use Rattle.steps_file.specs.StepsFile.{AreLegalSteps};
 ghost use Rattle.master_core.specs.Calls.{asked, opens};
 ghost use Rattle.master_core.specs.History.{next_of};
 ghost use Rattle.replay_run.specs.Progress.{CanLog, CanTellLast, GoesOn, HearsLast, IsCutBehind};
@@ -20,10 +20,11 @@ use async_window::Request;
 use can_frame::TimedFrame;
 use change_protocol::Act;
 use ftt_io::Failed;
-use input_text::{Step, System};
 use kept_run::laws::{beginning, promise};
 use master_core::Event;
 use std::alloc::Global;
+use steps_file::Step;
+use system_file::System;
 
 /// A run on a bus, and what hears its rows.
 #[derive(Drop)]

@@ -2,9 +2,9 @@
 
 ghost use Rattle.std.specs.Prelude.{◌≡◌, ◌≤◌, Some, OnErr, IfOk, IsErrOf, is_some};
 ghost use Rattle.ftt_io.specs.Counts.{Rose};
-ghost use Rattle.input_text.specs.SystemFile.{IsSystem};
-ghost use Rattle.input_text.specs.RequestsFile.{AreLegal};
-ghost use Rattle.input_text.specs.StepsFile.{AreLegalSteps};
+ghost use Rattle.system_file.specs.SystemFile.{IsSystem};
+ghost use Rattle.requests_file.specs.RequestsFile.{AreLegal};
+ghost use Rattle.steps_file.specs.StepsFile.{AreLegalSteps};
 ghost use Rattle.replay_run.specs.Run.{IsRun};
 ghost use Rattle.replay_run.specs.Written.{HasLastRows, IsCut, IsStopped, IsWritten};
 
@@ -15,9 +15,10 @@ use crate::logging::log_steps;
 use async_window::Request;
 use can_frame::TimedFrame;
 use ftt_io::Sink;
-use input_text::{Step, System};
 use master_core::Master;
 use std::alloc::{AllocError, Global};
+use steps_file::Step;
+use system_file::System;
 
 /// A run behind its last step.
 #[derive(Drop)]

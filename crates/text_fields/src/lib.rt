@@ -14,7 +14,7 @@ mod row_parts;
 pub use csv_rows::{field_in, field_of, number, read_next, records_in};
 pub use data_bytes::{DataBytes, read_bytes, read_data};
 pub use decimals::{read_decimal, read_number};
-pub use hexadecimal::{push_hex, read_hex, read_hexadecimal};
+pub use hexadecimal::{read_hex, read_hexadecimal};
 pub use lines::split_line;
 pub use masks::{masks_are_read, push_mask, put_mask, read_mask};
 pub use row_parts::{

@@ -1,5 +1,5 @@
 use Rattle.std.proofs.Common.{◌≡◌, sum_by}
-use Rattle.input_text.specs.StepsFile.{count_of}
+use Rattle.steps_file.specs.StepsFile.{count_of}
 use Rattle.live_steps.specs.Parts.{AreScripts}
 use Rattle.live_steps.proofs.parting.part.Given as goal
 

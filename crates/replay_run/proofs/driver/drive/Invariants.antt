@@ -1,7 +1,7 @@
 use Rattle.std.proofs.Common.{◌≡◌, take}
 use Rattle.std.specs.Prelude.{sum_by}
 use Rattle.std.specs.List.{flat_map}
-use Rattle.input_text.specs.StepsFile.{count_of}
+use Rattle.steps_file.specs.StepsFile.{count_of}
 use Rattle.replay_run.specs.Run.{calls_of}
 use Rattle.replay_run.proofs.driver.drive.Given as goal
 

@@ -1,0 +1,3 @@
+mod GeneratorDraws
+mod GeneratorRequests
+mod GeneratorLegal

@@ -1,5 +1,0 @@
-use Rattle.input_text.proofs.StepsLegal.{steps_legal}
-use Rattle.input_text.proofs.step_laws.steps_are_legal.Goals as goal
-
-pub returns : goal.returns
-returns c = record { legal = steps_legal }

@@ -1,5 +1,0 @@
-use Rattle.input_text.proofs.SystemOwners.{IsRead}
-use Rattle.input_text.proofs.system.read_owners.Given as goal
-
-abbrev pub invariant-loop-index : goal.invariant-loop-index
-invariant-loop-index l = IsRead l.nodes l.elements l.index l.owners.items

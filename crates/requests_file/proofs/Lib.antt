@@ -1,0 +1,4 @@
+mod RequestRows
+mod RequestsTogether
+mod RequestsReading
+mod RequestsMean

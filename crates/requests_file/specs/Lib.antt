@@ -1,0 +1,4 @@
+pub mod RequestText
+pub mod RequestRow
+pub mod RequestOwners
+pub mod RequestsFile

@@ -1,0 +1,7 @@
+mod ListParts
+mod StepLines
+mod StepMeaning
+mod StepsLegal
+mod StepsSaid
+mod StepDrafts
+mod StepsReading

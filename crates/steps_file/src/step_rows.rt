@@ -1,0 +1,269 @@
+//! One row of a steps file by itself.
+//!
+//! | row | fields |
+//! |---|---|
+//! | `cycle` | COUNT |
+//! | `look` | OPERATOR |
+//! | `add`, `change` | OPERATOR, START, SLOT, NODE, LENGTH, PHASE, PERIOD, DEADLINE, PRIORITY |
+//! | `remove` | OPERATOR, START, SLOT |
+//! | `and` | `add` or `change` with SLOT to PRIORITY, or `remove` with SLOT |
+//!
+//! COUNT is 0 to 20,000, START is below 2^64, PHASE, PERIOD and DEADLINE are 0 to 65,535, and the
+//! others are 0 to 255, of which OPERATOR has to be 1 to 8.
+
+ghost use Rattle.std.specs.Prelude.{◌≡◌, ◌≤◌, map, length, option_map};
+ghost use Rattle.csv.specs.Records.{fields_of};
+ghost use Rattle.text_fields.specs.CsvRows.{trimmed};
+ghost use Rattle.steps_file.specs.StepForm.{verb_of, joins_of, form_of, fields_of_verb, has_fields};
+ghost use Rattle.steps_file.specs.StepFields.{entry_at, operation_at, beginning, said_as};
+ghost use Rattle.steps_file.specs.StepRow.{is_operator, has_operator, line_of};
+
+use super::step_fault::StepWhy;
+use change_protocol::Op;
+use csv::ByteRecord;
+use requirement_table::Entry;
+use text_fields::{field_of, number};
+
+/// What an operation does.
+#[derive(Clone, Copy, Debug, PartialEq, Eq)]
+pub enum Verb {
+    /// It adds an entry.
+    Add,
+    /// It removes a slot's entry.
+    Remove,
+    /// It changes a slot's entry.
+    Change,
+}
+
+/// The form of a row, as the words at its start say.
+#[derive(Clone, Copy, Debug, PartialEq, Eq)]
+pub enum Form {
+    /// `cycle`.
+    Cycle,
+    /// `look`.
+    Look,
+    /// `add`, `remove` or `change`: it begins a change with this operation.
+    Begins(Verb),
+    /// `and`: it joins an operation to a change. `None` where no word of an operation follows.
+    Joins(Option<Verb>),
+}
+
+/// What a row says.
+#[derive(Clone, Copy, Debug, PartialEq, Eq)]
+pub enum Line {
+    /// That cycles run.
+    Cycle {
+        /// How many, 0 to 20,000.
+        count: u64,
+    },
+    /// That an operator looks.
+    Look {
+        /// The operator.
+        caller: u8,
+    },
+    /// That an operator asks for a change.
+    Begins {
+        /// The operator.
+        caller: u8,
+        /// The change's start.
+        start: u64,
+        /// Its first operation.
+        op: Op,
+    },
+    /// That the change of the rows directly above has one more operation.
+    Joins {
+        /// The operation.
+        op: Op,
+    },
+}
+
+/// What an operation does, by its word.
+fn read_verb(word: &[u8]) -> Option<Verb>
+    ensures value { result ≡ verb_of word.now }
+{
+    if word == b"add".as_slice() {
+        Some(Verb::Add)
+    } else if word == b"remove".as_slice() {
+        Some(Verb::Remove)
+    } else if word == b"change".as_slice() {
+        Some(Verb::Change)
+    } else {
+        None
+    }
+}
+
+/// The form of an `and` row, by its second field.
+fn read_joins(word: Option<&[u8]>) -> Option<Form>
+    ensures value { result ≡ joins_of (option_map (λ field. field.now) word.entry) }
+{
+    let Some(word) = word else {
+        return Some(Form::Joins(None));
+    };
+    let verb = read_verb(word)?;
+    Some(Form::Joins(Some(verb)))
+}
+
+/// The form of a row.
+#[tactic(auto, unfolding(crate::specs::StepForm::form_of))]
+fn read_form(row: &ByteRecord) -> Option<Form>
+    ensures value { result ≡ form_of (map trimmed (fields_of row.now)) }
+{
+    let word = field_of(row, 0)?;
+    if word == b"cycle".as_slice() {
+        Some(Form::Cycle)
+    } else if word == b"look".as_slice() {
+        Some(Form::Look)
+    } else if word == b"and".as_slice() {
+        read_joins(field_of(row, 1))
+    } else {
+        let verb = read_verb(word)?;
+        Some(Form::Begins(verb))
+    }
+}
+
+/// How many fields an operation has.
+fn fields_of_verb(verb: Verb) -> usize
+    ensures value { result ≡ fields_of_verb verb }
+    ensures few { result ≤ 7 }
+{
+    match verb {
+        Verb::Add | Verb::Change => 7,
+        Verb::Remove => 1,
+    }
+}
+
+/// Whether a row of this form has so many fields.
+fn has_fields(form: Form, fields: usize) -> bool
+    ensures value { result ≡ has_fields form fields }
+{
+    match form {
+        Form::Cycle | Form::Look => fields == 2,
+        Form::Begins(verb) => fields == 3 + fields_of_verb(verb),
+        Form::Joins(Some(verb)) => fields == 2 + fields_of_verb(verb),
+        Form::Joins(None) => false,
+    }
+}
+
+/// The entry that the fields from this place on describe.
+fn read_entry(row: &ByteRecord, place: usize) -> Option<Entry>
+    requires near { place ≤ 3 }
+    ensures value { result ≡ entry_at (map trimmed (fields_of row.now)) place }
+{
+    let slot = number(row, place, 0..=255)?;
+    let node = number(row, place + 1, 0..=255)?;
+    let length = number(row, place + 2, 0..=255)?;
+    let phase = number(row, place + 3, 0..=65_535)?;
+    let period = number(row, place + 4, 0..=65_535)?;
+    let deadline = number(row, place + 5, 0..=65_535)?;
+    let priority = number(row, place + 6, 0..=255)?;
+    Some(Entry {
+        slot: slot as u8,
+        node: node as u8,
+        length: length as u8,
+        phase: phase as u16,
+        period: period as u16,
+        deadline: deadline as u16,
+        priority: priority as u8,
+    })
+}
+
+/// The operation that the fields from this place on describe.
+fn read_operation(verb: Verb, row: &ByteRecord, place: usize) -> Option<Op>
+    requires near { place ≤ 3 }
+    ensures value { result ≡ operation_at verb (map trimmed (fields_of row.now)) place }
+{
+    match verb {
+        Verb::Add => {
+            let entry = read_entry(row, place)?;
+            Some(Op::Add { entry })
+        }
+        Verb::Remove => {
+            let slot = number(row, place, 0..=255)?;
+            Some(Op::Remove { slot: slot as u8 })
+        }
+        Verb::Change => {
+            let entry = read_entry(row, place)?;
+            Some(Op::Change { entry })
+        }
+    }
+}
+
+/// What a row says that begins a change with this operation.
+fn read_beginning(verb: Verb, row: &ByteRecord) -> Option<Line>
+    ensures value { result ≡ beginning verb (map trimmed (fields_of row.now)) }
+{
+    let caller = number(row, 1, 0..=255)?;
+    let start = number(row, 2, 0..=u64::MAX)?;
+    let op = read_operation(verb, row, 3)?;
+    Some(Line::Begins {
+        caller: caller as u8,
+        start,
+        op,
+    })
+}
+
+/// What a row of this form says, where each field is a number in its range.
+#[tactic(auto, unfolding(crate::specs::StepFields::said_as))]
+fn read_said(form: Form, row: &ByteRecord) -> Option<Line>
+    ensures value { result ≡ said_as form (map trimmed (fields_of row.now)) }
+{
+    match form {
+        Form::Cycle => {
+            let count = number(row, 1, 0..=20_000)?;
+            Some(Line::Cycle { count })
+        }
+        Form::Look => {
+            let caller = number(row, 1, 0..=255)?;
+            Some(Line::Look {
+                caller: caller as u8,
+            })
+        }
+        Form::Begins(verb) => read_beginning(verb, row),
+        Form::Joins(Some(verb)) => {
+            let op = read_operation(verb, row, 2)?;
+            Some(Line::Joins { op })
+        }
+        Form::Joins(None) => None,
+    }
+}
+
+/// Whether the number is that of an operator.
+fn is_operator(caller: u8) -> bool
+    ensures value { result ≡ is_operator caller }
+{
+    1 <= caller && caller <= 8
+}
+
+/// Whether the operator of a line, where it has one, is one.
+fn has_operator(line: Line) -> bool
+    ensures value { result ≡ has_operator line }
+{
+    match line {
+        Line::Look { caller } | Line::Begins { caller, .. } => is_operator(caller),
+        Line::Cycle { .. } | Line::Joins { .. } => true,
+    }
+}
+
+/// What a row says by itself.
+///
+/// # Errors
+///
+/// `Word`, `Fields`, `Number` or `Operator`: the first of them, in this order, that is so.
+#[tactic(auto, unfolding(crate::specs::StepRow::line_of))]
+pub fn read_line(row: &ByteRecord) -> Result<Line, StepWhy>
+    ensures value { result ≡ line_of (map trimmed (fields_of row.now)) }
+{
+    let Some(form) = read_form(row) else {
+        return Err(StepWhy::Word);
+    };
+    if !has_fields(form, row.len()) {
+        return Err(StepWhy::Fields);
+    }
+    let Some(line) = read_said(form, row) else {
+        return Err(StepWhy::Number);
+    };
+    if !has_operator(line) {
+        return Err(StepWhy::Operator);
+    }
+    Ok(line)
+}

@@ -1,0 +1,5 @@
+mod SystemElements
+mod SystemFirst
+mod SystemKeys
+mod SystemOwners
+mod SystemPaths

@@ -1,0 +1,3 @@
+pub mod SystemFile
+pub mod SystemParts
+pub mod SystemText

@@ -1,0 +1,143 @@
+"""The rows of a log as values, and how its frames are called."""
+import csv
+import fractions
+import re
+
+TRIGGERS = (0x000, 0x001)
+FIRST_SLOT, SLOTS = 0x100, 96
+LAST_SLOT = FIRST_SLOT + SLOTS - 1
+# The bits of intermission, which the length of a frame in a log counts.
+INTERMISSION = 3
+NUMBER = r"(0|[1-9][0-9]*)"
+# Ten digits, and 24 where a slot from 40 on is among them.
+MASK = r"([0-9a-f]{10}|(?!0{14})[0-9a-f]{24})"
+ROWS = {
+    "submit": re.compile(rf"submit,{NUMBER},{NUMBER},(accepted|malformed|passed|miss|horizon),([0-9,]+)"),
+    "plan": re.compile(rf"plan,{NUMBER},{MASK}"),
+    "look": re.compile(rf"look,{NUMBER},{NUMBER}"),
+    "open": re.compile(rf"open,{NUMBER},{MASK},{NUMBER}"),
+    "frame": re.compile(rf"frame,{NUMBER},{NUMBER},([0-9a-f]{{3}}),((?:[0-9a-f]{{2}}){{0,8}})"),
+    "end": re.compile(rf"end,{NUMBER}"),
+    "entry": re.compile(rf"entry,{NUMBER},{NUMBER},{NUMBER},{NUMBER}?,{NUMBER}?"),
+    "async": re.compile(rf"async,([0-9a-f]{{3}}),{NUMBER},{NUMBER}"),
+    "load": re.compile(rf"load,{NUMBER}?,{NUMBER}?,{NUMBER}"),
+}
+REPORT = ("entry", "async", "load")
+# How many fields each verdict has behind its word.
+FIELDS = {"accepted": (2,), "malformed": (2, 3), "passed": (2,), "miss": (3,), "horizon": (2,)}
+
+
+class NoLog(Exception):
+    """A row, or a row of another file, that can't stand there."""
+
+
+def rows_of(lines):
+    """The rows of a log with its report: the word of each, its fields, and its place from 1."""
+    for place, line in enumerate(lines, 1):
+        line = line.rstrip("\r\n")
+        word = line.split(",", 1)[0]
+        match = ROWS[word].fullmatch(line) if word in ROWS else None
+        if match is None or word == "submit" and len(match[4].split(",")) not in FIELDS[match[3]]:
+            raise NoLog(f"row {place}: {line!r} is no row of a log")
+        yield word, match.groups(), place
+
+
+def slots_of(mask):
+    """The slots of a mask, the least first."""
+    number = int(mask, 16)
+    return [slot for slot in range(SLOTS) if number >> slot & 1]
+
+
+def mask_of(number):
+    """A set of slots as a mask."""
+    return f"{number:010x}" if number < 1 << 40 else f"{number:024x}"
+
+
+def listed(names, none="nothing"):
+    """Names with commas, and an 'and' before the last one."""
+    names = [str(name) for name in names]
+    if not names:
+        return none
+    return names[0] if len(names) == 1 else ", ".join(names[:-1]) + " and " + names[-1]
+
+
+def some(number, word):
+    """A number of things."""
+    return f"{number} {word}{'' if int(number) == 1 else 's'}"
+
+
+def is_slot(identifier):
+    """Whether a frame with this identifier is synchronous."""
+    return FIRST_SLOT <= identifier <= LAST_SLOT
+
+
+class Names:
+    """What people call the frames: a name of a file for some, and for the others what the log has."""
+
+    def __init__(self, path=None):
+        self.given = {}
+        if path is None:
+            return
+        with open(path, encoding="utf-8-sig", newline="") as file:
+            for place, row in enumerate(csv.reader(file), 1):
+                if len(row) < 2 or place == 1 and not re.fullmatch("(0x)?[0-9a-fA-F]+", row[0]):
+                    continue
+                key = row[0].strip()
+                if not re.fullmatch("[0-9]+|0x[0-9a-fA-F]{1,3}", key):
+                    raise NoLog(f"{path}: row {place}: {key!r} is no slot and no identifier with 0x")
+                identifier = int(key, 16) if key.startswith("0x") else FIRST_SLOT + int(key)
+                self.given[identifier] = row[1].strip()
+
+    def own(self, identifier):
+        """The name that a file gives, or None."""
+        return self.given.get(identifier)
+
+    def of(self, identifier):
+        """What a frame with this identifier is."""
+        if identifier in TRIGGERS:
+            return "the trigger" if identifier == TRIGGERS[0] else "the second trigger frame"
+        plain = f"slot {identifier - FIRST_SLOT}" if is_slot(identifier) else f"{identifier:03x}"
+        return f"{plain} ({self.given[identifier]})" if identifier in self.given else plain
+
+    def of_slot(self, slot):
+        """What the frame of this slot is."""
+        return self.of(FIRST_SLOT + slot)
+
+
+def rate(text):
+    """A bit rate in kbit/s, in decimals."""
+    value = fractions.Fraction(text)
+    if value <= 0 or "/" in text:
+        raise ValueError
+    return value
+
+
+def millis(bits, kbits, places=3):
+    """Bit times as milliseconds, rounded half up."""
+    scaled = (fractions.Fraction(bits) / kbits * 10 ** places + fractions.Fraction(1, 2)).__floor__()
+    return f"{scaled // 10 ** places}.{scaled % 10 ** places:0{places}d}"
+
+
+def duration(bits, kbits):
+    """A time of the bus as text: in bit times, or in milliseconds where the rate is known."""
+    return some(bits, "bit time") if kbits is None else f"{millis(bits, kbits)} ms"
+
+
+def opened(rows):
+    """The opened cycles of a log: number, mask, width, and frames as start, length, identifier and data."""
+    cycles = []
+    for word, fields, _ in rows:
+        if word == "open":
+            cycles.append((int(fields[0]), fields[1], int(fields[2]), []))
+        elif word == "frame" and cycles:
+            cycles[-1][3].append((int(fields[0]), int(fields[1]), int(fields[2], 16), fields[3]))
+    return cycles
+
+
+def length_of(cycles):
+    """The length of a cycle: that of the triggers' distance, where two cycles are there."""
+    starts = [(number, frames[0][0]) for number, _, _, frames in cycles if frames]
+    if len(starts) < 2:
+        raise NoLog("the log has fewer than two cycles: give the length of a cycle with --cycle")
+    (one, at), (other, later) = starts[0], starts[-1]
+    return (later - at) // (other - one)
