@@ -189,6 +189,3 @@ def from_candump(lines, words, calls, put, note):
     for _, row in calls:
         put(row)
     put(f"end,{cycles[-1][0] + 1}\n")
-
-
-__all__ = ["bits", "calls_of", "candump", "from_candump", "pcap"]

@@ -1,6 +1,7 @@
 """Pictures of a log: cycles and histograms as SVG, and a page that shows a whole run."""
 import json
 import pathlib
+import textwrap
 import xml.sax.saxutils as xml
 
 from fttlog_parts.rows import NoLog, TRIGGERS, duration, is_slot, length_of, listed, millis, opened, slots_of, some
@@ -9,6 +10,8 @@ from fttlog_parts.words import verdict_told
 # Width of a letter of the font in parts of its size: wider than most.
 LETTER = 0.62
 LEFT, WIDE, RIGHT, HIGH, GAP, TOP = 90, 1000, 70, 34, 30, 44
+# So many letters of a sentence stand in a row of the page.
+TEXT = 150
 COLOURS = (("trigger", "#9bf"), ("asynchronous frame", "#fb7"), ("synchronous frame", "#9d9"),
            ("synchronous window", "#ddd"))
 HEAD = ('<svg xmlns="http://www.w3.org/2000/svg" width="{0}" height="{1}" viewBox="0 0 {0} {1}" '
@@ -130,7 +133,7 @@ def page_rows(rows, names):
     told = []
     for word, fields, _ in rows:
         if word in ("submit", "look"):
-            told.append(told_call(word, fields, names))
+            told += textwrap.wrap(told_call(word, fields, names), TEXT, subsequent_indent="    ")
         elif word == "plan":
             went = listed([names.of_slot(slot) for slot in slots_of(fields[1])])
             told.append(f"    would send in cycle {fields[0]}: {went}")
@@ -144,7 +147,8 @@ def page_rows(rows, names):
 def html(rows, words, names, put):
     """One page of HTML that shows all of the log, needs no other file, and asks nobody for anything."""
     rows = list(rows)
-    length = words.cycle or length_of(opened(rows))
+    cycles = opened(rows)
+    length = words.cycle or (length_of(cycles) if cycles else 1)
     told = page_rows(rows, names)
     called = {frame[2]: names.of(frame[2]) for row in told if isinstance(row, list) for frame in row[2]}
     data = {"length": length, "kbits": None if words.kbits is None else float(words.kbits), "rows": told,

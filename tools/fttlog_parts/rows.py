@@ -9,10 +9,11 @@ LAST_SLOT = FIRST_SLOT + SLOTS - 1
 # The bits of intermission, which the length of a frame in a log counts.
 INTERMISSION = 3
 NUMBER = r"(0|[1-9][0-9]*)"
+NUMBERS = r"(?:0|[1-9][0-9]*)(?:,(?:0|[1-9][0-9]*))*"
 # Ten digits, and 24 where a slot from 40 on is among them.
 MASK = r"([0-9a-f]{10}|(?!0{14})[0-9a-f]{24})"
 ROWS = {
-    "submit": re.compile(rf"submit,{NUMBER},{NUMBER},(accepted|malformed|passed|miss|horizon),([0-9,]+)"),
+    "submit": re.compile(rf"submit,{NUMBER},{NUMBER},(accepted|malformed|passed|miss|horizon),({NUMBERS})"),
     "plan": re.compile(rf"plan,{NUMBER},{MASK}"),
     "look": re.compile(rf"look,{NUMBER},{NUMBER}"),
     "open": re.compile(rf"open,{NUMBER},{MASK},{NUMBER}"),
@@ -21,8 +22,12 @@ ROWS = {
     "entry": re.compile(rf"entry,{NUMBER},{NUMBER},{NUMBER},{NUMBER}?,{NUMBER}?"),
     "async": re.compile(rf"async,([0-9a-f]{{3}}),{NUMBER},{NUMBER}"),
     "load": re.compile(rf"load,{NUMBER}?,{NUMBER}?,{NUMBER}"),
+    "ride": re.compile(rf"ride,{NUMBER},{NUMBER},{NUMBER},{NUMBER}"),
+    "waits": re.compile(rf"waits,{NUMBER},{NUMBER}"),
 }
-REPORT = ("entry", "async", "load")
+# The rows behind the row `end`: those of the report, and those of requests that ride on polled slots.
+RIDES = ("ride", "waits")
+REPORT = ("entry", "async", "load", *RIDES)
 # How many fields each verdict has behind its word.
 FIELDS = {"accepted": (2,), "malformed": (2, 3), "passed": (2,), "miss": (3,), "horizon": (2,)}
 
@@ -140,4 +145,6 @@ def length_of(cycles):
     if len(starts) < 2:
         raise NoLog("the log has fewer than two cycles: give the length of a cycle with --cycle")
     (one, at), (other, later) = starts[0], starts[-1]
+    if other <= one or later - at < other - one:
+        raise NoLog("the cycles do not stand in the order of their numbers: give the length of a cycle with --cycle")
     return (later - at) // (other - one)

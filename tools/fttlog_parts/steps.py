@@ -90,8 +90,8 @@ class Asked:
         return next((acts[-1] for acts in self.waiting.values() if acts), None)
 
 
-def accepted(rows, path, put):
-    """The steps without the changes that the log refuses."""
+def answered(rows, path):
+    """The steps, with the verdicts of a log that answers all of their calls."""
     asked = Asked(path)
     for word, fields, place in rows:
         if word in ("submit", "look"):
@@ -99,6 +99,12 @@ def accepted(rows, path, put):
     act = asked.left()
     if act is not None:
         raise NoLog(f"the log does not answer line {act.line} of {path}: a log that was cut can't tell")
+    return asked
+
+
+def accepted(rows, path, put):
+    """The steps without the changes that the log refuses."""
+    asked = answered(rows, path)
     for _, record, act in asked.rows:
         if act is None or act.verdict in ("accepted", "look"):
             put(",".join(record) + "\n")

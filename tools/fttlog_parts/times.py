@@ -3,8 +3,8 @@ import collections
 import re
 
 from fttlog_parts.drawing import histogram
-from fttlog_parts.rows import (FIRST_SLOT, INTERMISSION, LAST_SLOT, NoLog, TRIGGERS, is_slot, length_of, millis, opened,
-                               some)
+from fttlog_parts.rows import (FIRST_SLOT, INTERMISSION, LAST_SLOT, NoLog, RIDES, TRIGGERS, is_slot, length_of, millis,
+                               opened, some)
 from fttlog_parts.steps import Asked, records_of
 
 PERCENTILES = (50, 90, 99)
@@ -41,7 +41,9 @@ def change(entries, act):
 
 
 def delays_of(rows, path):
-    """The delays of the sent instances in cycles, by identifier: the cycle of the frame less the release."""
+    """The delays of the sent instances in cycles, by identifier: the cycle of the frame less the release. Frames of a
+    log with requests that ride on slots have these requests as data, and those of other logs the instance's number."""
+    is_polled = any(word in RIDES for word, _, _ in rows)
     asked, entries = Asked(path), collections.defaultdict(list)
     delays, cycle = collections.defaultdict(list), None
     for word, fields, place in rows:
@@ -57,7 +59,7 @@ def delays_of(rows, path):
             identifier = int(fields[2], 16)
             entry = next((it for it in entries[identifier - FIRST_SLOT] if it.release() is not None), None)
             low = None if entry is None else (entry.sent % 256 ** entry.length).to_bytes(entry.length, "big").hex()
-            if low != fields[3]:
+            if low != fields[3] and (entry is None or not is_polled):
                 raise NoLog(f"row {place}: the steps of {path} send no such frame here. Is the log whole, and theirs?")
             delays[identifier].append(cycle - entry.release())
             entry.sent += 1

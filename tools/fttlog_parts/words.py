@@ -4,7 +4,7 @@ import re
 import textwrap
 
 from fttlog_parts.rows import duration, is_slot, listed, slots_of, some
-from fttlog_parts.steps import Asked
+from fttlog_parts.steps import Asked, answered
 
 WIDTH = 100
 # So many cycles of a missed instance's plan are told at its beginning, and so many at its end.
@@ -138,6 +138,12 @@ class Teller:
         elif word == "async":
             self.line(f"{self.names.of(int(fields[0], 16))}: {some(fields[1], 'frame')} sent, "
                       f"{some(fields[2], 'request')} left. A request after the end of the run counts as left.")
+        elif word == "ride":
+            slot, number, release, cycle = fields
+            self.line(f"Request {number} of the streams rides on {self.names.of_slot(int(slot))}: released in cycle "
+                      f"{release}, sent in cycle {cycle}.")
+        elif word == "waits":
+            self.line(f"Request {fields[1]} of the streams waits still for {self.names.of_slot(int(fields[0]))}.")
         else:
             least, greatest, total = fields
             spread = "" if least is None else f", {least} to {greatest} in a cycle"
@@ -168,6 +174,9 @@ class Teller:
 
 def say(rows, names, steps, kbits, is_all, put):
     """Sentences on each row of the log and of its report."""
+    if steps is not None:
+        rows = list(rows)
+        answered(rows, steps)
     teller = Teller(names, None if steps is None else Asked(steps), kbits, is_all, put)
     for word, fields, place in rows:
         teller.row(word, fields, place)
@@ -179,7 +188,7 @@ KEYS = {
     "miss": ("slot", "release", "cycle"), "horizon": ("from", "walked"), "plan": ("cycle", "mask"),
     "look": ("caller", "next"), "open": ("cycle", "mask", "width"), "frame": ("start", "length", "id", "data"),
     "end": ("next",), "entry": ("slot", "origin", "instances", "least", "greatest"), "async": ("id", "sent", "left"),
-    "load": ("least", "greatest", "sum"),
+    "load": ("least", "greatest", "sum"), "ride": ("slot", "number", "release", "cycle"), "waits": ("slot", "number"),
 }
 TEXTS = ("mask", "id", "data")
 
@@ -204,6 +213,3 @@ def as_json(rows, names, put):
         if identifier is not None and names.own(identifier) is not None:
             told["name"] = names.own(identifier)
         put(json.dumps(told) + "\n")
-
-
-__all__ = ["as_json", "say", "verdict_told"]

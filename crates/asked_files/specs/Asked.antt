@@ -10,7 +10,9 @@ use Rattle.steps_file.specs.StepsFile.{steps_of}
 use Rattle.requests_file.specs.RequestsFile.{requests_of}
 use Rattle.steps_file.specs.declared.steps.Step.{Step}
 use Rattle.system_file.specs.declared.system.System.{System}
-use Rattle.command_words.specs.Words.{Command, RunWords, admit, check, command_of, generate, live_of, replay}
+use Rattle.elastic.specs.WishesFile.{wish_of}
+use Rattle.elastic.specs.declared.wish.Wish.{Wish}
+use Rattle.command_words.specs.Words.{Command, RunWords, admit, check, command_of, elastic, generate, live_of, replay}
 use Rattle.asked_files.specs.declared.stopping.Refusal.{Refusal}
 use Rattle.asked_files.specs.declared.stopping.Source.{Source}
 use Rattle.asked_files.specs.declared.stopping.Stop.{Stop}
@@ -23,13 +25,14 @@ pub record JobView : Type 0 where
   pub requests : List Request
 
 -- what is asked for: the log of a run or so many of its last rows, and the report behind it or not; the plan of the
--- table behind the steps; the check of a plan; the summary of the run of the input that a number makes; or the log of a run
--- by threads, and the report behind it or not
+-- table behind the steps; the check of a plan; the summary of the run of the input that a number makes; what is chosen
+-- of a wish behind the steps; or the log of a run by threads, and the report behind it or not
 pub data Asked : Type 0 where
   log_of : JobView → Option ℕ → Bool → Asked
   summary_of : ℕ → Asked
   plan_of : JobView → Asked
   check_of : JobView → CertificateView → Asked
+  choice_of : JobView → Wish → Asked
   live_log_of : JobView → Bool → Asked
 
 -- the greatest number of bytes of a file
@@ -38,6 +41,7 @@ limit_of Source.System = 4194304
 limit_of Source.Steps = 4194304
 limit_of Source.Requests = 4194304
 limit_of Source.Plan = 4194304
+limit_of Source.Wishes = 4194304
 
 infixl 10 ◌>>=◌
 -- what the second gives for the value of the first; the first that stops decides
@@ -69,6 +73,10 @@ abbrev pub requests_in : NamedFiles → Option (List ℕ) → List Owner → Res
 requests_in files None owners = Ok []
 requests_in files (Some name) owners =
     within_limit Source.Requests (files name) >>= λ bytes. meant Refusal.Requests (requests_of owners bytes)
+
+-- the wish in the file of this name
+abbrev pub wish_in : NamedFiles → List ℕ → Result Wish Stop
+wish_in files name = within_limit Source.Wishes (files name) >>= λ bytes. meant Refusal.Wishes (wish_of bytes)
 
 -- the run that files of these names ask for: first the system's file and its text, then the steps', then the requests'
 abbrev pub job_in : NamedFiles → List ℕ → List ℕ → Option (List ℕ) → Result JobView Stop
@@ -124,6 +132,8 @@ IsAskedOf files (admit system steps) asked_for = asked_for
     ≡ (job_in files system steps None >>= λ job. Ok (plan_of job))
 IsAskedOf files (check system steps plan) asked_for = IsCheckOf files plan (job_in files system steps None) asked_for
 IsAskedOf files (generate number) asked_for = asked_for ≡ Ok (summary_of number)
+IsAskedOf files (elastic system steps wishes) asked_for = asked_for
+    ≡ (job_in files system steps None >>= λ job. wish_in files wishes >>= λ wish. Ok (choice_of job wish))
 
 abbrev pub IsAskedBy : NamedFiles → Option Command → Result Asked Stop → Type 0
 IsAskedBy files None asked_for = asked_for ≡ Err Words

@@ -1,5 +1,5 @@
 -- What loading does to a shelf, and what it says to the calls above it.
-use Rattle.std.specs.Prelude.{◌≡◌, ℕ, ◌+◌, ◌≤◌, ⊤, ◌⊎◌, Option, None, Some, Result, Err, IsSome}
+use Rattle.std.specs.Prelude.{◌≡◌, ℕ, ◌+◌, ◌≤◌, ⊤, ◌⊎◌, All, Option, None, Some, Result, Err, IsSome, length}
 use Rattle.std.specs.Option.{ForSome}
 use Rattle.ftt_io.specs.Counts.{Rose}
 use Rattle.ftt_io.specs.Files.{NamedFiles}
@@ -9,13 +9,16 @@ use Rattle.steps_file.specs.StepsFile.{AreLegalSteps}
 use Rattle.plan_check.specs.Certificate.{CertificateView}
 use Rattle.plan_check.specs.declared.plan_runs.Version.TheVariants.{Two}
 use Rattle.plan_check.specs.PlanText.{IsReadable}
+use Rattle.elastic.specs.Combination.{HasFewChoices}
+use Rattle.elastic.specs.WishesFile.{IsLegalWish}
+use Rattle.elastic.specs.declared.wish.Wish.{Wish}
 use Rattle.command_words.specs.declared.words.WordsFault.{WordsFault}
 use Rattle.command_words.specs.declared.words.WordsFault.TheVariants as words
 use Rattle.asked_files.specs.declared.loading.Task.{Task}
-use Rattle.asked_files.specs.declared.loading.Task.TheVariants.{Log, Tail, Table, Check, Summary}
+use Rattle.asked_files.specs.declared.loading.Task.TheVariants.{Log, Tail, Table, Check, Summary, Choice}
 use Rattle.asked_files.specs.declared.stopping.Stop.{Stop}
 use Rattle.asked_files.specs.declared.stopping.Stop.TheVariants.{Words, Input, Read, Write, Memory}
-use Rattle.asked_files.specs.Asked.{Asked, IsFromStart, JobView, check_of, log_of, plan_of, summary_of}
+use Rattle.asked_files.specs.Asked.{Asked, IsFromStart, JobView, check_of, choice_of, log_of, plan_of, summary_of}
 
 -- what loading did to a shelf, by what it shows before and after: its files stay, so many fetches were made at most,
 -- and no count fell
@@ -65,6 +68,7 @@ asked_of (Tail job count report) = log_of job (Some count) report
 asked_of (Table job) = plan_of job
 asked_of (Check job certificate) = check_of job certificate
 asked_of (Summary number) = summary_of number
+asked_of (Choice job wish) = choice_of job wish
 
 -- what holds of each job
 pub record IsJob (job : JobView) : Type 0 where
@@ -77,6 +81,12 @@ pub record IsToCheck (certificate : CertificateView) : Type 0 where
   pub readable : IsReadable Two certificate
   pub start : IsFromStart certificate
 
+-- what holds of each wish of which is to be chosen
+pub record IsToChoose (wish : Wish) : Type 0 where
+  pub legal : IsLegalWish wish
+  pub few_ops : length wish.ops ≤ 256
+  pub few_periods : All HasFewChoices wish.ops
+
 -- what holds of each task
 abbrev pub IsTask : Task → Type 0
 IsTask (Log job report) = IsJob job
@@ -84,3 +94,4 @@ IsTask (Tail job count report) = IsJob job
 IsTask (Table job) = IsJob job
 IsTask (Check job certificate) = IsJob job × IsToCheck certificate
 IsTask (Summary number) = ⊤
+IsTask (Choice job wish) = IsJob job × IsToChoose wish

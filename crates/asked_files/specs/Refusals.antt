@@ -4,6 +4,7 @@ use Rattle.std.specs.Fmt.{decimal}
 use Rattle.system_file.specs.SystemText.{system_fault_line}
 use Rattle.steps_file.specs.StepText.{text_of as steps_line}
 use Rattle.requests_file.specs.RequestText.{text_of as requests_line}
+use Rattle.elastic.specs.WishText.{text_of as wishes_line}
 use Rattle.asked_files.specs.declared.stopping.Refusal.{Refusal}
 use Rattle.asked_files.specs.declared.stopping.Source.{Source}
 use Rattle.asked_files.specs.Asked.{limit_of}
@@ -14,6 +15,7 @@ source_word Source.System = codes "system"
 source_word Source.Steps = codes "steps"
 source_word Source.Requests = codes "requests"
 source_word Source.Plan = codes "plan"
+source_word Source.Wishes = codes "wishes"
 
 -- the line for a file that is longer than its limit
 abbrev pub length_line : Source → List ℕ
@@ -27,3 +29,4 @@ refusal_line (Refusal.Steps fault) = steps_line fault
 refusal_line (Refusal.Requests fault) = requests_line fault
 refusal_line (Refusal.Plan line) = codes "plan: line " ++ decimal line ++ codes "\n"
 refusal_line Refusal.LaterPlan = codes "plan: start\n"
+refusal_line (Refusal.Wishes fault) = wishes_line fault

@@ -6,15 +6,16 @@ ghost use Rattle.ftt_io.specs.Counts.{Rose};
 ghost use Rattle.system_file.specs.SystemFile.{IsSystem};
 ghost use Rattle.requests_file.specs.RequestsFile.{AreLegal};
 ghost use Rattle.steps_file.specs.StepsFile.{AreLegalSteps};
-ghost use Rattle.command_words.specs.Words.{admit, check, command_of, file_count, files_named, live_file_count, live_of, named, replay};
+ghost use Rattle.command_words.specs.Words.{admit, check, command_of, elastic, file_count, files_named, live_file_count, live_of, named, replay};
 ghost use Rattle.command_words.specs.WordsRead.{command_read, run_read};
-ghost use Rattle.asked_files.specs.Asked.{IsAsked, IsAskedOf, IsLiveAsked, IsPlanIn, IsPlanMeant, job_in, live_log_of, requests_in, steps_in, system_in, within_limit};
-ghost use Rattle.asked_files.specs.Loads.{Bars, Fetches, IsBarred, IsJob, IsRefusedFor, IsTask, IsToCheck, asked_of};
+ghost use Rattle.asked_files.specs.Asked.{IsAsked, IsAskedOf, IsLiveAsked, IsPlanIn, IsPlanMeant, job_in, live_log_of, requests_in, steps_in, system_in, wish_in, within_limit};
+ghost use Rattle.asked_files.specs.Loads.{Bars, Fetches, IsBarred, IsJob, IsRefusedFor, IsTask, IsToCheck, IsToChoose, asked_of};
 
 use crate::runs::Job;
 use crate::stopping::{Refusal, Source, Stop};
 use async_window::{Owner, Request};
 use command_words::{Command, RunWords, command_in, live_in};
+use elastic::{Wish, WishFault, read_wish};
 use ftt_io::{FetchFault, Shelf};
 use plan_check::{Certificate, PlanTextFault, read_plan};
 use requests_file::{RequestFault, read_requests};
@@ -36,6 +37,8 @@ pub enum Task {
     Check(Job, Certificate),
     /// To write the summary of the run of the input that this number makes.
     Summary(u32),
+    /// To choose the periods of a wish after the run.
+    Choice(Job, Wish),
 }
 
 /// A run by threads that is to be done.
@@ -260,6 +263,43 @@ fn load_check<S: Shelf>(
     Ok(Task::Check(job, certificate))
 }
 
+/// Fetches and reads the wishes file.
+fn load_wish<S: Shelf>(alloc: Global, shelf: &mut S, name: &str) -> Result<Wish, Stop>
+    ensures fetched { Fetches S.told_files S.fetches S.faults shelf.old shelf.new 1 }
+    ensures valid { IfOk result IsToChoose }
+    ensures ok { IfOk result (λ wish. ForSome (S.told_files shelf.old)
+        (λ files. wish_in files name.now ≡ Ok wish)) }
+    ensures stop { IfErr result (Bars S.told_files S.faults shelf.old shelf.new
+        (λ files read. read ≡ wish_in files name.now)) }
+{
+    let bytes = fetch_file(alloc, shelf, Source::Wishes, name)?;
+    match read_wish(alloc, bytes.as_slice()) {
+        Ok(wish) => Ok(wish),
+        Err(WishFault::Memory) => Err(Stop::Memory),
+        Err(fault) => Err(Stop::Input(Refusal::Wishes(fault))),
+    }
+}
+
+/// The choice that `elastic` asks for.
+fn load_choice<S: Shelf>(
+    alloc: Global,
+    shelf: &mut S,
+    system_name: &str,
+    steps_name: &str,
+    wishes_name: &str,
+) -> Result<Task, Stop>
+    ensures fetched { Fetches S.told_files S.fetches S.faults shelf.old shelf.new 3 }
+    ensures task { IfOk result IsTask }
+    ensures ok { IfOk result (λ task. ForSome (S.told_files shelf.old)
+        (λ files. IsAskedOf files (elastic system_name.now steps_name.now wishes_name.now) (Ok (asked_of task)))) }
+    ensures stop { IfErr result (Bars S.told_files S.faults shelf.old shelf.new
+        (λ files asked_for. IsAskedOf files (elastic system_name.now steps_name.now wishes_name.now) asked_for)) }
+{
+    let job = load_job(alloc, shelf, system_name, steps_name, None)?;
+    let wish = load_wish(alloc, shelf, wishes_name)?;
+    Ok(Task::Choice(job, wish))
+}
+
 /// The task that a command asks for.
 fn load_command<S: Shelf>(alloc: Global, shelf: &mut S, command: Command<'_>) -> Result<Task, Stop>
     ensures fetched { Fetches S.told_files S.fetches S.faults shelf.old shelf.new
@@ -279,6 +319,11 @@ fn load_command<S: Shelf>(alloc: Global, shelf: &mut S, command: Command<'_>) ->
             plan,
         } => load_check(alloc, shelf, system, steps, plan),
         Command::Generate { number } => Ok(Task::Summary(number)),
+        Command::Elastic {
+            system,
+            steps,
+            wishes,
+        } => load_choice(alloc, shelf, system, steps, wishes),
     }
 }
 

@@ -5,6 +5,7 @@ ghost use Rattle.asked_files.specs.Asked.{limit_of};
 ghost use Rattle.asked_files.specs.Refusals.{length_line, refusal_line, source_word};
 
 use command_words::WordsFault;
+use elastic::WishFault;
 use requests_file::RequestFault;
 use std::alloc::{AllocError, Global};
 use steps_file::StepFault;
@@ -17,6 +18,7 @@ pub enum Source {
     Steps,
     Requests,
     Plan,
+    Wishes,
 }
 
 /// Why a file is refused.
@@ -34,6 +36,8 @@ pub enum Refusal {
     Plan(u64),
     /// The plan does not begin at cycle 0 with nothing pending.
     LaterPlan,
+    /// The text of the wishes file breaks a rule of its format.
+    Wishes(WishFault),
 }
 
 /// Why a call stopped before it was done.
@@ -75,6 +79,7 @@ impl Source {
             Source::Steps => 4_194_304,
             Source::Requests => 4_194_304,
             Source::Plan => 4_194_304,
+            Source::Wishes => 4_194_304,
         }
     }
 
@@ -87,6 +92,7 @@ impl Source {
             Source::Steps => "steps",
             Source::Requests => "requests",
             Source::Plan => "plan",
+            Source::Wishes => "wishes",
         }
     }
 }
@@ -113,6 +119,7 @@ impl Refusal {
             Refusal::System(fault) => fault.message(alloc),
             Refusal::Steps(fault) => fault.message(alloc),
             Refusal::Requests(fault) => fault.message(alloc),
+            Refusal::Wishes(fault) => fault.message(alloc),
         }
     }
 }

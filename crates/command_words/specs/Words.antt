@@ -21,12 +21,13 @@ pub record RunWords : Type 0 where
   pub report : Bool
 
 -- a command: a replay, of which only the last rows of the log may be asked for; the plan of the table behind steps; the
--- check of a plan; or the run of the input that a number makes
+-- check of a plan; the run of the input that a number makes; or the choice of periods behind steps
 pub data Command : Type 0 where
   replay : RunWords → Option ℕ → Command
   admit : Text → Text → Command
   check : Text → Text → Text → Command
   generate : ℕ → Command
+  elastic : Text → Text → Text → Command
 
 -- The table of commands, as clap is told it
 
@@ -74,6 +75,10 @@ check_app = with_rule (files_app (codes "check")) (needed (codes "plan"))
 unfoldable pub generate_app : App
 generate_app = with_rule (new_app (codes "gen")) (number_up_to 4294967295 (codes "number"))
 
+-- `elastic SYSTEM STEPS WISHES`
+unfoldable pub elastic_app : App
+elastic_app = with_rule (files_app (codes "elastic")) (needed (codes "wishes"))
+
 -- `live SYSTEM STEPS [REQUESTS] [--report]`
 unfoldable pub live_app : App
 live_app = run_app (codes "live")
@@ -118,6 +123,10 @@ check_meant rows = check (word_of (codes "system") rows) (word_of (codes "steps"
 abbrev pub generate_meant : List Row → Command
 generate_meant rows = generate (unwrap_or (number_of 32 (codes "number") rows) 0)
 
+abbrev pub elastic_meant : List Row → Command
+elastic_meant rows =
+    elastic (word_of (codes "system") rows) (word_of (codes "steps") rows) (word_of (codes "wishes") rows)
+
 -- what the words mean, where clap's command takes them
 abbrev pub taken_by : {A : Type 0} → App → (List Row → A) → List Text → Option A
 taken_by app meaning words = if is_empty (fault_of app words) then Some (meaning (matches_of app words)) else None
@@ -129,6 +138,7 @@ command_named name words =
     else if bytes_eq name (codes "admit") then taken_by admit_app admit_meant words
     else if bytes_eq name (codes "check") then taken_by check_app check_meant words
     else if bytes_eq name (codes "gen") then taken_by generate_app generate_meant words
+    else if bytes_eq name (codes "elastic") then taken_by elastic_app elastic_meant words
     else None
 
 -- the command that the words ask for; `None` where they are in no row of the table of commands
@@ -157,6 +167,7 @@ files_named (Some (replay run tail)) = 2 + named run.requests
 files_named (Some (admit system steps)) = 2
 files_named (Some (check system steps plan)) = 3
 files_named (Some (generate number)) = 0
+files_named (Some (elastic system steps wishes)) = 3
 
 -- the number of files that the words name
 abbrev pub file_count : List Text → ℕ

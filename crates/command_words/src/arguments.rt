@@ -2,7 +2,7 @@
 
 ghost use Rattle.std.specs.Prelude.{◌≡◌, false, IfOk, codes};
 ghost use Rattle.clap.specs.Words.{app_of, rule_of};
-ghost use Rattle.command_words.specs.Words.{admit_app, check_app, counted_option, files_app, flag, generate_app, live_app, needed, number_up_to, optional, replay_app, run_app};
+ghost use Rattle.command_words.specs.Words.{admit_app, check_app, counted_option, elastic_app, files_app, flag, generate_app, live_app, needed, number_up_to, optional, replay_app, run_app};
 
 use clap::{Arg, ArgAction, Command, value_parser};
 use std::alloc::{AllocError, Global};
@@ -99,6 +99,14 @@ pub fn generate_command<'a>(alloc: Global) -> Result<Command<'a>, AllocError>
     ensures app { IfOk result (λ command. app_of command ≡ generate_app) }
 {
     Command::new(alloc, "gen").arg(number(alloc))
+}
+
+/// `elastic SYSTEM STEPS WISHES`.
+#[tactic(auto, unfolding(crate::specs::Words::elastic_app))]
+pub fn elastic_command<'a>(alloc: Global) -> Result<Command<'a>, AllocError>
+    ensures app { IfOk result (λ command. app_of command ≡ elastic_app) }
+{
+    files_command(alloc, "elastic")?.arg(needed(alloc, "wishes"))
 }
 
 /// `live SYSTEM STEPS [REQUESTS] [--report]`.

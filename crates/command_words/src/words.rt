@@ -2,11 +2,11 @@
 
 ghost use Rattle.std.specs.Prelude.{◌≡◌, ◌⊎◌, codes, unwrap_or, [], Some, true, IfOk, IfErr, map, option_map, string_bytes};
 ghost use Rattle.clap.specs.Words.{fault_of, app_of, first_of, found_of, is_simple_and_free, matches_of, rows_of};
-ghost use Rattle.command_words.specs.Words.{admit_app, admit_meant, check_app, check_meant, command_of, generate_app, generate_meant, is_set, live_app, live_of, number_of, replay_app, replay_meant, run_meant, taken_by, word_of};
+ghost use Rattle.command_words.specs.Words.{admit_app, admit_meant, check_app, check_meant, command_of, elastic_app, elastic_meant, generate_app, generate_meant, is_set, live_app, live_of, number_of, replay_app, replay_meant, run_meant, taken_by, word_of};
 ghost use Rattle.command_words.specs.WordsRead.{ExplainsWords, run_read, command_read};
 
 use crate::arguments::{
-    admit_command, check_command, generate_command, live_command, replay_command,
+    admit_command, check_command, elastic_command, generate_command, live_command, replay_command,
 };
 use clap::ArgMatches;
 use clap::error::ErrorKind;
@@ -43,6 +43,12 @@ pub enum Command<'a> {
     /// To run the input that a number makes, and to write a summary.
     Generate {
         number: u32,
+    },
+    /// To run the steps, and to choose the periods of a wish then.
+    Elastic {
+        system: &'a str,
+        steps: &'a str,
+        wishes: &'a str,
     },
 }
 
@@ -195,6 +201,21 @@ fn generate_in(alloc: Global, words: &[String]) -> Result<Command<'_>, WordsFaul
     })
 }
 
+/// What the words of `elastic` ask for.
+fn elastic_in(alloc: Global, words: &[String]) -> Result<Command<'_>, WordsFault>
+    ensures ok { IfOk result (λ command. Some (command_read command)
+        ≡ taken_by elastic_app elastic_meant (map string_bytes words.now)) }
+    ensures stop { IfErr result (ExplainsWords (taken_by elastic_app elastic_meant (map string_bytes words.now))) }
+{
+    let command = elastic_command(alloc)?;
+    let matches = parsed(command, words)?;
+    Ok(Command::Elastic {
+        system: needed_word(&matches, "system"),
+        steps: needed_word(&matches, "steps"),
+        wishes: needed_word(&matches, "wishes"),
+    })
+}
+
 /// What the words ask for.
 pub fn command_in(alloc: Global, words: &[String]) -> Result<Command<'_>, WordsFault>
     ensures ok { IfOk result (λ command. Some (command_read command) ≡ command_of (map string_bytes words.now)) }
@@ -214,6 +235,9 @@ pub fn command_in(alloc: Global, words: &[String]) -> Result<Command<'_>, WordsF
     }
     if name.as_str() == "gen" {
         return generate_in(alloc, words);
+    }
+    if name.as_str() == "elastic" {
+        return elastic_in(alloc, words);
     }
     Err(WordsFault::NoCommand)
 }

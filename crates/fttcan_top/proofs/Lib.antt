@@ -1,2 +1,3 @@
+mod ChosenLemmas
 mod EndLemmas
 mod StreamedLemmas

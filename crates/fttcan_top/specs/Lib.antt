@@ -1,5 +1,6 @@
 pub mod Summary
 pub mod Status
 pub mod Streamed
+pub mod Chosen
 pub mod Output
 pub mod Ends

@@ -2,6 +2,7 @@
 #![tactic(auto)]
 
 mod by_threads;
+mod choosing;
 mod gathered;
 mod program;
 mod rows;

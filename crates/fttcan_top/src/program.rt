@@ -10,6 +10,7 @@ ghost use Rattle.asked_files.specs.Loads.{Fetches, IsTask, asked_of};
 ghost use Rattle.fttcan_top.specs.Ends.{IsCarried, IsEnd, PutsPart};
 ghost use Rattle.fttcan_top.specs.Output.{IsAnswer, IsCut, IsCutWhileRun, IsDone, IsStopped, Says, Tells, TellsFront, message_of};
 
+use crate::choosing::choice_of;
 use crate::status::Status;
 use crate::stop::tell;
 use crate::streamed::put_log;
@@ -33,6 +34,7 @@ fn carry_out<O: Sink>(alloc: Global, task: &Task, out: &mut O) -> Result<Status,
         Task::Table(job) => put_answer(plan_of(alloc, job), out),
         Task::Check(job, certificate) => put_answer(check_of(alloc, job, certificate), out),
         Task::Summary(number) => put_answer(summary_of_made(alloc, *number), out),
+        Task::Choice(job, wish) => put_answer(choice_of(alloc, job, wish), out),
     }
 }
 
@@ -69,6 +71,8 @@ fn call<S: Shelf, O: Sink>(
 /// - `check SYSTEM STEPS PLAN` checks such a plan against the changes of the steps, and writes `yes` or the first
 ///   breach.
 /// - `gen NUMBER` makes an input from a number of 0 to 4,294,967,295, runs it and writes a summary; it reads no file.
+/// - `elastic SYSTEM STEPS WISHES` has a master answer the steps, with no bus, and writes which periods of the wish it
+///   would accept first then, or why it would accept none.
 pub fn plain<S: Shelf, O: Sink, R: Sink>(
     alloc: Global,
     words: &[String],

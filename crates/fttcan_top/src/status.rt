@@ -6,9 +6,9 @@ ghost use Rattle.fttcan_top.specs.Status.{code_of};
 /// How a call of the program ended.
 #[derive(Clone, Copy, PartialEq, Eq, Debug)]
 pub enum Status {
-    /// What was asked was done: no change was refused, or the checked plan keeps the table.
+    /// What was asked was done: no change was refused, the checked plan keeps the table, or periods were chosen.
     Done,
-    /// The run was done, and some change was refused.
+    /// The run was done, and some change was refused, or no periods of the wish would be accepted.
     Refused,
     /// The words are those of no command.
     Words,

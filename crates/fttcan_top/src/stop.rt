@@ -17,6 +17,7 @@ usage: fttcan admit SYSTEM STEPS
 usage: fttcan check SYSTEM STEPS PLAN
 usage: fttcan gen NUMBER
 usage: fttcan live SYSTEM STEPS [REQUESTS] [--report]
+usage: fttcan elastic SYSTEM STEPS WISHES
 ";
 
 /// The line where memory ran out.

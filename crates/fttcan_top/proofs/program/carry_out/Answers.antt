@@ -1,6 +1,6 @@
 use Rattle.std.proofs.Common.{Some}
 use Rattle.ftt_io.specs.Counts.{Rose}
-use Rattle.asked_files.specs.Asked.{check_of, log_of, plan_of, summary_of}
+use Rattle.asked_files.specs.Asked.{check_of, choice_of, log_of, plan_of, summary_of}
 use Rattle.fttcan_top.proofs.EndLemmas.{front-carried}
 use Rattle.fttcan_top.proofs.program.carry_out.Goals as goal
 
@@ -23,3 +23,8 @@ pub returns-in-Summary-clause-carried : goal.returns-in-Summary-clause-carried
 returns-in-Summary-clause-carried g c =
     rw c.in-Summary.is (front-carried (summary_of c.in-Summary.number) (Rose (g.O.Sink.faults c.args.out.now) (g.O.Sink.faults c.put_answer-in-Summary.new.out))
     (g.O.Sink.told_bytes c.args.out.now) (g.O.Sink.told_bytes c.put_answer-in-Summary.new.out) c.put_answer-in-Summary.result (c.put_answer-in-Summary.ensures.carried (summary_of c.in-Summary.number) c.summary_of_made.ensures.summary))
+
+pub returns-in-Choice-clause-carried : goal.returns-in-Choice-clause-carried
+returns-in-Choice-clause-carried g c =
+    rw c.in-Choice.is (front-carried (choice_of c.in-Choice.job c.in-Choice.wish) (Rose (g.O.Sink.faults c.args.out.now) (g.O.Sink.faults c.put_answer-in-Choice.new.out))
+    (g.O.Sink.told_bytes c.args.out.now) (g.O.Sink.told_bytes c.put_answer-in-Choice.new.out) c.put_answer-in-Choice.result (c.put_answer-in-Choice.ensures.carried (choice_of c.in-Choice.job c.in-Choice.wish) c.choice_of.ensures.choice))
