@@ -1,5 +1,5 @@
 -- What the words and the files ask for.
-use Rattle.std.specs.Prelude.{◌≡◌, ℕ, Bool, List, [], length, if◌then◌else◌, nat_le, Option, Some, None, Result, Ok, Err}
+use Rattle.std.specs.Prelude.{◌≡◌, ℕ, Bool, false, List, [], length, if◌then◌else◌, nat_le, Option, Some, None, Result, Ok, Err}
 use Rattle.ftt_io.specs.Files.{NamedFiles}
 use Rattle.plan_check.specs.Certificate.{CertificateView}
 use Rattle.plan_check.specs.PlanText.{IsFirstWrongLine, IsPlanOf}
@@ -12,7 +12,7 @@ use Rattle.steps_file.specs.declared.steps.Step.{Step}
 use Rattle.system_file.specs.declared.system.System.{System}
 use Rattle.elastic.specs.WishesFile.{wish_of}
 use Rattle.elastic.specs.declared.wish.Wish.{Wish}
-use Rattle.command_words.specs.Words.{Command, RunWords, admit, check, command_of, elastic, generate, live_of, replay}
+use Rattle.command_words.specs.Words.{Command, RunWords, admit, check, command_of, elastic, generate, handover, live_of, replay}
 use Rattle.asked_files.specs.declared.stopping.Refusal.{Refusal}
 use Rattle.asked_files.specs.declared.stopping.Source.{Source}
 use Rattle.asked_files.specs.declared.stopping.Stop.{Stop}
@@ -134,6 +134,9 @@ IsAskedOf files (check system steps plan) asked_for = IsCheckOf files plan (job_
 IsAskedOf files (generate number) asked_for = asked_for ≡ Ok (summary_of number)
 IsAskedOf files (elastic system steps wishes) asked_for = asked_for
     ≡ (job_in files system steps None >>= λ job. wish_in files wishes >>= λ wish. Ok (choice_of job wish))
+-- a handover asks for the log of the replay of the same files, whenever the standby takes over
+IsAskedOf files (handover system steps at requests) asked_for = asked_for
+    ≡ (job_in files system steps requests >>= λ job. Ok (log_of job None false))
 
 abbrev pub IsAskedBy : NamedFiles → Option Command → Result Asked Stop → Type 0
 IsAskedBy files None asked_for = asked_for ≡ Err Words

@@ -1,5 +1,5 @@
 -- What loading does to a shelf, and what it says to the calls above it.
-use Rattle.std.specs.Prelude.{◌≡◌, ℕ, ◌+◌, ◌≤◌, ⊤, ◌⊎◌, All, Option, None, Some, Result, Err, IsSome, length}
+use Rattle.std.specs.Prelude.{◌≡◌, ℕ, ◌+◌, ◌≤◌, false, ⊤, ◌⊎◌, All, Option, None, Some, Result, Err, IsSome, length}
 use Rattle.std.specs.Option.{ForSome}
 use Rattle.ftt_io.specs.Counts.{Rose}
 use Rattle.ftt_io.specs.Files.{NamedFiles}
@@ -15,7 +15,7 @@ use Rattle.elastic.specs.declared.wish.Wish.{Wish}
 use Rattle.command_words.specs.declared.words.WordsFault.{WordsFault}
 use Rattle.command_words.specs.declared.words.WordsFault.TheVariants as words
 use Rattle.asked_files.specs.declared.loading.Task.{Task}
-use Rattle.asked_files.specs.declared.loading.Task.TheVariants.{Log, Tail, Table, Check, Summary, Choice}
+use Rattle.asked_files.specs.declared.loading.Task.TheVariants.{Log, Tail, Table, Check, Summary, Choice, Handover}
 use Rattle.asked_files.specs.declared.stopping.Stop.{Stop}
 use Rattle.asked_files.specs.declared.stopping.Stop.TheVariants.{Words, Input, Read, Write, Memory}
 use Rattle.asked_files.specs.Asked.{Asked, IsFromStart, JobView, check_of, choice_of, log_of, plan_of, summary_of}
@@ -69,6 +69,7 @@ asked_of (Table job) = plan_of job
 asked_of (Check job certificate) = check_of job certificate
 asked_of (Summary number) = summary_of number
 asked_of (Choice job wish) = choice_of job wish
+asked_of (Handover job at) = log_of job None false
 
 -- what holds of each job
 pub record IsJob (job : JobView) : Type 0 where
@@ -95,3 +96,4 @@ IsTask (Table job) = IsJob job
 IsTask (Check job certificate) = IsJob job × IsToCheck certificate
 IsTask (Summary number) = ⊤
 IsTask (Choice job wish) = IsJob job × IsToChoose wish
+IsTask (Handover job at) = IsJob job

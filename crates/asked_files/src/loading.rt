@@ -6,7 +6,7 @@ ghost use Rattle.ftt_io.specs.Counts.{Rose};
 ghost use Rattle.system_file.specs.SystemFile.{IsSystem};
 ghost use Rattle.requests_file.specs.RequestsFile.{AreLegal};
 ghost use Rattle.steps_file.specs.StepsFile.{AreLegalSteps};
-ghost use Rattle.command_words.specs.Words.{admit, check, command_of, elastic, file_count, files_named, live_file_count, live_of, named, replay};
+ghost use Rattle.command_words.specs.Words.{admit, check, command_of, elastic, file_count, files_named, handover, live_file_count, live_of, named, replay};
 ghost use Rattle.command_words.specs.WordsRead.{command_read, run_read};
 ghost use Rattle.asked_files.specs.Asked.{IsAsked, IsAskedOf, IsLiveAsked, IsPlanIn, IsPlanMeant, job_in, live_log_of, requests_in, steps_in, system_in, wish_in, within_limit};
 ghost use Rattle.asked_files.specs.Loads.{Bars, Fetches, IsBarred, IsJob, IsRefusedFor, IsTask, IsToCheck, IsToChoose, asked_of};
@@ -39,6 +39,8 @@ pub enum Task {
     Summary(u32),
     /// To choose the periods of a wish after the run.
     Choice(Job, Wish),
+    /// To write the log of the run, whose master is replaced by its standby after so many opened cycles.
+    Handover(Job, u16),
 }
 
 /// A run by threads that is to be done.
@@ -300,6 +302,29 @@ fn load_choice<S: Shelf>(
     Ok(Task::Choice(job, wish))
 }
 
+/// The log that `handover` asks for.
+fn load_handover<S: Shelf>(
+    alloc: Global,
+    shelf: &mut S,
+    system_name: &str,
+    steps_name: &str,
+    at: u16,
+    requests_name: Option<&str>,
+) -> Result<Task, Stop>
+    ensures fetched { Fetches S.told_files S.fetches S.faults shelf.old shelf.new
+        (2 + named (option_map (λ word. word.now) requests_name.entry)) }
+    ensures task { IfOk result IsTask }
+    ensures ok { IfOk result (λ task. ForSome (S.told_files shelf.old)
+        (λ files. IsAskedOf files (handover system_name.now steps_name.now at
+        (option_map (λ word. word.now) requests_name.entry)) (Ok (asked_of task)))) }
+    ensures stop { IfErr result (Bars S.told_files S.faults shelf.old shelf.new
+        (λ files asked_for. IsAskedOf files (handover system_name.now steps_name.now at
+        (option_map (λ word. word.now) requests_name.entry)) asked_for)) }
+{
+    let job = load_job(alloc, shelf, system_name, steps_name, requests_name)?;
+    Ok(Task::Handover(job, at))
+}
+
 /// The task that a command asks for.
 fn load_command<S: Shelf>(alloc: Global, shelf: &mut S, command: Command<'_>) -> Result<Task, Stop>
     ensures fetched { Fetches S.told_files S.fetches S.faults shelf.old shelf.new
@@ -324,6 +349,12 @@ fn load_command<S: Shelf>(alloc: Global, shelf: &mut S, command: Command<'_>) ->
             steps,
             wishes,
         } => load_choice(alloc, shelf, system, steps, wishes),
+        Command::Handover {
+            system,
+            steps,
+            at,
+            requests,
+        } => load_handover(alloc, shelf, system, steps, at, requests),
     }
 }
 

@@ -1,8 +1,8 @@
 //! Frames, and the bits that they are on the wire.
 
-use crate::compared::Table;
-use crate::fields::{Fault, bits, bytes, hexadecimal, text_of_bits, text_of_frame};
+use crate::bits::{bits, text_of_bits};
 use can_frame::{Frame, crc, read_wire, wire, wire_len};
+use case_lines::{Fault, Table, bytes, hexadecimal, text_of_frame};
 use std::alloc::Global;
 
 /// Rows of an identifier and data bytes. The answer is the CRC sequence, the wire length and the wire.

@@ -2,11 +2,11 @@
 
 ghost use Rattle.std.specs.Prelude.{◌<◌, ◌^◌};
 
-use crate::compared::Table;
-use crate::fields::{Fault, bits, hexadecimal, parts, push_behind, text_of_trace, time};
+use crate::bits::bits;
 use crate::recordings::read;
 use crate::scripted::{Scripted, Station};
 use bus_line::run_until;
+use case_lines::{Fault, Table, hexadecimal, parts, push_behind, text_of_trace, time};
 use std::alloc::Global;
 
 /// A bus with three scripted stations, from one line that gives them to the next.

@@ -2,9 +2,8 @@
 
 ghost use Rattle.std.specs.Prelude.{◌<◌, All};
 
-use crate::compared::Table;
-use crate::fields::{Fault, hexadecimal, push_behind};
 use arbitration::{Contenders, arbitrate};
+use case_lines::{Fault, Table, hexadecimal, push_behind};
 use std::alloc::Global;
 
 /// Senders that begin together. They are the same list for all lines, which is cleared for each.

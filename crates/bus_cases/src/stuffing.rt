@@ -2,8 +2,8 @@
 
 ghost use Rattle.std.specs.Prelude.{◌+◌, ◌≤◌, IfOk};
 
-use crate::compared::Table;
-use crate::fields::{Fault, bits, bytes, length, small, text_of_bits};
+use crate::bits::{bits, text_of_bits};
+use case_lines::{Fault, Table, bytes, length, small};
 use std::alloc::Global;
 use stuff_bound::{Run, Sender, bound, stuff, stuffed_len, stuffed_len_bytes, unstuff};
 

@@ -1,7 +1,8 @@
 //! The cases that are asked for.
 
 use crate::tables::{TABLES, Table};
-use std::{env, fs, io};
+use case_tables::words;
+use std::{fs, io};
 
 /// Where the files of the tables stand.
 const TABLES_FOLDER: &str = "tables";
@@ -16,7 +17,7 @@ pub enum Kind {
 /// The paths that the words of this call name, without the `.txt` of a table, or all of them where there are no words:
 /// those of the calls first, in the order of their names, and then those of the tables.
 pub fn asked_cases(rt: &HostRuntime) -> io::Result<Vec<String>> {
-    let words: Vec<String> = env::args(rt)?.skip(1).collect(rt.alloc())?;
+    let words = words(rt)?;
     if words.is_empty() {
         all_cases(rt)
     } else {

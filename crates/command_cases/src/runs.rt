@@ -1,7 +1,6 @@
 //! Whole calls by threads.
 
-use crate::gates::{Held, HoldingGate};
-use crate::lone;
+use case_tables::{Held, HoldingGate};
 use ftt_io::{FileShelf, MemSink};
 use fttcan_top::{Gate, OpenGate, Status, live};
 use std::alloc::{AllocError, Global};
@@ -134,8 +133,6 @@ pub fn told<T: Threads + Wait + Sync>(
     match made {
         "held" => held_call(rt, threads, words, Held::Cycle),
         "planned" => held_call(rt, threads, words, Held::Plan),
-        "lone-held" => lone::told(rt.alloc(), threads, Held::Cycle),
-        "lone-planned" => lone::told(rt.alloc(), threads, Held::Plan),
         "counted" => counted_call(rt, threads, words),
         _ => open_call(rt, threads, words),
     }

@@ -2,7 +2,7 @@
 
 ghost use Rattle.std.specs.Prelude.{◌≡◌, false, IfOk, codes};
 ghost use Rattle.clap.specs.Words.{app_of, rule_of};
-ghost use Rattle.command_words.specs.Words.{admit_app, check_app, counted_option, elastic_app, files_app, flag, generate_app, live_app, needed, number_up_to, optional, replay_app, run_app};
+ghost use Rattle.command_words.specs.Words.{admit_app, check_app, counted_option, elastic_app, files_app, flag, generate_app, handover_app, live_app, needed, number_up_to, optional, replay_app, run_app};
 
 use clap::{Arg, ArgAction, Command, value_parser};
 use std::alloc::{AllocError, Global};
@@ -49,6 +49,16 @@ fn number<'a>(alloc: Global) -> Arg<'a>
     Arg::new(alloc, "number")
         .required(true)
         .value_parser(value_parser!(u32))
+}
+
+/// `AT`.
+fn cycles<'a>(alloc: Global) -> Arg<'a>
+    ensures rule { rule_of result ≡ number_up_to 20000 (codes "at") }
+    ensures local { result.global ≡ false }
+{
+    Arg::new(alloc, "at")
+        .required(true)
+        .value_parser(value_parser!(u16).range(0..=20_000))
 }
 
 /// A command of two files, `SYSTEM STEPS`.
@@ -107,6 +117,16 @@ pub fn elastic_command<'a>(alloc: Global) -> Result<Command<'a>, AllocError>
     ensures app { IfOk result (λ command. app_of command ≡ elastic_app) }
 {
     files_command(alloc, "elastic")?.arg(needed(alloc, "wishes"))
+}
+
+/// `handover SYSTEM STEPS AT [REQUESTS]`.
+#[tactic(auto, unfolding(crate::specs::Words::handover_app))]
+pub fn handover_command<'a>(alloc: Global) -> Result<Command<'a>, AllocError>
+    ensures app { IfOk result (λ command. app_of command ≡ handover_app) }
+{
+    files_command(alloc, "handover")?
+        .arg(cycles(alloc))?
+        .arg(optional(alloc, "requests"))
 }
 
 /// `live SYSTEM STEPS [REQUESTS] [--report]`.

@@ -2,11 +2,12 @@
 
 ghost use Rattle.std.specs.Prelude.{◌≡◌, ◌⊎◌, codes, unwrap_or, [], Some, true, IfOk, IfErr, map, option_map, string_bytes};
 ghost use Rattle.clap.specs.Words.{fault_of, app_of, first_of, found_of, is_simple_and_free, matches_of, rows_of};
-ghost use Rattle.command_words.specs.Words.{admit_app, admit_meant, check_app, check_meant, command_of, elastic_app, elastic_meant, generate_app, generate_meant, is_set, live_app, live_of, number_of, replay_app, replay_meant, run_meant, taken_by, word_of};
+ghost use Rattle.command_words.specs.Words.{admit_app, admit_meant, check_app, check_meant, command_of, elastic_app, elastic_meant, generate_app, generate_meant, handover_app, handover_meant, is_set, live_app, live_of, number_of, replay_app, replay_meant, run_meant, taken_by, word_of};
 ghost use Rattle.command_words.specs.WordsRead.{ExplainsWords, run_read, command_read};
 
 use crate::arguments::{
-    admit_command, check_command, elastic_command, generate_command, live_command, replay_command,
+    admit_command, check_command, elastic_command, generate_command, handover_command,
+    live_command, replay_command,
 };
 use clap::ArgMatches;
 use clap::error::ErrorKind;
@@ -49,6 +50,14 @@ pub enum Command<'a> {
         system: &'a str,
         steps: &'a str,
         wishes: &'a str,
+    },
+    /// To run the steps, to have the standby take over after so many opened cycles, at most 20,000, and to write the
+    /// log.
+    Handover {
+        system: &'a str,
+        steps: &'a str,
+        at: u16,
+        requests: Option<&'a str>,
     },
 }
 
@@ -131,6 +140,13 @@ fn number(matches: &ArgMatches<'_>) -> u32
     ensures number { result ≡ unwrap_or (number_of 32 (codes "number") (rows_of (found_of matches.now))) 0 }
 {
     matches.get_one::<u32>("number").unwrap_or(0)
+}
+
+/// The number of cycles before a handover.
+fn cycles(matches: &ArgMatches<'_>) -> u16
+    ensures cycles { result ≡ unwrap_or (number_of 16 (codes "at") (rows_of (found_of matches.now))) 0 }
+{
+    matches.get_one::<u16>("at").unwrap_or(0)
 }
 
 /// The words of a run.
@@ -216,6 +232,22 @@ fn elastic_in(alloc: Global, words: &[String]) -> Result<Command<'_>, WordsFault
     })
 }
 
+/// What the words of `handover` ask for.
+fn handover_in(alloc: Global, words: &[String]) -> Result<Command<'_>, WordsFault>
+    ensures ok { IfOk result (λ command. Some (command_read command)
+        ≡ taken_by handover_app handover_meant (map string_bytes words.now)) }
+    ensures stop { IfErr result (ExplainsWords (taken_by handover_app handover_meant (map string_bytes words.now))) }
+{
+    let command = handover_command(alloc)?;
+    let matches = parsed(command, words)?;
+    Ok(Command::Handover {
+        system: needed_word(&matches, "system"),
+        steps: needed_word(&matches, "steps"),
+        at: cycles(&matches),
+        requests: word(&matches, "requests"),
+    })
+}
+
 /// What the words ask for.
 pub fn command_in(alloc: Global, words: &[String]) -> Result<Command<'_>, WordsFault>
     ensures ok { IfOk result (λ command. Some (command_read command) ≡ command_of (map string_bytes words.now)) }
@@ -238,6 +270,9 @@ pub fn command_in(alloc: Global, words: &[String]) -> Result<Command<'_>, WordsF
     }
     if name.as_str() == "elastic" {
         return elastic_in(alloc, words);
+    }
+    if name.as_str() == "handover" {
+        return handover_in(alloc, words);
     }
     Err(WordsFault::NoCommand)
 }

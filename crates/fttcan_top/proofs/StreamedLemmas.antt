@@ -1,9 +1,9 @@
 -- What is told of a log that was written while its run went on.
-use Rattle.std.proofs.Common.{◌≡◌, ℕ, Bool, List, [], ◌++◌, ◌⊎◌, Option, Some, None, refl, sym, ap, ◌∙◌, subst, inl, inr}
+use Rattle.std.proofs.Common.{◌≡◌, ℕ, Bool, false, List, [], ◌++◌, ◌⊎◌, Option, Some, None, refl, sym, ap, ◌∙◌, subst, inl, inr, append-nil}
 use Rattle.can_frame.specs.declared.TimedFrame.{TimedFrame}
 use Rattle.async_window.specs.declared.request.Owner.{Owner}
 use Rattle.async_window.specs.declared.request.Request.{Request}
-use Rattle.std.specs.Prelude.{is_some}
+use Rattle.std.specs.Prelude.{if◌then◌else◌, is_some}
 use Rattle.ftt_io.specs.Puts.{Puts, PutsPrefix}
 use Rattle.ftt_io.proofs.Shared.{Puts-append, PutsPrefix-append, PutsPrefix-longer}
 use Rattle.requests_file.specs.RequestsFile.{AreLegal}
@@ -17,7 +17,9 @@ use Rattle.replay_run.specs.Begun.{IsBegun}
 use Rattle.replay_run.specs.Run.{IsRun}
 use Rattle.replay_run.specs.Written.{HasLastRows, IsCut, IsWritten}
 use Rattle.replay_run.specs.declared.replaying.Written.{Written}
+use Rattle.handover_run.specs.HandedOver.{IsHandedOver}
 use Rattle.fttcan_top.specs.declared.status.Status.{Status}
+use Rattle.fttcan_top.specs.declared.status.Status.TheVariants.{Done, Refused}
 use Rattle.asked_files.specs.Asked.{JobView, log_of}
 use Rattle.fttcan_top.specs.Output.{IsLog, Tells, TellsBegun, TellsFront, report_if, status_of}
 use Rattle.fttcan_top.specs.Streamed.{IsReport, PutsReport, PutsReportFront}
@@ -144,3 +146,20 @@ module _ (job : JobView) (report : Bool) (system : System) (steps : List Step) (
             ∙ ap (λ o. last_rows (Some count) (log_text history is.trace) ++ report_if report history is.trace o requests) own
             ∙ ap (λ r. last_rows (Some count) (log_text history is.trace) ++ report_if report history is.trace job.system.owners r) same_requests;
       }
+
+  -- a run whose master is replaced midway
+  pub handed-told : (accepted : Bool) (status : Status) (old new : Option (List ℕ)) → IsHandedOver system steps requests accepted old new
+      → status ≡ (if accepted then Done else Refused) → Tells (log_of job None false) status old new
+  handed-told accepted status old new is ended = record {
+    text = log_text is.history is.trace ++ [];
+    output = record {
+      history = is.history;
+      trace = is.trace;
+      run = subst (λ s. IsRun s job.steps job.requests is.history is.trace) same_system
+          (subst (λ s. IsRun system s job.requests is.history is.trace) same_steps
+          (subst (λ r. IsRun system steps r is.history is.trace) same_requests is.run));
+      ended = ended ∙ ap (λ (b : Bool). if b then Done else Refused) is.accepted;
+      written = refl;
+    };
+    puts = subst (Puts old new) (sym (append-nil (log_text is.history is.trace))) is.log;
+  }

@@ -14,6 +14,7 @@ use Rattle.bus_trace.specs.LastRows.{last_rows}
 use Rattle.bus_trace.specs.Log.{events_rows, log_text}
 use Rattle.plan_report.specs.Report.{report_text}
 use Rattle.generated_input.specs.Generator.{requests_made, steps_made, system_made}
+use Rattle.replay_run.specs.Accepted.{all_accepted}
 use Rattle.replay_run.specs.AskedTable.{table_of}
 use Rattle.replay_run.specs.Begun.{IsBegun}
 use Rattle.replay_run.specs.Run.{AnswersSteps, IsRun}
@@ -35,16 +36,6 @@ use Rattle.fttcan_top.specs.Chosen.{IsChoiceText}
 use Rattle.fttcan_top.specs.Summary.{summary_text}
 
 -- What is written
-
--- whether the event refuses no change
-abbrev pub refuses_nothing : Event → Bool
-refuses_nothing (Submit caller change from verdict trail) = is_accepted verdict
-refuses_nothing (Look caller next) = true
-refuses_nothing (Open cycle mask) = true
-
--- whether each change of the history was accepted
-abbrev pub all_accepted : List Event → Bool
-all_accepted history = list_all refuses_nothing history
 
 -- how a run ends: refused where some change was refused
 abbrev pub status_of : List Event → Status
@@ -118,7 +109,8 @@ pub record IsLiveLog (job : JobView) (report : Bool) (status : Status) (text : L
   pub ended : status ≡ status_of history
   pub written : text ≡ log_text history trace ++ report_if report history trace job.system.owners job.requests
 
--- *Output*: the text that answers what is asked, with the status of the call
+-- *Output*: the text that answers what is asked, with the status of the call; a run whose master is replaced midway is
+-- asked for the log of the replay
 abbrev pub IsOutput : Asked → Status → List ℕ → Type 0
 IsOutput (log_of job tail report) status text = IsLog job tail report status text
 IsOutput (summary_of number) status text = IsSummary number status text
@@ -198,6 +190,7 @@ usage =
     ++ codes "usage: fttcan gen NUMBER\n"
     ++ codes "usage: fttcan live SYSTEM STEPS [REQUESTS] [--report]\n"
     ++ codes "usage: fttcan elastic SYSTEM STEPS WISHES\n"
+    ++ codes "usage: fttcan handover SYSTEM STEPS AT [REQUESTS]\n"
 
 -- the lines of a status; where it is that of a refused file, for this refusal
 abbrev pub message_of : Status → Refusal → List ℕ

@@ -13,7 +13,7 @@ ghost use Rattle.fttcan_top.specs.Output.{IsAnswer, IsCut, IsCutWhileRun, IsDone
 use crate::choosing::choice_of;
 use crate::status::Status;
 use crate::stop::tell;
-use crate::streamed::put_log;
+use crate::streamed::{put_handed, put_log};
 use crate::work::{check_of, plan_of, put_answer, summary_of_made, tail_of};
 use asked_files::{Stop, Task, load};
 use ftt_io::{Shelf, Sink};
@@ -35,6 +35,7 @@ fn carry_out<O: Sink>(alloc: Global, task: &Task, out: &mut O) -> Result<Status,
         Task::Check(job, certificate) => put_answer(check_of(alloc, job, certificate), out),
         Task::Summary(number) => put_answer(summary_of_made(alloc, *number), out),
         Task::Choice(job, wish) => put_answer(choice_of(alloc, job, wish), out),
+        Task::Handover(job, at) => put_handed(alloc, job, *at, out),
     }
 }
 
@@ -73,6 +74,9 @@ fn call<S: Shelf, O: Sink>(
 /// - `gen NUMBER` makes an input from a number of 0 to 4,294,967,295, runs it and writes a summary; it reads no file.
 /// - `elastic SYSTEM STEPS WISHES` has a master answer the steps, with no bus, and writes which periods of the wish it
 ///   would accept first then, or why it would accept none.
+/// - `handover SYSTEM STEPS AT` and `handover SYSTEM STEPS AT REQUESTS` run as `replay` does, with AT from 0 to 20,000.
+///   After AT cycles were opened the first master is dropped. Its standby goes on, which was told the accepted changes
+///   and heard the triggers. What is written is what `replay` writes.
 pub fn plain<S: Shelf, O: Sink, R: Sink>(
     alloc: Global,
     words: &[String],

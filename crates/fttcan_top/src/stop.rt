@@ -18,6 +18,7 @@ usage: fttcan check SYSTEM STEPS PLAN
 usage: fttcan gen NUMBER
 usage: fttcan live SYSTEM STEPS [REQUESTS] [--report]
 usage: fttcan elastic SYSTEM STEPS WISHES
+usage: fttcan handover SYSTEM STEPS AT [REQUESTS]
 ";
 
 /// The line where memory ran out.

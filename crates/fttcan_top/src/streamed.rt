@@ -1,6 +1,6 @@
 //! The log of a run, written while the run goes on, and the report behind it.
 
-ghost use Rattle.std.specs.Prelude.{◌≤◌, ◌⊎◌, None, IfOk, IsErrOf, OnErr, OnOk};
+ghost use Rattle.std.specs.Prelude.{◌≤◌, ◌⊎◌, None, false, IfOk, IsErrOf, OnErr, OnOk};
 ghost use Rattle.ftt_io.specs.Counts.{Rose};
 ghost use Rattle.asked_files.specs.Asked.{log_of};
 ghost use Rattle.asked_files.specs.Loads.{IsJob};
@@ -10,10 +10,11 @@ ghost use Rattle.fttcan_top.specs.Streamed.{IsReport, PutsReport, PutsReportFron
 
 use crate::rows::put_rows;
 use crate::status::Status;
-use crate::work::status_of;
+use crate::work::{status_of, status_when};
 use asked_files::{Job, Stop};
 use async_window::{Owner, Request};
 use ftt_io::Sink;
+use handover_run::replay_handed;
 use replay_run::laws::rows_so_far;
 use replay_run::{Cut, Written, replay_to};
 use std::alloc::{AllocError, Global};
@@ -91,6 +92,44 @@ pub fn put_log<O: Sink>(alloc: Global, job: &Job, report: bool, out: &mut O) -> 
         (O.told_bytes out.old) (O.told_bytes out.new) result }
 {
     match write_log(alloc, job, report, out) {
+        Ok(status) => Ok(status),
+        Err(Cut::Memory) => Err(Stop::Memory),
+        Err(Cut::Write) => Err(Stop::Write),
+    }
+}
+
+/// Runs the steps, has the standby take over after `at` opened cycles, and writes the log meanwhile. Answers the status
+/// of the run.
+///
+/// # Errors
+///
+/// `Memory` where memory runs out, `Write` where the sink fails. Then the sink took the first bytes of the output.
+fn write_handed<O: Sink>(alloc: Global, job: &Job, at: u16, out: &mut O) -> Result<Status, Cut>
+    requires job { IsJob job.now }
+    ensures faults_never_fall { O.faults out.old ≤ O.faults out.new }
+    ensures done { IfOk result IsDone }
+    ensures tells { IfOk result
+        (λ status. Tells (log_of job.now None false) status (O.told_bytes out.old) (O.told_bytes out.new)) }
+    ensures cut { OnErr result
+        (TellsFront (log_of job.now None false) (O.told_bytes out.old) (O.told_bytes out.new)
+        ⊎ TellsBegun job.now false (O.told_bytes out.old) (O.told_bytes out.new)) }
+    ensures failed { IsErrOf result Cut.Write → Rose (O.faults out.old) (O.faults out.new) }
+{
+    rows_so_far();
+    let at = u64::from(at);
+    let accepted = replay_handed(alloc, job.system(), job.steps(), job.requests(), at, out)?;
+    Ok(status_when(accepted))
+}
+
+/// The same as an answer to a task.
+pub fn put_handed<O: Sink>(alloc: Global, job: &Job, at: u16, out: &mut O) -> Result<Status, Stop>
+    requires job { IsJob job.now }
+    ensures faults_never_fall { O.faults out.old ≤ O.faults out.new }
+    ensures done { IfOk result IsDone }
+    ensures carried { IsCarried (log_of job.now None false) PutsPart (Rose (O.faults out.old) (O.faults out.new))
+        (O.told_bytes out.old) (O.told_bytes out.new) result }
+{
+    match write_handed(alloc, job, at, out) {
         Ok(status) => Ok(status),
         Err(Cut::Memory) => Err(Stop::Memory),
         Err(Cut::Write) => Err(Stop::Write),

@@ -1,11 +1,11 @@
 //! What is done of what was asked: the answer to a task as a text, before it is written.
 
-ghost use Rattle.std.specs.Prelude.{◌≡◌, ◌≤◌, ◌++◌, Some, IfOk, OnOk};
+ghost use Rattle.std.specs.Prelude.{◌≡◌, ◌≤◌, ◌++◌, if◌then◌else◌, Some, IfOk, OnOk};
 ghost use Rattle.ftt_io.specs.Counts.{Rose};
 ghost use Rattle.asked_files.specs.Asked.{Asked};
 ghost use Rattle.asked_files.specs.Loads.{IsJob, IsToCheck};
 ghost use Rattle.fttcan_top.specs.Ends.{IsCarried};
-ghost use Rattle.fttcan_top.specs.Output.{IsCheckText, IsDone, IsLiveLog, IsLog, IsOutput, IsPlanText, IsSummary, TellsFront, breach_line, report_if, refuses_nothing, status_of};
+ghost use Rattle.fttcan_top.specs.Output.{IsCheckText, IsDone, IsLiveLog, IsLog, IsOutput, IsPlanText, IsSummary, TellsFront, breach_line, report_if, status_of};
 
 use crate::rows::put_rows;
 use crate::status::Status;
@@ -20,7 +20,7 @@ use generated_input::generate;
 use live_run::{Ended, Gate};
 use master_core::{Event, Master};
 use plan_check::{Breach, Certificate, check, write_plan};
-use replay_run::{Tailed, answer, asked_table, replay, replay_tail};
+use replay_run::{Tailed, all_accepted, answer, asked_table, replay, replay_tail};
 use std::alloc::{AllocError, Global};
 use std::sync::Wait;
 use std::thread::Threads;
@@ -33,13 +33,15 @@ pub struct Outcome {
     pub text: Vec<u8>,
 }
 
-/// Whether the event refuses no change.
-fn refuses_nothing(event: &Event) -> bool
-    ensures test { result ≡ refuses_nothing event.now }
+/// The status of a run, each of whose changes was accepted or not.
+pub fn status_when(accepted: bool) -> Status
+    ensures status { result ≡ if accepted then Status.Done else Status.Refused }
+    ensures done { IsDone result }
 {
-    match event {
-        Event::Submit { verdict, .. } => verdict.is_accepted(),
-        Event::Look { .. } | Event::Open { .. } => true,
+    if accepted {
+        Status::Done
+    } else {
+        Status::Refused
     }
 }
 
@@ -48,12 +50,7 @@ pub fn status_of(history: &[Event]) -> Status
     ensures status { result ≡ status_of history.now }
     ensures done { IsDone result }
 {
-    for event in history {
-        if !refuses_nothing(event) {
-            return Status::Refused;
-        }
-    }
-    Status::Done
+    status_when(all_accepted(history))
 }
 
 /// Appends the report of a run, where it is asked for.

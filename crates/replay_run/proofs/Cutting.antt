@@ -8,7 +8,9 @@ use Rattle.bus_trace.specs.Log.{events_rows}
 use Rattle.master_core.specs.Calls.{Call, call_of}
 use Rattle.replay_run.specs.declared.bus.Bus.{Bus}
 use Rattle.replay_run.specs.declared.cut.Cut.TheVariants.{Memory, Write}
-use Rattle.replay_run.specs.Progress.{BringsOn, CanGo, CanLog, GoesOn, GoesStill, HearsLast, IsCutBehind, IsLogged, Start}
+use Rattle.master_core.specs.History.{next_of, placed_of}
+use Rattle.kept_run.specs.Progress.{Setting}
+use Rattle.replay_run.specs.Progress.{BringsOn, CanGo, CanLog, GoesOn, GoesStill, HearsLast, IsBroughtOn, IsCutBehind, IsGoing, IsLogged, Start}
 
 -- a run that only made room was brought on no less
 pub still-on : (run between after : Bus) (frames : List TimedFrame) → GoesStill run between → BringsOn between after frames
@@ -19,8 +21,15 @@ still-on run between after frames still brings = λ setting trace going.
       event = on.event;
       history = on.history ∙ ap (λ h. h ++ on.event ∷ []) still.same;
       going = on.going;
-      rows = on.rows ∙ ap (λ h. events_rows trace [] h ++ rows_of_event on.event frames) still.same;
+      rows = λ whole legal placed next. on.rows whole legal (placed ∙ ap placed_of (sym still.same)) (next ∙ ap next_of (sym still.same));
     }
+
+-- the rows of its own history with the event behind it
+own-rows : (setting : Setting) (trace : List TimedFrame) (run after : Bus) (frames : List TimedFrame) → IsGoing setting trace run
+    → (on : IsBroughtOn setting trace run after frames)
+    → events_rows (trace ++ frames) [] after.master.history ≡ events_rows trace [] run.master.history ++ rows_of_event on.event frames
+own-rows setting trace run after frames going on =
+    ap (events_rows (trace ++ frames) []) on.history ∙ on.rows run.master.history going.way.under_way.legal refl refl
 
 pub still-can : (run after : Bus) → GoesStill run after → CanGo run → CanGo after
 still-can run after still can = (can.0, can.1, still.going can.0 can.1 can.2)
@@ -48,7 +57,7 @@ module _ {L : Type 0} (Heard Broke : L → List ℕ → L → Type 0) where
         record {
           trace = logged.trace ++ frames;
           going = on.going;
-          heard = subst (λ rows. Heard start.listener rows now) (sym on.rows)
+          heard = subst (λ rows. Heard start.listener rows now) (sym (own-rows start.setting logged.trace run after frames logged.going on))
               (more start.listener told now (events_rows logged.trace [] run.master.history) (rows_of_event on.event frames) logged.heard
               (hears on.event (record { before = run.master.history; is = on.history })));
         };
@@ -68,7 +77,7 @@ module _ {L : Type 0} (Heard Broke : L → List ℕ → L → Type 0) where
         known = on.going.way.known;
         plain = on.going.plain;
         under_way = on.going.way.under_way;
-        heard = subst (λ rows. Broke start.listener rows now) (sym on.rows)
+        heard = subst (λ rows. Broke start.listener rows now) (sym (own-rows start.setting logged.trace run after frames logged.going on))
             (later start.listener told now (events_rows logged.trace [] run.master.history) (rows_of_event on.event frames) logged.heard
             (breaks on.event (record { before = run.master.history; is = on.history })));
       }

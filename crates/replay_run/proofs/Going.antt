@@ -2,13 +2,16 @@
 use Rattle.std.proofs.Common.{◌≡◌, ◌≢◌, ℕ, ◌+◌, ◌*◌, ◌/◌, ◌^◌, ◌<◌, ◌≤◌, ◌⊎◌, false, cond, length, List, [], ◌∷◌, ◌++◌, map, All, sym, ap, ◌∙◌, subst, arith, inl, inr, add-zero}
 use Rattle.std.specs.Prelude.{is_some}
 use Rattle.std.specs.List.{range_with_len}
-use Rattle.std.proofs.lemmas.List.{append-nil}
+use Rattle.std.proofs.lemmas.List.{append-nil, map-append}
 use Rattle.std.proofs.lemmas.List.Elements.{All-append, All-cons, All-nil, All-weaker}
 use Rattle.can_frame.specs.declared.data_frame.TimedFrame.{TimedFrame}
-use Rattle.trigger_codec.specs.Bytes.{trigger_bytes, trigger_frame, width_told}
+use Rattle.trigger_codec.specs.Bytes.{trigger_bytes, trigger_frame, triggers_with, width_told}
 use Rattle.cycle_layout.specs.Layout.{CycleLayout, IsLayout}
 use Rattle.requirement_table.specs.Opening.{Opening, width_of}
+use Rattle.requirement_table.specs.Slots.{contains_slot}
+use Rattle.requirement_table.specs.Table.{width_in}
 use Rattle.requirement_table.specs.declared.entries.Order.{Order}
+use Rattle.requirement_table.specs.declared.entries.Placed.{Placed}
 use Rattle.async_window.specs.declared.request.Request.{Request}
 use Rattle.admission_rules.specs.declared.Rules.{Rules}
 use Rattle.bus_line.specs.Trace.{Follows, end_of}
@@ -23,10 +26,11 @@ use Rattle.master_core.specs.Orders.{IsOrder}
 use Rattle.kept_run.specs.Progress.{AreReady, IsOnTheWay, IsSetting, IsUnderWay, Setting}
 use Rattle.kept_run.proofs.Shared.{CallsBetween, CyclesRun, RanOrder, next_of-push, number-below, second_identifiers, way-called, way-run, way-same}
 use Rattle.node_model.specs.Node.{NodeView}
+use Rattle.node_model.specs.Offered.{trigger_frames}
 use Rattle.bus_trace.specs.EventRows.{BeginsCycle, rows_of_event, width_told_in}
 use Rattle.bus_trace.specs.Log.{events_rows, triggers_in}
 use Rattle.replay_run.specs.declared.bus.Bus.{Bus}
-use Rattle.replay_run.specs.Progress.{CanGo, CanTellLast, GoesStill, IsBroughtOn, IsGoing}
+use Rattle.replay_run.specs.Progress.{BeginWithTriggers, CanGo, CanTellLast, GoesStill, IsBroughtOn, IsGoing}
 use Rattle.replay_run.specs.Written.{KeepsFrames}
 use Rattle.replay_run.proofs.EventRows.{called-rows, opened-rows, triggers-more}
 
@@ -59,8 +63,8 @@ answered laws setting trace run after call closed same_rules history keeps same_
       event = call;
       history = history;
       going = subst (λ l. IsGoing setting l after) same on;
-      rows = subst (λ l. events_rows l [] after.master.history ≡ events_rows trace [] run.master.history ++ rows_of_event call []) same
-          (ap (events_rows trace []) history ∙ called-rows trace run.master.history call closed);
+      rows = λ before legal placed cycle. subst (λ l. events_rows l [] (before ++ call ∷ []) ≡ events_rows trace [] before ++ rows_of_event call []) same
+          (called-rows trace before call closed);
     }
 
 -- a cycle that is run by the master's order keeps a run on the way, and its frames are what the opening says
@@ -83,18 +87,19 @@ no-trigger layout opening sent (inr slot) = λ is. let id = slot.identifier in o
 says-width : (cycle l mask : ℕ) → width_told (trigger_bytes cycle l mask) ≡ l
 says-width cycle l mask = omega arith
 
--- a cycle's trigger and the frames behind it
-pub record Sends (history : List Event) (order : Order) (frames : List TimedFrame) : Type 0 where
+-- a cycle's trigger and the frames behind it, where these entries are placed
+pub record Sends (placed : List Placed) (order : Order) (frames : List TimedFrame) : Type 0 where
   pub trigger : TimedFrame
   pub later : List TimedFrame
   pub frames_are : frames ≡ trigger ∷ later
-  pub is_trigger : trigger.frame ≡ trigger_frame order.cycle (width_of (opening_of order (placed_of history))) order.mask
+  pub is_trigger : trigger.frame ≡ trigger_frame order.cycle (width_of (opening_of order placed)) order.mask
   pub others : All (λ sent. sent.frame.identifier ≢ 0) later
-  pub wide : width_of (opening_of order (placed_of history)) < 2 ^ 16
+  pub wide : width_of (opening_of order placed) < 2 ^ 16
 
-sends : CyclesSent → (setting : Setting) (history : List Event) (trace frames : List TimedFrame) (nodes new : NodesView) (order : Order)
-    → IsOrder setting.rules history order → RanOrder order nodes new frames → IsOnTheWay setting history trace nodes → Sends history order frames
-sends laws setting history trace frames nodes new order ordered did way =
+-- a cycle that was run by the master's order runs as its opening says
+runs : CyclesSent → (setting : Setting) (history : List Event) (trace frames : List TimedFrame) (nodes new : NodesView) (order : Order)
+    → IsOrder setting.rules history order → RanOrder order nodes new frames → IsOnTheWay setting history trace nodes → RunsCycle setting.layout (opening_of order (placed_of history)) frames
+runs laws setting history trace frames nodes new order ordered did way =
     let layout = setting.layout in
     let so_far = way.under_way in
     let known = way.known in
@@ -110,8 +115,16 @@ sends laws setting history trace frames nodes new order ordered did way =
       ended = subst (λ n. All (λ sent. end_of sent ≤ n * layout.cycle) trace) (sym now) so_far.ended;
       follows = subst (λ l. Follows (offered_in l setting.requests opening) trace (order.cycle * l.cycle) ((order.cycle + 1) * l.cycle) frames) way.ready.same_layout follows;
     } in
-    let run = laws.sends layout setting.requests openings opening trace frames known.known behind known.asynchronous fits in
-    let within = fits.width in
+    laws.sends layout setting.requests openings opening trace frames known.known behind known.asynchronous fits
+
+sends : CyclesSent → (setting : Setting) (history : List Event) (trace frames : List TimedFrame) (nodes new : NodesView) (order : Order)
+    → IsOrder setting.rules history order → RanOrder order nodes new frames → IsOnTheWay setting history trace nodes → Sends (placed_of history) order frames
+sends laws setting history trace frames nodes new order ordered did way =
+    let layout = setting.layout in
+    let known = way.known in
+    let opening : Opening = opening_of order (placed_of history) in
+    let run = runs laws setting history trace frames nodes new order ordered did way in
+    let within = (laws.fits setting history order known ordered).width in
     let range = known.known.window_range.below in
     record {
       trigger = run.trigger;
@@ -125,12 +138,12 @@ sends laws setting history trace frames nodes new order ordered did way =
     }
 
 -- they are the frames of the event that opened the cycle
-begins : (history : List Event) (order : Order) (frames : List TimedFrame) → Sends history order frames → BeginsCycle order.cycle order.mask frames
-begins history order frames is = record {
+begins : (placed : List Placed) (order : Order) (frames : List TimedFrame) → Sends placed order frames → BeginsCycle order.cycle order.mask frames
+begins placed order frames is = record {
   trigger = is.trigger;
   later = is.later;
   frames_are = is.frames_are;
-  width = width_of (opening_of order (placed_of history));
+  width = width_of (opening_of order placed);
   wide = is.wide;
   says = is.is_trigger;
   others = is.others;
@@ -142,13 +155,36 @@ pub its-frames : CyclesSent → (run : Bus) (new : NodesView) (order : Order) (f
 its-frames laws run new order frames history can ordered did is =
     let setting = can.0 in
     let going = can.2 in
-    let its = begins run.master.history order frames
+    let its = begins (placed_of run.master.history) order frames
     (sends laws setting run.master.history can.1 frames run.nodes new order (subst (λ r. IsOrder r run.master.history order) going.same_rules ordered) did going.way) in
     record { event = Open order.cycle order.mask; ends = record { before = run.master.history; is = is }; near = tt; its = its }
 
+-- they begin with the trigger frames that are due
+pub begin-with-triggers : CyclesSent → (run : Bus) (new : NodesView) (order : Order) (frames : List TimedFrame) → CanGo run
+    → IsOrder run.master.rules run.master.history order → RanOrder order run.nodes new frames → BeginWithTriggers run.master.rules run.master.history frames
+begin-with-triggers laws run new order frames can ordered did =
+    let setting = can.0 in
+    let way = can.2.way in
+    let rules = can.2.same_rules in
+    let opening : Opening = opening_of order (placed_of run.master.history) in
+    let is = runs laws setting run.master.history can.1 frames run.nodes new order (subst (λ r. IsOrder r run.master.history order) rules ordered) did way in
+    let slots : run.master.rules.slots ≡ setting.layout.slots = ap (λ r. r.slots) rules ∙ way.known.same_slots in
+    let width : order.l ≡ width_of opening =
+    ordered.window ∙ ap (λ n. width_in (placed_of run.master.history) n (contains_slot order.mask)) (sym ordered.cycle) in
+    let all : map (λ (sent : TimedFrame). sent.frame) frames ≡ trigger_frames setting.layout opening ++ map (λ (sent : TimedFrame). sent.frame) is.later =
+    ap (map (λ (sent : TimedFrame). sent.frame)) is.all_frames ∙ map-append (λ (sent : TimedFrame). sent.frame) (is.trigger ∷ is.second) is.later
+    ∙ ap (λ l. l ++ map (λ (sent : TimedFrame). sent.frame) is.later) is.are_triggers in
+    record {
+      order = order;
+      due = ordered;
+      later = map (λ (sent : TimedFrame). sent.frame) is.later;
+      begin = all ∙ ap (λ s. triggers_with s order.cycle (width_of opening) order.mask ++ map (λ (sent : TimedFrame). sent.frame) is.later) (sym slots)
+          ∙ ap (λ l. triggers_with run.master.rules.slots order.cycle l order.mask ++ map (λ (sent : TimedFrame). sent.frame) is.later) (sym width);
+    }
+
 -- the rows of a cycle that was run
 ran-rows : (rules : Rules) (trace frames : List TimedFrame) (history : List Event) (order : Order) → IsLegal rules history → triggers_in trace ≡ next_of history
-    → order.cycle ≡ next_of history → Sends history order frames
+    → order.cycle ≡ next_of history → Sends (placed_of history) order frames
     → events_rows (trace ++ frames) [] (history ++ Open order.cycle order.mask ∷ []) ≡ events_rows trace [] history ++ rows_of_event (Open order.cycle order.mask) frames
 ran-rows rules trace frames history order legal so_far now is =
     let zero_id : is.trigger.frame.identifier ≡ 0 = ap (λ f. f.identifier) is.is_trigger in
@@ -157,8 +193,8 @@ ran-rows rules trace frames history order legal so_far now is =
     subst (λ l. events_rows (trace ++ l) [] (history ++ Open order.cycle order.mask ∷ []) ≡ events_rows trace [] history ++ rows_of_event (Open order.cycle order.mask) l)
     (sym is.frames_are) (opened-rows rules trace is.trigger is.later history order.cycle order.mask legal so_far now zero_id is.others width)
 
-ran-triggers : (trace frames : List TimedFrame) (history : List Event) (order : Order) → Sends history order frames → triggers_in (trace ++ frames) ≡ triggers_in trace + 1
-ran-triggers trace frames history order is =
+ran-triggers : (trace frames : List TimedFrame) (placed : List Placed) (order : Order) → Sends placed order frames → triggers_in (trace ++ frames) ≡ triggers_in trace + 1
+ran-triggers trace frames placed order is =
     ap (λ l. triggers_in (trace ++ l)) is.frames_are ∙ triggers-more trace is.trigger is.later (ap (λ f. f.identifier) is.is_trigger) is.others
 
 -- a run whose next cycle was opened and run goes on, and its rows are those of the event behind those before it
@@ -182,12 +218,13 @@ ran laws setting trace run after order frames right did same_rules history keeps
             subst (λ r. IsPlainlyLegal r after.master.history) rules
             (keeps (subst (λ r. IsPlainlyLegal r run.master.history) (sym going.same_rules) going.plain));
         way = subst (λ h. IsOnTheWay setting h (trace ++ frames) after.nodes) (sym history) way;
-        triggers = ran-triggers trace frames run.master.history order sent ∙ ap (λ n. n + 1) going.triggers ∙ sym next;
+        triggers = ran-triggers trace frames (placed_of run.master.history) order sent ∙ ap (λ n. n + 1) going.triggers ∙ sym next;
         frames = kept going.frames;
         spare = spared going.spare;
       };
-      rows = ap (events_rows (trace ++ frames) []) history
-          ∙ ran-rows setting.rules trace frames run.master.history order going.way.under_way.legal going.triggers ordered.cycle sent;
+      rows = λ before legal placed cycle.
+          ran-rows setting.rules trace frames before order legal (going.triggers ∙ sym cycle) (ordered.cycle ∙ sym cycle)
+          (subst (λ list. Sends list order frames) (sym placed) sent);
     }
 
 -- its frames are few

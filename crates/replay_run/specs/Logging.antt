@@ -24,7 +24,7 @@ module _ {L : Type 0} (Heard : L → List ℕ → L → Type 0) where
 
 module _ {L : Type 0} (Heard Broke : L → List ℕ → L → Type 0) where
   -- the first of some calls are the first of more
-  cut-longer : (start : Start L) (calls more : List Call) (now : L) (why : Cut) → IsCutIn Heard Broke start calls now why
+  pub cut-longer : (start : Start L) (calls more : List Call) (now : L) (why : Cut) → IsCutIn Heard Broke start calls now why
       → IsCutIn Heard Broke start (calls ++ more) now why
   cut-longer start calls more now why is = record {
     history = is.history;

@@ -1,11 +1,16 @@
 -- A run between two of its steps, the rows of which something hears.
 use Rattle.std.specs.Prelude.{◌≡◌, ℕ, ◌+◌, ◌≤◌, List, [], ◌∷◌, ◌++◌, Option, Some, None, Vec, is_some, length, map, vec_len, vec_capacity}
+use Rattle.can_frame.specs.DataFrame.{DataFrame}
 use Rattle.can_frame.specs.declared.data_frame.TimedFrame.{TimedFrame}
+use Rattle.requirement_table.specs.declared.entries.Order.{Order}
+use Rattle.admission_rules.specs.declared.Rules.{Rules}
+use Rattle.trigger_codec.specs.Bytes.{triggers_with}
 use Rattle.async_window.specs.declared.request.Request.{Request}
 use Rattle.system_file.specs.declared.system.System.{System}
 use Rattle.master_core.specs.Calls.{Call, call_of}
 use Rattle.master_core.specs.declared.event.Event.{Event}
-use Rattle.master_core.specs.History.{IsPlainlyLegal, next_of, placed_of}
+use Rattle.master_core.specs.History.{IsLegal, IsPlainlyLegal, next_of, placed_of}
+use Rattle.master_core.specs.Orders.{IsOrder}
 use Rattle.cycle_engine.specs.Nodes.{HaveSpare}
 use Rattle.kept_run.specs.Progress.{IsOnTheWay, IsSetting, IsUnderWay, Setting}
 use Rattle.bus_trace.specs.EventRows.{HasItsFrames, rows_of_event}
@@ -53,6 +58,13 @@ pub record IsReady (bus : Bus) : Type 0 where
   pub entries : length (placed_of bus.master.history) ≤ bus.spare
   pub frames : HasRoom bus.trace
 
+-- the frames of a cycle that was opened behind this history, which begin with the trigger frames that are due
+pub record BeginWithTriggers (rules : Rules) (history : List Event) (frames : List TimedFrame) : Type 0 where
+  pub order : Order
+  pub due : IsOrder rules history order
+  pub later : List DataFrame
+  pub begin : map (λ sent. sent.frame) frames ≡ triggers_with rules.slots order.cycle order.l order.mask ++ later
+
 -- the history ends in the event
 pub record EndsIn (history : List Event) (event : Event) : Type 0 where
   pub before : List Event
@@ -65,14 +77,16 @@ pub record CanTellLast (history : List Event) (frames : List TimedFrame) : Type 
   pub near : IsNear event
   pub its : HasItsFrames event frames
 
--- the run was brought on by one event, with these frames, and the event's rows are what it adds to the run's rows
+-- the run was brought on by one event, with these frames; behind each legal history with the same placed entries and the
+-- same next cycle, the event's rows are what it adds to the rows
 pub record IsBroughtOn (setting : Setting) (trace : List TimedFrame) (old new : Bus) (frames : List TimedFrame)
     : Type 0 where
   pub event : Event
   pub history : new.master.history ≡ old.master.history ++ event ∷ []
   pub going : IsGoing setting (trace ++ frames) new
-  pub rows : events_rows (trace ++ frames) [] new.master.history
-      ≡ events_rows trace [] old.master.history ++ rows_of_event event frames
+  pub rows : (whole : List Event) → IsLegal setting.rules whole
+      → placed_of whole ≡ placed_of old.master.history → next_of whole ≡ next_of old.master.history
+      → events_rows (trace ++ frames) [] (whole ++ event ∷ []) ≡ events_rows trace [] whole ++ rows_of_event event frames
 
 -- so it is in each setting and with each trace with which the run was going
 abbrev pub BringsOn : Bus → Bus → List TimedFrame → Type 0

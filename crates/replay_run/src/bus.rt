@@ -11,7 +11,7 @@ ghost use Rattle.master_core.specs.Calls.{asked, call_of, opens};
 ghost use Rattle.master_core.specs.History.{next_of};
 ghost use Rattle.kept_run.specs.Progress.{AreReady, IsSetting};
 ghost use Rattle.cycle_engine.specs.Nodes.{HaveSpare, KeepSpare, states_of};
-ghost use Rattle.replay_run.specs.Progress.{BringsOn, CanGo, CanTellLast, GoesStill, HasRoom, IsGoing, IsReady};
+ghost use Rattle.replay_run.specs.Progress.{BeginWithTriggers, BringsOn, CanGo, CanTellLast, GoesStill, HasRoom, IsGoing, IsReady};
 ghost use Rattle.replay_run.specs.Progress.{setting_of};
 ghost use Rattle.replay_run.specs.Written.{KeepsFrames};
 
@@ -175,6 +175,7 @@ impl Bus {
         requires few { next_of self.old.master.history < 20000 }
         ensures on { BringsOn self.old self.new self.new.segment }
         ensures last { CanTellLast self.new.master.history self.new.segment }
+        ensures triggers { BeginWithTriggers self.old.master.rules self.old.master.history self.new.segment }
         ensures calls { map call_of self.new.master.history ≡ map call_of self.old.master.history ++ opens ∷ [] }
         ensures next { next_of self.new.master.history ≡ next_of self.old.master.history + 1 }
         ensures kept { is_some self.new.trace ≡ is_some self.old.trace }

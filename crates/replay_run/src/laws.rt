@@ -9,10 +9,12 @@ ghost use Rattle.system_file.specs.SystemFile.{IsSystem};
 ghost use Rattle.steps_file.specs.declared.steps.Step.{Step};
 ghost use Rattle.system_file.specs.declared.system.System.{System};
 ghost use Rattle.master_core.specs.declared.event.Event.{Event};
-ghost use Rattle.master_core.specs.History.{IsPlainlyLegal, next_of};
+ghost use Rattle.master_core.specs.History.{IsLegal, IsPlainlyLegal, next_of};
+ghost use Rattle.master_core.specs.Openings.{openings_of};
+ghost use Rattle.cycle_engine.specs.Offered.{IsCanTrace};
 ghost use Rattle.bus_trace.specs.Log.{events_rows, log_text};
 ghost use Rattle.kept_run.specs.Kept.{Kept};
-ghost use Rattle.kept_run.specs.Progress.{IsUnderWay};
+ghost use Rattle.kept_run.specs.Progress.{IsSetting, IsUnderWay, Setting};
 ghost use Rattle.replay_run.specs.Begun.{IsBegun};
 ghost use Rattle.replay_run.specs.Progress.{setting_of};
 ghost use Rattle.replay_run.specs.Run.{AnswersSteps, IsRun};
@@ -21,7 +23,7 @@ use admission::laws::one_verdict;
 use bus_line::laws::trace_laws;
 use can_frame::laws::wire_lengths;
 use cycle_engine::laws::OpenedCycles;
-use kept_run::laws::{beginning, calls_between, cycles_run, requests_of_owners};
+use kept_run::laws::{beginning, calls_between, cycles_run, promise, requests_of_owners};
 use master_core::laws::opened_cycles;
 
 /// Steps have one history: two that answer them, each change planned when it is answered, are the same. So each verdict
@@ -65,6 +67,26 @@ pub fn runs_under_way()
     calls_between();
     cycles_run();
     requests_of_owners();
+    trace_laws::<OpenedCycles>();
+}
+
+/// A legal history and its CAN trace are those of a run under way. Where another run under way has the first of these
+/// events, its frames are the first ones, and the others start behind the cycles that it opens.
+pub fn legal_runs()
+    ensures under_way { (setting : Setting) (history : List Event) (trace : List TimedFrame) → IsSetting setting
+        → IsLegal setting.rules history
+        → IsCanTrace setting.layout setting.requests (openings_of history) (next_of history) trace
+        → IsUnderWay setting history trace }
+    ensures front { (setting : Setting) (history later : List Event) (trace frames : List TimedFrame)
+        → IsSetting setting → IsUnderWay setting history trace → IsLegal setting.rules (history ++ later)
+        → IsCanTrace setting.layout setting.requests (openings_of (history ++ later)) (next_of (history ++ later)) frames
+        → (rest : List TimedFrame) × (frames ≡ trace ++ rest)
+        × All (λ sent. next_of history * setting.layout.cycle ≤ sent.start) rest }
+{
+    beginning();
+    calls_between();
+    cycles_run();
+    promise();
     trace_laws::<OpenedCycles>();
 }
 

@@ -4,6 +4,7 @@
 //! Cycles are elementary cycles, counted from 0; times are bit times.
 #![tactic(auto)]
 
+mod accepted;
 mod answering;
 mod asked;
 mod bus;
@@ -14,8 +15,12 @@ mod listener;
 mod logging;
 mod replaying;
 
+pub use accepted::{all_accepted, refuses_nothing};
 pub use answering::answer;
 pub use asked::asked_table;
+pub use bus::{Bus, in_ranges};
 pub use cut::Cut;
 pub use driver::{Driven, drive};
+pub use listener::{Listener, ToSink};
+pub use logging::tell_last;
 pub use replaying::{Run, Tailed, Written, replay, replay_tail, replay_to};

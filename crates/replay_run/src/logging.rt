@@ -34,7 +34,11 @@ struct Logged<'a, L> {
 }
 
 /// Tells the rows of a history's last event and of its frames.
-fn tell_last<L: Listener>(
+///
+/// # Errors
+///
+/// Where the listener breaks off.
+pub fn tell_last<L: Listener>(
     listener: &mut L,
     alloc: Global,
     history: &[Event],

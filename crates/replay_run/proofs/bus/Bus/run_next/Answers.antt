@@ -1,6 +1,6 @@
 use Rattle.std.proofs.Common.{◌≤◌, ◌++◌, length, subst, sym}
 use Rattle.replay_run.specs.Written.{KeepsFrames}
-use Rattle.replay_run.proofs.Going.{few, its-frames, ran}
+use Rattle.replay_run.proofs.Going.{begin-with-triggers, few, its-frames, ran}
 use Rattle.replay_run.proofs.bus.Bus.run_next.Goals as goal
 
 pub keep-requires-clause-few : goal.keep-requires-clause-few
@@ -46,3 +46,19 @@ returns-clause-last c =
       stand = c.run_cycle_in.ensures.stand;
     })
     c.open-order.ensures.event
+
+pub returns-clause-triggers : goal.returns-clause-triggers
+returns-clause-triggers c =
+    begin-with-triggers (record {
+      run = record { before = c.orders.ensures.before; under_way = c.cycles_run.ensures.under_way; ready = c.cycles_run.ensures.ready };
+      fits = c.orders.ensures.fits;
+      cycles = c.opened_cycles.ensures.cycles;
+      sends = c.next_cycle.ensures.runs;
+    })
+    c.args.self.now c.run_cycle_in.new.nodes c.open-order.result c.run_cycle_in.new.segment c.requires.going c.open-order.ensures.order
+    (record {
+      layout = c.run_cycle_in.ensures.layout;
+      heard = c.run_cycle_in.ensures.heard;
+      runs = c.run_cycle_in.ensures.runs;
+      stand = c.run_cycle_in.ensures.stand;
+    })

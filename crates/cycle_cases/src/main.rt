@@ -1,0 +1,31 @@
+//! Cases of the crates that make up a cycle on the bus, as tables of text: what is called, and what it is to answer. For
+//! each table one line is printed.
+//!
+//! The last run of `cycles.txt` is that of a plain program, not in this repository, that walks bit time by bit time. All
+//! other values were worked out by hand.
+#![tactic(auto)]
+
+mod cycles;
+mod entries;
+mod layouts;
+mod mailboxes;
+mod one_node;
+mod requests;
+mod triggers;
+mod values;
+
+use case_lines::show;
+use cycles::Cycles;
+use layouts::Layouts;
+use mailboxes::Mail;
+use one_node::OneNode;
+use std::io;
+use triggers::Triggers;
+
+fn main(rt: HostRuntime) -> io::Result<()> {
+    show(&rt, "layouts.txt", Layouts)?;
+    show(&rt, "triggers.txt", Triggers)?;
+    show(&rt, "mailboxes.txt", Mail::new())?;
+    show(&rt, "one_node.txt", OneNode::new())?;
+    show(&rt, "cycles.txt", Cycles::new(rt.alloc()))
+}

@@ -1,0 +1,7 @@
+mod Behind
+mod Calls
+mod Carried
+mod Cutting
+mod Due
+mod Told
+mod Whole

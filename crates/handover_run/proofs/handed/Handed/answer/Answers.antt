@@ -1,0 +1,52 @@
+use Rattle.std.proofs.Common.{◌∷◌, ◌++◌, [], ◌∙◌, ap, subst}
+use Rattle.std.specs.Prelude.{◌&&◌}
+use Rattle.replay_run.specs.Accepted.{refuses_nothing}
+use Rattle.handover_run.specs.Following.{Follows, IsRightBehind}
+use Rattle.handover_run.proofs.Calls.{last-event}
+use Rattle.handover_run.proofs.Carried.{answered-on, right-told}
+use Rattle.handover_run.proofs.Told.{each-answer, if-followed}
+use Rattle.handover_run.proofs.handed.Handed.answer.Goals as goal
+
+pub follow_answer-requires-clause-right : goal.follow_answer-requires-clause-right
+follow_answer-requires-clause-right c =
+    let can = c.requires.can in
+    let is = can.3 in
+    let on = c.in_ok-answer.ensures.on can.0 can.2 is.going in
+    let last = last-event _ c.args.self.now.bus.master.history c.history-history.result.now on.event c.index-history-history.result
+    (c.history-history.ensures.list ∙ on.history) c.index-history-history.is in
+    if-followed can.0.rules can.1 c.args.self.now.standby (λ one. IsRightBehind one c.index-history-history.result) is.followed
+    (λ one follows. right-told
+    (record {
+      placed = c.one_core.ensures.placed;
+      next = c.one_core.ensures.next;
+      changed = c.one_core.ensures.changed;
+      openings = c.one_core.ensures.openings;
+      order = c.one_core.ensures.order;
+    })
+    (record { plain = c.goes_on.ensures.plain }) can.0 can.1 can.2 c.args.self.now (record c.args.self.now { bus = c.answer.new.self }) [] is on
+    one c.index-history-history.result follows last)
+
+pub returns-clause-on : goal.returns-clause-on
+returns-clause-on c =
+    each-answer c.args.self.now.standby c.follow_answer.new.standby c.index-history-history.result c.follow_answer.result c.follow_answer.ensures.followed
+    (λ follow setting whole trace is.
+    let on = c.in_ok-answer.ensures.on setting trace is.going in
+    let last = last-event _ c.args.self.now.bus.master.history c.history-history.result.now on.event c.index-history-history.result
+    (c.history-history.ensures.list ∙ on.history) c.index-history-history.is in
+    answered-on
+    (record {
+      placed = c.one_core.ensures.placed;
+      next = c.one_core.ensures.next;
+      changed = c.one_core.ensures.changed;
+      openings = c.one_core.ensures.openings;
+      order = c.one_core.ensures.order;
+    })
+    (record { plain = c.goes_on.ensures.plain }) setting whole trace c.args.self.now
+    (record c.args.self.now {
+      bus = c.answer.new.self;
+      standby = c.follow_answer.new.standby;
+      quiet = c.args.self.now.quiet && c.refuses_nothing.result;
+    })
+    [] is on c.args.caller c.args.act.now c.in_ok-answer.ensures.calls
+    (subst (λ event. Follows setting.rules (whole ++ event ∷ []) c.follow_answer.new.standby) last (follow setting.rules whole is.followed))
+    (ap (λ b. c.args.self.now.quiet && b) (c.refuses_nothing.ensures.test ∙ ap refuses_nothing last)))

@@ -1,0 +1,4 @@
+pub mod Following
+pub mod Handed
+pub mod HandedOver
+pub mod Joined

@@ -1,0 +1,119 @@
+//! A run whose first master has a standby: the bus, and the standby up to the handover.
+
+ghost use Rattle.std.specs.Prelude.{◌≡◌, ◌+◌, ◌<◌, ◌≤◌, ◌∷◌, [], IfOk, OnOk};
+ghost use Rattle.system_file.specs.SystemFile.{IsSystem};
+ghost use Rattle.requests_file.specs.RequestsFile.{AreLegal};
+ghost use Rattle.master_core.specs.Calls.{asked, opens};
+ghost use Rattle.master_core.specs.History.{next_of};
+ghost use Rattle.replay_run.specs.Progress.{CanTellLast, setting_of};
+ghost use Rattle.handover_run.specs.Handed.{CanHand, HandsOn, HandsSame, IsHanded};
+
+use crate::following::{follow_answer, follow_opening};
+use async_window::Request;
+use change_protocol::Act;
+use replay_run::{Bus, refuses_nothing};
+use standby::Standby;
+use standby::laws::{follows_each, goes_on, one_core};
+use std::alloc::{AllocError, Global};
+use system_file::System;
+
+/// A master and the nodes of its bus, behind some calls, with the standby that is to go on after so many opened cycles.
+#[derive(Drop)]
+pub struct Handed {
+    /// The bus, whose master is the first one up to the handover, and the one that took over behind it.
+    pub bus: Bus,
+    /// The standby, up to the handover.
+    standby: Option<Standby>,
+    /// So many cycles are opened by the first master.
+    at: u64,
+    /// No change was refused so far.
+    pub quiet: bool,
+}
+
+impl Handed {
+    /// A run of no calls yet, on the bus of a system with these requests. The standby goes on after `at` opened cycles.
+    ///
+    /// # Errors
+    ///
+    /// Only where memory runs out.
+    pub fn begin(
+        alloc: Global,
+        system: &System,
+        requests: &[Request],
+        at: u64,
+    ) -> Result<Handed, AllocError>
+        requires system { IsSystem system.now }
+        requires requests { AreLegal system.now.owners requests.now }
+        ensures begun { IfOk result (IsHanded (setting_of system.now requests.now) [] []) }
+    {
+        let mut handed = Handed {
+            bus: Bus::begin(alloc, system, requests, false)?,
+            standby: Some(Standby::new(alloc, system.rules)?),
+            at,
+            quiet: true,
+        };
+        handed.hand_over();
+        Ok(handed)
+    }
+
+    /// Where so many cycles were opened, drops the first master. The standby goes on in its place, with the nodes as
+    /// they are.
+    pub fn hand_over(&mut self)
+        ensures same { HandsSame self.old self.new }
+        ensures next { CanHand self.old
+            → next_of self.new.bus.master.history ≡ next_of self.old.bus.master.history }
+    {
+        one_core();
+        if self.bus.master.next() != self.at {
+            return;
+        }
+        if let Some(standby) = self.standby.take() {
+            self.bus.master = standby.take_over();
+        }
+    }
+
+    /// Opens the next cycle, and runs it on the bus. The standby hears its trigger. Its frames are the bus's segment
+    /// then.
+    ///
+    /// # Errors
+    ///
+    /// Only where memory runs out.
+    pub fn run_next(&mut self, alloc: Global) -> Result<(), AllocError>
+        requires can { CanHand self.old }
+        requires few { next_of self.old.bus.master.history < 20000 }
+        ensures on { OnOk result (HandsOn self.old self.new self.new.bus.segment (opens ∷ [])) }
+        ensures last { OnOk result (CanTellLast self.new.bus.master.history self.new.bus.segment) }
+        ensures next { OnOk result
+            (next_of self.new.bus.master.history ≡ next_of self.old.bus.master.history + 1) }
+    {
+        one_core();
+        goes_on();
+        self.bus.make_ready(alloc)?;
+        self.bus.run_next();
+        let slots = self.bus.master.rules().slots;
+        follow_opening(&mut self.standby, alloc, slots, self.bus.segment.frames())
+    }
+
+    /// Answers an act of operator `caller`, 1 to 8. The standby is told the change where it was accepted.
+    ///
+    /// # Errors
+    ///
+    /// Only where memory runs out.
+    pub fn answer(&mut self, alloc: Global, caller: u8, act: &Act) -> Result<(), AllocError>
+        requires can { CanHand self.old }
+        requires caller { (1 ≤ caller) × (caller ≤ 8) }
+        requires few { next_of self.old.bus.master.history ≤ 20000 }
+        ensures on { OnOk result (HandsOn self.old self.new [] (asked caller act.now ∷ [])) }
+        ensures last { OnOk result (CanTellLast self.new.bus.master.history []) }
+        ensures next { OnOk result
+            (next_of self.new.bus.master.history ≡ next_of self.old.bus.master.history) }
+    {
+        one_core();
+        goes_on();
+        self.bus.answer(alloc, caller, act)?;
+        let history = self.bus.master.history();
+        let event = &history[history.len() - 1];
+        self.quiet = self.quiet & refuses_nothing(event);
+        follow_answer(&mut self.standby, alloc, event)
+    }
+}

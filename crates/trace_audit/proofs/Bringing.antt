@@ -1,0 +1,128 @@
+-- How an event that is done again brings a run on.
+use Rattle.std.proofs.Common.{◌≡◌, ◌++◌, ℕ, false, List, [], ◌∷◌, All, sym, ap, ◌∙◌, subst, append-nil}
+use Rattle.std.specs.Prelude.{Err, IfNone, IfOk, IfSome, None, Ok, Option, Result, Some}
+use Rattle.std.proofs.lemmas.List.Elements.{All-cons, All-nil}
+use Rattle.can_frame.specs.declared.data_frame.TimedFrame.{TimedFrame}
+use Rattle.requirement_table.specs.Opening.{width_of}
+use Rattle.requirement_table.specs.Slots.{contains_slot}
+use Rattle.requirement_table.specs.Table.{width_in}
+use Rattle.requirement_table.specs.declared.entries.Order.{Order}
+use Rattle.async_window.specs.declared.request.Request.{Request}
+use Rattle.planner_policies.specs.declared.state.PlanState.{PlanState}
+use Rattle.admission_rules.specs.declared.Rules.{Rules}
+use Rattle.master_core.specs.declared.event.Event.{Event}
+use Rattle.master_core.specs.declared.event.Event.TheVariants.{Open}
+use Rattle.master_core.specs.History.{IsLegal, is_open, placed_of}
+use Rattle.master_core.specs.Orders.{IsOrder}
+use Rattle.kept_run.specs.Progress.{IsOnTheWay, Setting}
+use Rattle.kept_run.proofs.Shared.{CallsBetween, CyclesRun, RanOrder, way-called, way-run}
+use Rattle.steps_file.specs.declared.steps.Step.{Step}
+use Rattle.system_file.specs.declared.system.System.{System}
+use Rattle.replay_run.specs.Progress.{setting_of}
+use Rattle.bus_trace.specs.EventRows.{told_at}
+use Rattle.bus_trace.specs.LogRows.{events_told}
+use Rattle.bus_trace.specs.declared.row.LogRow.{LogRow}
+use Rattle.trace_audit.specs.Again.{Asks, IsAgain, IsBroughtOn, IsOpenedWith}
+use Rattle.trace_audit.specs.States.{KeepsStates, state_of}
+use Rattle.trace_audit.specs.declared.rerun.Rerun.{Rerun}
+use Rattle.trace_audit.proofs.Rows.{TraceLaws, called-told, opened-told}
+
+-- a state by its parts
+pub state-is : (rules : Rules) (history : List Event) (state : PlanState) → state.cycle ≡ (state_of rules history).cycle
+    → state.pending ≡ (state_of rules history).pending → state ≡ state_of rules history
+state-is rules history state cycle pending =
+    ap (λ c. record { cycle = c; pending = state.pending }) cycle
+    ∙ ap (λ p. record { cycle = (state_of rules history).cycle; pending = p }) pending
+
+module _ (system : System) (steps : List Step) (requests : List Request) (trace : List TimedFrame) (old new : Rerun) (line : LogRow)
+    (again : IsAgain system requests trace old) where
+  abbrev setting : Setting
+  setting = setting_of system requests
+
+  -- a change or a look
+  pub called-on : CallsBetween → (event : Event) → is_open event ≡ false → Asks steps old.master.history line event
+      → new.master.rules ≡ old.master.rules → new.nodes ≡ old.nodes
+      → new.master.history ≡ old.master.history ++ event ∷ [] → IsLegal new.master.rules new.master.history
+      → KeepsStates new.master.rules new.master.history new.states
+      → (rows : List LogRow) → rows ≡ told_at 0 event [] → IsBroughtOn system steps requests trace old line new rows
+  called-on laws event closed asks rules nodes history legal states rows rows_are =
+      let same_rules : new.master.rules ≡ system.rules = rules ∙ again.same_rules in
+      let whole : IsLegal system.rules (old.master.history ++ event ∷ []) =
+      subst (IsLegal system.rules) history (subst (λ r. IsLegal r new.master.history) same_rules legal) in
+      let one : All (λ e. is_open e ≡ false) (event ∷ []) =
+      All-cons (λ e. is_open e ≡ false) event [] closed (All-nil (λ e. is_open e ≡ false)) in
+      let way = way-called laws setting old.master.history (event ∷ []) trace old.nodes one whole again.way in
+      let now : IsAgain system requests trace new = record {
+        same_rules = same_rules;
+        way = subst (λ n. IsOnTheWay setting new.master.history trace n) (sym nodes)
+            (subst (λ h. IsOnTheWay setting h trace old.nodes) (sym history) way);
+        states = states;
+      } in
+      record {
+        event = event;
+        asks = asks;
+        history = history;
+        frames = [];
+        again = subst (λ t. IsAgain system requests t new) (sym (append-nil trace)) now;
+        width = 0;
+        rows_are = rows_are;
+        told = ap (λ t. events_told t [] new.master.history) (append-nil trace) ∙ ap (events_told trace []) history
+            ∙ called-told trace old.master.history event closed ∙ ap (λ l. events_told trace [] old.master.history ++ l) (sym rows_are);
+      }
+
+module _ (system : System) (requests : List Request) (trace : List TimedFrame) (old new : Rerun)
+    (again : IsAgain system requests trace old) where
+  -- a cycle that was opened and run by the master's order
+  pub opened-with : TraceLaws → CyclesRun → (order : Order) (frames : List TimedFrame) → IsOrder system.rules old.master.history order
+      → RanOrder order old.nodes new.nodes frames → new.master.rules ≡ old.master.rules
+      → new.master.history ≡ old.master.history ++ Open order.cycle order.mask ∷ []
+      → KeepsStates new.master.rules new.master.history new.states
+      → IsOpenedWith system requests trace old new order.l frames
+  opened-with laws runs order frames ordered did rules history states =
+      let setting : Setting = setting_of system requests in
+      let way = way-run runs setting old.master.history trace frames old.nodes new.nodes order ordered did again.way in
+      let width : width_of (record { cycle = order.cycle; mask = order.mask; placed = placed_of old.master.history }) ≡ order.l =
+      ap (λ c. width_in (placed_of old.master.history) c (contains_slot order.mask)) ordered.cycle ∙ sym ordered.window in
+      let told = opened-told laws setting again.way.known old.master.history trace again.way.under_way order.cycle order.mask frames
+      way.under_way ordered.cycle in
+      record {
+        cycle = order.cycle;
+        mask = order.mask;
+        history = history;
+        again = record {
+          same_rules = rules ∙ again.same_rules;
+          way = subst (λ h. IsOnTheWay setting h (trace ++ frames) new.nodes) (sym history) way;
+          states = states;
+        };
+        told = ap (events_told (trace ++ frames) []) history ∙ told
+            ∙ ap (λ w. events_told trace [] old.master.history ++ told_at w (Open order.cycle order.mask) frames) width;
+      }
+
+module _ (system : System) (steps : List Step) (requests : List Request) (trace : List TimedFrame) (old new : Rerun) (line : LogRow) where
+  pub opened-on : (width : ℕ) (frames : List TimedFrame) (opened : IsOpenedWith system requests trace old new width frames)
+      → Asks steps old.master.history line (Open opened.cycle opened.mask)
+      → (rows : List LogRow) → rows ≡ told_at width (Open opened.cycle opened.mask) frames
+      → IsBroughtOn system steps requests trace old line new rows
+  opened-on width frames opened asks rows rows_are = record {
+    event = Open opened.cycle opened.mask;
+    asks = asks;
+    history = opened.history;
+    frames = frames;
+    again = opened.again;
+    width = width;
+    rows_are = rows_are;
+    told = opened.told ∙ ap (λ l. events_told trace [] old.master.history ++ l) (sym rows_are);
+  }
+
+-- What is told of rows, where there are some
+
+pub ok-some : {A E : Type 0} (P Q : A → Type 0) → ((x : A) → P x → Q x) → (r : Result (Option A) E)
+    → IfOk r (λ o. IfSome o P) → IfOk r (λ o. IfSome o Q)
+ok-some P Q f (Ok (Some x)) p = f x p
+ok-some P Q f (Ok None) p = tt
+ok-some P Q f (Err e) p = tt
+
+pub ok-none : {A E : Type 0} (X Y : Type 0) → (X → Y) → (r : Result (Option A) E) → IfOk r (λ o. IfNone o X) → IfOk r (λ o. IfNone o Y)
+ok-none X Y f (Ok (Some x)) p = tt
+ok-none X Y f (Ok None) p = f p
+ok-none X Y f (Err e) p = tt

@@ -1,0 +1,186 @@
+-- An event is determined by the row that asks for it, the events before it and the steps.
+use Rattle.std.proofs.Common.{◌≡◌, ◌+◌, ◌≤◌, ◌++◌, ℕ, true, false, List, [], ◌∷◌, All, Option, Some, map, refl, sym, ap, ◌∙◌, subst, arith}
+use Rattle.std.specs.Prelude.{count_by, slice_get, sum_by}
+use Rattle.std.proofs.lemmas.List.Elements.{All-cons, All-nil}
+use Rattle.can_frame.specs.declared.data_frame.TimedFrame.{TimedFrame}
+use Rattle.requirement_table.specs.declared.entries.Placed.{Placed}
+use Rattle.change_protocol.specs.Applied.{applied}
+use Rattle.change_protocol.specs.declared.operations.Act.{Act}
+use Rattle.change_protocol.specs.declared.operations.Act.TheVariants as act
+use Rattle.change_protocol.specs.declared.operations.Change.{Change}
+use Rattle.planner_policies.specs.Plan.{mask_at, pending_at}
+use Rattle.admission_rules.specs.declared.Rules.{Rules}
+use Rattle.admission.specs.Verdict.{IsVerdict, plan_from, trail_of}
+use Rattle.admission.specs.declared.verdict.Verdict.{Verdict}
+use Rattle.master_core.specs.declared.event.Event.{Event}
+use Rattle.master_core.specs.declared.event.Event.TheVariants.{Submit, Look, Open}
+use Rattle.master_core.specs.History.{IsRight, IsRightAnswer, next_of, placed_of, plan_of}
+use Rattle.steps_file.specs.StepsFile.{count_of}
+use Rattle.steps_file.specs.declared.steps.Step.{Step}
+use Rattle.kept_run.proofs.Shared.{next_of-push}
+use Rattle.live_master.specs.Callers.{is_called_by}
+use Rattle.live_steps.specs.Live.{acts_of}
+use Rattle.bus_trace.specs.EventRows.{told_at}
+use Rattle.bus_trace.specs.LogRows.{plan_told, verdict_told}
+use Rattle.bus_trace.specs.declared.row.LogRow.{LogRow}
+use Rattle.bus_trace.specs.declared.row.LogRow.TheVariants as row
+use Rattle.bus_trace.specs.declared.row.LogVerdict.{LogVerdict}
+use Rattle.trace_audit.specs.Again.{Asks}
+use Rattle.trace_audit.specs.Auditing.{is_inner}
+use Rattle.trace_audit.specs.Reading.{IsNextAct, IsReadFrom, is_event_row}
+
+-- there is one verdict
+pub record OneVerdict : Type 0 where
+  pub same : (rules : Rules) (placed : List Placed) (pending from next : ℕ) (change : Change) (one other : Verdict)
+      → IsVerdict rules placed pending from next change one → IsVerdict rules placed pending from next change other → one ≡ other
+
+record SameAnswer (one other : Verdict) (trail second : List ℕ) : Type 0 where
+  verdict : one ≡ other
+  plan : trail ≡ second
+
+same-answer : OneVerdict → (rules : Rules) (before : List Event) (change : Change) (from : ℕ) (one other : Verdict) (trail second : List ℕ)
+    → IsRightAnswer rules before change from one trail → IsRightAnswer rules before change from other second → SameAnswer one other trail second
+same-answer verdicts rules before change from one other trail second right also =
+    let pending = pending_at (plan_of rules (placed_of before)) from in
+    let verdict = verdicts.same rules (placed_of before) pending from (next_of before) change one other right.answer also.answer in
+    record {
+      verdict = verdict;
+      plan = right.plan ∙ ap (trail_of (plan_from rules (applied (placed_of before) change) from pending)) verdict ∙ sym also.plan;
+    }
+
+same-change : (asked : Option Act) (change also : Change) → asked ≡ Some (act.Ask change) → asked ≡ Some (act.Ask also) → change ≡ also
+same-change asked change also one other = cc
+
+-- The event that is read from a row
+
+module _ (rules : Rules) (steps : List Step) (before : List Event) where
+  -- it is one that the row asks for, where an opening is one of those that the steps ask for
+  pub read-asks : (line : LogRow) (event : Event) → IsReadFrom rules steps before line event
+      → next_of (before ++ event ∷ []) ≤ sum_by count_of steps → Asks steps before line event
+  read-asks line (Submit caller change from verdict trail) read few =
+      subst (λ l. Asks steps before l (Submit caller change from verdict trail)) (sym read.0) (refl, refl, read.1)
+  read-asks line (Look caller next) read few = subst (λ l. Asks steps before l (Look caller next)) (sym read.0) (refl, read.1)
+  read-asks line (Open cycle mask) read few =
+      let more = next_of-push before (Open cycle mask) in
+      subst (λ l. Asks steps before l (Open cycle mask)) (sym read.1) (omega (arith, more, few))
+
+  -- a row from which an event is read is that of an event
+  pub read-is_event : (line : LogRow) (event : Event) → IsReadFrom rules steps before line event → is_event_row line ≡ true
+  read-is_event line (Submit caller change from verdict trail) read = ap is_event_row read.0
+  read-is_event line (Look caller next) read = ap is_event_row read.0
+  read-is_event line (Open cycle mask) read = ap is_event_row read.1
+
+  module _ (verdicts : OneVerdict) where
+    same-as_change : (caller : ℕ) (change : Change) (from : ℕ) (verdict : Verdict) (trail : List ℕ) (told : LogVerdict) (one : Event)
+        → IsNextAct steps before caller (act.Ask change) → IsRightAnswer rules before change from verdict trail
+        → Asks steps before (row.Submit caller from told) one → IsRight rules before one
+        → Submit caller change from verdict trail ≡ one
+    same-as_change caller change from verdict trail told (Submit number also since answer plan) next right asks right2 =
+        let change_is : also ≡ change =
+        same-change (slice_get (acts_of caller steps) (count_by (is_called_by caller) before)) also change asks.2 next in
+        let moved : IsRightAnswer rules before change from answer plan =
+        subst (λ f. IsRightAnswer rules before change f answer plan) asks.1
+        (subst (λ c. IsRightAnswer rules before c since answer plan) change_is right2) in
+        let same = same-answer verdicts rules before change from verdict answer trail plan right moved in
+        let caller_is : number ≡ caller = asks.0 in
+        let from_is : since ≡ from = asks.1 in
+        let verdict_is = same.verdict in
+        let plan_is = same.plan in
+        cc
+    same-as_change caller change from verdict trail told (Look number cycle) next right asks right2 = absurd asks
+    same-as_change caller change from verdict trail told (Open cycle mask) next right asks right2 = absurd asks
+
+    same-as_look : (caller next : ℕ) (one : Event) → next ≡ next_of before → Asks steps before (row.Look caller next) one
+        → IsRight rules before one → Look caller next ≡ one
+    same-as_look caller next (Submit number change since verdict trail) right asks right2 = absurd asks
+    same-as_look caller next (Look number cycle) right asks right2 =
+        let caller_is : number ≡ caller = asks.0 in
+        let next_is : next ≡ cycle = right ∙ sym right2 in
+        cc
+    same-as_look caller next (Open cycle mask) right asks right2 = absurd asks
+
+    same-as_opening : (cycle mask l : ℕ) (one : Event) → IsRight rules before (Open cycle mask)
+        → Asks steps before (row.Open cycle mask l) one → IsRight rules before one → Open cycle mask ≡ one
+    same-as_opening cycle mask l (Submit number change since verdict trail) right asks right2 = absurd asks
+    same-as_opening cycle mask l (Look number next) right asks right2 = absurd asks
+    same-as_opening cycle mask l (Open later slots) right asks right2 =
+        let cycle_is : cycle ≡ later = right.0 ∙ sym right2.0 in
+        let mask_is : mask ≡ slots = right.1 ∙ ap (mask_at (plan_of rules (placed_of before))) cycle_is ∙ sym right2.1 in
+        cc
+
+    -- there is one right event that a row asks for: what is read from the row is that event
+    pub same-event : (line : LogRow) (one other : Event) → Asks steps before line one → IsRight rules before one
+        → IsReadFrom rules steps before line other → IsRight rules before other → other ≡ one
+    same-event line one (Submit caller change from verdict trail) asks right read right2 =
+        same-as_change caller change from verdict trail (verdict_told verdict) one read.1 right2
+        (subst (λ l. Asks steps before l one) read.0 asks) right
+    same-event line one (Look caller next) asks right read right2 =
+        same-as_look caller next one right2 (subst (λ l. Asks steps before l one) read.0 asks) right
+    same-event line one (Open cycle mask) asks right read right2 =
+        same-as_opening cycle mask read.0 one right2 (subst (λ l. Asks steps before l one) read.1 asks) right
+
+  -- a right event that the row asks for, and whose first row is the row, is read from it
+  pub asked-read : (line : LogRow) (event : Event) (width : ℕ) (frames : List TimedFrame) → Asks steps before line event
+      → IsRight rules before event → slice_get (told_at width event frames) 0 ≡ Some line → IsReadFrom rules steps before line event
+  asked-read line (Submit caller change from verdict trail) width frames asks right first =
+      let is : line ≡ row.Submit caller from (verdict_told verdict) = cc in
+      (is, (subst (λ l. Asks steps before l (Submit caller change from verdict trail)) is asks).2, right.plan)
+  asked-read line (Look caller next) width frames asks right first =
+      let is : line ≡ row.Look caller next = cc in
+      (is, (subst (λ l. Asks steps before l (Look caller next)) is asks).1)
+  asked-read line (Open cycle mask) width frames asks right first =
+      let is : line ≡ row.Open cycle mask width = cc in
+      (width, is)
+
+-- The rows of an event
+
+abbrev pub AreInner : List LogRow → Type 0
+AreInner rows = All (λ line. is_inner line ≡ true) rows
+
+-- first the row of an event, and behind it those that follow
+pub record HasHead (rows : List LogRow) : Type 0 where
+  pub head : LogRow
+  pub rest : List LogRow
+  pub are : rows ≡ head ∷ rest
+  pub inner : AreInner rest
+
+inner-plan : (cycle : ℕ) (masks : List ℕ) → AreInner (plan_told cycle masks)
+inner-plan cycle [] = All-nil (λ line. is_inner line ≡ true)
+inner-plan cycle (mask ∷ later) =
+    All-cons (λ line. is_inner line ≡ true) (row.Plan cycle mask) (plan_told (cycle + 1) later) refl (inner-plan (cycle + 1) later)
+
+inner-frames : (frames : List TimedFrame) → AreInner (map row.Frame frames)
+inner-frames [] = All-nil (λ line. is_inner line ≡ true)
+inner-frames (sent ∷ later) =
+    All-cons (λ line. is_inner line ≡ true) (row.Frame sent) (map row.Frame later) refl (inner-frames later)
+
+pub told-head : (width : ℕ) (event : Event) (frames : List TimedFrame) → HasHead (told_at width event frames)
+told-head width (Submit caller change from verdict trail) frames =
+    record { head = row.Submit caller from (verdict_told verdict); rest = plan_told from trail; are = refl; inner = inner-plan from trail }
+told-head width (Look caller next) frames =
+    record { head = row.Look caller next; rest = []; are = refl; inner = All-nil (λ line. is_inner line ≡ true) }
+told-head width (Open cycle mask) frames =
+    record { head = row.Open cycle mask width; rest = map row.Frame frames; are = refl; inner = inner-frames frames }
+
+-- such a row is not that of an event, nor the last one of a log
+pub inner-no_event : (line : LogRow) → is_inner line ≡ true → is_event_row line ≡ false
+inner-no_event (row.Submit caller from verdict) is = absurd (cc)
+inner-no_event (row.Plan cycle mask) is = refl
+inner-no_event (row.Look caller next) is = absurd (cc)
+inner-no_event (row.Open cycle mask l) is = absurd (cc)
+inner-no_event (row.Frame timed) is = refl
+inner-no_event (row.End next) is = refl
+
+-- where no right answer is planned from a cycle, no right event is a change from there
+pub no-change : (rules : Rules) (steps : List Step) (before : List Event) (caller from : ℕ) (change : Change)
+    → IsNextAct steps before caller (act.Ask change)
+    → ((verdict : Verdict) (trail : List ℕ) → IsRightAnswer rules before change from verdict trail → ⊥)
+    → (told : LogVerdict) (event : Event) → IsRight rules before event → Asks steps before (row.Submit caller from told) event → ⊥
+no-change rules steps before caller from change next none told (Submit number also since verdict trail) right asks =
+    let change_is : also ≡ change =
+    same-change (slice_get (acts_of caller steps) (count_by (is_called_by caller) before)) also change asks.2 next in
+    none verdict trail
+    (subst (λ f. IsRightAnswer rules before change f verdict trail) asks.1
+    (subst (λ c. IsRightAnswer rules before c since verdict trail) change_is right))
+no-change rules steps before caller from change next none told (Look number cycle) right asks = absurd asks
+no-change rules steps before caller from change next none told (Open cycle mask) right asks = absurd asks

@@ -1,0 +1,9 @@
+mod Acts
+mod Bringing
+mod Ending
+mod Events
+mod Readings
+mod Rows
+mod Settling
+mod Standing
+mod Whole

@@ -1,0 +1,211 @@
+-- What rows so far say of the row behind them.
+use Rattle.std.proofs.Common.{◌≡◌, ◌+◌, ◌<◌, ◌≤◌, ◌++◌, false, true, List, [], ◌∷◌, All, Some, drop, length, refl, sym, ap, ◌∙◌, subst, arith, inl, inr, append_assoc, append-nil}
+use Rattle.std.specs.Prelude.{slice_get, sum_by}
+use Rattle.std.proofs.lemmas.Bool.{cases_Bool}
+use Rattle.std.proofs.Math.Seq.{drop-length}
+use Rattle.std.proofs.lemmas.List.{length-drop}
+use Rattle.std.proofs.lemmas.List.Elements.{All-head, All-tail}
+use Rattle.std.proofs.lemmas.Option.{slice_get_within}
+use Rattle.can_frame.specs.declared.data_frame.TimedFrame.{TimedFrame}
+use Rattle.async_window.specs.declared.request.Request.{Request}
+use Rattle.admission_rules.specs.declared.Rules.{Rules}
+use Rattle.master_core.specs.declared.event.Event.{Event}
+use Rattle.master_core.specs.declared.event.Event.TheVariants.{Submit, Look, Open}
+use Rattle.master_core.specs.History.{IsLegal, IsRight, next_of}
+use Rattle.master_core.specs.Openings.{openings_of}
+use Rattle.cycle_engine.specs.Offered.{IsCanTrace}
+use Rattle.kept_run.proofs.Shared.{AllAfter-parts, Promises, next_of-push}
+use Rattle.steps_file.specs.StepsFile.{count_of}
+use Rattle.steps_file.specs.declared.steps.Step.{Step}
+use Rattle.system_file.specs.declared.system.System.{System}
+use Rattle.replay_run.specs.Progress.{setting_of}
+use Rattle.bus_trace.specs.LogRows.{events_told, log_rows}
+use Rattle.bus_trace.specs.declared.row.LogRow.{LogRow}
+use Rattle.bus_trace.specs.declared.row.LogRow.TheVariants as row
+use Rattle.trace_audit.specs.Again.{Asks, IsAgain, IsBroughtOn}
+use Rattle.trace_audit.specs.Audit.{CanStand}
+use Rattle.trace_audit.specs.Auditing.{IsAuditing, is_inner, left_of}
+use Rattle.trace_audit.specs.Reading.{IsHistoryOf, IsReadFrom, is_event_row}
+use Rattle.trace_audit.specs.declared.auditor.Auditor.{Auditor}
+use Rattle.trace_audit.specs.declared.rerun.Rerun.{Rerun}
+use Rattle.trace_audit.proofs.Events.{OneVerdict, asked-read, inner-no_event, same-event, told-head}
+use Rattle.trace_audit.proofs.Readings.{drop-next, get-drop, history-parts, history-push, history-stays, history-stood, next-row}
+use Rattle.trace_audit.proofs.Rows.{TraceLaws, log-goes-on}
+
+-- what legal histories have
+pub legal-front : (rules : Rules) (history : List Event) (event : Event) → IsLegal rules (history ++ event ∷ [])
+    → IsLegal rules history × IsRight rules history event
+legal-front rules history event legal =
+    let parts = AllAfter-parts (IsRight rules) [] history (event ∷ []) legal in
+    (parts.0, parts.1.0)
+
+next_of-less : (history : List Event) (event : Event) → next_of history ≤ next_of (history ++ event ∷ [])
+next_of-less history event = let more = next_of-push history event in omega (arith, more)
+
+-- a row that asks for an event is that of an event
+asks-is_event : (steps : List Step) (before : List Event) (line : LogRow) (event : Event) → Asks steps before line event
+    → is_event_row line ≡ true
+asks-is_event steps before (row.Submit caller from told) event asks = refl
+asks-is_event steps before (row.Plan cycle mask) event asks = absurd asks
+asks-is_event steps before (row.Look caller next) event asks = refl
+asks-is_event steps before (row.Open cycle mask l) event asks = refl
+asks-is_event steps before (row.Frame timed) event asks = absurd asks
+asks-is_event steps before (row.End next) event asks = absurd asks
+
+-- and no more cycles are opened by it than the steps ask for
+still-few : (steps : List Step) (before : List Event) (line : LogRow) (event : Event) → Asks steps before line event
+    → next_of before ≤ sum_by count_of steps → next_of (before ++ event ∷ []) ≤ sum_by count_of steps
+still-few steps before line (Submit caller change from verdict trail) asks few =
+    let more = next_of-push before (Submit caller change from verdict trail) in omega (arith, more, few)
+still-few steps before line (Look caller next) asks few = let more = next_of-push before (Look caller next) in omega (arith, more, few)
+still-few steps before (row.Open number slots l) (Open cycle mask) asks few =
+    let more = next_of-push before (Open cycle mask) in omega (arith, more, asks)
+still-few steps before (row.Submit caller from told) (Open cycle mask) asks few = absurd asks
+still-few steps before (row.Plan number slots) (Open cycle mask) asks few = absurd asks
+still-few steps before (row.Look caller next) (Open cycle mask) asks few = absurd asks
+still-few steps before (row.Frame timed) (Open cycle mask) asks few = absurd asks
+still-few steps before (row.End next) (Open cycle mask) asks few = absurd asks
+
+-- the auditor after one of its rows has come
+abbrev one-more : Auditor → Auditor
+one-more auditor = record auditor { came = auditor.came + 1 }
+
+module _ (system : System) (steps : List Step) (requests : List Request) (rows : List LogRow) (auditor : Auditor)
+    (auditing : IsAuditing system steps requests rows auditor) (line : LogRow) where
+  abbrev history : List Event
+  history = auditor.rerun.master.history
+
+  -- the history of these rows and one more
+  module _ (other : List Event) (read : IsHistoryOf system.rules steps (rows ++ line ∷ []) other) (legal : IsLegal system.rules other) where
+    pub stays : is_event_row line ≡ false → other ≡ history
+    stays none = auditing.only other (history-stood system.rules steps rows line other none read) legal
+
+    pub goes-on : (later : List Event) × (other ≡ history ++ later)
+    goes-on = elim (cases_Bool (is_event_row line)) [
+      | inl is ↦
+          let parts = history-parts system.rules steps rows line other is read in
+          let whole = legal-front system.rules parts.front parts.event (subst (IsLegal system.rules) parts.is legal) in
+          let front : parts.front ≡ history = auditing.only parts.front parts.all whole.0 in
+          (parts.event ∷ [], parts.is ∙ ap (λ l. l ++ parts.event ∷ []) front)
+      | inr none ↦ ([], stays none ∙ sym (append-nil history))
+    ]
+
+  -- Rows that are left of the last event
+
+  left-some : auditor.came < length auditor.rows.items → 0 < length (left_of auditor)
+  left-some some = let count = length-drop auditor.came auditor.rows.items in omega (arith, count, some)
+
+  module _ (laws : TraceLaws) where
+    -- the row must be the first one that is left
+    pub left-breaks : auditor.came < length auditor.rows.items → (slice_get auditor.rows.items auditor.came ≡ Some line → ⊥)
+        → CanStand system steps requests (rows ++ line ∷ []) → ⊥
+    left-breaks some other can =
+        let (later, is) = goes-on can.history can.read can.run.legal in
+        let way = auditing.again.way in
+        let legal : IsLegal system.rules (history ++ later) = subst (IsLegal system.rules) is can.run.legal in
+        let can_trace = subst (λ h. IsCanTrace system.layout requests (openings_of h) (next_of h) can.trace) is can.run.can_trace in
+        let log = log-goes-on laws (setting_of system requests) way.known history auditing.trace way.under_way later can.trace legal can_trace in
+        let rest : List LogRow = events_told can.trace history later ++ row.End (next_of (history ++ later)) ∷ [] in
+        let begins = can.front ∙ ap (λ h. log_rows h can.trace) is ∙ log ∙ ap (λ l. l ++ rest) (sym auditing.told) in
+        let first = next-row rows (left_of auditor) line can.later rest begins (left-some some) in
+        other (sym (get-drop auditor.came auditor.rows.items) ∙ first)
+
+  left-quiet : (left : List LogRow) → left_of auditor ≡ line ∷ left → is_event_row line ≡ false
+  left-quiet left is =
+      inner-no_event line (All-head (λ l. is_inner l ≡ true) line left (subst (All (λ l. is_inner l ≡ true)) is auditing.inner))
+
+  -- where it is, the rows go on
+  pub left-stands : slice_get auditor.rows.items auditor.came ≡ Some line
+      → IsAuditing system steps requests (rows ++ line ∷ []) (one-more auditor)
+  left-stands first =
+      let within = slice_get_within auditor.rows.items auditor.came line first in
+      let left = drop-next auditor.came auditor.rows.items line first in
+      let quiet = left-quiet (drop (auditor.came + 1) auditor.rows.items) left in
+      record {
+        trace = auditing.trace;
+        again = auditing.again;
+        read = history-stays system.rules steps rows line history quiet auditing.read;
+        only = λ other read legal. auditing.only other (history-stood system.rules steps rows line other quiet read) legal;
+        opened = auditing.opened;
+        within = omega (arith, within);
+        inner = All-tail (λ l. is_inner l ≡ true) line (drop (auditor.came + 1) auditor.rows.items)
+            (subst (All (λ l. is_inner l ≡ true)) left auditing.inner);
+        told = append_assoc rows (line ∷ []) (drop (auditor.came + 1) auditor.rows.items) ∙ ap (λ l. rows ++ l) (sym left) ∙ auditing.told;
+      }
+
+  -- A row of an event
+
+  pub none-left : auditor.came ≡ length auditor.rows.items → left_of auditor ≡ []
+  none-left all = ap (λ n. drop n auditor.rows.items) all ∙ drop-length auditor.rows.items
+
+  pub all-told : auditor.came ≡ length auditor.rows.items → rows ≡ events_told auditing.trace [] history
+  all-told all = sym (append-nil rows) ∙ ap (λ l. rows ++ l) (sym (none-left all)) ∙ auditing.told
+
+  module _ (kept : Promises) (verdicts : OneVerdict) (new : Rerun) (told : List LogRow)
+      (on : IsBroughtOn system steps requests auditing.trace auditor.rerun line new told)
+      (all : auditor.came ≡ length auditor.rows.items) where
+    abbrev trace : List TimedFrame
+    trace = auditing.trace ++ on.frames
+
+    new-legal : IsLegal system.rules (history ++ on.event ∷ [])
+    new-legal = subst (IsLegal system.rules) on.history on.again.way.under_way.legal
+
+    right : IsRight system.rules history on.event
+    right = (legal-front system.rules history on.event new-legal).1
+
+    is_event : is_event_row line ≡ true
+    is_event = asks-is_event steps history line on.event on.asks
+
+    -- the history of the rows with this one is that of the run with the event
+    new-only : (other : List Event) → IsHistoryOf system.rules steps (rows ++ line ∷ []) other → IsLegal system.rules other
+        → other ≡ new.master.history
+    new-only other read legal =
+        let parts = history-parts system.rules steps rows line other is_event read in
+        let whole = legal-front system.rules parts.front parts.event (subst (IsLegal system.rules) parts.is legal) in
+        let front : parts.front ≡ history = auditing.only parts.front parts.all whole.0 in
+        let same : parts.event ≡ on.event = same-event system.rules steps history verdicts line on.event parts.event on.asks right
+        (subst (λ h. IsReadFrom system.rules steps h line parts.event) front parts.last)
+        (subst (λ h. IsRight system.rules h parts.event) front whole.1) in
+        parts.is ∙ ap (λ l. l ++ parts.event ∷ []) front ∙ ap (λ e. history ++ e ∷ []) same ∙ sym on.history
+
+    all-rows : rows ++ told ≡ events_told trace [] new.master.history
+    all-rows = ap (λ l. l ++ told) (all-told all) ∙ sym on.told
+
+    told-some : 0 < length told
+    told-some = let head = told-head on.width on.event on.frames in let count = ap length (on.rows_are ∙ head.are) in omega (arith, count)
+
+    -- the row must be the first one of the event
+    pub event-breaks : (slice_get told 0 ≡ Some line → ⊥) → CanStand system steps requests (rows ++ line ∷ []) → ⊥
+    event-breaks other can =
+        let way = on.again.way in
+        let is : can.history ≡ new.master.history = new-only can.history can.read can.run.legal in
+        let whole = kept.kept (setting_of system requests) new.master.history trace way.known way.under_way in
+        let same : can.trace ≡ trace = whole.only_trace can.trace
+        (subst (λ h. IsCanTrace system.layout requests (openings_of h) (next_of h) can.trace) is can.run.can_trace) in
+        let begins = can.front ∙ ap (λ h. log_rows h can.trace) is ∙ ap (λ t. log_rows new.master.history t) same
+        ∙ ap (λ l. l ++ row.End (next_of new.master.history) ∷ []) (sym all-rows) in
+        other (next-row rows told line can.later (row.End (next_of new.master.history) ∷ []) begins told-some)
+
+    -- where it is, the rows go on
+    pub event-stands : (next : Auditor) → next.rerun ≡ new → next.rows.items ≡ told → next.came ≡ 1 → slice_get told 0 ≡ Some line
+        → IsAuditing system steps requests (rows ++ line ∷ []) next
+    event-stands next same_run same_rows one first =
+        let head = told-head on.width on.event on.frames in
+        let rest = drop-next 0 told line first in
+        let are : told ≡ head.head ∷ head.rest = on.rows_are ∙ head.are in
+        let left : left_of next ≡ drop 1 told = ap (λ n. drop n next.rows.items) one ∙ ap (drop 1) same_rows in
+        let read = asked-read system.rules steps history line on.event on.width on.frames on.asks right
+        (subst (λ l. slice_get l 0 ≡ Some line) on.rows_are first) in
+        let history_is : next.rerun.master.history ≡ history ++ on.event ∷ [] = ap (λ r. r.master.history) same_run ∙ on.history in
+        record {
+          trace = trace;
+          again = subst (IsAgain system requests trace) (sym same_run) on.again;
+          read = subst (IsHistoryOf system.rules steps (rows ++ line ∷ [])) (sym history_is)
+              (history-push system.rules steps rows line history on.event is_event auditing.read read);
+          only = λ other other_read legal. new-only other other_read legal ∙ ap (λ r. r.master.history) (sym same_run);
+          opened = subst (λ h. next_of h ≤ sum_by count_of steps) (sym history_is) (still-few steps history line on.event on.asks auditing.opened);
+          within = let count = ap length same_rows in let some = told-some in omega (arith, count, some, one);
+          inner = subst (All (λ l. is_inner l ≡ true)) (sym (left ∙ ap (drop 1) are)) head.inner;
+          told = append_assoc rows (line ∷ []) (left_of next) ∙ ap (λ l. rows ++ line ∷ l) left ∙ ap (λ l. rows ++ l) (sym rest)
+              ∙ all-rows ∙ ap (λ r. events_told trace [] r.master.history) (sym same_run);
+        }

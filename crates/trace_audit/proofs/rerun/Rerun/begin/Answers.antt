@@ -1,0 +1,37 @@
+use Rattle.std.proofs.Common.{◌≡◌, [], ◌∷◌, sym, subst, ap, ◌∙◌}
+use Rattle.kept_run.specs.Progress.{AreReady, IsUnderWay}
+use Rattle.replay_run.specs.Progress.{setting_of}
+use Rattle.replay_run.proofs.Shared.{owner-of}
+use Rattle.trace_audit.specs.States.{KeepsStates, state_of}
+use Rattle.trace_audit.proofs.Bringing.{state-is}
+use Rattle.trace_audit.proofs.Settling.{keeps-first}
+use Rattle.trace_audit.proofs.rerun.Rerun.begin.Goals as goal
+
+pub returns-clause-again : goal.returns-clause-again
+returns-clause-again c =
+    let system = c.args.system.now in
+    let setting = setting_of system c.args.requests.now in
+    let master = c.in_ok-master.master in
+    let history = c.in_ok-master.ensures.history in
+    let asynchronous = c.requests_of_owners.ensures.asynchronous system.owners c.args.requests.now c.requires.system.are_owners
+    (λ k d within. owner-of system.owners _ (c.requires.requests.each k d within).owned) in
+    let state : c.state.result ≡ state_of master.rules master.history =
+    state-is master.rules master.history c.state.result c.state.ensures.cycle c.state.ensures.pending in
+    let first : c.state.result ≡ state_of master.rules [] = state ∙ ap (state_of master.rules) history in
+    record {
+      same_rules = c.in_ok-master.ensures.rules;
+      way = record {
+        known = record {
+          known = c.requires.system.layout;
+          same_window = c.requires.system.same_window;
+          same_slots = c.requires.system.same_slots;
+          asynchronous = asynchronous;
+        };
+        under_way = subst (λ h. IsUnderWay setting h []) (sym history) (c.beginning.ensures.under_way setting);
+        ready = subst (λ h. AreReady setting h [] c.in_ok-nodes.nodes) (sym history) c.in_ok-nodes.ensures.ready;
+      };
+      states = subst (λ h. KeepsStates master.rules h c.in_ok-states.states) (sym history)
+          (keeps-first master.rules c.in_ok-states.states
+          (c.in_ok-states.ensures.since ∙ ap (λ s. s.cycle) first)
+          (c.in_ok-states.ensures.one ∙ ap (λ s. s ∷ []) first));
+    }

@@ -1,0 +1,87 @@
+-- A run that is done again, event by event, as the rows of a log ask for it.
+use Rattle.std.specs.Prelude.{◌≡◌, ℕ, ◌<◌, List, [], ◌∷◌, ◌++◌, sum_by}
+use Rattle.can_frame.specs.declared.data_frame.TimedFrame.{TimedFrame}
+use Rattle.async_window.specs.declared.request.Request.{Request}
+use Rattle.change_protocol.specs.declared.operations.Act.TheVariants as act
+use Rattle.change_protocol.specs.declared.operations.Change.{Change}
+use Rattle.admission.specs.declared.verdict.Verdict.{Verdict}
+use Rattle.master_core.specs.declared.event.Event.{Event}
+use Rattle.master_core.specs.declared.event.Event.TheVariants.{Submit, Look, Open}
+use Rattle.master_core.specs.History.{IsLegal, next_of}
+use Rattle.kept_run.specs.Progress.{IsOnTheWay}
+use Rattle.steps_file.specs.StepsFile.{count_of}
+use Rattle.steps_file.specs.declared.steps.Step.{Step}
+use Rattle.system_file.specs.declared.system.System.{System}
+use Rattle.replay_run.specs.Progress.{setting_of}
+use Rattle.bus_trace.specs.EventRows.{told_at}
+use Rattle.bus_trace.specs.Logged.{IsNear}
+use Rattle.bus_trace.specs.LogRows.{events_told}
+use Rattle.bus_trace.specs.declared.row.LogRow.{LogRow}
+use Rattle.bus_trace.specs.declared.row.LogRow.TheVariants as row
+use Rattle.trace_audit.specs.Reading.{IsNextAct}
+use Rattle.trace_audit.specs.States.{KeepsStates}
+use Rattle.trace_audit.specs.declared.rerun.Rerun.{Rerun}
+
+-- master and nodes are those of a run of the system with this trace, and the states of its plan are kept
+pub record IsAgain (system : System) (requests : List Request) (trace : List TimedFrame) (rerun : Rerun) : Type 0 where
+  pub same_rules : rerun.master.rules ≡ system.rules
+  pub way : IsOnTheWay (setting_of system requests) rerun.master.history trace rerun.nodes
+  pub states : KeepsStates rerun.master.rules rerun.master.history rerun.states
+
+-- so it is for some system, requests and trace
+abbrev pub CanGoOn : Rerun → Type 0
+CanGoOn rerun = (system : System) × (requests : List Request) × (trace : List TimedFrame) × IsAgain system requests trace rerun
+
+-- the history ends in the event
+pub record EndsIn (history : List Event) (event : Event) : Type 0 where
+  pub before : List Event
+  pub is : history ≡ before ++ event ∷ []
+
+-- it ends in an event whose rows can be told
+pub record EndsNear (history : List Event) : Type 0 where
+  pub event : Event
+  pub ends : EndsIn history event
+  pub near : IsNear event
+
+-- a cycle was opened and run, with this window in bit times and these frames
+pub record IsOpenedWith (system : System) (requests : List Request) (trace : List TimedFrame) (old new : Rerun)
+    (width : ℕ) (frames : List TimedFrame) : Type 0 where
+  pub cycle : ℕ
+  pub mask : ℕ
+  pub history : new.master.history ≡ old.master.history ++ Open cycle mask ∷ []
+  pub again : IsAgain system requests (trace ++ frames) new
+  pub told : events_told (trace ++ frames) [] new.master.history
+      ≡ events_told trace [] old.master.history ++ told_at width (Open cycle mask) frames
+
+-- a change of this operator was answered, planned from this cycle, and these are the rows of the answer
+pub record IsAnsweredWith (old new : Rerun) (caller : ℕ) (change : Change) (from : ℕ) (rows : List LogRow) : Type 0 where
+  pub verdict : Verdict
+  pub trail : List ℕ
+  pub rules : new.master.rules ≡ old.master.rules
+  pub nodes : new.nodes ≡ old.nodes
+  pub history : new.master.history ≡ old.master.history ++ Submit caller change from verdict trail ∷ []
+  pub legal : IsLegal new.master.rules new.master.history
+  pub states : KeepsStates new.master.rules new.master.history new.states
+  pub rows_are : rows ≡ told_at 0 (Submit caller change from verdict trail) []
+
+-- the row asks for the event, after the events before it: it is of the row's kind and has the row's caller. A change or a
+-- look is the next act of its operator in the steps, a change is planned from the row's `from`, and an opening is one of
+-- those that all counts together ask for
+abbrev pub Asks : List Step → List Event → LogRow → Event → Type 0
+Asks steps before (row.Submit caller from told) (Submit number change since verdict trail) =
+    (number ≡ caller) × (since ≡ from) × IsNextAct steps before caller (act.Ask change)
+Asks steps before (row.Look caller next) (Look number cycle) = (number ≡ caller) × IsNextAct steps before caller act.Look
+Asks steps before (row.Open number slots l) (Open cycle mask) = next_of before < sum_by count_of steps
+Asks steps before line event = ⊥
+
+-- the run has one event more, which the row asks for, and these are the rows of the event
+pub record IsBroughtOn (system : System) (steps : List Step) (requests : List Request) (trace : List TimedFrame)
+    (old : Rerun) (line : LogRow) (new : Rerun) (rows : List LogRow) : Type 0 where
+  pub event : Event
+  pub asks : Asks steps old.master.history line event
+  pub history : new.master.history ≡ old.master.history ++ event ∷ []
+  pub frames : List TimedFrame
+  pub again : IsAgain system requests (trace ++ frames) new
+  pub width : ℕ
+  pub rows_are : rows ≡ told_at width event frames
+  pub told : events_told (trace ++ frames) [] new.master.history ≡ events_told trace [] old.master.history ++ rows

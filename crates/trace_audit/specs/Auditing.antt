@@ -1,0 +1,80 @@
+-- An audit between two rows.
+use Rattle.std.specs.Prelude.{◌≡◌, ℕ, ◌≤◌, Bool, true, false, List, [], ◌∷◌, ◌++◌, All, count_by, drop, length, sum_by}
+use Rattle.can_frame.specs.declared.data_frame.TimedFrame.{TimedFrame}
+use Rattle.async_window.specs.declared.request.Request.{Request}
+use Rattle.master_core.specs.declared.event.Event.{Event}
+use Rattle.master_core.specs.History.{IsLegal, next_of}
+use Rattle.steps_file.specs.StepsFile.{count_of}
+use Rattle.steps_file.specs.declared.steps.Step.{Step}
+use Rattle.system_file.specs.declared.system.System.{System}
+use Rattle.bus_trace.specs.LogRows.{events_told}
+use Rattle.bus_trace.specs.declared.row.LogRow.{LogRow}
+use Rattle.bus_trace.specs.declared.row.LogRow.TheVariants as row
+use Rattle.live_master.specs.Callers.{is_called_by}
+use Rattle.live_steps.specs.Live.{acts_of}
+use Rattle.trace_audit.specs.Again.{IsAgain}
+use Rattle.trace_audit.specs.Audit.{CanStand, IsFirstBreak}
+use Rattle.trace_audit.specs.declared.audit_fault.AuditFault.{AuditFault}
+use Rattle.trace_audit.specs.declared.audit_fault.AuditFault.TheVariants.{Row, Unfinished, Memory}
+use Rattle.trace_audit.specs.Reading.{IsHistoryOf}
+use Rattle.trace_audit.specs.declared.auditor.Auditor.{Auditor}
+
+-- whether a row is one of those that follow the row of their event
+abbrev pub is_inner : LogRow → Bool
+is_inner (row.Submit caller from verdict) = false
+is_inner (row.Plan cycle mask) = true
+is_inner (row.Look caller next) = false
+is_inner (row.Open cycle mask l) = false
+is_inner (row.Frame timed) = true
+is_inner (row.End next) = false
+
+-- the rows that are left of the last event
+abbrev pub left_of : Auditor → List LogRow
+left_of auditor = drop auditor.came auditor.rows.items
+
+-- the rows so far can stand: the auditor has done again what they say, and theirs is the one legal history of the rows.
+-- What is left of its last event are the rows that must follow, none of which is that of an event or the last one of a
+-- log
+pub record IsAuditing (system : System) (steps : List Step) (requests : List Request) (rows : List LogRow)
+    (auditor : Auditor) : Type 0 where
+  pub trace : List TimedFrame
+  pub again : IsAgain system requests trace auditor.rerun
+  pub read : IsHistoryOf system.rules steps rows auditor.rerun.master.history
+  pub only : (other : List Event) → IsHistoryOf system.rules steps rows other → IsLegal system.rules other
+      → other ≡ auditor.rerun.master.history
+  pub opened : next_of auditor.rerun.master.history ≤ sum_by count_of steps
+  pub within : auditor.came ≤ length auditor.rows.items
+  pub inner : All (λ line. is_inner line ≡ true) (left_of auditor)
+  pub told : rows ++ left_of auditor ≡ events_told trace [] auditor.rerun.master.history
+
+-- so it is for some system, requests and rows
+abbrev pub CanAudit : List Step → Auditor → Type 0
+CanAudit steps auditor =
+    (system : System) × (requests : List Request) × (rows : List LogRow) × IsAuditing system steps requests rows auditor
+
+-- what a row says to an auditor that it is the next one, or that it is not: with it the rows can stand too, or they cannot
+pub record Takes (steps : List Step) (old new : Auditor) (line : LogRow) (stands : Bool) : Type 0 where
+  pub stand : stands ≡ true → (system : System) (requests : List Request) (rows : List LogRow)
+      → IsAuditing system steps requests rows old → IsAuditing system steps requests (rows ++ line ∷ []) new
+  pub break : stands ≡ false → (system : System) (requests : List Request) (rows : List LogRow)
+      → IsAuditing system steps requests rows old → CanStand system steps requests (rows ++ line ∷ []) → ⊥
+
+-- whether the row is the last one of a log
+abbrev pub is_end : LogRow → Bool
+is_end (row.Submit caller from verdict) = false
+is_end (row.Plan cycle mask) = false
+is_end (row.Look caller next) = false
+is_end (row.Open cycle mask l) = false
+is_end (row.Frame timed) = false
+is_end (row.End next) = true
+
+-- the steps are answered by these events: all acts of each operator, and as many openings as all counts ask for
+abbrev pub AnswersAll : List Step → List Event → Type 0
+AnswersAll steps history = (operator : ℕ) → 1 ≤ operator → operator ≤ 8
+    → count_by (is_called_by operator) history ≡ length (acts_of operator steps)
+
+-- the fault is that of the first row with which the rows cannot stand, or want of memory
+abbrev pub IsRowFault : System → List Step → List Request → List LogRow → AuditFault → Type 0
+IsRowFault system steps requests rows (Row number) = IsFirstBreak system steps requests rows number
+IsRowFault system steps requests rows Unfinished = ⊥
+IsRowFault system steps requests rows Memory = Unit {0}

@@ -1,0 +1,5 @@
+pub mod Again
+pub mod Audit
+pub mod Auditing
+pub mod Reading
+pub mod States

@@ -1,0 +1,17 @@
+//! The audit of a log: whether rows can be those of a run of a system, steps and requests. Nothing of the log's maker is
+//! trusted: each event of the rows is done again.
+//!
+//! Cycles are elementary cycles, counted from 0; times are bit times.
+#![tactic(auto)]
+
+mod audit_fault;
+mod auditing;
+mod auditor;
+mod event_rows;
+mod rerun;
+mod same_rows;
+mod states;
+mod step_acts;
+
+pub use audit_fault::AuditFault;
+pub use auditing::audit;
