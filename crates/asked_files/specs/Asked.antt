@@ -3,6 +3,8 @@ use Rattle.std.specs.Prelude.{◌≡◌, ℕ, Bool, false, List, [], length, if�
 use Rattle.ftt_io.specs.Files.{NamedFiles}
 use Rattle.plan_check.specs.Certificate.{CertificateView}
 use Rattle.plan_check.specs.PlanText.{IsFirstWrongLine, IsPlanOf}
+use Rattle.bus_trace.specs.Row.{AreRowsOf, IsFirstFaultyRow}
+use Rattle.bus_trace.specs.declared.row.LogRow.{LogRow}
 use Rattle.async_window.specs.declared.request.Owner.{Owner}
 use Rattle.async_window.specs.declared.request.Request.{Request}
 use Rattle.system_file.specs.SystemFile.{system_of}
@@ -12,7 +14,7 @@ use Rattle.steps_file.specs.declared.steps.Step.{Step}
 use Rattle.system_file.specs.declared.system.System.{System}
 use Rattle.elastic.specs.WishesFile.{wish_of}
 use Rattle.elastic.specs.declared.wish.Wish.{Wish}
-use Rattle.command_words.specs.Words.{Command, RunWords, admit, check, command_of, elastic, generate, handover, live_of, replay}
+use Rattle.command_words.specs.Words.{Command, RunWords, admit, audit, check, command_of, elastic, generate, handover, live_of, replay}
 use Rattle.asked_files.specs.declared.stopping.Refusal.{Refusal}
 use Rattle.asked_files.specs.declared.stopping.Source.{Source}
 use Rattle.asked_files.specs.declared.stopping.Stop.{Stop}
@@ -26,7 +28,8 @@ pub record JobView : Type 0 where
 
 -- what is asked for: the log of a run or so many of its last rows, and the report behind it or not; the plan of the
 -- table behind the steps; the check of a plan; the summary of the run of the input that a number makes; what is chosen
--- of a wish behind the steps; or the log of a run by threads, and the report behind it or not
+-- of a wish behind the steps; the log of a run by threads, and the report behind it or not; or the audit of the text of
+-- a log
 pub data Asked : Type 0 where
   log_of : JobView → Option ℕ → Bool → Asked
   summary_of : ℕ → Asked
@@ -34,6 +37,7 @@ pub data Asked : Type 0 where
   check_of : JobView → CertificateView → Asked
   choice_of : JobView → Wish → Asked
   live_log_of : JobView → Bool → Asked
+  audit_of : JobView → List ℕ → Asked
 
 -- the greatest number of bytes of a file
 abbrev pub limit_of : Source → ℕ
@@ -42,6 +46,7 @@ limit_of Source.Steps = 4194304
 limit_of Source.Requests = 4194304
 limit_of Source.Plan = 4194304
 limit_of Source.Wishes = 4194304
+limit_of Source.Log = 134217728
 
 infixl 10 ◌>>=◌
 -- what the second gives for the value of the first; the first that stops decides
@@ -124,6 +129,37 @@ abbrev pub IsCheckOf : NamedFiles → List ℕ → Result JobView Stop → Resul
 IsCheckOf files name (Ok job) asked_for = IsCheckAsked files name job asked_for
 IsCheckOf files name (Err why) asked_for = asked_for ≡ Err why
 
+-- a text is that of rows of a log
+abbrev pub IsLogText : List ℕ → Type 0
+IsLogText text = (rows : List LogRow) × AreRowsOf text rows
+
+-- what the bytes of a log's file mean, for an audit: they themselves, where they are such a text
+abbrev pub IsLogMeant : List ℕ → Result (List ℕ) Stop → Type 0
+IsLogMeant bytes (Ok text) = (text ≡ bytes) × IsLogText text
+IsLogMeant bytes (Err (Input (Refusal.Log number))) = IsFirstFaultyRow bytes number
+IsLogMeant bytes (Err _) = ⊥
+
+-- what a log's file means, where it could be read
+abbrev pub IsLogRead : Result (List ℕ) Stop → Result (List ℕ) Stop → Type 0
+IsLogRead (Ok bytes) log = IsLogMeant bytes log
+IsLogRead (Err why) log = log ≡ Err why
+
+-- what the log of this name means
+abbrev pub IsLogIn : NamedFiles → List ℕ → Result (List ℕ) Stop → Type 0
+IsLogIn files name log = IsLogRead (within_limit Source.Log (files name)) log
+
+-- what an audit asks for behind its system and steps: the log's file and its text come before the requests'
+pub record IsAuditAsked (files : NamedFiles) (log_name : List ℕ) (requests_name : Option (List ℕ)) (job : JobView)
+    (asked_for : Result Asked Stop) : Type 0 where
+  pub log : Result (List ℕ) Stop
+  pub in_file : IsLogIn files log_name log
+  pub is : asked_for ≡ (log >>= λ text. requests_in files requests_name job.system.owners >>= λ requests.
+      Ok (audit_of (record job { requests = requests }) text))
+
+abbrev pub IsAuditOf : NamedFiles → List ℕ → Option (List ℕ) → Result JobView Stop → Result Asked Stop → Type 0
+IsAuditOf files log requests (Ok job) asked_for = IsAuditAsked files log requests job asked_for
+IsAuditOf files log requests (Err why) asked_for = asked_for ≡ Err why
+
 -- what a command asks of the files: the first that stops decides
 abbrev pub IsAskedOf : NamedFiles → Command → Result Asked Stop → Type 0
 IsAskedOf files (replay run tail) asked_for =
@@ -137,6 +173,8 @@ IsAskedOf files (elastic system steps wishes) asked_for = asked_for
 -- a handover asks for the log of the replay of the same files, whenever the standby takes over
 IsAskedOf files (handover system steps at requests) asked_for = asked_for
     ≡ (job_in files system steps requests >>= λ job. Ok (log_of job None false))
+IsAskedOf files (audit system steps log requests) asked_for =
+    IsAuditOf files log requests (job_in files system steps None) asked_for
 
 abbrev pub IsAskedBy : NamedFiles → Option Command → Result Asked Stop → Type 0
 IsAskedBy files None asked_for = asked_for ≡ Err Words

@@ -16,6 +16,7 @@ source_word Source.Steps = codes "steps"
 source_word Source.Requests = codes "requests"
 source_word Source.Plan = codes "plan"
 source_word Source.Wishes = codes "wishes"
+source_word Source.Log = codes "log"
 
 -- the line for a file that is longer than its limit
 abbrev pub length_line : Source → List ℕ
@@ -30,3 +31,4 @@ refusal_line (Refusal.Requests fault) = requests_line fault
 refusal_line (Refusal.Plan line) = codes "plan: line " ++ decimal line ++ codes "\n"
 refusal_line Refusal.LaterPlan = codes "plan: start\n"
 refusal_line (Refusal.Wishes fault) = wishes_line fault
+refusal_line (Refusal.Log number) = codes "log: row " ++ decimal number ++ codes "\n"

@@ -6,14 +6,15 @@ ghost use Rattle.ftt_io.specs.Counts.{Rose};
 ghost use Rattle.system_file.specs.SystemFile.{IsSystem};
 ghost use Rattle.requests_file.specs.RequestsFile.{AreLegal};
 ghost use Rattle.steps_file.specs.StepsFile.{AreLegalSteps};
-ghost use Rattle.command_words.specs.Words.{admit, check, command_of, elastic, file_count, files_named, handover, live_file_count, live_of, named, replay};
+ghost use Rattle.command_words.specs.Words.{admit, audit, check, command_of, elastic, file_count, files_named, handover, live_file_count, live_of, named, replay};
 ghost use Rattle.command_words.specs.WordsRead.{command_read, run_read};
-ghost use Rattle.asked_files.specs.Asked.{IsAsked, IsAskedOf, IsLiveAsked, IsPlanIn, IsPlanMeant, job_in, live_log_of, requests_in, steps_in, system_in, wish_in, within_limit};
+ghost use Rattle.asked_files.specs.Asked.{IsAsked, IsAskedOf, IsLiveAsked, IsLogIn, IsLogMeant, IsLogText, IsPlanIn, IsPlanMeant, job_in, live_log_of, requests_in, steps_in, system_in, wish_in, within_limit};
 ghost use Rattle.asked_files.specs.Loads.{Bars, Fetches, IsBarred, IsJob, IsRefusedFor, IsTask, IsToCheck, IsToChoose, asked_of};
 
 use crate::runs::Job;
 use crate::stopping::{Refusal, Source, Stop};
 use async_window::{Owner, Request};
+use bus_trace::{LogFault, check_log};
 use command_words::{Command, RunWords, command_in, live_in};
 use elastic::{Wish, WishFault, read_wish};
 use ftt_io::{FetchFault, Shelf};
@@ -41,6 +42,8 @@ pub enum Task {
     Choice(Job, Wish),
     /// To write the log of the run, whose master is replaced by its standby after so many opened cycles.
     Handover(Job, u16),
+    /// To say of the text of a log whether it can be that of the run.
+    Audit(Job, Vec<u8>),
 }
 
 /// A run by threads that is to be done.
@@ -325,6 +328,58 @@ fn load_handover<S: Shelf>(
     Ok(Task::Handover(job, at))
 }
 
+/// The bytes, where they are the text of rows of a log.
+fn log_in(alloc: Global, bytes: Vec<u8>) -> Result<Vec<u8>, Stop>
+    ensures text { IfOk result (λ text. IsLogText text.items) }
+    ensures ok { IfOk result (λ text. IsLogMeant bytes.items (Ok text.items)) }
+    ensures stop { IfErr result (IsRefusedFor (IsLogMeant bytes.items)) }
+{
+    match check_log(alloc, bytes.as_slice()) {
+        Ok(()) => Ok(bytes),
+        Err(LogFault::Row { number }) => Err(Stop::Input(Refusal::Log(number))),
+        Err(LogFault::Memory) => Err(Stop::Memory),
+    }
+}
+
+/// Fetches the log file, and sees that its text is that of rows of a log.
+fn load_log<S: Shelf>(alloc: Global, shelf: &mut S, name: &str) -> Result<Vec<u8>, Stop>
+    ensures fetched { Fetches S.told_files S.fetches S.faults shelf.old shelf.new 1 }
+    ensures text { IfOk result (λ text. IsLogText text.items) }
+    ensures ok { IfOk result (λ text. ForSome (S.told_files shelf.old)
+        (λ files. IsLogIn files name.now (Ok text.items))) }
+    ensures stop { IfErr result (Bars S.told_files S.faults shelf.old shelf.new
+        (λ files log. IsLogIn files name.now log)) }
+{
+    let bytes = fetch_file(alloc, shelf, Source::Log, name)?;
+    log_in(alloc, bytes)
+}
+
+/// The audit that `audit` asks for: behind the steps' file and its text come the log's, and then the requests'.
+fn load_audit<S: Shelf>(
+    alloc: Global,
+    shelf: &mut S,
+    system_name: &str,
+    steps_name: &str,
+    log_name: &str,
+    requests_name: Option<&str>,
+) -> Result<Task, Stop>
+    ensures fetched { Fetches S.told_files S.fetches S.faults shelf.old shelf.new
+        (3 + named (option_map (λ word. word.now) requests_name.entry)) }
+    ensures task { IfOk result IsTask }
+    ensures ok { IfOk result (λ task. ForSome (S.told_files shelf.old)
+        (λ files. IsAskedOf files (audit system_name.now steps_name.now log_name.now
+        (option_map (λ word. word.now) requests_name.entry)) (Ok (asked_of task)))) }
+    ensures stop { IfErr result (Bars S.told_files S.faults shelf.old shelf.new
+        (λ files asked_for. IsAskedOf files (audit system_name.now steps_name.now log_name.now
+        (option_map (λ word. word.now) requests_name.entry)) asked_for)) }
+{
+    let job = load_job(alloc, shelf, system_name, steps_name, None)?;
+    let text = load_log(alloc, shelf, log_name)?;
+    let owners = job.system().owners.as_slice();
+    let requests = load_named_requests(alloc, shelf, requests_name, owners)?;
+    Ok(Task::Audit(job.with_requests(requests), text))
+}
+
 /// The task that a command asks for.
 fn load_command<S: Shelf>(alloc: Global, shelf: &mut S, command: Command<'_>) -> Result<Task, Stop>
     ensures fetched { Fetches S.told_files S.fetches S.faults shelf.old shelf.new
@@ -355,6 +410,12 @@ fn load_command<S: Shelf>(alloc: Global, shelf: &mut S, command: Command<'_>) ->
             at,
             requests,
         } => load_handover(alloc, shelf, system, steps, at, requests),
+        Command::Audit {
+            system,
+            steps,
+            log,
+            requests,
+        } => load_audit(alloc, shelf, system, steps, log, requests),
     }
 }
 

@@ -47,6 +47,13 @@ impl Job {
         }
     }
 
+    /// The same run with these requests.
+    pub fn with_requests(self, requests: Vec<Request>) -> Job
+        ensures job { result ≡ record self { requests = requests.items } }
+    {
+        Job { requests, ..self }
+    }
+
     /// Its system.
     pub fn system(&self) -> &System
         ensures system { result.now ≡ self.now.system }

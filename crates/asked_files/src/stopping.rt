@@ -19,6 +19,7 @@ pub enum Source {
     Requests,
     Plan,
     Wishes,
+    Log,
 }
 
 /// Why a file is refused.
@@ -38,6 +39,8 @@ pub enum Refusal {
     LaterPlan,
     /// The text of the wishes file breaks a rule of its format.
     Wishes(WishFault),
+    /// The row of this number, counted from 1, is the first of the log that has none of the forms.
+    Log(u64),
 }
 
 /// Why a call stopped before it was done.
@@ -80,6 +83,7 @@ impl Source {
             Source::Requests => 4_194_304,
             Source::Plan => 4_194_304,
             Source::Wishes => 4_194_304,
+            Source::Log => 134_217_728,
         }
     }
 
@@ -93,6 +97,7 @@ impl Source {
             Source::Requests => "requests",
             Source::Plan => "plan",
             Source::Wishes => "wishes",
+            Source::Log => "log",
         }
     }
 }
@@ -120,6 +125,7 @@ impl Refusal {
             Refusal::Steps(fault) => fault.message(alloc),
             Refusal::Requests(fault) => fault.message(alloc),
             Refusal::Wishes(fault) => fault.message(alloc),
+            Refusal::Log(number) => format!(in alloc; "log: row {number}\n"),
         }
     }
 }

@@ -1,13 +1,16 @@
 -- Records are the fields of rows in one way only, also where they go on with fields of no row.
-use Rattle.std.proofs.Common.{Bor, ◌≡◌, ℕ, ◌+◌, List, [], ◌∷◌, ◌++◌, All, length, map, Some, None, refl, sym, ap, ◌∙◌, subst, arith}
-use Rattle.std.proofs.lemmas.List.{append-nil, map-append}
+use Rattle.std.proofs.Common.{◌≡◌, ◌⊎◌, ℕ, ◌+◌, ◌^◌, ◌<◌, List, [], ◌∷◌, ◌++◌, All, length, map, Some, None, refl, sym, ap, ◌∙◌, subst, inl, inr, arith, Option, Result, Ok, Err, IfErr, IfNone, MatchResult}
+use Rattle.std.specs.Prelude.{IsErrAnd}
+use Rattle.std.proofs.lemmas.List.{append-nil, length-append, length-map, map-append}
 use Rattle.std.proofs.lemmas.List.Elements.{All-head, All-push, All-tail}
 use Rattle.std.proofs.lemmas.Option.{same_Some}
-use Rattle.csv.specs.declared.reader.Reader.{Reader}
 use Rattle.text_fields.specs.CsvReading.{Reads, ReadsOne}
 use Rattle.text_fields.specs.CsvRows.{records_of}
-use Rattle.bus_trace.specs.Row.{IsFirstFaultyRow, IsLogRow, fields_of_row}
+use Rattle.bus_trace.specs.LogReading.{IsBehind, ReadsRow, RowReader}
+use Rattle.bus_trace.specs.Row.{AreRowsOf, IsFirstFaultyRow, IsLogFault, IsLogRow, fields_of_row}
 use Rattle.bus_trace.specs.RowFields.{row_of}
+use Rattle.bus_trace.specs.declared.log_fault.LogFault.{LogFault}
+use Rattle.bus_trace.specs.declared.log_fault.LogFault.TheVariants.{Row, Memory}
 use Rattle.bus_trace.specs.declared.row.LogRow.{LogRow}
 use Rattle.bus_trace.proofs.RowForms.{row-found, row-read}
 
@@ -48,24 +51,50 @@ one_reading (a ∷ xs) (b ∷ ys) x y one other none nor is =
     let same = rest.0 in
     (cc, rest.1)
 
+-- rows whose records begin a text are the first of those that it is
+first-rows : (read rows : List LogRow) (x : List (List (List ℕ))) → All IsLogRow read → All IsLogRow rows
+    → map fields_of_row read ++ x ≡ map fields_of_row rows → (later : List LogRow) × (rows ≡ read ++ later)
+first-rows [] rows x one other is = (rows, refl)
+first-rows (a ∷ read) [] x one other is = absurd (cc)
+first-rows (a ∷ read) (b ∷ rows) x one other is =
+    let first : fields_of_row a ≡ fields_of_row b = cc in
+    let tails : map fields_of_row read ++ x ≡ map fields_of_row rows = cc in
+    let head : a ≡ b = one_row a b (All-head IsLogRow a read one) (All-head IsLogRow b rows other) first in
+    let (later, rest) = first-rows read rows x (All-tail IsLogRow a read one) (All-tail IsLogRow b rows other) tails in
+    (later, cc)
+
 -- Row by row
 
--- these rows are read
-pub record AreRead (bytes : List ℕ) (reader : Reader (Bor (List ℕ))) (read : List LogRow) : Type 0 where
-  pub rows : All IsLogRow read
-  pub reads : Reads bytes reader (map fields_of_row read)
+module _ (bytes : List ℕ) (before after : RowReader) (rows : List LogRow) (fields : List (List ℕ)) (is : IsBehind bytes before rows)
+    (one : ReadsOne bytes before.records after.records (map fields_of_row rows) fields) where
+  -- one record more is counted
+  count-fits : before.count + 1 < 2 ^ 64
+  count-fits =
+      let counted = is.counted in
+      let few = is.few in
+      let fewer = one.reads.few in
+      let more = length-append (map fields_of_row rows) (fields ∷ []) in
+      let same = length-map rows fields_of_row in
+      omega (arith, counted, few, fewer, more, same)
 
-pub read-more : (bytes : List ℕ) (before after : Reader (Bor (List ℕ))) (read : List LogRow) (fields : List (List ℕ)) (row : LogRow)
-    → AreRead bytes before read → ReadsOne bytes before after (map fields_of_row read) fields → row_of fields ≡ Some row
-    → AreRead bytes after (read ++ row ∷ [])
-read-more bytes before after read fields row is one found =
-    let form = row-read fields row found in
-    let more : map fields_of_row (read ++ row ∷ []) ≡ map fields_of_row read ++ fields ∷ []
-    = map-append fields_of_row read (row ∷ []) ∙ ap (λ (f : List (List ℕ)). map fields_of_row read ++ f ∷ []) (sym form.is) in
-    record {
-      rows = All-push IsLogRow read row is.rows form.legal;
-      reads = subst (Reads bytes after) (sym more) one.reads;
-    }
+  -- a row more is read
+  pub reads-row : (row : LogRow) → row_of fields ≡ Some row → (before.count + 1 < 2 ^ 64 → after.count ≡ before.count + 1)
+      → ReadsRow bytes before after rows row
+  reads-row row found counts =
+      let form = row-read fields row found in
+      let more : map fields_of_row (rows ++ row ∷ []) ≡ map fields_of_row rows ++ fields ∷ []
+      = map-append fields_of_row rows (row ∷ []) ∙ ap (λ (f : List (List ℕ)). map fields_of_row rows ++ f ∷ []) (sym form.is) in
+      let count : after.count ≡ before.count + 1 = counts count-fits in
+      let counted = is.counted in
+      record {
+        behind = record {
+          legal = All-push IsLogRow rows row is.legal form.legal;
+          reads = subst (Reads bytes after.records) (sym more) one.reads;
+          counted = omega (arith, count, counted, length-append rows (row ∷ []));
+          few = is.few;
+        };
+        fewer = one.fewer;
+      }
 
 -- where all records are read
 module _ (bytes : List ℕ) (read : List LogRow) (legal : All IsLogRow read) (all : records_of bytes ≡ map fields_of_row read) where
@@ -100,3 +129,53 @@ module _ (bytes : List ℕ) (read : List LogRow) (legal : All IsLogRow read) (fi
       let same : length fault.before ≡ length read = ap length (sym one.0) in
       let at = fault.number_is in
       omega arith
+
+-- a record that has none of the forms is the first faulty row
+pub reads-fault : (bytes : List ℕ) (before after : RowReader) (rows : List LogRow) (fields : List (List ℕ))
+    → IsBehind bytes before rows → ReadsOne bytes before.records after.records (map fields_of_row rows) fields
+    → None ≡ row_of fields → (before.count + 1 < 2 ^ 64 → after.count ≡ before.count + 1) → IsFirstFaultyRow bytes after.count
+reads-fault bytes before after rows fields is one found counts =
+    let count : after.count ≡ before.count + 1 = counts (count-fits bytes before after rows fields is one) in
+    let counted = is.counted in
+    faulty-row bytes rows is.legal fields one.below one.split (none-formed fields found) after.count (omega (arith, count, counted))
+
+-- What a fault says, and what rows that are all do
+
+-- a text of rows has no faulty row
+pub no-rows : (bytes : List ℕ) (fault : LogFault) → IsLogFault bytes fault → (rows : List LogRow) → AreRowsOf bytes rows → fault ≡ Memory
+no-rows bytes (Row number) is rows are = absurd (none-faulty bytes rows are.0 are.1 number is)
+no-rows bytes Memory is rows are = refl
+
+-- a fault names the first faulty row
+pub same-fault : (bytes : List ℕ) (fault : LogFault) → IsLogFault bytes fault → (number : ℕ) → IsFirstFaultyRow bytes number
+    → (fault ≡ Row number) ⊎ (fault ≡ Memory)
+same-fault bytes (Row found) is number first =
+    let at : number ≡ length is.before + 1 = one-fault bytes is.before is.rows is.fields is.below is.split is.none number first in
+    inl (ap Row (is.number_is ∙ sym at))
+same-fault bytes Memory is number first = inr refl
+
+-- a text is the rows of a log in one way
+pub one-log : (bytes : List ℕ) (rows others : List LogRow) → AreRowsOf bytes rows → AreRowsOf bytes others → rows ≡ others
+one-log bytes rows others are other = whole-back bytes rows are.0 are.1 others other.0 other.1
+
+-- the rows that were read are the first of its rows
+pub read-first : (bytes : List ℕ) (reader : RowReader) (read rows : List LogRow) → IsBehind bytes reader read → AreRowsOf bytes rows
+    → (later : List LogRow) × (rows ≡ read ++ later)
+read-first bytes reader read rows is are = first-rows read rows _ is.legal are.0 (sym is.reads.rows ∙ are.1)
+
+-- A fault that is passed on
+
+pub passes-on : {T : Type 0} (result : Result T LogFault) (P : LogFault → Type 0) (fault : LogFault) → IsErrAnd result (λ e. e ≡ fault)
+    → P fault → IfErr result P
+passes-on (Ok value) P fault is holds = absurd is
+passes-on (Err e) P fault is holds = subst P (sym is) holds
+
+pub passes-match : {T : Type 0} (result : Result T LogFault) (Q : T → Type 0) (P : LogFault → Type 0) (fault : LogFault)
+    → IsErrAnd result (λ e. e ≡ fault) → P fault → MatchResult result Q P
+passes-match (Ok value) Q P fault is holds = absurd is
+passes-match (Err e) Q P fault is holds = subst P (sym is) holds
+
+-- where no row is found, what holds then does
+pub none-found : {X P : Type 0} (found : Option X) → ((row : X) → found ≡ Some row → ⊥) → IfNone found P → P
+none-found None other is = is
+none-found (Some row) other is = absurd (other row refl)

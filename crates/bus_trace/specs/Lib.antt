@@ -1,6 +1,7 @@
 pub mod EventRows
 pub mod LastRows
 pub mod Log
+pub mod LogReading
 pub mod LogRows
 pub mod Logged
 pub mod Recent

@@ -73,6 +73,10 @@ IsLogRow (Open cycle mask l) = (cycle < 2 ^ 64) × (mask < 2 ^ most_slots) × (l
 IsLogRow (Frame timed) = (timed.start < 2 ^ 64) × (timed.len < 2 ^ 32) × IsFrame timed.frame
 IsLogRow (End next) = next < 2 ^ 64
 
+-- the records of a text are those of these rows: one for each row, with its fields, in their order
+abbrev pub AreRowsOf : List ℕ → List LogRow → Type 0
+AreRowsOf bytes rows = All IsLogRow rows × (records_of bytes ≡ map fields_of_row rows)
+
 -- the record of this number, counted from 1, is the first one whose fields are those of no row: before it stand the
 -- fields of rows
 pub record IsFirstFaultyRow (bytes : List ℕ) (number : ℕ) : Type 0 where

@@ -5,18 +5,16 @@
 //! the writer gives it: no leading zeros, hexadecimal digits in lower case. Each row is tested by itself: whether rows
 //! follow each other rightly is not asked.
 
-ghost use Rattle.std.specs.Prelude.{◌≡◌, ◌⊎◌, ℕ, List, All, IfOk, IfErr, MatchResult, map};
+ghost use Rattle.std.specs.Prelude.{◌≡◌, ◌⊎◌, ℕ, List, All, IfOk, IfErr, MatchResult, OnOk, map};
 ghost use Rattle.text_fields.specs.CsvRows.{records_of};
-ghost use Rattle.bus_trace.specs.Row.{IsFirstFaultyRow, IsLogFault, IsLogRow, fields_of_row, text_of_rows};
+ghost use Rattle.bus_trace.specs.Row.{AreRowsOf, IsFirstFaultyRow, IsLogFault, IsLogRow, fields_of_row, text_of_rows};
 ghost use Rattle.bus_trace.specs.declared.log_fault.LogFault.TheVariants.{Memory, Row};
 ghost use Rattle.bus_trace.specs.declared.row.LogRow.{LogRow};
 
 use crate::log_fault::LogFault;
+use crate::log_reader::LogReader;
 use crate::row::LogRow;
-use crate::row_reading::read_row;
-use csv::ByteRecord;
 use std::alloc::Global;
-use text_fields::{read_next, records_in};
 
 /// The rows of a log.
 ///
@@ -34,15 +32,27 @@ pub fn read_log(alloc: Global, bytes: &[u8]) -> Result<Vec<LogRow>, LogFault>
     ensures first { (number : ℕ) → IsFirstFaultyRow bytes.now number
         → MatchResult result (λ read. ⊥) (λ fault. (fault ≡ Row number) ⊎ (fault ≡ Memory)) }
 {
-    let mut reader = records_in(alloc, bytes);
-    let mut record = ByteRecord::new(alloc);
+    let mut reader = LogReader::new(alloc, bytes);
     let mut rows = Vec::new(alloc);
-    while read_next(&mut reader, &mut record)? {
-        let Some(row) = read_row(&record) else {
-            let number = rows.len() as u64 + 1;
-            return Err(LogFault::Row { number });
-        };
+    while let Some(row) = reader.next_row()? {
         rows.push(row)?;
     }
     Ok(rows)
+}
+
+/// Whether a text is a log. It keeps one record at a time, and no row.
+///
+/// # Errors
+///
+/// The first row that has none of the forms, or want of memory.
+pub fn check_log(alloc: Global, bytes: &[u8]) -> Result<(), LogFault>
+    ensures rows { OnOk result ((rows : List LogRow) × AreRowsOf bytes.now rows) }
+    ensures complete { (rows : List LogRow) → AreRowsOf bytes.now rows → IfErr result (λ fault. fault ≡ Memory) }
+    ensures faulty { IfErr result (λ fault. IsLogFault bytes.now fault) }
+    ensures first { (number : ℕ) → IsFirstFaultyRow bytes.now number
+        → MatchResult result (λ _. ⊥) (λ fault. (fault ≡ Row number) ⊎ (fault ≡ Memory)) }
+{
+    let mut reader = LogReader::new(alloc, bytes);
+    while let Some(_row) = reader.next_row()? {}
+    Ok(())
 }

@@ -1,4 +1,5 @@
 mod ByteSums
+mod Begun
 mod Carried
 mod Expectations
 mod Fields

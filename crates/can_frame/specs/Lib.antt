@@ -5,3 +5,4 @@ pub mod Crc
 pub mod Wire
 pub mod Reading
 pub mod Progress
+pub mod Begun

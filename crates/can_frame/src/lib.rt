@@ -4,6 +4,7 @@
 
 mod bit_list;
 mod data_frame;
+mod known_front;
 pub mod laws;
 mod reader;
 mod sending;
@@ -13,6 +14,7 @@ mod wire_bits;
 mod wire_fault;
 
 pub use data_frame::{Frame, FrameFault, Front, MAX_BYTES, MAX_IDENTIFIER, TimedFrame};
+pub use known_front::KnownFront;
 pub use reader::{read_front, read_wire};
 pub use sequence::crc;
 pub use wire_bits::{wire, wire_len};

@@ -1,34 +1,77 @@
-//! A frame as a sender of stuffed bits is given it, field by field.
+//! A frame as a sender of stuffed bits is given it, byte by byte, and as its bytes are added up to the CRC sequence.
 
-ghost use Rattle.std.specs.Prelude.{◌≤◌};
-ghost use Rattle.stuff_bound.specs.Sending.{WasGiven};
-ghost use Rattle.can_frame.specs.Wire.{covered, plain};
+ghost use Rattle.std.specs.Prelude.{◌≡◌, ℕ, ◌+◌, ◌*◌, ◌<◌, ◌≤◌, ◌^◌, length, slice_index};
+ghost use Rattle.stuff_bound.specs.Stuffing.{worst};
+ghost use Rattle.can_frame.specs.Begun.{HasBegun};
+ghost use Rattle.can_frame.specs.DataFrame.{DataFrame};
+ghost use Rattle.can_frame.specs.Wire.{wire_length};
 
 use crate::data_frame::Frame;
-use crate::sequence::{crc, header_number};
+use crate::sequence::{header_number, header_share, share};
+use crate::wire_bits::TRAILER;
 use stuff_bound::Sender;
 
-/// A sender that was given the bits that the CRC covers.
-///
-/// The 19 bits before the data go in as 3, 8 and 8 bits, so that each data byte goes in as it is.
-fn after_covered(frame: &Frame) -> Sender
-    ensures given { WasGiven result (covered frame.now) }
-    ensures few { result.stuff_bits ≤ 22 }
-{
-    let header = header_number(frame);
-    Sender::new()
-        .then(3, (header / 0x1_0000) as u8)
-        .then(8, (header / 0x100 % 0x100) as u8)
-        .then(8, (header % 0x100) as u8)
-        .then_bytes(frame.bytes())
+/// What is known of a frame once the bits before its data and its first data bytes were gone through.
+#[derive(Clone, Copy, Debug)]
+pub struct Begun {
+    /// What these bits add to the CRC sequence, where the other data bytes stand behind them.
+    pub sum: u16,
+    /// A sender that was given these bits.
+    pub sender: Sender,
 }
 
-/// A sender that was given the bits that are stuffed.
-pub fn after_plain(frame: &Frame) -> Sender
-    ensures given { WasGiven result (plain frame.now) }
+impl Begun {
+    /// Once the next data byte was gone through too, behind which `behind` data bytes stand.
+    pub fn then(self, behind: usize, byte: u8) -> Begun
+        requires few { behind < 8 }
+        requires counted { self.sender.stuff_bits < 2 ^ 30 }
+        ensures begun { (frame : DataFrame) (count : ℕ) → count + (behind + 1) ≡ length frame.bytes
+            → byte ≡ slice_index frame.bytes count → HasBegun frame count self.sum self.sender
+            → HasBegun frame (count + 1) result.sum result.sender }
+        ensures counted { result.sender.stuff_bits ≤ self.sender.stuff_bits + 2 }
+    {
+        Begun {
+            sum: self.sum ^ share(behind, byte),
+            sender: self.sender.then(8, byte),
+        }
+    }
+}
+
+/// What is known of a frame once the bits before its data and its first `count` data bytes were gone through.
+///
+/// The 19 bits before the data go to the sender as 3, 8 and 8 bits, so that each data byte goes in as it is.
+pub fn begin(frame: &Frame, count: usize) -> Begun
+    requires within { count ≤ length frame.now.bytes }
+    ensures begun { HasBegun frame.now count result.sum result.sender }
 {
-    let sequence = crc(frame);
-    after_covered(frame)
-        .then(7, (sequence / 0x100) as u8)
-        .then(8, (sequence % 0x100) as u8)
+    let header = header_number(frame);
+    let mut behind = usize::from(frame.dlc());
+    let mut begun = Begun {
+        sum: header_share(header, behind),
+        sender: Sender::new()
+            .then(3, (header / 0x1_0000) as u8)
+            .then(8, (header / 0x100 % 0x100) as u8)
+            .then(8, (header % 0x100) as u8),
+    };
+    for byte in &frame.bytes()[..count] {
+        behind -= 1;
+        begun = begun.then(behind, *byte);
+    }
+    begun
+}
+
+/// The wire length of a frame in bit times, its three bits of intermission included, once its data bytes were gone
+/// through.
+pub fn len_after(frame: &Frame, begun: Begun) -> u32
+    requires begun { HasBegun frame.now (length frame.now.bytes) begun.sum begun.sender }
+    ensures value { result ≡ wire_length frame.now }
+    ensures at_least { 47 + 8 * length frame.now.bytes ≤ result }
+    ensures at_most { result ≤ worst (length frame.now.bytes) }
+{
+    let plain = 34 + 8 * u32::from(frame.dlc());
+    let sender = begun
+        .sender
+        .then(7, (begun.sum / 0x100) as u8)
+        .then(8, (begun.sum % 0x100) as u8);
+    plain + sender.stuff_bits() + TRAILER.len() as u32
 }

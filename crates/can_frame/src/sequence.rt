@@ -11,7 +11,7 @@ use crate::data_frame::Frame;
 use crate::shares::SHARES;
 
 /// What a byte adds to the CRC sequence where `behind` bytes stand behind it.
-fn share(behind: usize, byte: u8) -> u16
+pub fn share(behind: usize, byte: u8) -> u16
     requires few { behind < 11 }
     ensures remainder { IsRemainder (byte * 2 ^ (15 + 8 * behind)) result }
 {
@@ -27,7 +27,7 @@ pub fn header_number(frame: &Frame) -> u32
 }
 
 /// What the bits before the data add to the CRC sequence where `behind` data bytes stand behind them.
-fn header_share(header: u32, behind: usize) -> u16
+pub fn header_share(header: u32, behind: usize) -> u16
     requires narrow { header < 2 ^ 18 }
     requires few { behind < 9 }
     ensures remainder { IsRemainder (header * 2 ^ (15 + 8 * behind)) result }

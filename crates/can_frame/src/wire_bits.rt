@@ -7,7 +7,7 @@ ghost use Rattle.can_frame.specs.Wire.{covered, plain, wire_of, wire_length};
 
 use crate::bit_list::BitList;
 use crate::data_frame::Frame;
-use crate::sending::after_plain;
+use crate::sending::{begin, len_after};
 use crate::sequence::crc;
 use std::alloc::{AllocError, Global};
 use stuff_bound::stuff;
@@ -60,8 +60,7 @@ pub fn wire_len(frame: &Frame) -> u32
     ensures at_least { 47 + 8 * length frame.now.bytes ≤ result }
     ensures at_most { result ≤ worst (length frame.now.bytes) }
 {
-    let plain = 34 + 8 * u32::from(frame.dlc());
-    plain + after_plain(frame).stuff_bits() + TRAILER.len() as u32
+    len_after(frame, begin(frame, usize::from(frame.dlc())))
 }
 
 /// The bits of a frame on the wire, in the order of sending, its three bits of intermission included.

@@ -21,8 +21,8 @@ pub record RunWords : Type 0 where
   pub report : Bool
 
 -- a command: a replay, of which only the last rows of the log may be asked for; the plan of the table behind steps; the
--- check of a plan; the run of the input that a number makes; the choice of periods behind steps; or a replay whose
--- master is replaced by its standby after so many opened cycles
+-- check of a plan; the run of the input that a number makes; the choice of periods behind steps; a replay whose master
+-- is replaced by its standby after so many opened cycles; or the audit of a log of steps
 pub data Command : Type 0 where
   replay : RunWords → Option ℕ → Command
   admit : Text → Text → Command
@@ -30,6 +30,7 @@ pub data Command : Type 0 where
   generate : ℕ → Command
   elastic : Text → Text → Text → Command
   handover : Text → Text → ℕ → Option Text → Command
+  audit : Text → Text → Text → Option Text → Command
 
 -- The table of commands, as clap is told it
 
@@ -86,6 +87,10 @@ unfoldable pub handover_app : App
 handover_app =
     with_rule (with_rule (files_app (codes "handover")) (number_up_to 20000 (codes "at"))) (optional (codes "requests"))
 
+-- `audit SYSTEM STEPS LOG [REQUESTS]`
+unfoldable pub audit_app : App
+audit_app = with_rule (with_rule (files_app (codes "audit")) (needed (codes "log"))) (optional (codes "requests"))
+
 -- `live SYSTEM STEPS [REQUESTS] [--report]`
 unfoldable pub live_app : App
 live_app = run_app (codes "live")
@@ -139,6 +144,11 @@ handover_meant rows =
     handover (word_of (codes "system") rows) (word_of (codes "steps") rows)
     (unwrap_or (number_of 16 (codes "at") rows) 0) (first_of (codes "requests") rows)
 
+abbrev pub audit_meant : List Row → Command
+audit_meant rows =
+    audit (word_of (codes "system") rows) (word_of (codes "steps") rows) (word_of (codes "log") rows)
+    (first_of (codes "requests") rows)
+
 -- what the words mean, where clap's command takes them
 abbrev pub taken_by : {A : Type 0} → App → (List Row → A) → List Text → Option A
 taken_by app meaning words = if is_empty (fault_of app words) then Some (meaning (matches_of app words)) else None
@@ -152,6 +162,7 @@ command_named name words =
     else if bytes_eq name (codes "gen") then taken_by generate_app generate_meant words
     else if bytes_eq name (codes "elastic") then taken_by elastic_app elastic_meant words
     else if bytes_eq name (codes "handover") then taken_by handover_app handover_meant words
+    else if bytes_eq name (codes "audit") then taken_by audit_app audit_meant words
     else None
 
 -- the command that the words ask for; `None` where they are in no row of the table of commands
@@ -182,6 +193,7 @@ files_named (Some (check system steps plan)) = 3
 files_named (Some (generate number)) = 0
 files_named (Some (elastic system steps wishes)) = 3
 files_named (Some (handover system steps at requests)) = 2 + named requests
+files_named (Some (audit system steps log requests)) = 3 + named requests
 
 -- the number of files that the words name
 abbrev pub file_count : List Text → ℕ

@@ -2,7 +2,7 @@
 
 ghost use Rattle.std.specs.Prelude.{◌≡◌, false, IfOk, codes};
 ghost use Rattle.clap.specs.Words.{app_of, rule_of};
-ghost use Rattle.command_words.specs.Words.{admit_app, check_app, counted_option, elastic_app, files_app, flag, generate_app, handover_app, live_app, needed, number_up_to, optional, replay_app, run_app};
+ghost use Rattle.command_words.specs.Words.{admit_app, audit_app, check_app, counted_option, elastic_app, files_app, flag, generate_app, handover_app, live_app, needed, number_up_to, optional, replay_app, run_app};
 
 use clap::{Arg, ArgAction, Command, value_parser};
 use std::alloc::{AllocError, Global};
@@ -126,6 +126,16 @@ pub fn handover_command<'a>(alloc: Global) -> Result<Command<'a>, AllocError>
 {
     files_command(alloc, "handover")?
         .arg(cycles(alloc))?
+        .arg(optional(alloc, "requests"))
+}
+
+/// `audit SYSTEM STEPS LOG [REQUESTS]`.
+#[tactic(auto, unfolding(crate::specs::Words::audit_app))]
+pub fn audit_command<'a>(alloc: Global) -> Result<Command<'a>, AllocError>
+    ensures app { IfOk result (λ command. app_of command ≡ audit_app) }
+{
+    files_command(alloc, "audit")?
+        .arg(needed(alloc, "log"))?
         .arg(optional(alloc, "requests"))
 }
 

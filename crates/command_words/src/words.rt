@@ -2,12 +2,12 @@
 
 ghost use Rattle.std.specs.Prelude.{◌≡◌, ◌⊎◌, codes, unwrap_or, [], Some, true, IfOk, IfErr, map, option_map, string_bytes};
 ghost use Rattle.clap.specs.Words.{fault_of, app_of, first_of, found_of, is_simple_and_free, matches_of, rows_of};
-ghost use Rattle.command_words.specs.Words.{admit_app, admit_meant, check_app, check_meant, command_of, elastic_app, elastic_meant, generate_app, generate_meant, handover_app, handover_meant, is_set, live_app, live_of, number_of, replay_app, replay_meant, run_meant, taken_by, word_of};
+ghost use Rattle.command_words.specs.Words.{admit_app, admit_meant, audit_app, audit_meant, check_app, check_meant, command_of, elastic_app, elastic_meant, generate_app, generate_meant, handover_app, handover_meant, is_set, live_app, live_of, number_of, replay_app, replay_meant, run_meant, taken_by, word_of};
 ghost use Rattle.command_words.specs.WordsRead.{ExplainsWords, run_read, command_read};
 
 use crate::arguments::{
-    admit_command, check_command, elastic_command, generate_command, handover_command,
-    live_command, replay_command,
+    admit_command, audit_command, check_command, elastic_command, generate_command,
+    handover_command, live_command, replay_command,
 };
 use clap::ArgMatches;
 use clap::error::ErrorKind;
@@ -57,6 +57,13 @@ pub enum Command<'a> {
         system: &'a str,
         steps: &'a str,
         at: u16,
+        requests: Option<&'a str>,
+    },
+    /// To say of the log whether it can be that of a run of the steps.
+    Audit {
+        system: &'a str,
+        steps: &'a str,
+        log: &'a str,
         requests: Option<&'a str>,
     },
 }
@@ -248,6 +255,22 @@ fn handover_in(alloc: Global, words: &[String]) -> Result<Command<'_>, WordsFaul
     })
 }
 
+/// What the words of `audit` ask for.
+fn audit_in(alloc: Global, words: &[String]) -> Result<Command<'_>, WordsFault>
+    ensures ok { IfOk result (λ command. Some (command_read command)
+        ≡ taken_by audit_app audit_meant (map string_bytes words.now)) }
+    ensures stop { IfErr result (ExplainsWords (taken_by audit_app audit_meant (map string_bytes words.now))) }
+{
+    let command = audit_command(alloc)?;
+    let matches = parsed(command, words)?;
+    Ok(Command::Audit {
+        system: needed_word(&matches, "system"),
+        steps: needed_word(&matches, "steps"),
+        log: needed_word(&matches, "log"),
+        requests: word(&matches, "requests"),
+    })
+}
+
 /// What the words ask for.
 pub fn command_in(alloc: Global, words: &[String]) -> Result<Command<'_>, WordsFault>
     ensures ok { IfOk result (λ command. Some (command_read command) ≡ command_of (map string_bytes words.now)) }
@@ -273,6 +296,9 @@ pub fn command_in(alloc: Global, words: &[String]) -> Result<Command<'_>, WordsF
     }
     if name.as_str() == "handover" {
         return handover_in(alloc, words);
+    }
+    if name.as_str() == "audit" {
+        return audit_in(alloc, words);
     }
     Err(WordsFault::NoCommand)
 }

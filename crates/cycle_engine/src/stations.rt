@@ -14,17 +14,18 @@ ghost use Rattle.cycle_engine.specs.Stations.{AreDue, AreNodes, announced, due_f
 ghost use Rattle.cycle_engine.specs.Stations.{offered_by_nodes, offered_trigger, triggers_after};
 ghost use Rattle.cycle_engine.specs.SyncWindow.{IsSentBy};
 
+use crate::each;
 use crate::next_offers::{self, Soonest};
-use crate::{each, sync_window};
+use crate::sync_window::{self, Fronts};
 use arbitration::Contenders;
 use async_window::Owner;
 use bus_line::Stations;
 use bus_line::laws::sooner_wake;
-use can_frame::{Frame, TimedFrame};
+use can_frame::{Frame, KnownFront, TimedFrame};
 use cycle_layout::Layout;
 use node_model::Node;
 use node_model::laws::{nodes_are_apart, offers_in_range, stays_a_node};
-use requirement_table::Placed;
+use requirement_table::{MOST_SLOTS, Placed};
 use std::alloc::{AllocError, Global};
 use std::marker::Model;
 
@@ -53,6 +54,8 @@ pub struct NodeStations {
     asked_first: [u8; IDENTIFIERS],
     /// What the nodes offer soonest, where it is known and nothing has changed since.
     soonest: Option<Soonest>,
+    /// For each slot what is known of the first bits of its frames.
+    fronts: Fronts,
 }
 
 impl Model for NodeStations {
@@ -84,6 +87,7 @@ impl NodeStations {
             due: None,
             asked_first: nodes_of_owners(owners),
             soonest: None,
+            fronts: [KnownFront::new(); MOST_SLOTS as usize],
         }
     }
 
@@ -183,7 +187,13 @@ impl NodeStations {
         stays_a_node();
         nodes_are_apart();
         self.soonest = None;
-        sync_window::run_window(self.nodes.as_mut_slice(), from, until, out);
+        sync_window::run_window(
+            self.nodes.as_mut_slice(),
+            &mut self.fronts,
+            from,
+            until,
+            out,
+        );
         self.due = None;
     }
 }

@@ -12,14 +12,25 @@ ghost use Rattle.cycle_engine.specs.SyncWindow.{IsSentBy, back_to_back, by_slots
 
 use crate::each;
 use can_frame::laws::wire_lengths;
-use can_frame::{TimedFrame, wire_len};
+use can_frame::{KnownFront, TimedFrame};
 use node_model::laws::{sends_its_slots, stays_a_node};
 use node_model::{FIRST_IDENTIFIER, Node, least_slot};
-use requirement_table::Mask;
+use requirement_table::{MOST_SLOTS, Mask};
+
+/// For each slot what is known of the first bits of its frames.
+pub type Fronts = [KnownFront; MOST_SLOTS as usize];
 
 /// Runs the bus over nodes in their synchronous window from `from` on, and puts the frames that start before `until`
 /// behind `out`, which has spare room for one frame more than `(until - from) / 47`. Times are below 2^60.
-pub fn run_window(nodes: &mut [Node], from: u64, until: u64, out: &mut Vec<TimedFrame>)
+///
+/// For each slot is known how its frames begin, so that their lengths are counted from their last bytes.
+pub fn run_window(
+    nodes: &mut [Node],
+    fronts: &mut Fronts,
+    from: u64,
+    until: u64,
+    out: &mut Vec<TimedFrame>,
+)
     requires time { until < 2 ^ 60 }
     requires nodes { All IsNode (states_of nodes.old) }
     requires window { All (IsInWindow from until) (states_of nodes.old) }
@@ -32,14 +43,21 @@ pub fn run_window(nodes: &mut [Node], from: u64, until: u64, out: &mut Vec<Timed
     sends_its_slots();
     stays_a_node();
     let before = out.as_slice().len();
-    send_slots(nodes, each::due_slots(nodes), from, until, out);
+    send_slots(nodes, each::due_slots(nodes), fronts, from, until, out);
     let frames = &out.as_slice()[before..];
     each::hear_slots(nodes, slots_of(frames), frames);
 }
 
 /// Puts the frames of a set of slots that nodes are to send behind `out`, in the order of the slots, one right behind
 /// the other from `from` on, as many as start before `until`.
-fn send_slots(nodes: &[Node], set: Mask, from: u64, until: u64, out: &mut Vec<TimedFrame>)
+fn send_slots(
+    nodes: &[Node],
+    set: Mask,
+    fronts: &mut Fronts,
+    from: u64,
+    until: u64,
+    out: &mut Vec<TimedFrame>,
+)
     requires time { until < 2 ^ 60 }
     requires due { (slot : ℕ) → slot < most_slots → contains_slot set slot ≡ true
         → IsSome (due_by (states_of nodes.now) slot) }
@@ -55,7 +73,7 @@ fn send_slots(nodes: &[Node], set: Mask, from: u64, until: u64, out: &mut Vec<Ti
             return;
         }
         let frame = each::due_frame(nodes, slot);
-        let len = wire_len(&frame);
+        let len = fronts[usize::from(slot)].wire_len(&frame);
         out.push(TimedFrame {
             start: at,
             len,

@@ -30,8 +30,9 @@ use Rattle.fttcan_top.specs.declared.status.Status.{Status}
 use Rattle.fttcan_top.specs.declared.status.Status.TheVariants.{Done, Refused, Words, Input, Read, Write, Memory, No}
 use Rattle.asked_files.specs.declared.stopping.Refusal.{Refusal}
 use Rattle.asked_files.specs.declared.stopping.Stop.{Stop}
-use Rattle.asked_files.specs.Asked.{Asked, JobView, check_of, choice_of, live_log_of, log_of, plan_of, summary_of}
+use Rattle.asked_files.specs.Asked.{Asked, JobView, audit_of, check_of, choice_of, live_log_of, log_of, plan_of, summary_of}
 use Rattle.asked_files.specs.Refusals.{refusal_line}
+use Rattle.fttcan_top.specs.Audited.{IsAuditText}
 use Rattle.fttcan_top.specs.Chosen.{IsChoiceText}
 use Rattle.fttcan_top.specs.Summary.{summary_text}
 
@@ -118,6 +119,7 @@ IsOutput (plan_of job) status text = IsPlanText job status text
 IsOutput (check_of job certificate) status text = IsCheckText job certificate status text
 IsOutput (choice_of job wish) status text = IsChoiceText job wish status text
 IsOutput (live_log_of job report) status text = IsLiveLog job report status text
+IsOutput (audit_of job log) status text = IsAuditText job log status text
 
 -- the output was put, and the status is that of what was asked
 pub record Tells (asked_for : Asked) (status : Status) (old new : Option (List ℕ)) : Type 0 where
@@ -189,8 +191,9 @@ usage =
     ++ codes "usage: fttcan check SYSTEM STEPS PLAN\n"
     ++ codes "usage: fttcan gen NUMBER\n"
     ++ codes "usage: fttcan live SYSTEM STEPS [REQUESTS] [--report]\n"
-    ++ codes "usage: fttcan elastic SYSTEM STEPS WISHES\n"
+    ++ codes "usage: fttcan audit SYSTEM STEPS LOG [REQUESTS]\n"
     ++ codes "usage: fttcan handover SYSTEM STEPS AT [REQUESTS]\n"
+    ++ codes "usage: fttcan elastic SYSTEM STEPS WISHES\n"
 
 -- the lines of a status; where it is that of a refused file, for this refusal
 abbrev pub message_of : Status → Refusal → List ℕ

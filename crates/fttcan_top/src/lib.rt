@@ -1,6 +1,7 @@
 //! The top of fttcan: the commands, from the words of a call and the files that they name to the bytes that are written.
 #![tactic(auto)]
 
+mod auditing;
 mod by_threads;
 mod choosing;
 mod gathered;

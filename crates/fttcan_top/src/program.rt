@@ -10,6 +10,7 @@ ghost use Rattle.asked_files.specs.Loads.{Fetches, IsTask, asked_of};
 ghost use Rattle.fttcan_top.specs.Ends.{IsCarried, IsEnd, PutsPart};
 ghost use Rattle.fttcan_top.specs.Output.{IsAnswer, IsCut, IsCutWhileRun, IsDone, IsStopped, Says, Tells, TellsFront, message_of};
 
+use crate::auditing::audit_of;
 use crate::choosing::choice_of;
 use crate::status::Status;
 use crate::stop::tell;
@@ -36,6 +37,7 @@ fn carry_out<O: Sink>(alloc: Global, task: &Task, out: &mut O) -> Result<Status,
         Task::Summary(number) => put_answer(summary_of_made(alloc, *number), out),
         Task::Choice(job, wish) => put_answer(choice_of(alloc, job, wish), out),
         Task::Handover(job, at) => put_handed(alloc, job, *at, out),
+        Task::Audit(job, log) => put_answer(audit_of(alloc, job, log.as_slice()), out),
     }
 }
 
@@ -77,6 +79,9 @@ fn call<S: Shelf, O: Sink>(
 /// - `handover SYSTEM STEPS AT` and `handover SYSTEM STEPS AT REQUESTS` run as `replay` does, with AT from 0 to 20,000.
 ///   After AT cycles were opened the first master is dropped. Its standby goes on, which was told the accepted changes
 ///   and heard the triggers. What is written is what `replay` writes.
+/// - `audit SYSTEM STEPS LOG` and `audit SYSTEM STEPS LOG REQUESTS` write `yes` where the rows of the log are those of a
+///   whole run of the steps, of `replay` or of `live`. Otherwise they write the first row up to which no run's log has
+///   these rows, or that the log ends too early. Nothing of the log's maker is trusted.
 pub fn plain<S: Shelf, O: Sink, R: Sink>(
     alloc: Global,
     words: &[String],

@@ -6,7 +6,8 @@ ghost use Rattle.fttcan_top.specs.Status.{code_of};
 /// How a call of the program ended.
 #[derive(Clone, Copy, PartialEq, Eq, Debug)]
 pub enum Status {
-    /// What was asked was done: no change was refused, the checked plan keeps the table, or periods were chosen.
+    /// What was asked was done: no change was refused, the checked plan keeps the table, the audited log is that of a
+    /// whole run, or periods were chosen.
     Done,
     /// The run was done, and some change was refused, or no periods of the wish would be accepted.
     Refused,
@@ -20,7 +21,7 @@ pub enum Status {
     Write,
     /// Memory ran out.
     Memory,
-    /// A plan was checked, and it does not keep the table.
+    /// A plan was checked, and it does not keep the table; or a log was audited, and it is not that of a whole run.
     No,
 }
 

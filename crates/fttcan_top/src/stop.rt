@@ -17,8 +17,9 @@ usage: fttcan admit SYSTEM STEPS
 usage: fttcan check SYSTEM STEPS PLAN
 usage: fttcan gen NUMBER
 usage: fttcan live SYSTEM STEPS [REQUESTS] [--report]
-usage: fttcan elastic SYSTEM STEPS WISHES
+usage: fttcan audit SYSTEM STEPS LOG [REQUESTS]
 usage: fttcan handover SYSTEM STEPS AT [REQUESTS]
+usage: fttcan elastic SYSTEM STEPS WISHES
 ";
 
 /// The line where memory ran out.

@@ -11,6 +11,7 @@ ghost use Rattle.system_file.specs.declared.system.System.{System};
 ghost use Rattle.master_core.specs.declared.event.Event.{Event};
 ghost use Rattle.master_core.specs.History.{IsLegal, IsPlainlyLegal, next_of};
 ghost use Rattle.master_core.specs.Openings.{openings_of};
+ghost use Rattle.bus_line.specs.Trace.{started_before};
 ghost use Rattle.cycle_engine.specs.Offered.{IsCanTrace};
 ghost use Rattle.bus_trace.specs.Log.{events_rows, log_text};
 ghost use Rattle.kept_run.specs.Kept.{Kept};
@@ -71,7 +72,8 @@ pub fn runs_under_way()
 }
 
 /// A legal history and its CAN trace are those of a run under way. Where another run under way has the first of these
-/// events, its frames are the first ones, and the others start behind the cycles that it opens.
+/// events, its frames are the first ones, and the others start behind the cycles that it opens. Of a CAN trace, those
+/// frames that start in the cycles of the first events are the CAN trace of these events.
 pub fn legal_runs()
     ensures under_way { (setting : Setting) (history : List Event) (trace : List TimedFrame) → IsSetting setting
         → IsLegal setting.rules history
@@ -82,6 +84,11 @@ pub fn legal_runs()
         → IsCanTrace setting.layout setting.requests (openings_of (history ++ later)) (next_of (history ++ later)) frames
         → (rest : List TimedFrame) × (frames ≡ trace ++ rest)
         × All (λ sent. next_of history * setting.layout.cycle ≤ sent.start) rest }
+    ensures cut { (setting : Setting) (history later : List Event) (frames : List TimedFrame)
+        → IsSetting setting → IsLegal setting.rules (history ++ later)
+        → IsCanTrace setting.layout setting.requests (openings_of (history ++ later)) (next_of (history ++ later)) frames
+        → IsCanTrace setting.layout setting.requests (openings_of history) (next_of history)
+        (started_before (next_of history * setting.layout.cycle) frames) }
 {
     beginning();
     calls_between();

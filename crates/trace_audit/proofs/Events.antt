@@ -144,12 +144,12 @@ pub record HasHead (rows : List LogRow) : Type 0 where
   pub are : rows ≡ head ∷ rest
   pub inner : AreInner rest
 
-inner-plan : (cycle : ℕ) (masks : List ℕ) → AreInner (plan_told cycle masks)
+pub inner-plan : (cycle : ℕ) (masks : List ℕ) → AreInner (plan_told cycle masks)
 inner-plan cycle [] = All-nil (λ line. is_inner line ≡ true)
 inner-plan cycle (mask ∷ later) =
     All-cons (λ line. is_inner line ≡ true) (row.Plan cycle mask) (plan_told (cycle + 1) later) refl (inner-plan (cycle + 1) later)
 
-inner-frames : (frames : List TimedFrame) → AreInner (map row.Frame frames)
+pub inner-frames : (frames : List TimedFrame) → AreInner (map row.Frame frames)
 inner-frames [] = All-nil (λ line. is_inner line ≡ true)
 inner-frames (sent ∷ later) =
     All-cons (λ line. is_inner line ≡ true) (row.Frame sent) (map row.Frame later) refl (inner-frames later)

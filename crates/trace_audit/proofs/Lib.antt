@@ -2,6 +2,7 @@ mod Acts
 mod Bringing
 mod Ending
 mod Events
+mod Fronts
 mod Readings
 mod Rows
 mod Settling

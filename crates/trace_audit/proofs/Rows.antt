@@ -73,7 +73,7 @@ all-right : {A : Type 0} (P : A → Type 0) (xs ys : List A) → All P (xs ++ ys
 all-right P [] ys all = all
 all-right P (x ∷ xs) ys all = all-right P xs ys (All-tail P x (xs ++ ys) all)
 
-next_of-append : (events later : List Event) → next_of (events ++ later) ≡ next_of events + next_of later
+pub next_of-append : (events later : List Event) → next_of (events ++ later) ≡ next_of events + next_of later
 next_of-append events later = sum_by-append (λ e. cond (is_open e) 1 0) events later
 
 module _ (setting : Setting) where

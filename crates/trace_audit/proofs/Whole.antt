@@ -1,9 +1,10 @@
--- The answer to all rows of a log.
-use Rattle.std.proofs.Common.{◌≡◌, ◌+◌, ◌<◌, ◌≤◌, ◌++◌, ℕ, zero, suc, false, true, List, [], ◌∷◌, All, None, Some, get_or, length, take, refl, sym, ap, ◌∙◌, subst, arith, inl, inr}
+-- The answer to the rows of a log so far, and to all of them.
+use Rattle.std.proofs.Common.{◌≡◌, ◌+◌, ◌<◌, ◌≤◌, ◌++◌, ℕ, zero, suc, Bool, false, true, List, [], ◌∷◌, All, None, Option, Some, IfNone, get_or, length, take, refl, sym, ap, ◌∙◌, subst, arith, inl, inr}
 use Rattle.std.specs.Prelude.{slice_get, sum_by}
 use Rattle.std.proofs.lemmas.Bool.{cases_lt}
-use Rattle.std.proofs.lemmas.List.Elements.{All-head, All-tail}
-use Rattle.std.proofs.lemmas.Option.{slice_get-get_or, slice_get_within}
+use Rattle.std.proofs.lemmas.List.{length-append}
+use Rattle.std.proofs.lemmas.List.Elements.{All-head, All-nil, All-push, All-tail}
+use Rattle.std.proofs.lemmas.Option.{slice_get-get_or}
 use Rattle.async_window.specs.declared.request.Request.{Request}
 use Rattle.master_core.specs.History.{next_of}
 use Rattle.kept_run.proofs.Shared.{Promises}
@@ -14,12 +15,10 @@ use Rattle.replay_run.specs.Progress.{setting_of}
 use Rattle.bus_trace.specs.LogRows.{events_told}
 use Rattle.bus_trace.specs.declared.row.LogRow.{LogRow}
 use Rattle.bus_trace.specs.declared.row.LogRow.TheVariants as row
-use Rattle.trace_audit.specs.Audit.{AllStand, CanStand, IsAuditFault, IsAudited, IsFirstBreak, IsUnfinished, IsWholeLog}
-use Rattle.trace_audit.specs.declared.audit_fault.AuditFault.{AuditFault}
-use Rattle.trace_audit.specs.declared.audit_fault.AuditFault.TheVariants.{Row, Unfinished, Memory}
-use Rattle.trace_audit.specs.Auditing.{AnswersAll, IsAuditing, IsRowFault, is_end}
-use Rattle.trace_audit.specs.declared.auditor.Auditor.{Auditor}
-use Rattle.trace_audit.proofs.Ending.{answers-operators, behind-breaks, end-breaks, end-stands, is-whole, operators-answer, whole-answers}
+use Rattle.trace_audit.specs.Audit.{AllStand, CanStand, IsAudited, IsFirstBreak, IsUnfinished, IsWholeLog}
+use Rattle.trace_audit.specs.Auditing.{AnswersAll, Hears, IsAuditing, IsEnded, IsHeard, IsUpTo, Takes, is_end}
+use Rattle.trace_audit.specs.declared.log_audit.LogAudit.{LogAudit}
+use Rattle.trace_audit.proofs.Ending.{answers-operators, behind-breaks, can-stand, end-breaks, end-stands, is-whole, operators-answer, whole-answers}
 use Rattle.trace_audit.proofs.Rows.{TraceLaws}
 
 module _ {A : Type 0} where
@@ -37,11 +36,10 @@ module _ {A : Type 0} where
   pub take-next : (n : ℕ) (xs : List A) (x : A) → slice_get xs n ≡ Some x → take (n + 1) xs ≡ take n xs ++ x ∷ []
   take-next n xs x is = let more : n + 1 ≡ suc n = omega arith in ap (λ k. take k xs) more ∙ take-at n xs x is
 
-  pub take-within : (m n : ℕ) (xs : List A) → m ≤ n → take m (take n xs) ≡ take m xs
-  take-within zero n xs few = refl
-  take-within (suc m) zero xs few = absurd (omega (arith, few))
-  take-within (suc m) (suc n) [] few = refl
-  take-within (suc m) (suc n) (x ∷ xs) few = let less : m ≤ n = omega (arith, few) in ap (λ l. x ∷ l) (take-within m n xs less)
+  pub take-front : (n : ℕ) (xs ys : List A) → n ≤ length xs → take n (xs ++ ys) ≡ take n xs
+  take-front zero xs ys few = refl
+  take-front (suc n) [] ys few = absurd (omega (arith, few))
+  take-front (suc n) (x ∷ xs) ys few = let less : n ≤ length xs = omega (arith, few) in ap (λ l. x ∷ l) (take-front n xs ys less)
 
   pub take-whole : (n : ℕ) (xs : List A) → length xs ≤ n → take n xs ≡ xs
   take-whole zero [] few = refl
@@ -69,129 +67,162 @@ no-last system steps requests rows none log =
     (subst (All (λ line. is_end line ≡ false)) log.log none) in
     cc
 
-module _ (system : System) (steps : List Step) (requests : List Request) (rows : List LogRow) (before : ℕ) (auditor : Auditor)
-    (auditing : IsAuditing system steps requests (take before rows) auditor)
-    (stand : AllStand system steps requests (take before rows)) (next : ℕ) (last : slice_get rows before ≡ Some (row.End next))
-    (laws : TraceLaws) (kept : Promises) where
-  within : before < length rows
-  within = slice_get_within rows before (row.End next) last
+-- The rows so far, and one more
 
-  with-end : take (before + 1) rows ≡ take before rows ++ row.End next ∷ []
-  with-end = take-next before rows (row.End next) last
+module _ (system : System) (steps : List Step) (requests : List Request) (rows : List LogRow) where
+  -- each number of first rows can stand where all can, and those without the last one
+  pub one-more : AllStand system steps requests rows → (line : LogRow) → CanStand system steps requests (rows ++ line ∷ [])
+      → AllStand system steps requests (rows ++ line ∷ [])
+  one-more stand line can number few = elim (cases_lt (length rows) number) [
+    | inl last ↦
+        let count = length-append rows (line ∷ []) in
+        let all : length (rows ++ line ∷ []) ≤ number = omega (arith, last, count) in
+        subst (CanStand system steps requests) (sym (take-whole number (rows ++ line ∷ []) all)) can
+    | inr less ↦ subst (CanStand system steps requests) (sym (take-front number rows (line ∷ []) less)) (stand number less)
+  ]
 
-  first-stand : (fewer : ℕ) → fewer ≤ before → CanStand system steps requests (take fewer rows)
-  first-stand fewer few =
-      let some = within in
-      let all : before ≤ length rows = omega (arith, some) in
-      let count = take-length before rows all in
-      subst (CanStand system steps requests) (take-within fewer before rows few) (stand fewer (omega (arith, few, count)))
-
-  -- the last row of a log comes too early, or says another number of cycles
-  pub early-end : (auditor.came ≡ length auditor.rows.items → next ≡ next_of auditor.rerun.master.history → ⊥)
-      → IsFirstBreak system steps requests rows (before + 1)
-  early-end none = record {
-    within = let some = within in omega (arith, some);
-    before = λ fewer less. first-stand fewer (omega (arith, less));
-    breaks = λ can. end-breaks system steps requests (take before rows) auditor auditing laws kept next none
-        (subst (CanStand system steps requests) with-end can);
-  }
-
-  module _ (all : auditor.came ≡ length auditor.rows.items) (same : next ≡ next_of auditor.rerun.master.history) where
-    end-stand : CanStand system steps requests (take (before + 1) rows)
-    end-stand = subst (CanStand system steps requests) (sym with-end)
-        (end-stands system steps requests (take before rows) auditor auditing kept all next same)
-
-    up-to-end : (fewer : ℕ) → fewer ≤ before + 1 → CanStand system steps requests (take fewer rows)
-    up-to-end fewer few = elim (cases_lt before fewer) [
-      | inl more ↦ let is : before + 1 ≡ fewer = omega (arith, few, more) in subst (λ n. CanStand system steps requests (take n rows)) is end-stand
-      | inr less ↦ first-stand fewer less
-    ]
-
-    -- a row stands behind it
-    pub late-row : before + 1 < length rows → IsFirstBreak system steps requests rows (before + 2)
-    late-row more =
-        let line : LogRow = get_or rows (before + 1) (row.End next) in
-        let there : slice_get rows (before + 1) ≡ Some line = slice_get-get_or rows (before + 1) (row.End next) more in
-        let number : before + 1 + 1 ≡ before + 2 = omega arith in
-        let are : take (before + 2) rows ≡ (take before rows ++ row.End next ∷ []) ++ line ∷ [] =
-        ap (λ n. take n rows) (sym number) ∙ take-next (before + 1) rows line there ∙ ap (λ l. l ++ line ∷ []) with-end in
-        record {
-          within = omega (arith, more);
-          before = λ fewer less. up-to-end fewer (omega (arith, less));
-          breaks = λ can. behind-breaks system steps requests (take before rows) auditor auditing laws next line all
-              (subst (CanStand system steps requests) are can);
-        }
-
-    module _ (no_more : length rows ≤ before + 1) where
-      all-rows : rows ≡ take before rows ++ row.End next ∷ []
-      all-rows = sym (take-whole (before + 1) rows no_more) ∙ with-end
-
-      all-stand : AllStand system steps requests rows
-      all-stand fewer few = up-to-end fewer (omega (arith, few, no_more))
-
-      -- not all that the steps ask for has happened
-      pub is-unfinished : (next_of auditor.rerun.master.history ≡ sum_by count_of steps → AnswersAll steps auditor.rerun.master.history → ⊥)
-          → IsUnfinished system steps requests rows
-      is-unfinished none = record {
-        stand = all-stand;
-        not_all = λ log.
-            let answers = whole-answers system steps requests (take before rows) auditor auditing kept all next
-            (subst (IsWholeLog system steps requests) all-rows log) in
-            none answers.opened (operators-answer steps auditor.rerun.master.history answers);
+  -- the row with which rows cannot stand is where all rows break off
+  pub first-break : (whole later : List LogRow) (line : LogRow) (number : ℕ) → AllStand system steps requests rows
+      → (CanStand system steps requests (rows ++ line ∷ []) → ⊥) → whole ≡ (rows ++ line ∷ []) ++ later → number ≡ length rows + 1
+      → IsFirstBreak system steps requests whole number
+  first-break whole later line number stand breaks is at =
+      let some = length-append rows (line ∷ []) in
+      let more = length-append (rows ++ line ∷ []) later in
+      let count : length whole ≡ length ((rows ++ line ∷ []) ++ later) = ap length is in
+      record {
+        within = omega (arith, at, some, more, count);
+        before = λ fewer less.
+            let few : fewer ≤ length rows = omega (arith, at, less) in
+            let same : take fewer whole ≡ take fewer rows =
+            ap (take fewer) is ∙ take-front fewer (rows ++ line ∷ []) later (omega (arith, some, few)) ∙ take-front fewer rows (line ∷ []) few in
+            subst (CanStand system steps requests) (sym same) (stand fewer few);
+        breaks = λ can.
+            let same : take number whole ≡ rows ++ line ∷ [] =
+            ap (take number) is ∙ take-front number (rows ++ line ∷ []) later (omega (arith, some, at))
+            ∙ take-whole number (rows ++ line ∷ []) (omega (arith, some, at)) in
+            breaks (subst (CanStand system steps requests) same can);
       }
 
-      -- all has
-      pub is-audited : All IsStep steps → next_of auditor.rerun.master.history ≡ sum_by count_of steps
-          → AnswersAll steps auditor.rerun.master.history → IsAudited system steps requests rows
-      is-audited legal opened answered =
-          let answers = answers-operators system.rules steps (take before rows) auditor.rerun.master.history legal auditing.read opened answered in
-          let way = auditing.again.way in
-          let log = is-whole system steps requests (take before rows) auditor auditing kept all next same answers in
-          let audited : IsAudited system steps requests (take before rows ++ row.End next ∷ []) = record {
-            stand = subst (AllStand system steps requests) all-rows all-stand;
-            all = log;
-            kept = kept.kept (setting_of system requests) auditor.rerun.master.history auditing.trace way.known way.under_way;
-          } in
-          subst (IsAudited system steps requests) (sym all-rows) audited
+-- no row yet
+pub none-heard : (system : System) (steps : List Step) (requests : List Request) (audit : LogAudit)
+    → IsAuditing system steps requests [] audit.auditor → audit.ended ≡ false → IsHeard system steps requests [] audit
+none-heard system steps requests audit auditing going = record {
+  stand = λ number few.
+      let none : 0 ≡ number = omega (arith, few) in
+      subst (λ n. CanStand system steps requests (take n [])) none (can-stand system steps requests [] audit.auditor auditing);
+  up_to = subst (IsUpTo system steps requests [] audit.auditor) (sym going) (auditing, All-nil (λ line. is_end line ≡ false));
+}
 
--- No row ends the log
+-- a row has the form of the last one of a log, or does not end it
+pub not-end_row : (line : LogRow) → ((next : ℕ) → line ≡ row.End next → ⊥) → is_end line ≡ false
+not-end_row (row.Submit caller from verdict) other = refl
+not-end_row (row.Plan cycle mask) other = refl
+not-end_row (row.Look caller next) other = refl
+not-end_row (row.Open cycle mask l) other = refl
+not-end_row (row.Frame timed) other = refl
+not-end_row (row.End next) other = absurd (other next refl)
 
-pub not-finished : (system : System) (steps : List Step) (requests : List Request) (rows : List LogRow) (before : ℕ)
-    → length rows ≤ before → AllStand system steps requests (take before rows) → All (λ line. is_end line ≡ false) (take before rows)
-    → IsUnfinished system steps requests rows
-not-finished system steps requests rows before few stand none =
-    let all : take before rows ≡ rows = take-whole before rows few in
-    record {
-      stand = subst (AllStand system steps requests) all stand;
-      not_all = no-last system steps requests rows (subst (All (λ line. is_end line ≡ false)) all none);
-    }
+module _ (steps : List Step) (old new : LogAudit) where
+  -- a row that does not end a log
+  pub hears-row : (line : LogRow) (stands : Bool) → old.ended ≡ false → new.ended ≡ false → is_end line ≡ false
+      → Takes steps old.auditor new.auditor line stands → Hears steps old new line stands
+  hears-row line stands going still not_end takes = record {
+    stand = λ is system requests rows heard.
+        let (auditing, none) = subst (IsUpTo system steps requests rows old.auditor) going heard.up_to in
+        let now = takes.stand is system requests rows auditing in
+        record {
+          stand = one-more system steps requests rows heard.stand line (can-stand system steps requests (rows ++ line ∷ []) new.auditor now);
+          up_to = subst (IsUpTo system steps requests (rows ++ line ∷ []) new.auditor) (sym still)
+              (now, All-push (λ l. is_end l ≡ false) rows line none not_end);
+        };
+    break = λ is system requests rows heard can.
+        let (auditing, none) = subst (IsUpTo system steps requests rows old.auditor) going heard.up_to in
+        takes.break is system requests rows auditing can;
+  }
 
--- what is wrong with the first rows is wrong with all
-pub row-fault : (system : System) (steps : List Step) (requests : List Request) (rows : List LogRow) (before : ℕ) → before ≤ length rows
-    → (fault : AuditFault) → IsRowFault system steps requests (take before rows) fault → IsAuditFault system steps requests rows fault
-row-fault system steps requests rows before all (Row number) is =
-    let count = take-length before rows all in
-    let few = is.within in
-    let less : number ≤ before = omega (arith, few, count) in
-    record {
-      within = omega (arith, less, all);
-      before = λ fewer under. subst (CanStand system steps requests) (take-within fewer before rows (omega (arith, under, less))) (is.before fewer under);
-      breaks = λ can. is.breaks (subst (CanStand system steps requests) (sym (take-within number before rows less)) can);
-    }
-row-fault system steps requests rows before all Unfinished is = absurd is
-row-fault system steps requests rows before all Memory is = tt
+  -- the last row of a log
+  pub hears-end : (laws : TraceLaws) (kept : Promises) (next : ℕ) (stands : Bool) → old.ended ≡ false → new.ended ≡ stands
+      → new.auditor ≡ old.auditor
+      → (stands ≡ true → old.auditor.came ≡ length old.auditor.rows.items)
+      → (stands ≡ true → next ≡ next_of old.auditor.rerun.master.history)
+      → (stands ≡ false → old.auditor.came ≡ length old.auditor.rows.items → next ≡ next_of old.auditor.rerun.master.history → ⊥)
+      → Hears steps old new (row.End next) stands
+  hears-end laws kept next stands going ends same all_came opened none = record {
+    stand = λ is system requests rows heard.
+        let (auditing, not_last) = subst (IsUpTo system steps requests rows old.auditor) going heard.up_to in
+        let ended : IsEnded system steps requests (rows ++ row.End next ∷ []) old.auditor = record {
+          before = rows;
+          next = next;
+          rows_are = refl;
+          auditing = auditing;
+          all_came = all_came is;
+          opened = opened is;
+        } in
+        record {
+          stand = one-more system steps requests rows heard.stand (row.End next)
+              (end-stands system steps requests rows old.auditor auditing kept (all_came is) next (opened is));
+          up_to = subst (IsUpTo system steps requests (rows ++ row.End next ∷ []) new.auditor) (sym (ends ∙ is))
+              (subst (IsEnded system steps requests (rows ++ row.End next ∷ [])) (sym same) ended);
+        };
+    break = λ is system requests rows heard can.
+        let (auditing, not_last) = subst (IsUpTo system steps requests rows old.auditor) going heard.up_to in
+        end-breaks system steps requests rows old.auditor auditing laws kept next (none is) can;
+  }
 
--- the row at a place, where there is none
-pub none-at : (rows : List LogRow) (place : ℕ) → slice_get rows place ≡ None → length rows ≤ place
-none-at [] place none = omega arith
-none-at (line ∷ rows) zero none = absurd (cc)
-none-at (line ∷ rows) (suc place) none = let less = none-at rows place none in omega (arith, less)
+  -- a row behind it
+  pub hears-none : (laws : TraceLaws) (line : LogRow) → old.ended ≡ true → Hears steps old new line false
+  hears-none laws line ended = record {
+    stand = λ is. absurd (cc);
+    break = λ is system requests rows heard can.
+        let last = subst (IsUpTo system steps requests rows old.auditor) ended heard.up_to in
+        behind-breaks system steps requests last.before old.auditor last.auditing laws last.next line last.all_came
+        (subst (λ l. CanStand system steps requests (l ++ line ∷ [])) last.rows_are can);
+  }
 
--- a row that ends a log has that form
-pub no-end_row : (line : LogRow) → ((next : ℕ) → line ≡ row.End next → ⊥) → is_end line ≡ true → ⊥
-no-end_row (row.Submit caller from verdict) other is = cc
-no-end_row (row.Plan cycle mask) other is = cc
-no-end_row (row.Look caller next) other is = cc
-no-end_row (row.Open cycle mask l) other is = cc
-no-end_row (row.Frame timed) other is = cc
-no-end_row (row.End next) other is = other next refl
+-- All rows
+
+module _ (system : System) (steps : List Step) (requests : List Request) (rows : List LogRow) (audit : LogAudit)
+    (heard : IsHeard system steps requests rows audit) where
+  -- no row ends the log
+  pub not-ended : audit.ended ≡ false → IsUnfinished system steps requests rows
+  not-ended going =
+      let (auditing, none) = subst (IsUpTo system steps requests rows audit.auditor) going heard.up_to in
+      record { stand = heard.stand; not_all = no-last system steps requests rows none }
+
+  module _ (kept : Promises) (ended : audit.ended ≡ true) where
+    last-row : IsEnded system steps requests rows audit.auditor
+    last-row = subst (IsUpTo system steps requests rows audit.auditor) ended heard.up_to
+
+    -- not all that the steps ask for has happened
+    pub is-unfinished : (next_of audit.auditor.rerun.master.history ≡ sum_by count_of steps → AnswersAll steps audit.auditor.rerun.master.history → ⊥)
+        → IsUnfinished system steps requests rows
+    is-unfinished none =
+        let last = last-row in
+        record {
+          stand = heard.stand;
+          not_all = λ log.
+              let answers = whole-answers system steps requests last.before audit.auditor last.auditing kept last.all_came last.next
+              (subst (IsWholeLog system steps requests) last.rows_are log) in
+              none answers.opened (operators-answer steps audit.auditor.rerun.master.history answers);
+        }
+
+    -- all has
+    pub is-audited : All IsStep steps → next_of audit.auditor.rerun.master.history ≡ sum_by count_of steps
+        → AnswersAll steps audit.auditor.rerun.master.history → IsAudited system steps requests rows
+    is-audited legal opened answered =
+        let last = last-row in
+        let history = audit.auditor.rerun.master.history in
+        let answers = answers-operators system.rules steps last.before history legal last.auditing.read opened answered in
+        let way = last.auditing.again.way in
+        let log = is-whole system steps requests last.before audit.auditor last.auditing kept last.all_came last.next last.opened answers in
+        let audited : IsAudited system steps requests (last.before ++ row.End last.next ∷ []) = record {
+          stand = subst (AllStand system steps requests) last.rows_are heard.stand;
+          all = log;
+          kept = kept.kept (setting_of system requests) history last.auditing.trace way.known way.under_way;
+        } in
+        subst (IsAudited system steps requests) (sym last.rows_are) audited
+
+-- where no row is found, what holds then does
+pub none-found : {X P : Type 0} (found : Option X) → ((row : X) → found ≡ Some row → ⊥) → IfNone found P → P
+none-found None other is = is
+none-found (Some row) other is = absurd (other row refl)

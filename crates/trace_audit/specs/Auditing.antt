@@ -13,11 +13,10 @@ use Rattle.bus_trace.specs.declared.row.LogRow.TheVariants as row
 use Rattle.live_master.specs.Callers.{is_called_by}
 use Rattle.live_steps.specs.Live.{acts_of}
 use Rattle.trace_audit.specs.Again.{IsAgain}
-use Rattle.trace_audit.specs.Audit.{CanStand, IsFirstBreak}
-use Rattle.trace_audit.specs.declared.audit_fault.AuditFault.{AuditFault}
-use Rattle.trace_audit.specs.declared.audit_fault.AuditFault.TheVariants.{Row, Unfinished, Memory}
+use Rattle.trace_audit.specs.Audit.{AllStand, CanStand}
 use Rattle.trace_audit.specs.Reading.{IsHistoryOf}
 use Rattle.trace_audit.specs.declared.auditor.Auditor.{Auditor}
+use Rattle.trace_audit.specs.declared.log_audit.LogAudit.{LogAudit}
 
 -- whether a row is one of those that follow the row of their event
 abbrev pub is_inner : LogRow → Bool
@@ -73,8 +72,37 @@ abbrev pub AnswersAll : List Step → List Event → Type 0
 AnswersAll steps history = (operator : ℕ) → 1 ≤ operator → operator ≤ 8
     → count_by (is_called_by operator) history ≡ length (acts_of operator steps)
 
--- the fault is that of the first row with which the rows cannot stand, or want of memory
-abbrev pub IsRowFault : System → List Step → List Request → List LogRow → AuditFault → Type 0
-IsRowFault system steps requests rows (Row number) = IsFirstBreak system steps requests rows number
-IsRowFault system steps requests rows Unfinished = ⊥
-IsRowFault system steps requests rows Memory = Unit {0}
+-- the last of the rows ends a log: those before it are audited, none of their last event is left, and so many cycles were
+-- opened
+pub record IsEnded (system : System) (steps : List Step) (requests : List Request) (rows : List LogRow)
+    (auditor : Auditor) : Type 0 where
+  pub before : List LogRow
+  pub next : ℕ
+  pub rows_are : rows ≡ before ++ row.End next ∷ []
+  pub auditing : IsAuditing system steps requests before auditor
+  pub all_came : auditor.came ≡ length auditor.rows.items
+  pub opened : next ≡ next_of auditor.rerun.master.history
+
+-- rows are audited none of which ends a log; or the last of them ends it
+abbrev pub IsUpTo : System → List Step → List Request → List LogRow → Auditor → Bool → Type 0
+IsUpTo system steps requests rows auditor false =
+    IsAuditing system steps requests rows auditor × All (λ line. is_end line ≡ false) rows
+IsUpTo system steps requests rows auditor true = IsEnded system steps requests rows auditor
+
+-- the audit has heard these rows, and each number of the first of them can stand
+pub record IsHeard (system : System) (steps : List Step) (requests : List Request) (rows : List LogRow)
+    (audit : LogAudit) : Type 0 where
+  pub stand : AllStand system steps requests rows
+  pub up_to : IsUpTo system steps requests rows audit.auditor audit.ended
+
+-- so it is for some system, requests and rows
+abbrev pub CanHear : List Step → LogAudit → Type 0
+CanHear steps audit =
+    (system : System) × (requests : List Request) × (rows : List LogRow) × IsHeard system steps requests rows audit
+
+-- what a row says to an audit that it is the next one, or that it is not: with it the rows can stand too, or they cannot
+pub record Hears (steps : List Step) (old new : LogAudit) (line : LogRow) (stands : Bool) : Type 0 where
+  pub stand : stands ≡ true → (system : System) (requests : List Request) (rows : List LogRow)
+      → IsHeard system steps requests rows old → IsHeard system steps requests (rows ++ line ∷ []) new
+  pub break : stands ≡ false → (system : System) (requests : List Request) (rows : List LogRow)
+      → IsHeard system steps requests rows old → CanStand system steps requests (rows ++ line ∷ []) → ⊥

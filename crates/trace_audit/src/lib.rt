@@ -1,5 +1,5 @@
-//! The audit of a log: whether rows can be those of a run of a system, steps and requests. Nothing of the log's maker is
-//! trusted: each event of the rows is done again.
+//! The audit of a log: whether rows can be those of a run of a system, steps and requests. Nothing of the log's maker
+//! is trusted: each event of the rows is done again.
 //!
 //! Cycles are elementary cycles, counted from 0; times are bit times.
 #![tactic(auto)]
@@ -8,10 +8,12 @@ mod audit_fault;
 mod auditing;
 mod auditor;
 mod event_rows;
+pub mod laws;
+mod log_audit;
 mod rerun;
 mod same_rows;
 mod states;
 mod step_acts;
 
 pub use audit_fault::AuditFault;
-pub use auditing::audit;
+pub use auditing::{audit, audit_text};

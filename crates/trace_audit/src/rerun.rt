@@ -17,7 +17,8 @@ ghost use Rattle.replay_run.specs.Progress.{setting_of};
 ghost use Rattle.bus_trace.specs.EventRows.{told_at};
 ghost use Rattle.bus_trace.specs.declared.row.LogRow.TheVariants as row;
 ghost use Rattle.bus_trace.specs.declared.row.LogVerdict.{LogVerdict};
-ghost use Rattle.trace_audit.specs.Again.{Asks, CanGoOn, EndsIn, EndsNear, IsAgain, IsAnsweredWith, IsBroughtOn, IsOpenedWith};
+ghost use Rattle.trace_audit.specs.Again.{Asks, CanGoOn, EndsIn, EndsNear, IsAgain, IsAnsweredWith};
+ghost use Rattle.trace_audit.specs.Again.{IsBroughtOn, IsOpenedWith};
 ghost use Rattle.trace_audit.specs.States.{KeepsStates};
 
 use crate::event_rows::rows_of;
@@ -91,8 +92,8 @@ impl Rerun {
         })
     }
 
-    /// Answers a change of operator `caller`, 1 to 8, that was planned from the cycle `from`. Where no legal history goes
-    /// on with a change that was planned from there, nothing is answered, and the answer is `false`.
+    /// Answers a change of operator `caller`, 1 to 8, that was planned from the cycle `from`. Where no legal history
+    /// goes on with a change that was planned from there, nothing is answered, and the answer is `false`.
     ///
     /// # Errors
     ///
@@ -226,7 +227,8 @@ impl Rerun {
         requires few { next_of self.old.master.history ≤ sum_by count_of steps.now }
         ensures on { (system : System) (requests : List Request) (trace : List TimedFrame) (told : LogVerdict)
             → IsAgain system requests trace self.old → IfOk result (λ rows. IfSome rows
-            (λ rows. IsBroughtOn system steps.now requests trace self.old (row.Submit caller from told) self.new rows.items)) }
+            (λ rows. IsBroughtOn system steps.now requests trace self.old (row.Submit caller from told) self.new
+            rows.items)) }
         ensures none { IfOk result (λ rows. IfNone rows ((told : LogVerdict) (event : Event)
             → IsRight self.old.master.rules self.old.master.history event
             → Asks steps.now self.old.master.history (row.Submit caller from told) event → ⊥)) }
@@ -281,7 +283,8 @@ impl Rerun {
         requires few { next_of self.old.master.history ≤ sum_by count_of steps.now }
         ensures on { (system : System) (requests : List Request) (trace : List TimedFrame) (cycle mask l : ℕ)
             → IsAgain system requests trace self.old → IfOk result (λ rows. IfSome rows
-            (λ rows. IsBroughtOn system steps.now requests trace self.old (row.Open cycle mask l) self.new rows.items)) }
+            (λ rows. IsBroughtOn system steps.now requests trace self.old (row.Open cycle mask l) self.new
+            rows.items)) }
         ensures none { IfOk result (λ rows. IfNone rows ((cycle mask l : ℕ) (event : Event)
             → IsRight self.old.master.rules self.old.master.history event
             → Asks steps.now self.old.master.history (row.Open cycle mask l) event → ⊥)) }
@@ -294,8 +297,8 @@ impl Rerun {
         Ok(Some(rows))
     }
 
-    /// Does the event again that a row asks for, and answers the rows of it: of these the row must be the first. Where no
-    /// legal history goes on with an event that the row asks for, this is nothing.
+    /// Does the event again that a row asks for, and answers the rows of it: of these the row must be the first. Where
+    /// no legal history goes on with an event that the row asks for, this is nothing.
     ///
     /// # Errors
     ///

@@ -1,9 +1,9 @@
 use Rattle.std.proofs.Common.{None, Ok, refl, sym, ◌∙◌, subst, arith}
 use Rattle.ftt_io.specs.Counts.{Rose}
-use Rattle.asked_files.specs.Asked.{IsAskedOf, IsCheckOf, check_of, job_in}
+use Rattle.asked_files.specs.Asked.{IsAskedOf, IsCheckOf, IsPlanIn, check_of, job_in}
 use Rattle.asked_files.specs.Loads.{Bars}
 use Rattle.command_words.specs.Words.{check}
-use Rattle.asked_files.proofs.LoadLemmas.{check-barred, handed-on}
+use Rattle.asked_files.proofs.LoadLemmas.{barred-behind, handed-on, plan-stops}
 use Rattle.asked_files.proofs.loading.load_check.Goals as goal
 
 pub returns-in_err-certificate-clause-stop : goal.returns-in_err-certificate-clause-stop
@@ -11,12 +11,16 @@ returns-in_err-certificate-clause-stop g c =
     handed-on (Bars g.S.Shelf.told_files g.S.Shelf.faults c.args.shelf.now c.load_plan.new.shelf
     (λ files asked_for. IsAskedOf files (check c.args.system_name.now c.args.steps_name.now c.args.plan_name.now) asked_for))
     c.from_residual-in_err-certificate.result c.in_err-certificate.field-0.0 c.from_residual-in_err-certificate.ensures.1
-    (check-barred (Rose (g.S.Shelf.faults c.load_job.new.shelf) (g.S.Shelf.faults c.load_plan.new.shelf))
+    (barred-behind (Rose (g.S.Shelf.faults c.load_job.new.shelf) (g.S.Shelf.faults c.load_plan.new.shelf))
     (Rose (g.S.Shelf.faults c.args.shelf.now) (g.S.Shelf.faults c.load_plan.new.shelf))
-    (g.S.Shelf.told_files c.load_job.new.shelf) (g.S.Shelf.told_files c.args.shelf.now) c.args.plan_name.now c.in_ok-job.job
-    (λ files. job_in files c.args.system_name.now c.args.steps_name.now None)
+    (g.S.Shelf.told_files c.load_job.new.shelf) (g.S.Shelf.told_files c.args.shelf.now)
+    (λ files plan. IsPlanIn files c.args.plan_name.now plan)
+    (λ files asked_for. IsAskedOf files (check c.args.system_name.now c.args.steps_name.now c.args.plan_name.now) asked_for)
     (λ later. omega (arith, later, c.load_job.ensures.fetched.faults_never_fall)) c.load_job.ensures.fetched.files_stay
-    c.in_ok-job.ensures.ok c.in_err-certificate.field-0.0 c.in_err-certificate.ensures.stop)
+    (λ files tells stopped plan. plan-stops (g.S.Shelf.told_files c.args.shelf.now) c.in_ok-job.job
+    (λ files. job_in files c.args.system_name.now c.args.steps_name.now None) c.in_ok-job.ensures.ok files tells
+    c.args.plan_name.now stopped plan)
+    c.in_err-certificate.field-0.0 c.in_err-certificate.ensures.stop)
 
 pub returns-clause-ok : goal.returns-clause-ok
 returns-clause-ok g c = λ files told.

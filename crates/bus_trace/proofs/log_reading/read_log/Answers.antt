@@ -1,66 +1,55 @@
-use Rattle.std.proofs.Common.{◌≡◌, ◌+◌, ap, map, subst, sym, inl, arith}
-use Rattle.csv.specs.Records.{fields_of}
-use Rattle.bus_trace.specs.Row.{fields_of_row}
-use Rattle.bus_trace.specs.declared.log_fault.LogFault.TheVariants.{Row}
-use Rattle.bus_trace.proofs.Readings.{AreRead, NoRow, faulty-row, none-faulty, none-formed, not-back, one-fault, read-more, whole-back}
+use Rattle.std.proofs.Common.{◌≡◌, ◌⊎◌, subst, sym}
+use Rattle.bus_trace.specs.LogReading.{IsBehind}
+use Rattle.bus_trace.specs.Row.{IsLogFault}
+use Rattle.bus_trace.specs.declared.log_fault.LogFault.TheVariants.{Memory, Row}
+use Rattle.bus_trace.proofs.Readings.{no-rows, none-faulty, none-found, passes-match, passes-on, same-fault, whole-back}
 use Rattle.bus_trace.proofs.RowLines.{records-text}
 use Rattle.bus_trace.proofs.log_reading.read_log.Goals as goal
 
-pub returns-in_default-clause-faulty : goal.returns-in_default-clause-faulty
-returns-in_default-clause-faulty c =
-    let so_far = c.loop-rows.invariant in
-    let fields = fields_of c.read_next.new.row in
-    let one = c.in_ok-read_next.ensures.one c.if-branch.true c.args.bytes.now (map fields_of_row c.loop-rows.rows.items) so_far.reads in
-    let none : NoRow fields = none-formed fields c.in_default.ensures.value in
-    let count = c.len.ensures in
-    faulty-row c.args.bytes.now c.loop-rows.rows.items so_far.rows fields one.below one.split none (c.len.result + 1) (omega arith)
+pub returns-in_err-row-clause-faulty : goal.returns-in_err-row-clause-faulty
+returns-in_err-row-clause-faulty c =
+    passes-on c.from_residual.result (IsLogFault c.args.bytes.now) c.in_err-row.field-0.0 c.from_residual.ensures.1
+    (c.in_err-row.ensures.faulty c.args.bytes.now c.loop-rows.rows.items c.loop-rows.invariant)
 
-pub returns-in_default-clause-complete : goal.returns-in_default-clause-complete
-returns-in_default-clause-complete c = λ rows legal are.
-    let so_far = c.loop-rows.invariant in
-    let fields = fields_of c.read_next.new.row in
-    let one = c.in_ok-read_next.ensures.one c.if-branch.true c.args.bytes.now (map fields_of_row c.loop-rows.rows.items) so_far.reads in
-    let none : NoRow fields = none-formed fields c.in_default.ensures.value in
-    absurd (not-back c.args.bytes.now c.loop-rows.rows.items so_far.rows fields one.below one.split none rows legal are)
+pub returns-in_err-row-clause-complete : goal.returns-in_err-row-clause-complete
+returns-in_err-row-clause-complete c = λ rows legal are.
+    let fault = c.in_err-row.field-0.0 in
+    passes-match c.from_residual.result _ (λ f. f ≡ Memory) fault c.from_residual.ensures.1
+    (no-rows c.args.bytes.now fault (c.in_err-row.ensures.faulty c.args.bytes.now c.loop-rows.rows.items c.loop-rows.invariant) rows (legal, are))
 
-pub returns-in_default-clause-back : goal.returns-in_default-clause-back
-returns-in_default-clause-back c = λ rows legal text.
-    returns-in_default-clause-complete c rows legal (records-text c.args.bytes.now rows legal text)
+pub returns-in_err-row-clause-back : goal.returns-in_err-row-clause-back
+returns-in_err-row-clause-back c = λ rows legal text.
+    returns-in_err-row-clause-complete c rows legal (records-text c.args.bytes.now rows legal text)
 
-pub returns-in_default-clause-first : goal.returns-in_default-clause-first
-returns-in_default-clause-first c = λ number fault.
-    let so_far = c.loop-rows.invariant in
-    let fields = fields_of c.read_next.new.row in
-    let one = c.in_ok-read_next.ensures.one c.if-branch.true c.args.bytes.now (map fields_of_row c.loop-rows.rows.items) so_far.reads in
-    let none : NoRow fields = none-formed fields c.in_default.ensures.value in
-    let count = c.len.ensures in
-    let at = one-fault c.args.bytes.now c.loop-rows.rows.items so_far.rows fields one.below one.split none number fault in
-    let same : c.len.result + 1 ≡ number = omega arith in
-    inl (ap Row same)
+pub returns-in_err-row-clause-first : goal.returns-in_err-row-clause-first
+returns-in_err-row-clause-first c = λ number first.
+    let fault = c.in_err-row.field-0.0 in
+    passes-match c.from_residual.result _ (λ f. (f ≡ Row number) ⊎ (f ≡ Memory)) fault c.from_residual.ensures.1
+    (same-fault c.args.bytes.now fault (c.in_err-row.ensures.faulty c.args.bytes.now c.loop-rows.rows.items c.loop-rows.invariant) number first)
 
 pub loop-rows-smaller : goal.loop-rows-smaller
 loop-rows-smaller c =
-    (c.in_ok-read_next.ensures.one c.if-branch.true c.args.bytes.now (map fields_of_row c.loop-rows.rows.items) c.loop-rows.invariant.reads).fewer
+    let more = rw c.in-Some.is at c.in_ok-row.ensures.more in
+    (more c.args.bytes.now c.loop-rows.rows.items c.loop-rows.invariant).fewer
 
 pub loop-rows-preserved : goal.loop-rows-preserved
 loop-rows-preserved c =
-    let so_far = c.loop-rows.invariant in
-    let fields = fields_of c.read_next.new.row in
-    let one = c.in_ok-read_next.ensures.one c.if-branch.true c.args.bytes.now (map fields_of_row c.loop-rows.rows.items) so_far.reads in
-    subst (AreRead c.args.bytes.now c.read_next.new.reader) (sym c.in_ok-push.ensures.items)
-    (read-more c.args.bytes.now c.loop-rows.reader c.read_next.new.reader c.loop-rows.rows.items fields c.in-Some.row so_far one (sym c.in-Some.ensures.value))
+    let more = rw c.in-Some.is at c.in_ok-row.ensures.more in
+    subst (IsBehind c.args.bytes.now c.next_row.new.self) (sym c.in_ok-push.ensures.items)
+    (more c.args.bytes.now c.loop-rows.rows.items c.loop-rows.invariant).behind
 
 pub returns-clause-fields : goal.returns-clause-fields
 returns-clause-fields c =
-    c.in_ok-read_next.ensures.all c.if-branch.false c.args.bytes.now (map fields_of_row c.loop-rows.rows.items) c.loop-rows.invariant.reads
+    let all = none-found c.in_ok-row.field-0 c.in_default.not-Some c.in_ok-row.ensures.all in
+    (all c.args.bytes.now c.loop-rows.rows.items c.loop-rows.invariant).1
 
 pub returns-clause-complete : goal.returns-clause-complete
 returns-clause-complete c = λ rows legal are.
-    whole-back c.args.bytes.now c.loop-rows.rows.items c.loop-rows.invariant.rows (returns-clause-fields c) rows legal are
+    whole-back c.args.bytes.now c.loop-rows.rows.items c.loop-rows.invariant.legal (returns-clause-fields c) rows legal are
 
 pub returns-clause-back : goal.returns-clause-back
 returns-clause-back c = λ rows legal text. returns-clause-complete c rows legal (records-text c.args.bytes.now rows legal text)
 
 pub returns-clause-first : goal.returns-clause-first
 returns-clause-first c = λ number fault.
-    none-faulty c.args.bytes.now c.loop-rows.rows.items c.loop-rows.invariant.rows (returns-clause-fields c) number fault
+    none-faulty c.args.bytes.now c.loop-rows.rows.items c.loop-rows.invariant.legal (returns-clause-fields c) number fault

@@ -78,3 +78,9 @@ returns c =
           ∙ ap (λ fs. c.loop-slot.out.items ++ back_to_back fs c.loop-slot.at c.args.until) (sym nothing) ∙ c.loop-slot.invariant.all;
       capacity = c.loop-slot.invariant.capacity;
     }
+
+pub bounds-fronts-from : goal.bounds-fronts-from
+bounds-fronts-from c = omega (arith, c.from.ensures, (least-of c.loop-slot.left c.in-Some.slot (sym c.in-Some.ensures.least)).0)
+
+pub listed : goal.listed
+listed c = omega (arith, c.from.ensures, c.type_inv.fronts, (least-of c.loop-slot.left c.in-Some.slot (sym c.in-Some.ensures.least)).0)

@@ -1,6 +1,8 @@
-use Rattle.std.proofs.Common.{Some}
+use Rattle.std.proofs.Common.{Some, subst}
+use Rattle.std.specs.Prelude.{IfOk}
 use Rattle.ftt_io.specs.Counts.{Rose}
-use Rattle.asked_files.specs.Asked.{check_of, choice_of, log_of, plan_of, summary_of}
+use Rattle.asked_files.specs.Asked.{audit_of, check_of, choice_of, log_of, plan_of, summary_of}
+use Rattle.fttcan_top.specs.Audited.{IsAuditText}
 use Rattle.fttcan_top.proofs.EndLemmas.{front-carried}
 use Rattle.fttcan_top.proofs.program.carry_out.Goals as goal
 
@@ -28,3 +30,10 @@ pub returns-in-Choice-clause-carried : goal.returns-in-Choice-clause-carried
 returns-in-Choice-clause-carried g c =
     rw c.in-Choice.is (front-carried (choice_of c.in-Choice.job c.in-Choice.wish) (Rose (g.O.Sink.faults c.args.out.now) (g.O.Sink.faults c.put_answer-in-Choice.new.out))
     (g.O.Sink.told_bytes c.args.out.now) (g.O.Sink.told_bytes c.put_answer-in-Choice.new.out) c.put_answer-in-Choice.result (c.put_answer-in-Choice.ensures.carried (choice_of c.in-Choice.job c.in-Choice.wish) c.choice_of.ensures.choice))
+
+pub returns-in-Audit-clause-carried : goal.returns-in-Audit-clause-carried
+returns-in-Audit-clause-carried g c =
+    let answer = subst (λ log. IfOk c.audit_of.result (λ outcome. IsAuditText c.in-Audit.job log outcome.status outcome.text.items))
+    c.as_slice.ensures.value c.audit_of.ensures.answer in
+    rw c.in-Audit.is (front-carried (audit_of c.in-Audit.job c.in-Audit.log.items) (Rose (g.O.Sink.faults c.args.out.now) (g.O.Sink.faults c.put_answer-in-Audit.new.out))
+    (g.O.Sink.told_bytes c.args.out.now) (g.O.Sink.told_bytes c.put_answer-in-Audit.new.out) c.put_answer-in-Audit.result (c.put_answer-in-Audit.ensures.carried (audit_of c.in-Audit.job c.in-Audit.log.items) answer))

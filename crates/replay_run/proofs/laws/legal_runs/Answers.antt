@@ -25,3 +25,7 @@ returns-clause-front c = λ setting history later trace frames known way legal i
     let same : started_before until frames ≡ trace = kept.only_trace (started_before until frames) front in
     let cut = cut-at until frames is.ordered.apart in
     (cut.later, cut.all ∙ ap (λ l. l ++ cut.later) same, cut.after)
+
+pub returns-clause-cut : goal.returns-clause-cut
+returns-clause-cut c = λ setting history later frames known legal is.
+    front-trace setting.layout known.known setting.requests setting.rules history later frames legal is

@@ -1,16 +1,48 @@
-use Rattle.trace_audit.proofs.Whole.{row-fault}
+use Rattle.std.proofs.Common.{◌+◌, ◌≤◌, ◌++◌, drop, length, take, sym, ap, ◌∙◌, subst, arith}
+use Rattle.std.proofs.lemmas.List.{take-append-drop}
+use Rattle.trace_audit.specs.Auditing.{IsHeard}
+use Rattle.trace_audit.proofs.Whole.{first-break, item-at, take-length, take-next, take-whole}
 use Rattle.trace_audit.proofs.auditing.audit.Goals as goal
 
-pub returns : goal.returns
-returns c = record {
-  answer = row-fault c.args.system.now c.args.steps.now c.args.requests.now c.args.rows.now c.rows_before_end-before.result
-      c.rows_before_end-before.ensures.within c.in-Err.fault
-      (c.in-Err.ensures.fault c.args.system.now c.args.requests.now c.in_ok-auditor.ensures.auditing);
-}
+pub take-requires-clause-can : goal.take-requires-clause-can
+take-requires-clause-can c =
+    (c.args.system.now, c.args.requests.now, take c.loop-place.place c.args.rows.now, c.loop-place.invariant)
 
-pub returns-in-Ok : goal.returns-in-Ok
-returns-in-Ok c = record {
-  answer = c.finish.ensures.answer c.args.system.now c.args.requests.now
-      (c.in-Ok.ensures.auditing c.args.system.now c.args.requests.now c.in_ok-auditor.ensures.auditing)
-      (c.in-Ok.ensures.stand c.args.system.now c.args.requests.now c.in_ok-auditor.ensures.auditing);
-}
+pub returns-then-not-branch : goal.returns-then-not-branch
+returns-then-not-branch c =
+    let system = c.args.system.now in
+    let steps = c.args.steps.now in
+    let requests = c.args.requests.now in
+    let rows = c.args.rows.now in
+    let place = c.loop-place.place in
+    let line = c.index-rows-place.result in
+    let early = c.loop-place-test.true in
+    let there = item-at rows place line early c.index-rows-place.is in
+    let heard = c.loop-place.invariant in
+    let more = take-next place rows line there in
+    let count = take-length place rows (omega (arith, early)) in
+    record {
+      answer = first-break system steps requests (take place rows) rows (drop (place + 1) rows) line (place + 1) heard.stand
+          (c.in_ok-take.ensures.hears.break c.if-not-branch.true system requests (take place rows) heard)
+          (sym (take-append-drop (place + 1) rows) ∙ ap (λ l. l ++ drop (place + 1) rows) more) (omega (arith, count));
+    }
+
+pub loop-place-preserved : goal.loop-place-preserved
+loop-place-preserved c =
+    let rows = c.args.rows.now in
+    let place = c.loop-place.place in
+    let line = c.index-rows-place.result in
+    let there = item-at rows place line c.loop-place-test.true c.index-rows-place.is in
+    subst (λ l. IsHeard c.args.system.now c.args.steps.now c.args.requests.now l c.take.new.self) (sym (take-next place rows line there))
+    (c.in_ok-take.ensures.hears.stand c.if-not-branch.false c.args.system.now c.args.requests.now (take place rows) c.loop-place.invariant)
+
+pub returns : goal.returns
+returns c =
+    let rows = c.args.rows.now in
+    let place = c.loop-place.place in
+    let all : length rows ≤ place = omega (arith, c.loop-place-test.false) in
+    record {
+      answer = c.finish.ensures.answer c.args.system.now c.args.requests.now rows
+          (subst (λ l. IsHeard c.args.system.now c.args.steps.now c.args.requests.now l c.loop-place.audit) (take-whole place rows all)
+          c.loop-place.invariant);
+    }

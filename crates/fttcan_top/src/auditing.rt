@@ -1,0 +1,38 @@
+//! Whether a log can be that of a run, as a text.
+
+ghost use Rattle.std.specs.Prelude.{IfOk};
+ghost use Rattle.asked_files.specs.Asked.{IsLogText};
+ghost use Rattle.asked_files.specs.Loads.{IsJob};
+ghost use Rattle.fttcan_top.specs.Audited.{IsAuditText};
+ghost use Rattle.fttcan_top.specs.Output.{IsDone};
+
+use crate::status::Status;
+use crate::work::Outcome;
+use asked_files::Job;
+use std::alloc::{AllocError, Global};
+use trace_audit::{AuditFault, audit_text};
+
+/// Audits the text of a log, and answers with `yes` where its rows are all rows of a whole run of the steps; otherwise
+/// with the first row up to which no run's log has its rows, or with that the log ends too early.
+pub fn audit_of(alloc: Global, job: &Job, log: &[u8]) -> Result<Outcome, AllocError>
+    requires job { IsJob job.now }
+    requires log { IsLogText log.now }
+    ensures answer { IfOk result (λ outcome. IsAuditText job.now log.now outcome.status outcome.text.items) }
+    ensures done { IfOk result (λ outcome. IsDone outcome.status) }
+{
+    match audit_text(alloc, job.system(), job.steps(), job.requests(), log) {
+        Ok(()) => Ok(Outcome {
+            status: Status::Done,
+            text: b"yes\n".to_vec(alloc)?,
+        }),
+        Err(AuditFault::Row { number }) => Ok(Outcome {
+            status: Status::No,
+            text: format!(in alloc; "no,row,{number}\n")?.into_bytes(),
+        }),
+        Err(AuditFault::Unfinished) => Ok(Outcome {
+            status: Status::No,
+            text: b"no,unfinished\n".to_vec(alloc)?,
+        }),
+        Err(AuditFault::Memory) => Err(AllocError),
+    }
+}
