@@ -60,6 +60,22 @@ pub fn begin(frame: &Frame, count: usize) -> Begun
     begun
 }
 
+/// What is known of a frame of eight data bytes, as each trigger is, once all of them were gone through: without a loop.
+pub fn begin_eight(frame: &Frame) -> Begun
+    requires eight { length frame.now.bytes ≡ 8 }
+    ensures begun { HasBegun frame.now 8 result.sum result.sender }
+{
+    begin(frame, 0)
+        .then(7, frame.byte(0))
+        .then(6, frame.byte(1))
+        .then(5, frame.byte(2))
+        .then(4, frame.byte(3))
+        .then(3, frame.byte(4))
+        .then(2, frame.byte(5))
+        .then(1, frame.byte(6))
+        .then(0, frame.byte(7))
+}
+
 /// The wire length of a frame in bit times, its three bits of intermission included, once its data bytes were gone
 /// through.
 pub fn len_after(frame: &Frame, begun: Begun) -> u32

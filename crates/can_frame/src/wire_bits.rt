@@ -7,7 +7,7 @@ ghost use Rattle.can_frame.specs.Wire.{covered, plain, wire_of, wire_length};
 
 use crate::bit_list::BitList;
 use crate::data_frame::Frame;
-use crate::sending::{begin, len_after};
+use crate::sending::{begin, begin_eight, len_after};
 use crate::sequence::crc;
 use std::alloc::{AllocError, Global};
 use stuff_bound::stuff;
@@ -60,7 +60,12 @@ pub fn wire_len(frame: &Frame) -> u32
     ensures at_least { 47 + 8 * length frame.now.bytes ≤ result }
     ensures at_most { result ≤ worst (length frame.now.bytes) }
 {
-    len_after(frame, begin(frame, usize::from(frame.dlc())))
+    let bytes = frame.dlc();
+    if bytes == 8 {
+        len_after(frame, begin_eight(frame))
+    } else {
+        len_after(frame, begin(frame, usize::from(bytes)))
+    }
 }
 
 /// The bits of a frame on the wire, in the order of sending, its three bits of intermission included.
