@@ -1,17 +1,17 @@
 """Pictures of a log: cycles and histograms as SVG, and a page that shows a whole run."""
 import json
 import pathlib
-import textwrap
 import xml.sax.saxutils as xml
 
-from fttlog_parts.rows import NoLog, TRIGGERS, duration, is_slot, length_of, listed, millis, opened, slots_of, some
-from fttlog_parts.words import verdict_told
+from fttlog_parts.rows import (NoLog, REPORT, TRIGGERS, duration, is_slot, length_of, listed, millis, opened,
+                               slots_of, some)
+from fttlog_parts.words import reported_told, verdict_told
 
 # Width of a letter of the font in parts of its size: wider than most.
 LETTER = 0.62
 LEFT, WIDE, RIGHT, HIGH, GAP, TOP = 90, 1000, 70, 34, 30, 44
-# So many letters of a sentence stand in a row of the page.
-TEXT = 150
+# At most so many bars of a histogram, none wider than this, and the histogram's sizes.
+BARS, BAR_WIDE, BARS_WIDE, BARS_HIGH, BARS_GAP = 40, 60, 800, 80, 44
 COLOURS = (("trigger", "#9bf"), ("asynchronous frame", "#fb7"), ("synchronous frame", "#9d9"),
            ("synchronous window", "#ddd"))
 HEAD = ('<svg xmlns="http://www.w3.org/2000/svg" width="{0}" height="{1}" viewBox="0 0 {0} {1}" '
@@ -93,30 +93,41 @@ def svg(rows, words, names, put):
     put("</svg>\n")
 
 
+def drawn_histogram(y, name, values, shown, what):
+    """A histogram: the name of its frames, their values, how a value is shown, and what a value is."""
+    most = max(values, default=0)
+    step = max(1, -(-(most + 1) // BARS))
+    counts = [0] * (most // step + 1)
+    for value in values:
+        counts[max(0, value) // step] += 1
+    each = min(BARS_WIDE / len(counts), BAR_WIDE)
+    told = label(LEFT, y - 6, f"{name}: {some(len(values), 'frame')}, {what}")
+    told += f'<rect x="{LEFT}" y="{y}" width="{BARS_WIDE}" height="{BARS_HIGH}" fill="none" stroke="#888"/>\n'
+    for at, text in ((y + 8, some(max(counts), "frame")), (y + BARS_HIGH, "0")):
+        told += label(LEFT - 6 - width_of(text), at, text)
+    for place, count in enumerate(counts):
+        if count:
+            tall = count * BARS_HIGH / max(counts)
+            low, top = shown(place * step), shown(min(most, place * step + step - 1))
+            title = f"{low}: {count}" if low == top else f"{low} to {top}: {count}"
+            told += box(LEFT + place * each, y + BARS_HIGH - tall, each, tall, "#9d9", title)
+    # a bar of one value has its number below its middle, and one of several values has its least below its left end
+    free, last = 0, LEFT + (most / step + (step == 1) / 2) * each - width_of(shown(most), 8) / 2
+    for place in range(len(counts)):
+        text = shown(place * step)
+        x = LEFT + (place + (step == 1) / 2) * each - width_of(text, 8) / 2
+        if x >= free and x + width_of(text, 8) + 6 < last:
+            told += label(x, y + BARS_HIGH + 11, text, 8)
+            free = x + width_of(text, 8) + 14
+    return told + label(last, y + BARS_HIGH + 11, shown(most), 8)
+
+
 def histogram(pictures, put):
-    """Histograms, one under the other: of each its name, its values, how a value is shown, and the unit."""
-    bars, wide, high, gap = 40, 800, 80, 44
-    put(HEAD.format(LEFT + wide + RIGHT, TOP + len(pictures) * (high + gap)))
+    """Histograms, one under the other, each of a name, values, how a value is shown, and what a value is."""
+    put(HEAD.format(LEFT + BARS_WIDE + RIGHT, 24 + len(pictures) * (BARS_HIGH + BARS_GAP)))
     put("<title>Histograms</title>\n")
-    for row, (name, values, shown, unit) in enumerate(pictures):
-        y = 30 + row * (high + gap)
-        most = max(values, default=0)
-        step = max(1, -(-(most + 1) // bars))
-        counts = [0] * (most // step + 1)
-        for value in values:
-            counts[max(0, value) // step] += 1
-        each = wide / len(counts)
-        put(label(LEFT, y - 6, f"{name}: {some(len(values), 'frame')}, in {unit}"))
-        put(f'<rect x="{LEFT}" y="{y}" width="{wide}" height="{high}" fill="none" stroke="#888"/>\n')
-        put(label(4, y + 8, f"{max(counts)} frames"))
-        for place, count in enumerate(counts):
-            if count:
-                tall = count * high / max(counts)
-                low, top = shown(place * step), shown(min(most, place * step + step - 1))
-                title = f"{low}: {count}" if low == top else f"{low} to {top}: {count}"
-                put(box(LEFT + place * each, y + high - tall, each, tall, "#9d9", title))
-        put(label(LEFT, y + high + 11, shown(0), 8))
-        put(label(LEFT + wide - width_of(shown(most), 8), y + high + 11, shown(most), 8))
+    for row, picture in enumerate(pictures):
+        put(drawn_histogram(30 + row * (BARS_HIGH + BARS_GAP), *picture))
     put("</svg>\n")
 
 
@@ -129,11 +140,12 @@ def told_call(word, fields, names):
 
 
 def page_rows(rows, names):
-    """The rows of the page: texts for calls, and for cycles their number, window and frames."""
+    """The rows of the page: texts for calls and for rows of the report, and for cycles their number, window and
+    frames."""
     told = []
     for word, fields, _ in rows:
         if word in ("submit", "look"):
-            told += textwrap.wrap(told_call(word, fields, names), TEXT, subsequent_indent="    ")
+            told.append(told_call(word, fields, names))
         elif word == "plan":
             went = listed([names.of_slot(slot) for slot in slots_of(fields[1])])
             told.append(f"    would send in cycle {fields[0]}: {went}")
@@ -141,6 +153,8 @@ def page_rows(rows, names):
             told.append([int(fields[0]), int(fields[2]), []])
         elif word == "frame" and told and isinstance(told[-1], list):
             told[-1][2].append([int(fields[0]), int(fields[1]), int(fields[2], 16), fields[3]])
+        elif word in REPORT:
+            told.append(reported_told(word, fields, names))
     return told
 
 
@@ -148,12 +162,12 @@ def html(rows, words, names, put):
     """One page of HTML that shows all of the log, needs no other file, and asks nobody for anything."""
     rows = list(rows)
     cycles = opened(rows)
-    length = words.cycle or (length_of(cycles) if cycles else 1)
+    length = words.cycle or (length_of(cycles) if cycles else None)
     told = page_rows(rows, names)
     called = {frame[2]: names.of(frame[2]) for row in told if isinstance(row, list) for frame in row[2]}
     data = {"length": length, "kbits": None if words.kbits is None else float(words.kbits), "rows": told,
             "names": called, "own": {key: names.own(key) for key in called if names.own(key)},
-            "colours": [fill for _, fill in COLOURS]}
+            "kinds": [kind for kind, _ in COLOURS], "colours": [fill for _, fill in COLOURS]}
     page = pathlib.Path(__file__).with_name("page.html").read_text(encoding="utf-8")
     # no text of the data can end the element in which it stands
     text = json.dumps(data, separators=(",", ":")).replace("<", "\\u003c")

@@ -136,11 +136,12 @@ def shown_by(kbits):
 def asynchronous(rows, words, names, end):
     """The table of latencies, and what is needed for their histograms."""
     unit, shown, lines, pictures = "bit times" if words.kbits is None else "ms", shown_by(words.kbits), [], []
+    what = "from the request to the end of the frame"
     for identifier, (values, waiting, later) in latencies_of(rows, words.requests, end).items():
         lines.append([names.of(identifier), str(len(values)), *statistics(values, shown), str(waiting), str(later)])
-        pictures.append((names.of(identifier), values, shown, unit))
+        pictures.append((names.of(identifier), values, shown, f"{what}, in {unit}"))
     head = ["identifier", "sent", "least", "mean", *PERCENTS, "greatest", "waiting", "later"]
-    told = f"asynchronous frames, from the request to the end of the frame, in {unit}\n" + table(head, lines)
+    told = f"asynchronous frames, {what}, in {unit}\n" + table(head, lines)
     told += "waiting: requests that were not sent by the end of the run; later: those that arrive behind it\n"
     return told, pictures
 
@@ -148,11 +149,12 @@ def asynchronous(rows, words, names, end):
 def synchronous(rows, words, names):
     """The table of delays, and what is needed for their histograms."""
     lines, pictures, shown = [], [], shown_by(None)
+    what = "from the release to the cycle that sends them, in cycles"
     for identifier, values in sorted(delays_of(rows, words.steps).items()):
         lines.append([names.of(identifier), str(len(values)), *statistics(values, shown)])
-        pictures.append((names.of(identifier), values, shown, "cycles"))
+        pictures.append((names.of(identifier), values, shown, what))
     head = ["message", "sent", "least", "mean", *PERCENTS, "greatest"]
-    told = "synchronous frames, from the release to the cycle that sends them, in cycles\n" + table(head, lines)
+    told = f"synchronous frames, {what}\n" + table(head, lines)
     return told, pictures
 
 

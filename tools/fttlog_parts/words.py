@@ -61,6 +61,30 @@ def verdict_told(origin, verdict, fields, names):
             f"end of cycle {cycle}. Nothing is changed. The plan that was made before cycle {origin}:")
 
 
+def reported_told(word, fields, names):
+    """What a row behind the row `end` says, as a sentence: one of the report, or of requests that ride on slots."""
+    if word == "entry":
+        slot, origin, instances, least, greatest = fields
+        late = ""
+        if least is not None:
+            spread = greatest if least == greatest else f"{least} to {greatest}"
+            late = f", {spread} cycle{'' if spread == '1' else 's'} after the release"
+        name = names.of_slot(int(slot)).replace("slot", "Slot", 1)
+        return f"{name}, the entry from cycle {origin} on: {some(instances, 'instance')} sent{late}."
+    if word == "async":
+        return (f"{names.of(int(fields[0], 16))}: {some(fields[1], 'frame')} sent, {some(fields[2], 'request')} left. "
+                "A request after the end of the run counts as left.")
+    if word == "ride":
+        slot, number, release, cycle = fields
+        return (f"Request {number} of the streams rides on {names.of_slot(int(slot))}: released in cycle {release}, "
+                f"sent in cycle {cycle}.")
+    if word == "waits":
+        return f"Request {fields[1]} of the streams waits still for {names.of_slot(int(fields[0]))}."
+    least, greatest, total = fields
+    spread = "" if least is None else f", {least} to {greatest} in a cycle"
+    return f"Synchronous windows: {some(total, 'bit time')} together{spread}."
+
+
 class Teller:
     """Puts the sentences of a log, wrapped, with what belongs below a sentence behind a margin."""
 
@@ -126,28 +150,8 @@ class Teller:
             self.missed = [int(field) for field in rest]
 
     def reported(self, word, fields):
-        """Tells a row of the report."""
-        if word == "entry":
-            slot, origin, instances, least, greatest = fields
-            late = ""
-            if least is not None:
-                spread = greatest if least == greatest else f"{least} to {greatest}"
-                late = f", {spread} cycle{'' if spread == '1' else 's'} after the release"
-            self.line(f"{self.names.of_slot(int(slot)).capitalize()}, the entry from cycle {origin} on: "
-                      f"{some(instances, 'instance')} sent{late}.")
-        elif word == "async":
-            self.line(f"{self.names.of(int(fields[0], 16))}: {some(fields[1], 'frame')} sent, "
-                      f"{some(fields[2], 'request')} left. A request after the end of the run counts as left.")
-        elif word == "ride":
-            slot, number, release, cycle = fields
-            self.line(f"Request {number} of the streams rides on {self.names.of_slot(int(slot))}: released in cycle "
-                      f"{release}, sent in cycle {cycle}.")
-        elif word == "waits":
-            self.line(f"Request {fields[1]} of the streams waits still for {self.names.of_slot(int(fields[0]))}.")
-        else:
-            least, greatest, total = fields
-            spread = "" if least is None else f", {least} to {greatest} in a cycle"
-            self.line(f"Synchronous windows: {some(total, 'bit time')} together{spread}.")
+        """Tells a row behind the row `end`."""
+        self.line(reported_told(word, fields, self.names))
 
     def row(self, word, fields, place):
         """Takes the next row of the log."""

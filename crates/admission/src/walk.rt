@@ -79,7 +79,8 @@ impl Keyed for PlanWalk {
 
     ghost key_of = { λ walk state. key_in_period walk.bound walk.period state };
 
-    /// Places are counted down to the end of the period: their keys fall, and a map finds a least key soonest.
+    /// Places are counted down to the end of the period: a row of places is as long as the period from the first one on
+    /// where the walk begins a period, and a map finds a least key soonest.
     fn key(&self, state: &PlanState) -> Option<(u128, u64)> {
         let period = self.period?;
         let settled = self.bound <= state.cycle;

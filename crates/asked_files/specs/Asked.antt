@@ -14,7 +14,9 @@ use Rattle.steps_file.specs.declared.steps.Step.{Step}
 use Rattle.system_file.specs.declared.system.System.{System}
 use Rattle.elastic.specs.WishesFile.{wish_of}
 use Rattle.elastic.specs.declared.wish.Wish.{Wish}
-use Rattle.command_words.specs.Words.{Command, RunWords, admit, audit, check, command_of, elastic, generate, handover, live_of, replay}
+use Rattle.sporadic_poll.specs.StreamsFile.{streams_of}
+use Rattle.sporadic_poll.specs.declared.stream.Stream.{Stream}
+use Rattle.command_words.specs.Words.{Command, RunWords, admit, audit, check, command_of, elastic, generate, handover, live_of, poll, replay}
 use Rattle.asked_files.specs.declared.stopping.Refusal.{Refusal}
 use Rattle.asked_files.specs.declared.stopping.Source.{Source}
 use Rattle.asked_files.specs.declared.stopping.Stop.{Stop}
@@ -28,8 +30,8 @@ pub record JobView : Type 0 where
 
 -- what is asked for: the log of a run or so many of its last rows, and the report behind it or not; the plan of the
 -- table behind the steps; the check of a plan; the summary of the run of the input that a number makes; what is chosen
--- of a wish behind the steps; the log of a run by threads, and the report behind it or not; or the audit of the text of
--- a log
+-- of a wish behind the steps; the log of a run by threads, and the report behind it or not; the audit of the text of a
+-- log; or the log of a run whose polled slots carry requests, and what became of each request
 pub data Asked : Type 0 where
   log_of : JobView → Option ℕ → Bool → Asked
   summary_of : ℕ → Asked
@@ -38,6 +40,7 @@ pub data Asked : Type 0 where
   choice_of : JobView → Wish → Asked
   live_log_of : JobView → Bool → Asked
   audit_of : JobView → List ℕ → Asked
+  poll_of : JobView → List Stream → Asked
 
 -- the greatest number of bytes of a file
 abbrev pub limit_of : Source → ℕ
@@ -47,6 +50,7 @@ limit_of Source.Requests = 4194304
 limit_of Source.Plan = 4194304
 limit_of Source.Wishes = 4194304
 limit_of Source.Log = 134217728
+limit_of Source.Streams = 4194304
 
 infixl 10 ◌>>=◌
 -- what the second gives for the value of the first; the first that stops decides
@@ -82,6 +86,11 @@ requests_in files (Some name) owners =
 -- the wish in the file of this name
 abbrev pub wish_in : NamedFiles → List ℕ → Result Wish Stop
 wish_in files name = within_limit Source.Wishes (files name) >>= λ bytes. meant Refusal.Wishes (wish_of bytes)
+
+-- the requests of polled slots in the file of this name, where there are so many slots
+abbrev pub streams_in : NamedFiles → List ℕ → ℕ → Result (List Stream) Stop
+streams_in files name slots =
+    within_limit Source.Streams (files name) >>= λ bytes. meant Refusal.Streams (streams_of slots bytes)
 
 -- the run that files of these names ask for: first the system's file and its text, then the steps', then the requests'
 abbrev pub job_in : NamedFiles → List ℕ → List ℕ → Option (List ℕ) → Result JobView Stop
@@ -129,7 +138,7 @@ abbrev pub IsCheckOf : NamedFiles → List ℕ → Result JobView Stop → Resul
 IsCheckOf files name (Ok job) asked_for = IsCheckAsked files name job asked_for
 IsCheckOf files name (Err why) asked_for = asked_for ≡ Err why
 
--- a text is that of rows of a log
+-- the records of a text are those of rows of a log
 abbrev pub IsLogText : List ℕ → Type 0
 IsLogText text = (rows : List LogRow) × AreRowsOf text rows
 
@@ -175,6 +184,9 @@ IsAskedOf files (handover system steps at requests) asked_for = asked_for
     ≡ (job_in files system steps requests >>= λ job. Ok (log_of job None false))
 IsAskedOf files (audit system steps log requests) asked_for =
     IsAuditOf files log requests (job_in files system steps None) asked_for
+IsAskedOf files (poll system steps streams) asked_for = asked_for
+    ≡ (job_in files system steps None >>= λ job. streams_in files streams job.system.rules.slots >>= λ streams.
+    Ok (poll_of job streams))
 
 abbrev pub IsAskedBy : NamedFiles → Option Command → Result Asked Stop → Type 0
 IsAskedBy files None asked_for = asked_for ≡ Err Words

@@ -12,13 +12,14 @@ use Rattle.plan_check.specs.PlanText.{IsReadable}
 use Rattle.elastic.specs.Combination.{HasFewChoices}
 use Rattle.elastic.specs.WishesFile.{IsLegalWish}
 use Rattle.elastic.specs.declared.wish.Wish.{Wish}
+use Rattle.sporadic_poll.specs.StreamsFile.{AreLegal as AreLegalStreams}
 use Rattle.command_words.specs.declared.words.WordsFault.{WordsFault}
 use Rattle.command_words.specs.declared.words.WordsFault.TheVariants as words
 use Rattle.asked_files.specs.declared.loading.Task.{Task}
-use Rattle.asked_files.specs.declared.loading.Task.TheVariants.{Log, Tail, Table, Check, Summary, Choice, Handover, Audit}
+use Rattle.asked_files.specs.declared.loading.Task.TheVariants.{Log, Tail, Table, Check, Summary, Choice, Handover, Audit, Poll}
 use Rattle.asked_files.specs.declared.stopping.Stop.{Stop}
 use Rattle.asked_files.specs.declared.stopping.Stop.TheVariants.{Words, Input, Read, Write, Memory}
-use Rattle.asked_files.specs.Asked.{Asked, IsFromStart, IsLogText, JobView, audit_of, check_of, choice_of, log_of, plan_of, summary_of}
+use Rattle.asked_files.specs.Asked.{Asked, IsFromStart, IsLogText, JobView, audit_of, check_of, choice_of, log_of, plan_of, poll_of, summary_of}
 
 -- what loading did to a shelf, by what it shows before and after: its files stay, so many fetches were made at most,
 -- and no count fell
@@ -71,6 +72,7 @@ asked_of (Summary number) = summary_of number
 asked_of (Choice job wish) = choice_of job wish
 asked_of (Handover job at) = log_of job None false
 asked_of (Audit job text) = audit_of job text.items
+asked_of (Poll job streams) = poll_of job streams.items
 
 -- what holds of each job
 pub record IsJob (job : JobView) : Type 0 where
@@ -99,3 +101,4 @@ IsTask (Summary number) = ⊤
 IsTask (Choice job wish) = IsJob job × IsToChoose wish
 IsTask (Handover job at) = IsJob job
 IsTask (Audit job text) = IsJob job × IsLogText text.items
+IsTask (Poll job streams) = IsJob job × AreLegalStreams job.system.rules.slots streams.items

@@ -5,6 +5,7 @@ use Rattle.system_file.specs.SystemText.{system_fault_line}
 use Rattle.steps_file.specs.StepText.{text_of as steps_line}
 use Rattle.requests_file.specs.RequestText.{text_of as requests_line}
 use Rattle.elastic.specs.WishText.{text_of as wishes_line}
+use Rattle.sporadic_poll.specs.StreamText.{text_of as streams_line}
 use Rattle.asked_files.specs.declared.stopping.Refusal.{Refusal}
 use Rattle.asked_files.specs.declared.stopping.Source.{Source}
 use Rattle.asked_files.specs.Asked.{limit_of}
@@ -17,6 +18,7 @@ source_word Source.Requests = codes "requests"
 source_word Source.Plan = codes "plan"
 source_word Source.Wishes = codes "wishes"
 source_word Source.Log = codes "log"
+source_word Source.Streams = codes "streams"
 
 -- the line for a file that is longer than its limit
 abbrev pub length_line : Source → List ℕ
@@ -32,3 +34,4 @@ refusal_line (Refusal.Plan line) = codes "plan: line " ++ decimal line ++ codes 
 refusal_line Refusal.LaterPlan = codes "plan: start\n"
 refusal_line (Refusal.Wishes fault) = wishes_line fault
 refusal_line (Refusal.Log number) = codes "log: row " ++ decimal number ++ codes "\n"
+refusal_line (Refusal.Streams fault) = streams_line fault

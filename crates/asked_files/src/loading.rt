@@ -6,9 +6,10 @@ ghost use Rattle.ftt_io.specs.Counts.{Rose};
 ghost use Rattle.system_file.specs.SystemFile.{IsSystem};
 ghost use Rattle.requests_file.specs.RequestsFile.{AreLegal};
 ghost use Rattle.steps_file.specs.StepsFile.{AreLegalSteps};
-ghost use Rattle.command_words.specs.Words.{admit, audit, check, command_of, elastic, file_count, files_named, handover, live_file_count, live_of, named, replay};
+ghost use Rattle.sporadic_poll.specs.StreamsFile.{AreLegal as AreLegalStreams};
+ghost use Rattle.command_words.specs.Words.{admit, audit, check, command_of, elastic, file_count, files_named, handover, live_file_count, live_of, named, poll, replay};
 ghost use Rattle.command_words.specs.WordsRead.{command_read, run_read};
-ghost use Rattle.asked_files.specs.Asked.{IsAsked, IsAskedOf, IsLiveAsked, IsLogIn, IsLogMeant, IsLogText, IsPlanIn, IsPlanMeant, job_in, live_log_of, requests_in, steps_in, system_in, wish_in, within_limit};
+ghost use Rattle.asked_files.specs.Asked.{IsAsked, IsAskedOf, IsLiveAsked, IsLogIn, IsLogMeant, IsLogText, IsPlanIn, IsPlanMeant, job_in, live_log_of, requests_in, steps_in, streams_in, system_in, wish_in, within_limit};
 ghost use Rattle.asked_files.specs.Loads.{Bars, Fetches, IsBarred, IsJob, IsRefusedFor, IsTask, IsToCheck, IsToChoose, asked_of};
 
 use crate::runs::Job;
@@ -21,6 +22,7 @@ use ftt_io::{FetchFault, Shelf};
 use plan_check::{Certificate, PlanTextFault, read_plan};
 use requests_file::{RequestFault, read_requests};
 use requirement_table::Mask;
+use sporadic_poll::{Stream, StreamFault, read_streams};
 use std::alloc::Global;
 use steps_file::{Step, StepFault, read_steps};
 use system_file::{System, SystemFault, read_system};
@@ -44,6 +46,8 @@ pub enum Task {
     Handover(Job, u16),
     /// To say of the text of a log whether it can be that of the run.
     Audit(Job, Vec<u8>),
+    /// To write the log of the run, with these requests in the frames of polled slots, and what became of each.
+    Poll(Job, Vec<Stream>),
 }
 
 /// A run by threads that is to be done.
@@ -328,7 +332,7 @@ fn load_handover<S: Shelf>(
     Ok(Task::Handover(job, at))
 }
 
-/// The bytes, where they are the text of rows of a log.
+/// The bytes, where their records are those of rows of a log.
 fn log_in(alloc: Global, bytes: Vec<u8>) -> Result<Vec<u8>, Stop>
     ensures text { IfOk result (λ text. IsLogText text.items) }
     ensures ok { IfOk result (λ text. IsLogMeant bytes.items (Ok text.items)) }
@@ -341,7 +345,7 @@ fn log_in(alloc: Global, bytes: Vec<u8>) -> Result<Vec<u8>, Stop>
     }
 }
 
-/// Fetches the log file, and sees that its text is that of rows of a log.
+/// Fetches the log file, and sees that its records are those of rows of a log.
 fn load_log<S: Shelf>(alloc: Global, shelf: &mut S, name: &str) -> Result<Vec<u8>, Stop>
     ensures fetched { Fetches S.told_files S.fetches S.faults shelf.old shelf.new 1 }
     ensures text { IfOk result (λ text. IsLogText text.items) }
@@ -380,6 +384,49 @@ fn load_audit<S: Shelf>(
     Ok(Task::Audit(job.with_requests(requests), text))
 }
 
+/// Fetches and reads the streams file, where there are so many slots.
+fn load_streams<S: Shelf>(
+    alloc: Global,
+    shelf: &mut S,
+    name: &str,
+    slots: u8,
+) -> Result<Vec<Stream>, Stop>
+    ensures fetched { Fetches S.told_files S.fetches S.faults shelf.old shelf.new 1 }
+    ensures valid { IfOk result (λ streams. AreLegalStreams slots streams.items) }
+    ensures ok { IfOk result (λ streams. ForSome (S.told_files shelf.old)
+        (λ files. streams_in files name.now slots ≡ Ok streams.items)) }
+    ensures stop { IfErr result (Bars S.told_files S.faults shelf.old shelf.new
+        (λ files read. read ≡ streams_in files name.now slots)) }
+{
+    let bytes = fetch_file(alloc, shelf, Source::Streams, name)?;
+    match read_streams(alloc, bytes.as_slice(), slots) {
+        Ok(streams) => Ok(streams),
+        Err(StreamFault::Memory) => Err(Stop::Memory),
+        Err(fault) => Err(Stop::Input(Refusal::Streams(fault))),
+    }
+}
+
+/// The run that `poll` asks for: behind the steps' file and its text come those of the streams.
+fn load_poll<S: Shelf>(
+    alloc: Global,
+    shelf: &mut S,
+    system_name: &str,
+    steps_name: &str,
+    streams_name: &str,
+) -> Result<Task, Stop>
+    ensures fetched { Fetches S.told_files S.fetches S.faults shelf.old shelf.new 3 }
+    ensures task { IfOk result IsTask }
+    ensures ok { IfOk result (λ task. ForSome (S.told_files shelf.old)
+        (λ files. IsAskedOf files (poll system_name.now steps_name.now streams_name.now) (Ok (asked_of task)))) }
+    ensures stop { IfErr result (Bars S.told_files S.faults shelf.old shelf.new
+        (λ files asked_for. IsAskedOf files (poll system_name.now steps_name.now streams_name.now) asked_for)) }
+{
+    let job = load_job(alloc, shelf, system_name, steps_name, None)?;
+    let slots = job.system().rules.slots;
+    let streams = load_streams(alloc, shelf, streams_name, slots)?;
+    Ok(Task::Poll(job, streams))
+}
+
 /// The task that a command asks for.
 fn load_command<S: Shelf>(alloc: Global, shelf: &mut S, command: Command<'_>) -> Result<Task, Stop>
     ensures fetched { Fetches S.told_files S.fetches S.faults shelf.old shelf.new
@@ -416,6 +463,11 @@ fn load_command<S: Shelf>(alloc: Global, shelf: &mut S, command: Command<'_>) ->
             log,
             requests,
         } => load_audit(alloc, shelf, system, steps, log, requests),
+        Command::Poll {
+            system,
+            steps,
+            streams,
+        } => load_poll(alloc, shelf, system, steps, streams),
     }
 }
 

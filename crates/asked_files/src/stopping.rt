@@ -7,6 +7,7 @@ ghost use Rattle.asked_files.specs.Refusals.{length_line, refusal_line, source_w
 use command_words::WordsFault;
 use elastic::WishFault;
 use requests_file::RequestFault;
+use sporadic_poll::StreamFault;
 use std::alloc::{AllocError, Global};
 use steps_file::StepFault;
 use system_file::SystemFault;
@@ -20,6 +21,7 @@ pub enum Source {
     Plan,
     Wishes,
     Log,
+    Streams,
 }
 
 /// Why a file is refused.
@@ -41,6 +43,8 @@ pub enum Refusal {
     Wishes(WishFault),
     /// The row of this number, counted from 1, is the first of the log that has none of the forms.
     Log(u64),
+    /// The text of the streams file breaks a rule of its format.
+    Streams(StreamFault),
 }
 
 /// Why a call stopped before it was done.
@@ -84,6 +88,7 @@ impl Source {
             Source::Plan => 4_194_304,
             Source::Wishes => 4_194_304,
             Source::Log => 134_217_728,
+            Source::Streams => 4_194_304,
         }
     }
 
@@ -98,6 +103,7 @@ impl Source {
             Source::Plan => "plan",
             Source::Wishes => "wishes",
             Source::Log => "log",
+            Source::Streams => "streams",
         }
     }
 }
@@ -126,6 +132,7 @@ impl Refusal {
             Refusal::Requests(fault) => fault.message(alloc),
             Refusal::Wishes(fault) => fault.message(alloc),
             Refusal::Log(number) => format!(in alloc; "log: row {number}\n"),
+            Refusal::Streams(fault) => fault.message(alloc),
         }
     }
 }

@@ -36,4 +36,8 @@ impl Sink for Gathered {
         }
         Ok(piece.len())
     }
+
+    fn pass_on(&mut self) -> Result<(), Failed> {
+        Ok(())
+    }
 }

@@ -25,4 +25,5 @@ pub use log_reader::LogReader;
 pub use log_reading::{check_log, read_log};
 pub use recent::{Recent, push_rows, row_len};
 pub use row::{LogRow, LogVerdict};
+pub use rows::until_of;
 pub use streaming::{event_rows, put_end_row, put_event_rows};

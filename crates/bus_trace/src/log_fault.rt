@@ -6,10 +6,10 @@ use thiserror::Error;
 /// Why no log was read.
 #[derive(Clone, Copy, PartialEq, Eq, Debug, Error)]
 pub enum LogFault {
-    /// The text is not that of rows of a log.
+    /// The fields of some record of the text are those of no row.
     #[error("row {number}")]
     Row {
-        /// The first row, from 1, that has none of the forms. A last row may do without its line feed.
+        /// The number of the first such record, from 1.
         number: u64,
     },
     /// There was no memory for the rows.

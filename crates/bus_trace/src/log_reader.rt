@@ -55,7 +55,7 @@ impl<'a> LogReader<'a> {
     ///
     /// # Errors
     ///
-    /// `Row` where the next record has none of the forms, or `Memory`. No row is to be read behind an error.
+    /// `Row` where the fields of the next record are those of no row, or `Memory`. No row is to be read behind an error.
     pub fn next_row(&mut self) -> Result<Option<LogRow>, LogFault>
         ensures more { IfOk result (λ found. IfSome found (λ row. (bytes : List ℕ) (rows : List LogRow)
             → IsBehind bytes self.old rows → ReadsRow bytes self.old self.new rows row)) }

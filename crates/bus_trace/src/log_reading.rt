@@ -20,7 +20,7 @@ use std::alloc::Global;
 ///
 /// # Errors
 ///
-/// The first row that has none of the forms, or want of memory.
+/// The first record whose fields are those of no row, or want of memory.
 pub fn read_log(alloc: Global, bytes: &[u8]) -> Result<Vec<LogRow>, LogFault>
     ensures rows { IfOk result (λ rows. All IsLogRow rows.items) }
     ensures fields { IfOk result (λ rows. records_of bytes.now ≡ map fields_of_row rows.items) }
@@ -40,11 +40,11 @@ pub fn read_log(alloc: Global, bytes: &[u8]) -> Result<Vec<LogRow>, LogFault>
     Ok(rows)
 }
 
-/// Whether a text is a log. It keeps one record at a time, and no row.
+/// Whether the records of a text are those of rows of a log. It keeps one record at a time, and no row.
 ///
 /// # Errors
 ///
-/// The first row that has none of the forms, or want of memory.
+/// The first record whose fields are those of no row, or want of memory.
 pub fn check_log(alloc: Global, bytes: &[u8]) -> Result<(), LogFault>
     ensures rows { OnOk result ((rows : List LogRow) × AreRowsOf bytes.now rows) }
     ensures complete { (rows : List LogRow) → AreRowsOf bytes.now rows → IfErr result (λ fault. fault ≡ Memory) }

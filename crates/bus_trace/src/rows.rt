@@ -19,7 +19,7 @@ use text_fields::{
 };
 
 /// The cycle that the reason of a refusal names, where it names one.
-fn until_of(why: &Why) -> Option<u64>
+pub fn until_of(why: &Why) -> Option<u64>
     ensures until { result ≡ until_of why.now }
     ensures in_range { IfSome (until_of why.now) (λ cycle. cycle < 2 ^ 64) }
 {

@@ -13,7 +13,7 @@ use Rattle.clap.specs.Walk.{Text}
 use Rattle.clap.proofs.WalkLemmas.{both}
 use Rattle.clap.specs.Words.{is_simple_and_free}
 use Rattle.clap.proofs.OnLiterals.{clap_on_literals}
-use Rattle.command_words.specs.Words.{admit_app, audit_app, check_app, elastic_app, generate_app, handover_app, live_app, number_in, replay_app}
+use Rattle.command_words.specs.Words.{admit_app, audit_app, check_app, elastic_app, generate_app, handover_app, live_app, number_in, poll_app, replay_app}
 
 is_true : {E : Type 0} (G : Text → Result Bool E → Type 0) (text : Text) (read : Option Bool)
     → ((t : Text) (x : Result Bool E) → G t x → ParsesBool t x) → ReadsOne G text read → unwrap_or read false ≡ bytes_eq text (codes "true")
@@ -100,6 +100,10 @@ handover_is_simple = refl
 pub audit_is_simple : is_simple_and_free audit_app ≡ true
 unfolding clap_on_literals audit_app
 audit_is_simple = refl
+
+pub poll_is_simple : is_simple_and_free poll_app ≡ true
+unfolding clap_on_literals poll_app
+poll_is_simple = refl
 
 pub live_is_simple : is_simple_and_free live_app ≡ true
 unfolding clap_on_literals live_app

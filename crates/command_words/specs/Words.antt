@@ -22,7 +22,8 @@ pub record RunWords : Type 0 where
 
 -- a command: a replay, of which only the last rows of the log may be asked for; the plan of the table behind steps; the
 -- check of a plan; the run of the input that a number makes; the choice of periods behind steps; a replay whose master
--- is replaced by its standby after so many opened cycles; or the audit of a log of steps
+-- is replaced by its standby after so many opened cycles; the audit of a log of steps; or a run without asynchronous
+-- requests whose polled slots carry the requests of a streams file
 pub data Command : Type 0 where
   replay : RunWords → Option ℕ → Command
   admit : Text → Text → Command
@@ -31,6 +32,7 @@ pub data Command : Type 0 where
   elastic : Text → Text → Text → Command
   handover : Text → Text → ℕ → Option Text → Command
   audit : Text → Text → Text → Option Text → Command
+  poll : Text → Text → Text → Command
 
 -- The table of commands, as clap is told it
 
@@ -91,6 +93,10 @@ handover_app =
 unfoldable pub audit_app : App
 audit_app = with_rule (with_rule (files_app (codes "audit")) (needed (codes "log"))) (optional (codes "requests"))
 
+-- `poll SYSTEM STEPS STREAMS`
+unfoldable pub poll_app : App
+poll_app = with_rule (files_app (codes "poll")) (needed (codes "streams"))
+
 -- `live SYSTEM STEPS [REQUESTS] [--report]`
 unfoldable pub live_app : App
 live_app = run_app (codes "live")
@@ -149,6 +155,9 @@ audit_meant rows =
     audit (word_of (codes "system") rows) (word_of (codes "steps") rows) (word_of (codes "log") rows)
     (first_of (codes "requests") rows)
 
+abbrev pub poll_meant : List Row → Command
+poll_meant rows = poll (word_of (codes "system") rows) (word_of (codes "steps") rows) (word_of (codes "streams") rows)
+
 -- what the words mean, where clap's command takes them
 abbrev pub taken_by : {A : Type 0} → App → (List Row → A) → List Text → Option A
 taken_by app meaning words = if is_empty (fault_of app words) then Some (meaning (matches_of app words)) else None
@@ -163,6 +172,7 @@ command_named name words =
     else if bytes_eq name (codes "elastic") then taken_by elastic_app elastic_meant words
     else if bytes_eq name (codes "handover") then taken_by handover_app handover_meant words
     else if bytes_eq name (codes "audit") then taken_by audit_app audit_meant words
+    else if bytes_eq name (codes "poll") then taken_by poll_app poll_meant words
     else None
 
 -- the command that the words ask for; `None` where they are in no row of the table of commands
@@ -194,6 +204,7 @@ files_named (Some (generate number)) = 0
 files_named (Some (elastic system steps wishes)) = 3
 files_named (Some (handover system steps at requests)) = 2 + named requests
 files_named (Some (audit system steps log requests)) = 3 + named requests
+files_named (Some (poll system steps streams)) = 3
 
 -- the number of files that the words name
 abbrev pub file_count : List Text → ℕ

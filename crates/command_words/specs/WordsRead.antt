@@ -1,11 +1,11 @@
 -- What the words of a call name, read off the code's own types.
 use Rattle.std.specs.Prelude.{◌≡◌, ◌⊎◌, Option, None, option_map}
 use Rattle.command_words.specs.declared.words.Command.{Command as NamedCommand}
-use Rattle.command_words.specs.declared.words.Command.TheVariants.{Replay, Admit, Check, Generate, Elastic, Handover, Audit}
+use Rattle.command_words.specs.declared.words.Command.TheVariants.{Replay, Admit, Check, Generate, Elastic, Handover, Audit, Poll}
 use Rattle.command_words.specs.declared.words.RunWords.{RunWords as NamedRun}
 use Rattle.command_words.specs.declared.words.WordsFault.{WordsFault}
 use Rattle.command_words.specs.declared.words.WordsFault.TheVariants.{NoCommand, Memory}
-use Rattle.command_words.specs.Words.{Command, RunWords, replay, admit, check, generate, elastic, handover, audit}
+use Rattle.command_words.specs.Words.{Command, RunWords, replay, admit, check, generate, elastic, handover, audit, poll}
 
 abbrev pub run_read : NamedRun → RunWords
 run_read run = record {
@@ -25,6 +25,7 @@ command_read (Handover system steps at requests) =
     handover system.now steps.now at (option_map (λ word. word.now) requests)
 command_read (Audit system steps log requests) =
     audit system.now steps.now log.now (option_map (λ word. word.now) requests)
+command_read (Poll system steps streams) = poll system.now steps.now streams.now
 
 -- the words ask for nothing, where this is what they ask for; memory may run out at any time
 abbrev pub ExplainsWords : {A : Type 0} → Option A → WordsFault → Type 0

@@ -2,7 +2,7 @@
 
 ghost use Rattle.std.specs.Prelude.{◌≡◌, false, IfOk, codes};
 ghost use Rattle.clap.specs.Words.{app_of, rule_of};
-ghost use Rattle.command_words.specs.Words.{admit_app, audit_app, check_app, counted_option, elastic_app, files_app, flag, generate_app, handover_app, live_app, needed, number_up_to, optional, replay_app, run_app};
+ghost use Rattle.command_words.specs.Words.{admit_app, audit_app, check_app, counted_option, elastic_app, files_app, flag, generate_app, handover_app, live_app, needed, number_up_to, optional, poll_app, replay_app, run_app};
 
 use clap::{Arg, ArgAction, Command, value_parser};
 use std::alloc::{AllocError, Global};
@@ -137,6 +137,14 @@ pub fn audit_command<'a>(alloc: Global) -> Result<Command<'a>, AllocError>
     files_command(alloc, "audit")?
         .arg(needed(alloc, "log"))?
         .arg(optional(alloc, "requests"))
+}
+
+/// `poll SYSTEM STEPS STREAMS`.
+#[tactic(auto, unfolding(crate::specs::Words::poll_app))]
+pub fn poll_command<'a>(alloc: Global) -> Result<Command<'a>, AllocError>
+    ensures app { IfOk result (λ command. app_of command ≡ poll_app) }
+{
+    files_command(alloc, "poll")?.arg(needed(alloc, "streams"))
 }
 
 /// `live SYSTEM STEPS [REQUESTS] [--report]`.

@@ -2,12 +2,12 @@
 
 ghost use Rattle.std.specs.Prelude.{◌≡◌, ◌⊎◌, codes, unwrap_or, [], Some, true, IfOk, IfErr, map, option_map, string_bytes};
 ghost use Rattle.clap.specs.Words.{fault_of, app_of, first_of, found_of, is_simple_and_free, matches_of, rows_of};
-ghost use Rattle.command_words.specs.Words.{admit_app, admit_meant, audit_app, audit_meant, check_app, check_meant, command_of, elastic_app, elastic_meant, generate_app, generate_meant, handover_app, handover_meant, is_set, live_app, live_of, number_of, replay_app, replay_meant, run_meant, taken_by, word_of};
+ghost use Rattle.command_words.specs.Words.{admit_app, admit_meant, audit_app, audit_meant, check_app, check_meant, command_of, elastic_app, elastic_meant, generate_app, generate_meant, handover_app, handover_meant, is_set, live_app, live_of, number_of, poll_app, poll_meant, replay_app, replay_meant, run_meant, taken_by, word_of};
 ghost use Rattle.command_words.specs.WordsRead.{ExplainsWords, run_read, command_read};
 
 use crate::arguments::{
     admit_command, audit_command, check_command, elastic_command, generate_command,
-    handover_command, live_command, replay_command,
+    handover_command, live_command, poll_command, replay_command,
 };
 use clap::ArgMatches;
 use clap::error::ErrorKind;
@@ -65,6 +65,13 @@ pub enum Command<'a> {
         steps: &'a str,
         log: &'a str,
         requests: Option<&'a str>,
+    },
+    /// To run the steps without asynchronous requests, with the requests of a streams file in the frames of polled
+    /// slots, and to write the log and what became of each request.
+    Poll {
+        system: &'a str,
+        steps: &'a str,
+        streams: &'a str,
     },
 }
 
@@ -271,6 +278,21 @@ fn audit_in(alloc: Global, words: &[String]) -> Result<Command<'_>, WordsFault>
     })
 }
 
+/// What the words of `poll` ask for.
+fn poll_in(alloc: Global, words: &[String]) -> Result<Command<'_>, WordsFault>
+    ensures ok { IfOk result (λ command. Some (command_read command)
+        ≡ taken_by poll_app poll_meant (map string_bytes words.now)) }
+    ensures stop { IfErr result (ExplainsWords (taken_by poll_app poll_meant (map string_bytes words.now))) }
+{
+    let command = poll_command(alloc)?;
+    let matches = parsed(command, words)?;
+    Ok(Command::Poll {
+        system: needed_word(&matches, "system"),
+        steps: needed_word(&matches, "steps"),
+        streams: needed_word(&matches, "streams"),
+    })
+}
+
 /// What the words ask for.
 pub fn command_in(alloc: Global, words: &[String]) -> Result<Command<'_>, WordsFault>
     ensures ok { IfOk result (λ command. Some (command_read command) ≡ command_of (map string_bytes words.now)) }
@@ -299,6 +321,9 @@ pub fn command_in(alloc: Global, words: &[String]) -> Result<Command<'_>, WordsF
     }
     if name.as_str() == "audit" {
         return audit_in(alloc, words);
+    }
+    if name.as_str() == "poll" {
+        return poll_in(alloc, words);
     }
     Err(WordsFault::NoCommand)
 }

@@ -9,7 +9,7 @@ use Rattle.can_frame.specs.DataFrame.{DataFrame}
 use Rattle.can_frame.specs.Wire.{wire_length}
 use Rattle.can_frame.specs.declared.data_frame.TimedFrame.{TimedFrame}
 use Rattle.cycle_layout.specs.Layout.{CycleLayout, IsLayout, trigger_part}
-use Rattle.requirement_table.specs.Instance.{worst}
+use Rattle.requirement_table.specs.Instance.{bytes_of, worst}
 use Rattle.requirement_table.specs.Table.{IsWellPlaced}
 use Rattle.async_window.specs.declared.request.Owner.{Owner}
 use Rattle.async_window.specs.declared.request.Request.{Request}
@@ -244,7 +244,7 @@ module _ (laws : NodeLaws) (layout : CycleLayout) (owners : List Owner) (request
       let late : start_of layout opening ≤ free_after (start_of layout opening) cut.sent = free_after-later (start_of layout opening) cut.sent cut.at_once in
       let behind = Follows-nodes laws layout owners requests opening are_owners well_placed (announcing layout opening nodes) cut.sent (past ++ cut.sent) (heard_by cut.sent nodes)
       (free_after (start_of layout opening) cut.sent) cut.later cut.now (Standing-trigger cut.sent cut.are cut.known) (NoTrigger-sent layout opening past cut.sent done) late cut.follows in
-      let all = Follows-left layout opening requests asynchronous past [] (trigger_frames layout opening) (start_of layout opening) (end_of_cycle layout opening) cut.sent cut.later left
+      let all = Follows-left layout opening bytes_of requests asynchronous past [] (trigger_frames layout opening) (start_of layout opening) (end_of_cycle layout opening) cut.sent cut.later left
       (omega arith) (omega (arith, long)) part (frames_short layout.slots opening.cycle (width_of opening) opening.mask laws.at_most) cut.are cut.at_once behind.0 in (
         subst (Follows (offered_in layout requests opening) past (start_of layout opening) (end_of_cycle layout opening)) (sym cut.split)
             (subst (λ front. Follows (offered_in layout requests opening) front (start_of layout opening) (end_of_cycle layout opening) (cut.sent ++ cut.later)) (append-nil past) all),

@@ -19,12 +19,12 @@ use Rattle.requirement_table.specs.Table.{instance_in, worst_in}
 use Rattle.requirement_table.proofs.Shared.{sum_where-same}
 use Rattle.async_window.specs.declared.request.Request.{Request}
 use Rattle.bus_line.specs.Trace.{end_of, Follows, IsNext, free_after}
-use Rattle.requirement_table.specs.Opening.{Opening, bytes_in, width_of}
+use Rattle.requirement_table.specs.Opening.{Opening, width_of}
 use Rattle.node_model.specs.Opening.{first_identifier, start_of, end_of_cycle, window_start}
-use Rattle.node_model.specs.Offered.{OffersRequest, OffersSlot, trigger_frames}
+use Rattle.node_model.specs.Offered.{OffersRequest, OffersSlotWith, bytes_sent, trigger_frames}
 use Rattle.node_model.specs.Own.{was_sent}
-use Rattle.cycle_engine.specs.Cycle.{IsRequestFrame, IsSentOnce, IsSlotFrame, RunsCycle, of_slot}
-use Rattle.cycle_engine.specs.Offered.{AreAsynchronous, offered_in}
+use Rattle.cycle_engine.specs.Cycle.{IsRequestFrame, IsSentOnceWith, IsSlotFrame, RunsCycleWith, of_slot}
+use Rattle.cycle_engine.specs.Offered.{AreAsynchronous, SendsWhole, offered_in_with}
 use Rattle.cycle_engine.proofs.Lists.{All-from_map}
 use Rattle.cycle_engine.proofs.OneTrace.{is_asynchronous, request_id}
 use Rattle.cycle_engine.proofs.TriggerFrames.{AreLeft-all, AtOnce, NoTrigger, NoTrigger-more, NoTrigger-sent, cut-left, few_frames, frames_long, frames_short, free_after-later, low_ids}
@@ -34,12 +34,6 @@ use Rattle.cycle_engine.proofs.SlotSums.{sum_where-member, sum_where-without}
 -- a frame that may come behind the trigger of its cycle
 abbrev pub IsLaterFrame : CycleLayout → Opening → TimedFrame → Type 0
 IsLaterFrame layout opening sent = IsRequestFrame layout opening sent ⊎ IsSlotFrame layout opening sent
-
--- these frames, after the frames `past`, send each pending slot once and no other slot
-record SendsPending (layout : CycleLayout) (opening : Opening) (past frames : List TimedFrame) : Type 0 where
-  each : (slot : ℕ) → slot < most_slots → is_pending layout opening past slot ≡ true → IsSentOnce layout opening frames slot
-  none : (slot : ℕ) → slot < most_slots → is_pending layout opening past slot ≡ false → of_slot slot frames ≡ []
-  all : AllByRecursion (IsLaterFrame layout opening) frames
 
 -- what a frame's wire takes
 pub record AreShort : Type 0 where
@@ -51,32 +45,6 @@ pub record IsFit (layout : CycleLayout) (opening : Opening) : Type 0 where
   pub short : AreShort
   pub present : (slot : ℕ) → slot < most_slots → contains_slot opening.mask slot ≡ true → (i : Instance) × (instance_in opening.placed slot opening.cycle ≡ Some i)
   pub room : start_of layout opening + trigger_part layout + width_of opening ≤ end_of_cycle layout opening
-
--- a pending slot is offered at any time in the window
-offers_pending : (layout : CycleLayout) (opening : Opening) (past : List TimedFrame) (slot at : ℕ) → IsFit layout opening
-    → slot < most_slots → is_pending layout opening past slot ≡ true → window_start layout opening ≤ at → at < end_of_cycle layout opening
-    → (frame : DataFrame) × OffersSlot layout opening past at frame slot
-offers_pending layout opening past slot at fit known pending late early =
-    let parts = and_parts (contains_slot opening.mask slot) _ pending in
-    let p = fit.present slot known parts.0 in (
-      record { identifier = first_identifier + slot; bytes = bytes_of p.0 },
-      record {
-        begun = (let room = fit.room in omega arith);
-        late_enough = late;
-        within = early;
-        known = known;
-        flagged = parts.0;
-        unsent = IsUnsent-from_test layout opening past slot (not-true _ parts.1);
-        identifier = refl;
-        bytes = ap (option_map bytes_of) p.1;
-      },
-    )
-
--- an offered slot is pending
-pending-offered : (layout : CycleLayout) (opening : Opening) (past : List TimedFrame) (at slot : ℕ) (frame : DataFrame)
-    → OffersSlot layout opening past at frame slot → is_pending layout opening past slot ≡ true
-pending-offered layout opening past at slot frame o =
-    and_from _ _ o.flagged (not_from_false _ (was_sent-from_unsent layout opening past slot o.unsent))
 
 -- a pending slot takes at least 55 bit times of the width
 pending_width-positive : (layout : CycleLayout) (opening : Opening) (past : List TimedFrame) (slot : ℕ) → IsFit layout opening
@@ -112,36 +80,8 @@ length-payload : (n k : ℕ) → length (payload n k) ≡ n
 length-payload zero k = refl
 length-payload (suc n) k = ap suc (length-payload n k)
 
--- what a slot costs, by the bytes that it sends
-cost-of : (o : Option Instance) (bytes : List ℕ) → option_map bytes_of o ≡ Some bytes → option_map_or worst_of o 0 ≡ worst (length bytes)
-cost-of None bytes is = absurd (none-some bytes is)
-cost-of (Some i) bytes is =
-    ap worst (sym (length-payload i.placed.entry.length i.number)) ∙ ap (λ b. worst (length b)) (same_Some (bytes_of i) bytes is)
-
--- the frame of a slot takes no more than the slot costs
-slot-in_time : (opening : Opening) (slot : ℕ) (frame : DataFrame) → AreShort → bytes_in opening slot ≡ Some frame.bytes → wire_length frame ≤ worst_in opening.placed opening.cycle slot
-slot-in_time opening slot frame short bytes =
-    let cost = cost-of (instance_in opening.placed slot opening.cycle) frame.bytes bytes in
-    let in_time = short.in_time frame in
-    omega arith
-
--- the next frame of the window starts as soon as the bus is free and the window has begun
-starts_now : (layout : CycleLayout) (requests : List Request) (opening : Opening) (past : List TimedFrame) (free now : ℕ) (sent : TimedFrame) (slot : ℕ)
-    → IsFit layout opening → free ≤ now → window_start layout opening ≤ now → (now ≡ free) ⊎ (now ≡ window_start layout opening)
-    → IsNext (offered_in layout requests opening) past free (end_of_cycle layout opening) sent
-    → OffersSlot layout opening past sent.start sent.frame slot → sent.start ≡ now
-starts_now layout requests opening past free now sent slot fit is_free in_window which next offer =
-    let no_later : sent.start ≤ now = elim (cases_lt now sent.start) [
-      | inl gap ↦
-          let pending = pending-offered layout opening past sent.start slot sent.frame offer in
-          let within = next.within in
-          let earlier = offers_pending layout opening past slot now fit offer.known pending in_window (omega arith) in
-          absurd (next.first now earlier.0 is_free gap (inr (inr (slot, earlier.1))))
-      | inr no_gap ↦ no_gap
-    ] in
-    let when_free = next.when_free in
-    let late_enough = offer.late_enough in
-    elim which [ inl e ↦ omega arith | inr e ↦ omega arith ]
+pub bytes_of-whole : SendsWhole bytes_of
+bytes_of-whole i = length-payload i.placed.entry.length i.number
 
 -- the frame of a request, and its time
 record RequestTimes (layout : CycleLayout) (opening : Opening) (at : ℕ) (frame : DataFrame) : Type 0 where
@@ -159,131 +99,12 @@ request_frame layout requests opening past at frame short asynchronous offer =
     subst (λ f. RequestTimes layout opening at f) (sym offer.its_frame)
     (record { identifier = least; after = offer.may_start.allowed.opened; before = omega arith })
 
--- the frame that starts now, and those after it
-joined : (layout : CycleLayout) (opening : Opening) (past : List TimedFrame) (sent : TimedFrame) (slot : ℕ) (later : List TimedFrame)
-    → OffersSlot layout opening past sent.start sent.frame slot → is_pending layout opening past slot ≡ true
-    → start_of layout opening ≤ sent.start → end_of sent ≤ end_of_cycle layout opening
-    → SendsPending layout opening (past ++ sent ∷ []) later → SendsPending layout opening past (sent ∷ later)
-joined layout opening past sent slot later offer pending late ends rest =
-    let sent_now = is_pending-sent layout opening past sent slot offer.identifier late in
-    record {
-      each = λ x known is_pending_x.
-          elim (cases_eq x slot) [
-            | inl e ↦ record {
-              sent = sent;
-              once = of_slot-same x sent later (offer.identifier ∙ ap (λ k. first_identifier + k) (sym e))
-                  ∙ ap (λ l. sent ∷ l) (subst (λ k. of_slot k later ≡ []) (sym e) (rest.none slot offer.known sent_now));
-              after = offer.late_enough;
-              within = offer.within;
-              before = ends;
-              carries = subst (λ k. bytes_in opening k ≡ Some sent.frame.bytes) (sym e) offer.bytes;
-            }
-            | inr ne ↦
-                let other : sent.frame.identifier ≡ first_identifier + x → ⊥ = λ same. ne (let is = offer.identifier in omega arith) in
-                let still : is_pending layout opening (past ++ sent ∷ []) x ≡ true = is_pending-other layout opening past sent x other ∙ is_pending_x in
-                let found = rest.each x known still in
-                record {
-                  sent = found.sent;
-                  once = of_slot-other x sent later other ∙ found.once;
-                  after = found.after;
-                  within = found.within;
-                  before = found.before;
-                  carries = found.carries;
-                }
-          ];
-      none = λ x known not_pending.
-          let other : sent.frame.identifier ≡ first_identifier + x → ⊥ =
-          λ same. let is : x ≡ slot = (let id = offer.identifier in omega arith) in both_ways _ not_pending (subst (λ k. is_pending layout opening past k ≡ true) (sym is) pending) in
-          of_slot-other x sent later other ∙ rest.none x known (is_pending-other layout opening past sent x other ∙ not_pending);
-      all = (
-        inr (record {
-          slot = slot;
-          known = offer.known;
-          flagged = offer.flagged;
-          identifier = offer.identifier;
-          after = offer.late_enough;
-          before = ends;
-        }),
-        rest.all,
-      );
-    }
-
--- an asynchronous frame, and those after it
-joined-asynchronous : (layout : CycleLayout) (opening : Opening) (past : List TimedFrame) (sent : TimedFrame) (later : List TimedFrame)
-    → IsRequestFrame layout opening sent → SendsPending layout opening (past ++ sent ∷ []) later → SendsPending layout opening past (sent ∷ later)
-joined-asynchronous layout opening past sent later frame rest =
-    let other : (x : ℕ) → x < most_slots → sent.frame.identifier ≡ first_identifier + x → ⊥ =
-    λ x known same. let least = frame.identifier in let all : most_slots ≡ 96 = refl in omega arith in
-    let same : (x : ℕ) → x < most_slots → is_pending layout opening (past ++ sent ∷ []) x ≡ is_pending layout opening past x =
-    λ x known. is_pending-other layout opening past sent x (other x known) in
-    record {
-      each = λ x known is_pending_x.
-          let found = rest.each x known (same x known ∙ is_pending_x) in
-          record {
-            sent = found.sent;
-            once = of_slot-other x sent later (other x known) ∙ found.once;
-            after = found.after;
-            within = found.within;
-            before = found.before;
-            carries = found.carries;
-          };
-      none = λ x known not_pending. of_slot-other x sent later (other x known) ∙ rest.none x known (same x known ∙ not_pending);
-      all = (inl frame, rest.all);
-    }
-
 -- an asynchronous frame leaves the pending slots as they are
 pending_width-other : (layout : CycleLayout) (opening : Opening) (past : List TimedFrame) (sent : TimedFrame) → 0x200 ≤ sent.frame.identifier
     → pending_width layout opening (past ++ sent ∷ []) ≡ pending_width layout opening past
 pending_width-other layout opening past sent least =
     sum_where-same most_slots (is_pending layout opening (past ++ sent ∷ [])) (is_pending layout opening past) (worst_in opening.placed opening.cycle)
     (λ x known. is_pending-other layout opening past sent x (λ same. let all : most_slots ≡ 96 = refl in omega arith))
-
--- the frames behind the trigger frames: from the time `now` on, at which the bus is free and the synchronous window has begun,
--- the pending slots have room until the cycle's end, and so each is sent by then
-sends_pending : (layout : CycleLayout) (requests : List Request) (opening : Opening) (past : List TimedFrame) (free now : ℕ) (frames : List TimedFrame)
-    → IsFit layout opening → AreAsynchronous requests → NoTrigger layout opening past → start_of layout opening ≤ free → free ≤ now → window_start layout opening ≤ now
-    → (now ≡ free) ⊎ (now ≡ window_start layout opening)
-    → now + pending_width layout opening past ≤ end_of_cycle layout opening
-    → Follows (offered_in layout requests opening) past free (end_of_cycle layout opening) frames
-    → SendsPending layout opening past frames
-sends_pending layout requests opening past free now [] fit asynchronous no_trigger begun is_free in_window which room nothing = record {
-  each = λ slot known pending.
-      let wide = pending_width-positive layout opening past slot fit known pending in
-      let offer = offers_pending layout opening past slot now fit known pending in_window (omega arith) in
-      absurd (nothing now offer.0 is_free (omega arith) (inr (inr (slot, offer.1))));
-  none = λ slot known not_pending. refl;
-  all = tt;
-}
-sends_pending layout requests opening past free now (sent ∷ later) fit asynchronous no_trigger begun is_free in_window which room follows =
-    let whole = follows.0.whole in
-    let some_time = fit.short.some_time sent.frame in
-    let later_start = follows.0.when_free in
-    elim follows.0.least.offered as (λ _. SendsPending layout opening past (sent ∷ later)) [
-      | inl trigger ↦ absurd (no_trigger sent.start sent.frame trigger)
-      | inr choice ↦ elim choice as (λ _. SendsPending layout opening past (sent ∷ later)) [
-        | inl request ↦
-            let frame = request_frame layout requests opening past sent.start sent.frame fit.short asynchronous request in
-            let before = frame.before in
-            let at_window : now ≡ window_start layout opening = elim which [ inl e ↦ absurd (omega arith) | inr e ↦ e ] in
-            let same = pending_width-other layout opening past sent frame.identifier in
-            let rest = sends_pending layout requests opening (past ++ sent ∷ []) (end_of sent) now later fit asynchronous
-            (NoTrigger-more layout opening past (sent ∷ []) no_trigger) (omega arith) (omega arith) in_window (inr at_window) (omega arith) follows.1 in
-            joined-asynchronous layout opening past sent later
-            (record { identifier = frame.identifier; after = frame.after; before = (let b = frame.before in omega arith) }) rest
-        | inr of_slot ↦
-            let slot : ℕ = of_slot.0 in
-            let offer : OffersSlot layout opening past sent.start sent.frame slot = of_slot.1 in
-            let pending = pending-offered layout opening past sent.start slot sent.frame offer in
-            let wide = pending_width-positive layout opening past slot fit offer.known pending in
-            let at_now : sent.start ≡ now = starts_now layout requests opening past free now sent slot fit is_free in_window which follows.0 offer in
-            let late : start_of layout opening ≤ sent.start = omega arith in
-            let less = pending_width-sent layout opening past sent slot offer.known pending offer.identifier late in
-            let in_time = slot-in_time opening slot sent.frame fit.short offer.bytes in
-            let rest = sends_pending layout requests opening (past ++ sent ∷ []) (end_of sent) (end_of sent) later fit asynchronous
-            (NoTrigger-more layout opening past (sent ∷ []) no_trigger) (omega arith) (omega arith) (omega arith) (inl refl) (omega arith) follows.1 in
-            joined layout opening past sent slot later offer pending late (omega arith) rest
-      ]
-    ]
 
 -- behind trigger frames that are sent first, a slot is pending where it is flagged
 is_pending-at_start : (layout : CycleLayout) (opening : Opening) (past sent : List TimedFrame) (slot : ℕ)
@@ -317,60 +138,244 @@ second-starts free sent (second ∷ third ∷ later) at_once few = absurd (omega
 of-sent : (P : DataFrame → Type 0) (sent : List TimedFrame) (frames : List DataFrame) → map (λ s. s.frame) sent ≡ frames → All P frames → All (λ s. P s.frame) sent
 of-sent P sent frames are all = All-from_map (λ s. s.frame) P sent (subst (All P) (sym are) all)
 
--- what a cycle sends, by its frames behind the trigger frames
-cycle-of : (layout : CycleLayout) (requests : List Request) (opening : Opening) (past frames : List TimedFrame) → IsFit layout opening → AreAsynchronous requests
-    → All (λ x. x.start < start_of layout opening) past
-    → (sent later : List TimedFrame) → frames ≡ sent ++ later → map (λ s. s.frame) sent ≡ trigger_frames layout opening → AtOnce (start_of layout opening) sent
-    → NoTrigger layout opening (past ++ sent)
-    → Follows (offered_in layout requests opening) (past ++ sent) (free_after (start_of layout opening) sent) (end_of_cycle layout opening) later
-    → RunsCycle layout opening frames
-cycle-of layout requests opening past frames fit asynchronous before [] later split are at_once no_trigger follows = absurd (cc)
-cycle-of layout requests opening past frames fit asynchronous before (trigger ∷ second) later split are at_once no_trigger follows =
-    let sent : List TimedFrame = trigger ∷ second in
-    let start : ℕ = start_of layout opening in
-    let free : ℕ = free_after start sent in
-    let low = of-sent (λ f. f.identifier ≤ 1) sent (trigger_frames layout opening) are (low_ids layout.slots opening.cycle (width_of opening) opening.mask) in
-    let short = of-sent (λ f. wire_length f ≤ 135) sent (trigger_frames layout opening) are (frames_short layout.slots opening.cycle (width_of opening) opening.mask fit.short.in_time) in
-    let long : length sent ≡ length (trigger_frames layout opening) = sym (length-map sent (λ s. s.frame)) ∙ ap length are in
-    let few = few_frames layout.slots opening.cycle (width_of opening) opening.mask in
-    let room : free + width_of opening ≤ end_of_cycle layout opening =
-    omega (arith, ends-by start sent at_once short, ap (λ n. n * 135) long, frames_long layout.slots opening.cycle (width_of opening) opening.mask, fit.room) in
-    let ended : All (λ x. end_of x ≤ window_start layout opening) sent = λ k d within. omega (arith, each-ends start sent at_once k d within, room) in
-    let pending : (slot : ℕ) → is_pending layout opening (past ++ sent) slot ≡ contains_slot opening.mask slot =
-    λ slot. is_pending-at_start layout opening past sent slot before low in
-    let width : pending_width layout opening (past ++ sent) ≡ width_of opening =
-    sum_where-same most_slots (is_pending layout opening (past ++ sent)) (contains_slot opening.mask) (worst_in opening.placed opening.cycle) (λ slot _. pending slot) in
-    let late : start ≤ free = free_after-later start sent at_once in
-    let window = sends_pending layout requests opening (past ++ sent) free (window_start layout opening) later fit asynchronous no_trigger
-    late (omega (arith, room)) (omega arith) (inr refl) (omega (arith, width, room)) follows in
-    record {
-      trigger = trigger;
-      second = second;
-      later = later;
-      all_frames = split;
-      starts = at_once.0.start;
-      is_trigger = cc;
-      ends = All-head (λ x. end_of x ≤ window_start layout opening) trigger second ended;
-      are_triggers = are;
-      at_once = second-starts start trigger second at_once (omega (arith, long, few));
-      second_ends = All-tail (λ x. end_of x ≤ window_start layout opening) trigger second ended;
-      each = λ slot known flagged. window.each slot known (pending slot ∙ flagged);
-      none = λ slot known not_flagged. window.none slot known (pending slot ∙ not_flagged);
-      all = All-from_recursion (IsLaterFrame layout opening) later window.all;
-    }
+-- Each instance sends as many bytes as its entry's length
+module _ (sends : Instance → List ℕ) (whole : SendsWhole sends) where
+  -- these frames, after the frames `past`, send each pending slot once and no other slot
+  record SendsPending (layout : CycleLayout) (opening : Opening) (past frames : List TimedFrame) : Type 0 where
+    each : (slot : ℕ) → slot < most_slots → is_pending layout opening past slot ≡ true → IsSentOnceWith sends layout opening frames slot
+    none : (slot : ℕ) → slot < most_slots → is_pending layout opening past slot ≡ false → of_slot slot frames ≡ []
+    all : AllByRecursion (IsLaterFrame layout opening) frames
 
--- what a cycle sends
-pub runs_cycle : (layout : CycleLayout) (requests : List Request) (opening : Opening) (past frames : List TimedFrame) → IsFit layout opening
-    → AreAsynchronous requests
-    → All (λ x. x.start < start_of layout opening) past
-    → Follows (offered_in layout requests opening) past (start_of layout opening) (end_of_cycle layout opening) frames
-    → RunsCycle layout opening frames
-runs_cycle layout requests opening past frames fit asynchronous before follows =
-    let high : (earlier : List TimedFrame) (at : ℕ) (other : DataFrame) → OffersRequest layout requests opening earlier at other → 1 < other.identifier =
-    λ earlier at other request. omega (arith, request_id layout requests asynchronous opening earlier at other request) in
-    let short = frames_short layout.slots opening.cycle (width_of opening) opening.mask fit.short.in_time in
-    let long = frames_long layout.slots opening.cycle (width_of opening) opening.mask in
-    let cut = cut-left layout opening requests high past [] (trigger_frames layout opening) (start_of layout opening) (end_of_cycle layout opening) frames
-    (AreLeft-all layout opening past before) (omega arith) (omega (arith, long)) (omega (arith, fit.room)) short
-    (subst (λ front. Follows (offered_in layout requests opening) front (start_of layout opening) (end_of_cycle layout opening) frames) (sym (append-nil past)) follows) in
-    cycle-of layout requests opening past frames fit asynchronous before cut.sent cut.later cut.split cut.are cut.at_once (NoTrigger-sent layout opening past cut.sent cut.sofar) cut.follows
+  -- a pending slot is offered at any time in the window
+  offers_pending : (layout : CycleLayout) (opening : Opening) (past : List TimedFrame) (slot at : ℕ) → IsFit layout opening
+      → slot < most_slots → is_pending layout opening past slot ≡ true → window_start layout opening ≤ at → at < end_of_cycle layout opening
+      → (frame : DataFrame) × OffersSlotWith sends layout opening past at frame slot
+  offers_pending layout opening past slot at fit known pending late early =
+      let parts = and_parts (contains_slot opening.mask slot) _ pending in
+      let p = fit.present slot known parts.0 in (
+        record { identifier = first_identifier + slot; bytes = sends p.0 },
+        record {
+          begun = (let room = fit.room in omega arith);
+          late_enough = late;
+          within = early;
+          known = known;
+          flagged = parts.0;
+          unsent = IsUnsent-from_test layout opening past slot (not-true _ parts.1);
+          identifier = refl;
+          bytes = ap (option_map sends) p.1;
+        },
+      )
+
+  -- an offered slot is pending
+  pending-offered : (layout : CycleLayout) (opening : Opening) (past : List TimedFrame) (at slot : ℕ) (frame : DataFrame)
+      → OffersSlotWith sends layout opening past at frame slot → is_pending layout opening past slot ≡ true
+  pending-offered layout opening past at slot frame o =
+      and_from _ _ o.flagged (not_from_false _ (was_sent-from_unsent layout opening past slot o.unsent))
+
+  -- what a slot costs, by the bytes that it sends
+  cost-of : (o : Option Instance) (bytes : List ℕ) → option_map sends o ≡ Some bytes → option_map_or worst_of o 0 ≡ worst (length bytes)
+  cost-of None bytes is = absurd (none-some bytes is)
+  cost-of (Some i) bytes is =
+      ap worst (sym (whole i)) ∙ ap (λ b. worst (length b)) (same_Some (sends i) bytes is)
+
+  -- the frame of a slot takes no more than the slot costs
+  slot-in_time : (opening : Opening) (slot : ℕ) (frame : DataFrame) → AreShort → bytes_sent sends opening slot ≡ Some frame.bytes → wire_length frame ≤ worst_in opening.placed opening.cycle slot
+  slot-in_time opening slot frame short bytes =
+      let cost = cost-of (instance_in opening.placed slot opening.cycle) frame.bytes bytes in
+      let in_time = short.in_time frame in
+      omega arith
+
+  -- the next frame of the window starts as soon as the bus is free and the window has begun
+  starts_now : (layout : CycleLayout) (requests : List Request) (opening : Opening) (past : List TimedFrame) (free now : ℕ) (sent : TimedFrame) (slot : ℕ)
+      → IsFit layout opening → free ≤ now → window_start layout opening ≤ now → (now ≡ free) ⊎ (now ≡ window_start layout opening)
+      → IsNext (offered_in_with sends layout requests opening) past free (end_of_cycle layout opening) sent
+      → OffersSlotWith sends layout opening past sent.start sent.frame slot → sent.start ≡ now
+  starts_now layout requests opening past free now sent slot fit is_free in_window which next offer =
+      let no_later : sent.start ≤ now = elim (cases_lt now sent.start) [
+        | inl gap ↦
+            let pending = pending-offered layout opening past sent.start slot sent.frame offer in
+            let within = next.within in
+            let earlier = offers_pending layout opening past slot now fit offer.known pending in_window (omega arith) in
+            absurd (next.first now earlier.0 is_free gap (inr (inr (slot, earlier.1))))
+        | inr no_gap ↦ no_gap
+      ] in
+      let when_free = next.when_free in
+      let late_enough = offer.late_enough in
+      elim which [ inl e ↦ omega arith | inr e ↦ omega arith ]
+
+  -- the frame that starts now, and those after it
+  joined : (layout : CycleLayout) (opening : Opening) (past : List TimedFrame) (sent : TimedFrame) (slot : ℕ) (later : List TimedFrame)
+      → OffersSlotWith sends layout opening past sent.start sent.frame slot → is_pending layout opening past slot ≡ true
+      → start_of layout opening ≤ sent.start → end_of sent ≤ end_of_cycle layout opening
+      → SendsPending layout opening (past ++ sent ∷ []) later → SendsPending layout opening past (sent ∷ later)
+  joined layout opening past sent slot later offer pending late ends rest =
+      let sent_now = is_pending-sent layout opening past sent slot offer.identifier late in
+      record {
+        each = λ x known is_pending_x.
+            elim (cases_eq x slot) [
+              | inl e ↦ record {
+                sent = sent;
+                once = of_slot-same x sent later (offer.identifier ∙ ap (λ k. first_identifier + k) (sym e))
+                    ∙ ap (λ l. sent ∷ l) (subst (λ k. of_slot k later ≡ []) (sym e) (rest.none slot offer.known sent_now));
+                after = offer.late_enough;
+                within = offer.within;
+                before = ends;
+                carries = subst (λ k. bytes_sent sends opening k ≡ Some sent.frame.bytes) (sym e) offer.bytes;
+              }
+              | inr ne ↦
+                  let other : sent.frame.identifier ≡ first_identifier + x → ⊥ = λ same. ne (let is = offer.identifier in omega arith) in
+                  let still : is_pending layout opening (past ++ sent ∷ []) x ≡ true = is_pending-other layout opening past sent x other ∙ is_pending_x in
+                  let found = rest.each x known still in
+                  record {
+                    sent = found.sent;
+                    once = of_slot-other x sent later other ∙ found.once;
+                    after = found.after;
+                    within = found.within;
+                    before = found.before;
+                    carries = found.carries;
+                  }
+            ];
+        none = λ x known not_pending.
+            let other : sent.frame.identifier ≡ first_identifier + x → ⊥ =
+            λ same. let is : x ≡ slot = (let id = offer.identifier in omega arith) in both_ways _ not_pending (subst (λ k. is_pending layout opening past k ≡ true) (sym is) pending) in
+            of_slot-other x sent later other ∙ rest.none x known (is_pending-other layout opening past sent x other ∙ not_pending);
+        all = (
+          inr (record {
+            slot = slot;
+            known = offer.known;
+            flagged = offer.flagged;
+            identifier = offer.identifier;
+            after = offer.late_enough;
+            before = ends;
+          }),
+          rest.all,
+        );
+      }
+
+  -- an asynchronous frame, and those after it
+  joined-asynchronous : (layout : CycleLayout) (opening : Opening) (past : List TimedFrame) (sent : TimedFrame) (later : List TimedFrame)
+      → IsRequestFrame layout opening sent → SendsPending layout opening (past ++ sent ∷ []) later → SendsPending layout opening past (sent ∷ later)
+  joined-asynchronous layout opening past sent later frame rest =
+      let other : (x : ℕ) → x < most_slots → sent.frame.identifier ≡ first_identifier + x → ⊥ =
+      λ x known same. let least = frame.identifier in let all : most_slots ≡ 96 = refl in omega arith in
+      let same : (x : ℕ) → x < most_slots → is_pending layout opening (past ++ sent ∷ []) x ≡ is_pending layout opening past x =
+      λ x known. is_pending-other layout opening past sent x (other x known) in
+      record {
+        each = λ x known is_pending_x.
+            let found = rest.each x known (same x known ∙ is_pending_x) in
+            record {
+              sent = found.sent;
+              once = of_slot-other x sent later (other x known) ∙ found.once;
+              after = found.after;
+              within = found.within;
+              before = found.before;
+              carries = found.carries;
+            };
+        none = λ x known not_pending. of_slot-other x sent later (other x known) ∙ rest.none x known (same x known ∙ not_pending);
+        all = (inl frame, rest.all);
+      }
+
+  -- the frames behind the trigger frames: from the time `now` on, at which the bus is free and the synchronous window has begun,
+  -- the pending slots have room until the cycle's end, and so each is sent by then
+  sends_pending : (layout : CycleLayout) (requests : List Request) (opening : Opening) (past : List TimedFrame) (free now : ℕ) (frames : List TimedFrame)
+      → IsFit layout opening → AreAsynchronous requests → NoTrigger layout opening past → start_of layout opening ≤ free → free ≤ now → window_start layout opening ≤ now
+      → (now ≡ free) ⊎ (now ≡ window_start layout opening)
+      → now + pending_width layout opening past ≤ end_of_cycle layout opening
+      → Follows (offered_in_with sends layout requests opening) past free (end_of_cycle layout opening) frames
+      → SendsPending layout opening past frames
+  sends_pending layout requests opening past free now [] fit asynchronous no_trigger begun is_free in_window which room nothing = record {
+    each = λ slot known pending.
+        let wide = pending_width-positive layout opening past slot fit known pending in
+        let offer = offers_pending layout opening past slot now fit known pending in_window (omega arith) in
+        absurd (nothing now offer.0 is_free (omega arith) (inr (inr (slot, offer.1))));
+    none = λ slot known not_pending. refl;
+    all = tt;
+  }
+  sends_pending layout requests opening past free now (sent ∷ later) fit asynchronous no_trigger begun is_free in_window which room follows =
+      let whole = follows.0.whole in
+      let some_time = fit.short.some_time sent.frame in
+      let later_start = follows.0.when_free in
+      elim follows.0.least.offered as (λ _. SendsPending layout opening past (sent ∷ later)) [
+        | inl trigger ↦ absurd (no_trigger sent.start sent.frame trigger)
+        | inr choice ↦ elim choice as (λ _. SendsPending layout opening past (sent ∷ later)) [
+          | inl request ↦
+              let frame = request_frame layout requests opening past sent.start sent.frame fit.short asynchronous request in
+              let before = frame.before in
+              let at_window : now ≡ window_start layout opening = elim which [ inl e ↦ absurd (omega arith) | inr e ↦ e ] in
+              let same = pending_width-other layout opening past sent frame.identifier in
+              let rest = sends_pending layout requests opening (past ++ sent ∷ []) (end_of sent) now later fit asynchronous
+              (NoTrigger-more layout opening past (sent ∷ []) no_trigger) (omega arith) (omega arith) in_window (inr at_window) (omega arith) follows.1 in
+              joined-asynchronous layout opening past sent later
+              (record { identifier = frame.identifier; after = frame.after; before = (let b = frame.before in omega arith) }) rest
+          | inr of_slot ↦
+              let slot : ℕ = of_slot.0 in
+              let offer : OffersSlotWith sends layout opening past sent.start sent.frame slot = of_slot.1 in
+              let pending = pending-offered layout opening past sent.start slot sent.frame offer in
+              let wide = pending_width-positive layout opening past slot fit offer.known pending in
+              let at_now : sent.start ≡ now = starts_now layout requests opening past free now sent slot fit is_free in_window which follows.0 offer in
+              let late : start_of layout opening ≤ sent.start = omega arith in
+              let less = pending_width-sent layout opening past sent slot offer.known pending offer.identifier late in
+              let in_time = slot-in_time opening slot sent.frame fit.short offer.bytes in
+              let rest = sends_pending layout requests opening (past ++ sent ∷ []) (end_of sent) (end_of sent) later fit asynchronous
+              (NoTrigger-more layout opening past (sent ∷ []) no_trigger) (omega arith) (omega arith) (omega arith) (inl refl) (omega arith) follows.1 in
+              joined layout opening past sent slot later offer pending late (omega arith) rest
+        ]
+      ]
+
+  -- what a cycle sends, by its frames behind the trigger frames
+  cycle-of : (layout : CycleLayout) (requests : List Request) (opening : Opening) (past frames : List TimedFrame) → IsFit layout opening → AreAsynchronous requests
+      → All (λ x. x.start < start_of layout opening) past
+      → (sent later : List TimedFrame) → frames ≡ sent ++ later → map (λ s. s.frame) sent ≡ trigger_frames layout opening → AtOnce (start_of layout opening) sent
+      → NoTrigger layout opening (past ++ sent)
+      → Follows (offered_in_with sends layout requests opening) (past ++ sent) (free_after (start_of layout opening) sent) (end_of_cycle layout opening) later
+      → RunsCycleWith sends layout opening frames
+  cycle-of layout requests opening past frames fit asynchronous before [] later split are at_once no_trigger follows = absurd (cc)
+  cycle-of layout requests opening past frames fit asynchronous before (trigger ∷ second) later split are at_once no_trigger follows =
+      let sent : List TimedFrame = trigger ∷ second in
+      let start : ℕ = start_of layout opening in
+      let free : ℕ = free_after start sent in
+      let low = of-sent (λ f. f.identifier ≤ 1) sent (trigger_frames layout opening) are (low_ids layout.slots opening.cycle (width_of opening) opening.mask) in
+      let short = of-sent (λ f. wire_length f ≤ 135) sent (trigger_frames layout opening) are (frames_short layout.slots opening.cycle (width_of opening) opening.mask fit.short.in_time) in
+      let long : length sent ≡ length (trigger_frames layout opening) = sym (length-map sent (λ s. s.frame)) ∙ ap length are in
+      let few = few_frames layout.slots opening.cycle (width_of opening) opening.mask in
+      let room : free + width_of opening ≤ end_of_cycle layout opening =
+      omega (arith, ends-by start sent at_once short, ap (λ n. n * 135) long, frames_long layout.slots opening.cycle (width_of opening) opening.mask, fit.room) in
+      let ended : All (λ x. end_of x ≤ window_start layout opening) sent = λ k d within. omega (arith, each-ends start sent at_once k d within, room) in
+      let pending : (slot : ℕ) → is_pending layout opening (past ++ sent) slot ≡ contains_slot opening.mask slot =
+      λ slot. is_pending-at_start layout opening past sent slot before low in
+      let width : pending_width layout opening (past ++ sent) ≡ width_of opening =
+      sum_where-same most_slots (is_pending layout opening (past ++ sent)) (contains_slot opening.mask) (worst_in opening.placed opening.cycle) (λ slot _. pending slot) in
+      let late : start ≤ free = free_after-later start sent at_once in
+      let window = sends_pending layout requests opening (past ++ sent) free (window_start layout opening) later fit asynchronous no_trigger
+      late (omega (arith, room)) (omega arith) (inr refl) (omega (arith, width, room)) follows in
+      record {
+        trigger = trigger;
+        second = second;
+        later = later;
+        all_frames = split;
+        starts = at_once.0.start;
+        is_trigger = cc;
+        ends = All-head (λ x. end_of x ≤ window_start layout opening) trigger second ended;
+        are_triggers = are;
+        at_once = second-starts start trigger second at_once (omega (arith, long, few));
+        second_ends = All-tail (λ x. end_of x ≤ window_start layout opening) trigger second ended;
+        each = λ slot known flagged. window.each slot known (pending slot ∙ flagged);
+        none = λ slot known not_flagged. window.none slot known (pending slot ∙ not_flagged);
+        all = All-from_recursion (IsLaterFrame layout opening) later window.all;
+      }
+
+  -- what a cycle sends
+  pub runs_cycle : (layout : CycleLayout) (requests : List Request) (opening : Opening) (past frames : List TimedFrame) → IsFit layout opening
+      → AreAsynchronous requests
+      → All (λ x. x.start < start_of layout opening) past
+      → Follows (offered_in_with sends layout requests opening) past (start_of layout opening) (end_of_cycle layout opening) frames
+      → RunsCycleWith sends layout opening frames
+  runs_cycle layout requests opening past frames fit asynchronous before follows =
+      let high : (earlier : List TimedFrame) (at : ℕ) (other : DataFrame) → OffersRequest layout requests opening earlier at other → 1 < other.identifier =
+      λ earlier at other request. omega (arith, request_id sends layout requests asynchronous opening earlier at other request) in
+      let short = frames_short layout.slots opening.cycle (width_of opening) opening.mask fit.short.in_time in
+      let long = frames_long layout.slots opening.cycle (width_of opening) opening.mask in
+      let cut = cut-left layout opening sends requests high past [] (trigger_frames layout opening) (start_of layout opening) (end_of_cycle layout opening) frames
+      (AreLeft-all layout opening past before) (omega arith) (omega (arith, long)) (omega (arith, fit.room)) short
+      (subst (λ front. Follows (offered_in_with sends layout requests opening) front (start_of layout opening) (end_of_cycle layout opening) frames) (sym (append-nil past)) follows) in
+      cycle-of layout requests opening past frames fit asynchronous before cut.sent cut.later cut.split cut.are cut.at_once (NoTrigger-sent layout opening past cut.sent cut.sofar) cut.follows

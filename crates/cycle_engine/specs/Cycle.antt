@@ -8,10 +8,11 @@ use Rattle.requirement_table.specs.Table.{instance_in}
 use Rattle.trigger_codec.specs.Bytes.{trigger_frame}
 use Rattle.async_window.specs.declared.request.Request.{Request}
 use Rattle.bus_line.specs.Trace.{Follows, end_of}
-use Rattle.requirement_table.specs.Opening.{Opening, bytes_in, width_of}
+use Rattle.requirement_table.specs.Instance.{Instance, bytes_of}
+use Rattle.requirement_table.specs.Opening.{Opening, width_of}
 use Rattle.node_model.specs.Opening.{first_identifier, start_of, end_of_cycle, window_start}
-use Rattle.node_model.specs.Offered.{trigger_frames}
-use Rattle.cycle_engine.specs.Offered.{IsCanTrace, offered_in}
+use Rattle.node_model.specs.Offered.{bytes_sent, trigger_frames}
+use Rattle.cycle_engine.specs.Offered.{IsCanTraceWith, offered_in_with}
 
 -- the cycle in which a frame starts
 abbrev pub cycle_of : CycleLayout → TimedFrame → ℕ
@@ -25,15 +26,15 @@ frames_in layout cycle trace = filter (λ sent. cycle_of layout sent == cycle) t
 abbrev pub of_slot : ℕ → List TimedFrame → List TimedFrame
 of_slot slot frames = filter (λ sent. sent.frame.identifier == first_identifier + slot) frames
 
--- exactly one frame of the slot is among these; it lies in the cycle's synchronous window, and carries the bytes of the
--- instance that may be sent in the cycle
-pub record IsSentOnce (layout : CycleLayout) (opening : Opening) (frames : List TimedFrame) (slot : ℕ) : Type 0 where
+-- exactly one frame of the slot is among these; it lies in the cycle's synchronous window, and carries the bytes that the
+-- instance sends which may be sent in the cycle
+pub record IsSentOnceWith (sends : Instance → List ℕ) (layout : CycleLayout) (opening : Opening) (frames : List TimedFrame) (slot : ℕ) : Type 0 where
   pub sent : TimedFrame
   pub once : of_slot slot frames ≡ sent ∷ []
   pub after : window_start layout opening ≤ sent.start
   pub within : sent.start < end_of_cycle layout opening
   pub before : end_of sent ≤ end_of_cycle layout opening
-  pub carries : bytes_in opening slot ≡ Some sent.frame.bytes
+  pub carries : bytes_sent sends opening slot ≡ Some sent.frame.bytes
 
 -- a frame of a flagged slot, in the cycle's synchronous window
 pub record IsSlotFrame (layout : CycleLayout) (opening : Opening) (sent : TimedFrame) : Type 0 where
@@ -54,7 +55,7 @@ pub record IsRequestFrame (layout : CycleLayout) (opening : Opening) (sent : Tim
 -- the frames of a cycle: its trigger frames, the first at its start and the second, where there is one, at once behind
 -- that, ended before the synchronous window; behind them only frames of requests in the asynchronous window and frames
 -- of flagged slots in the synchronous window, and of each flagged slot exactly one
-pub record RunsCycle (layout : CycleLayout) (opening : Opening) (frames : List TimedFrame) : Type 0 where
+pub record RunsCycleWith (sends : Instance → List ℕ) (layout : CycleLayout) (opening : Opening) (frames : List TimedFrame) : Type 0 where
   pub trigger : TimedFrame
   pub second : List TimedFrame
   pub later : List TimedFrame
@@ -65,14 +66,25 @@ pub record RunsCycle (layout : CycleLayout) (opening : Opening) (frames : List T
   pub are_triggers : map (λ sent. sent.frame) (trigger ∷ second) ≡ trigger_frames layout opening
   pub at_once : All (λ sent. sent.start ≡ end_of trigger) second
   pub second_ends : All (λ sent. end_of sent ≤ window_start layout opening) second
-  pub each : (slot : ℕ) → slot < most_slots → contains_slot opening.mask slot ≡ true → IsSentOnce layout opening later slot
+  pub each : (slot : ℕ) → slot < most_slots → contains_slot opening.mask slot ≡ true
+      → IsSentOnceWith sends layout opening later slot
   pub none : (slot : ℕ) → slot < most_slots → contains_slot opening.mask slot ≡ false → of_slot slot later ≡ []
   pub all : All (λ sent. IsRequestFrame layout opening sent ⊎ IsSlotFrame layout opening sent) later
 
 -- in each of the opened cycles the frames of the trace are those of the cycle
+abbrev pub RunsCyclesWith : (Instance → List ℕ) → CycleLayout → List Opening → List TimedFrame → Type 0
+RunsCyclesWith sends layout openings trace =
+    All (λ opening. RunsCycleWith sends layout opening (frames_in layout opening.cycle trace)) openings
+
+-- the same where each instance sends its number
+abbrev pub IsSentOnce : CycleLayout → Opening → List TimedFrame → ℕ → Type 0
+IsSentOnce = IsSentOnceWith bytes_of
+
+abbrev pub RunsCycle : CycleLayout → Opening → List TimedFrame → Type 0
+RunsCycle = RunsCycleWith bytes_of
+
 abbrev pub RunsCycles : CycleLayout → List Opening → List TimedFrame → Type 0
-RunsCycles layout openings trace =
-    All (λ opening. RunsCycle layout opening (frames_in layout opening.cycle trace)) openings
+RunsCycles = RunsCyclesWith bytes_of
 
 -- each flagged slot has an instance that may be sent in the cycle, and together they fit into the largest synchronous
 -- window
@@ -82,10 +94,14 @@ pub record FitsWindow (layout : CycleLayout) (opening : Opening) : Type 0 where
   pub width : width_of opening ≤ layout.window
 
 -- in an opened cycle these frames follow the CAN trace of the cycles below it, which has ended by the cycle's start
-pub record FollowsTrace (layout : CycleLayout) (requests : List Request) (openings : List Opening)
+pub record FollowsTraceWith (sends : Instance → List ℕ) (layout : CycleLayout) (requests : List Request) (openings : List Opening)
     (opening : Opening) (trace frames : List TimedFrame) : Type 0 where
   pub below : All (λ earlier. earlier.cycle < opening.cycle) openings
-  pub can_trace : IsCanTrace layout requests openings opening.cycle trace
+  pub can_trace : IsCanTraceWith sends layout requests openings opening.cycle trace
   pub ended : All (λ sent. end_of sent ≤ start_of layout opening) trace
-  pub follows : Follows (offered_in layout requests opening) trace
+  pub follows : Follows (offered_in_with sends layout requests opening) trace
       (start_of layout opening) (end_of_cycle layout opening) frames
+
+-- the same where each instance sends its number
+abbrev pub FollowsTrace : CycleLayout → List Request → List Opening → Opening → List TimedFrame → List TimedFrame → Type 0
+FollowsTrace = FollowsTraceWith bytes_of

@@ -6,67 +6,78 @@ ghost use Rattle.can_frame.specs.declared.data_frame.TimedFrame.{TimedFrame};
 ghost use Rattle.cycle_layout.specs.Layout.{CycleLayout, IsLayout};
 ghost use Rattle.async_window.specs.declared.request.Request.{Request};
 ghost use Rattle.bus_line.specs.Trace.{end_of};
+ghost use Rattle.requirement_table.specs.Instance.{Instance, bytes_of};
 ghost use Rattle.requirement_table.specs.Opening.{Opening};
 ghost use Rattle.node_model.specs.Opening.{end_of_cycle};
-ghost use Rattle.cycle_engine.specs.Cycle.{FitsWindow, FollowsTrace, RunsCycle, RunsCycles};
-ghost use Rattle.cycle_engine.specs.Offered.{AreAsynchronous, AreOfDistinctCycles, IsCanTrace, offered, offered_in};
+ghost use Rattle.cycle_engine.specs.Cycle.{FitsWindow, FollowsTraceWith, RunsCycleWith, RunsCyclesWith};
+ghost use Rattle.cycle_engine.specs.Offered.{AreAsynchronous, AreOfDistinctCycles, IsCanTraceWith, SendsWhole};
+ghost use Rattle.cycle_engine.specs.Offered.{offered_in_with, offered_with};
 
 use bus_line::laws::{Offering, same_along, trace_laws};
 use can_frame::laws::wire_lengths;
 
-/// What is offered on the bus in opened cycles, as the laws of the bus speak of it.
+/// What is offered on the bus in opened cycles, as the laws of the bus speak of it. A setting begins with the bytes that
+/// an instance sends.
 pub struct OpenedCycles;
 
 impl Offering for OpenedCycles {
-    ghost Setting = { CycleLayout × List Request × List Opening };
+    ghost Setting = { (Instance → List ℕ) × CycleLayout × List Request × List Opening };
 
-    ghost offers = { λ setting. offered setting.0 setting.1 setting.2 };
+    ghost offers = { λ setting. offered_with setting.0 setting.1 setting.2 setting.3 };
 }
 
-/// What is offered on the bus in one opened cycle, as the laws of the bus speak of it.
+/// What is offered on the bus in one opened cycle, as the laws of the bus speak of it. A setting begins with the bytes
+/// that an instance sends.
 pub struct OneCycle;
 
 impl Offering for OneCycle {
-    ghost Setting = { CycleLayout × List Request × Opening };
+    ghost Setting = { (Instance → List ℕ) × CycleLayout × List Request × Opening };
 
-    ghost offers = { λ setting. offered_in setting.0 setting.1 setting.2 };
+    ghost offers = { λ setting. offered_in_with setting.0 setting.1 setting.2 setting.3 };
 }
 
-/// There is only one CAN trace of some opened cycles.
+/// An instance that sends its number sends as many bytes as its entry's length.
+pub fn numbers_are_whole()
+    ensures whole { SendsWhole bytes_of }
+{}
+
+/// There is only one CAN trace of some opened cycles, whatever bytes an instance sends.
 pub fn one_can_trace()
-    ensures only_one { (layout : CycleLayout) (requests : List Request) (openings : List Opening)
-        → (count : ℕ) (one other : List TimedFrame)
+    ensures only_one { (sends : Instance → List ℕ) (layout : CycleLayout) (requests : List Request)
+        → (openings : List Opening) (count : ℕ) (one other : List TimedFrame)
         → IsLayout layout → AreAsynchronous requests → AreOfDistinctCycles openings
-        → IsCanTrace layout requests openings count one → IsCanTrace layout requests openings count other
-        → one ≡ other }
+        → IsCanTraceWith sends layout requests openings count one
+        → IsCanTraceWith sends layout requests openings count other → one ≡ other }
 {
     trace_laws::<OpenedCycles>();
 }
 
-/// One opened cycle more. Where the trace so far is the CAN trace of the openings so far, all of cycles below the new
-/// one, and has ended by its start, and the frames of the new cycle follow it by what is offered in that cycle, then
-/// trace and frames are the CAN trace of the openings with the new one. Where its flagged slots each have an instance
-/// that may be sent, and together fit into the largest synchronous window, all frames end by the cycle's end, and the
-/// cycle sends what its opening says.
+/// One opened cycle more, whatever bytes an instance sends. Where the trace so far is the CAN trace of the openings so
+/// far, all of cycles below the new one, and has ended by its start, and the frames of the new cycle follow it by what is
+/// offered in that cycle, then trace and frames are the CAN trace of the openings with the new one. Where each instance
+/// sends as many bytes as its entry's length, and the flagged slots each have an instance that may be sent, and together
+/// fit into the largest synchronous window, all frames end by the cycle's end, and the cycle sends what its opening says.
 pub fn next_cycle()
-    ensures can_trace { (layout : CycleLayout) (requests : List Request) (openings : List Opening) (opening : Opening)
-        → (trace frames : List TimedFrame) → IsLayout layout
-        → FollowsTrace layout requests openings opening trace frames
-        → IsCanTrace layout requests (openings ++ opening ∷ []) (opening.cycle + 1) (trace ++ frames) }
-    ensures ended { (layout : CycleLayout) (requests : List Request) (openings : List Opening) (opening : Opening)
-        → (trace frames : List TimedFrame) → IsLayout layout
-        → FollowsTrace layout requests openings opening trace frames
-        → AreAsynchronous requests → FitsWindow layout opening
+    ensures can_trace { (sends : Instance → List ℕ) (layout : CycleLayout) (requests : List Request)
+        → (openings : List Opening) (opening : Opening) (trace frames : List TimedFrame) → IsLayout layout
+        → FollowsTraceWith sends layout requests openings opening trace frames
+        → IsCanTraceWith sends layout requests (openings ++ opening ∷ []) (opening.cycle + 1) (trace ++ frames) }
+    ensures ended { (sends : Instance → List ℕ) (layout : CycleLayout) (requests : List Request)
+        → (openings : List Opening) (opening : Opening) (trace frames : List TimedFrame) → IsLayout layout
+        → FollowsTraceWith sends layout requests openings opening trace frames
+        → SendsWhole sends → AreAsynchronous requests → FitsWindow layout opening
         → All (λ sent. end_of sent ≤ end_of_cycle layout opening) (trace ++ frames) }
-    ensures runs { (layout : CycleLayout) (requests : List Request) (openings : List Opening) (opening : Opening)
-        → (trace frames : List TimedFrame) → IsLayout layout
-        → FollowsTrace layout requests openings opening trace frames
-        → AreAsynchronous requests → FitsWindow layout opening → RunsCycle layout opening frames }
-    ensures all_run { (layout : CycleLayout) (requests : List Request) (openings : List Opening) (opening : Opening)
-        → (trace frames : List TimedFrame) → IsLayout layout
-        → FollowsTrace layout requests openings opening trace frames
-        → AreAsynchronous requests → FitsWindow layout opening
-        → RunsCycles layout openings trace → RunsCycles layout (openings ++ opening ∷ []) (trace ++ frames) }
+    ensures runs { (sends : Instance → List ℕ) (layout : CycleLayout) (requests : List Request)
+        → (openings : List Opening) (opening : Opening) (trace frames : List TimedFrame) → IsLayout layout
+        → FollowsTraceWith sends layout requests openings opening trace frames
+        → SendsWhole sends → AreAsynchronous requests → FitsWindow layout opening
+        → RunsCycleWith sends layout opening frames }
+    ensures all_run { (sends : Instance → List ℕ) (layout : CycleLayout) (requests : List Request)
+        → (openings : List Opening) (opening : Opening) (trace frames : List TimedFrame) → IsLayout layout
+        → FollowsTraceWith sends layout requests openings opening trace frames
+        → SendsWhole sends → AreAsynchronous requests → FitsWindow layout opening
+        → RunsCyclesWith sends layout openings trace
+        → RunsCyclesWith sends layout (openings ++ opening ∷ []) (trace ++ frames) }
 {
     wire_lengths();
     trace_laws::<OpenedCycles>();

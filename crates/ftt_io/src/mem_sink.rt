@@ -105,4 +105,9 @@ impl Sink for MemSink {
         self.taken.extend_from_slice(&piece[..taken]).unwrap();
         Ok(taken)
     }
+
+    /// It holds nothing back, so there is nothing to do.
+    fn pass_on(&mut self) -> Result<(), Failed> {
+        Ok(())
+    }
 }

@@ -33,6 +33,14 @@ pub trait Sink {
         // At `Failed`.
         ensures failed { OnErr result (Rose (faults self.old) (faults self.new)) }
         ensures nothing { OnErr result (Stays (told_bytes self.old) (told_bytes self.new)) };
+
+    /// Passes on what the sink holds back of the bytes that it took, so that a reader behind it sees
+    /// them now. It takes no byte, and gives back none. What is passed on, and what stays held back
+    /// at `Failed`, no clause says.
+    fn pass_on(&mut self) -> Result<(), Failed>
+        ensures faults_never_fall { faults self.old ≤ faults self.new }
+        ensures failed { OnErr result (Rose (faults self.old) (faults self.new)) }
+        ensures stays { Stays (told_bytes self.old) (told_bytes self.new) };
 }
 
 /// Puts all of the bytes, in as many pieces as the sink makes of them. At `Failed` it put those

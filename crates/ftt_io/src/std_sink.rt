@@ -68,6 +68,13 @@ impl<W: Write + Drop> Sink for StdSink<W> {
         }
         Ok(taken)
     }
+
+    fn pass_on(&mut self) -> Result<(), Failed> {
+        match self.writer.flush() {
+            Ok(()) => Ok(()),
+            Err(_) => Err(count_fault(&mut self.faults)),
+        }
+    }
 }
 
 /// Counts a fault, and answers it.

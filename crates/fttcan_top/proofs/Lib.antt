@@ -1,3 +1,4 @@
 mod ChosenLemmas
 mod EndLemmas
+mod PolledLemmas
 mod StreamedLemmas

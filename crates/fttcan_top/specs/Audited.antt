@@ -15,7 +15,7 @@ pub record IsYes (job : JobView) (log text : List ℕ) : Type 0 where
   pub audited : IsAudited job.system job.steps job.requests rows
   pub written : text ≡ codes "yes\n"
 
--- no run's log begins with the rows of the log up to one of them, the first such row
+-- the first so many rows of the log are the least number of first rows that cannot stand
 pub record IsBroken (job : JobView) (log text : List ℕ) : Type 0 where
   pub rows : List LogRow
   pub read : AreRowsOf log rows
@@ -23,7 +23,7 @@ pub record IsBroken (job : JobView) (log text : List ℕ) : Type 0 where
   pub first : IsFirstBreak job.system job.steps job.requests rows number
   pub written : text ≡ codes "no,row," ++ decimal number ++ codes "\n"
 
--- a run's log begins with the rows of the log, and they are not all rows of a whole run
+-- all rows of the log can stand, and they are not all rows of a whole run
 pub record IsLeftOff (job : JobView) (log text : List ℕ) : Type 0 where
   pub rows : List LogRow
   pub read : AreRowsOf log rows

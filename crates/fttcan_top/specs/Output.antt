@@ -19,6 +19,9 @@ use Rattle.replay_run.specs.AskedTable.{table_of}
 use Rattle.replay_run.specs.Begun.{IsBegun}
 use Rattle.replay_run.specs.Run.{AnswersSteps, IsRun}
 use Rattle.live_steps.specs.Live.{IsLive}
+use Rattle.poll_run.specs.PolledRun.{IsPolledBegun, IsPolledRun}
+use Rattle.poll_run.specs.RequestRows.{IsPolledText}
+use Rattle.sporadic_poll.specs.declared.stream.Stream.{Stream}
 use Rattle.async_window.specs.declared.request.Owner.{Owner}
 use Rattle.async_window.specs.declared.request.Request.{Request}
 use Rattle.admission.specs.Verdict.{bounds_by, is_accepted}
@@ -30,7 +33,7 @@ use Rattle.fttcan_top.specs.declared.status.Status.{Status}
 use Rattle.fttcan_top.specs.declared.status.Status.TheVariants.{Done, Refused, Words, Input, Read, Write, Memory, No}
 use Rattle.asked_files.specs.declared.stopping.Refusal.{Refusal}
 use Rattle.asked_files.specs.declared.stopping.Stop.{Stop}
-use Rattle.asked_files.specs.Asked.{Asked, JobView, audit_of, check_of, choice_of, live_log_of, log_of, plan_of, summary_of}
+use Rattle.asked_files.specs.Asked.{Asked, JobView, audit_of, check_of, choice_of, live_log_of, log_of, plan_of, poll_of, summary_of}
 use Rattle.asked_files.specs.Refusals.{refusal_line}
 use Rattle.fttcan_top.specs.Audited.{IsAuditText}
 use Rattle.fttcan_top.specs.Chosen.{IsChoiceText}
@@ -110,6 +113,16 @@ pub record IsLiveLog (job : JobView) (report : Bool) (status : Status) (text : L
   pub ended : status ≡ status_of history
   pub written : text ≡ log_text history trace ++ report_if report history trace job.system.owners job.requests
 
+-- the log of a run whose polled slots carry requests, and behind it what became of each request: the history answers the
+-- steps, the requests are carried by *Ride*, and history and trace keep what is promised
+pub record IsPollText (job : JobView) (streams : List Stream) (status : Status) (text : List ℕ) : Type 0 where
+  pub history : List Event
+  pub carried : ℕ → ℕ → Option ℕ
+  pub trace : List TimedFrame
+  pub run : IsPolledRun job.system job.steps streams history carried trace
+  pub ended : status ≡ status_of history
+  pub written : IsPolledText streams history carried trace text
+
 -- *Output*: the text that answers what is asked, with the status of the call; a run whose master is replaced midway is
 -- asked for the log of the replay
 abbrev pub IsOutput : Asked → Status → List ℕ → Type 0
@@ -120,6 +133,7 @@ IsOutput (check_of job certificate) status text = IsCheckText job certificate st
 IsOutput (choice_of job wish) status text = IsChoiceText job wish status text
 IsOutput (live_log_of job report) status text = IsLiveLog job report status text
 IsOutput (audit_of job log) status text = IsAuditText job log status text
+IsOutput (poll_of job streams) status text = IsPollText job streams status text
 
 -- the output was put, and the status is that of what was asked
 pub record Tells (asked_for : Asked) (status : Status) (old new : Option (List ℕ)) : Type 0 where
@@ -144,9 +158,19 @@ pub record TellsBegun (job : JobView) (report : Bool) (old new : Option (List �
   pub front : (status : Status) (text : List ℕ) → IsOutput (log_of job None report) status text
       → PutsPrefix old new text
 
+-- the same of a polled run that was cut short
+pub record TellsPollBegun (job : JobView) (streams : List Stream) (old new : Option (List ℕ)) : Type 0 where
+  pub history : List Event
+  pub carried : ℕ → ℕ → Option ℕ
+  pub trace : List TimedFrame
+  pub begun : IsPolledBegun job.system job.steps streams history carried trace
+  pub puts : PutsPrefix old new (events_rows trace [] history)
+  pub front : (status : Status) (text : List ℕ) → IsOutput (poll_of job streams) status text → PutsPrefix old new text
+
 -- this may be so of a whole log alone, which is written while the run goes on
 abbrev pub IsCutWhileRun : Asked → Option (List ℕ) → Option (List ℕ) → Type 0
 IsCutWhileRun (log_of job None report) old new = TellsBegun job report old new
+IsCutWhileRun (poll_of job streams) old new = TellsPollBegun job streams old new
 IsCutWhileRun _ old new = ⊥
 
 -- How a call ends
@@ -193,6 +217,7 @@ usage =
     ++ codes "usage: fttcan live SYSTEM STEPS [REQUESTS] [--report]\n"
     ++ codes "usage: fttcan audit SYSTEM STEPS LOG [REQUESTS]\n"
     ++ codes "usage: fttcan handover SYSTEM STEPS AT [REQUESTS]\n"
+    ++ codes "usage: fttcan poll SYSTEM STEPS STREAMS\n"
     ++ codes "usage: fttcan elastic SYSTEM STEPS WISHES\n"
 
 -- the lines of a status; where it is that of a refused file, for this refusal

@@ -1,4 +1,4 @@
-//! Whether a log can be that of a run, as a text.
+//! Whether a log is that of a whole run, as a text.
 
 ghost use Rattle.std.specs.Prelude.{IfOk};
 ghost use Rattle.asked_files.specs.Asked.{IsLogText};
@@ -12,8 +12,8 @@ use asked_files::Job;
 use std::alloc::{AllocError, Global};
 use trace_audit::{AuditFault, audit_text};
 
-/// Audits the text of a log, and answers with `yes` where its rows are all rows of a whole run of the steps; otherwise
-/// with the first row up to which no run's log has its rows, or with that the log ends too early.
+/// Audits the text of a log, and answers with `yes` where its rows are all rows of a whole run of the steps. Otherwise it
+/// answers with the least number of first rows that cannot stand. Where all rows can stand it answers with `unfinished`.
 pub fn audit_of(alloc: Global, job: &Job, log: &[u8]) -> Result<Outcome, AllocError>
     requires job { IsJob job.now }
     requires log { IsLogText log.now }

@@ -5,6 +5,7 @@ mod auditing;
 mod by_threads;
 mod choosing;
 mod gathered;
+mod polling;
 mod program;
 mod rows;
 mod status;

@@ -12,6 +12,7 @@ ghost use Rattle.fttcan_top.specs.Output.{IsAnswer, IsCut, IsCutWhileRun, IsDone
 
 use crate::auditing::audit_of;
 use crate::choosing::choice_of;
+use crate::polling::put_polled;
 use crate::status::Status;
 use crate::stop::tell;
 use crate::streamed::{put_handed, put_log};
@@ -22,22 +23,23 @@ use std::alloc::Global;
 
 /// Does what was asked, and writes the answer: a whole log while the run goes on, and anything else when it is worked
 /// out.
-fn carry_out<O: Sink>(alloc: Global, task: &Task, out: &mut O) -> Result<Status, Stop>
-    requires task { IsTask task.now }
+fn carry_out<O: Sink>(alloc: Global, task: Task, out: &mut O) -> Result<Status, Stop>
+    requires task { IsTask task }
     ensures faults_never_fall { O.faults out.old ≤ O.faults out.new }
     ensures done { IfOk result IsDone }
-    ensures carried { IsCarried (asked_of task.now) PutsPart (Rose (O.faults out.old) (O.faults out.new))
+    ensures carried { IsCarried (asked_of task) PutsPart (Rose (O.faults out.old) (O.faults out.new))
         (O.told_bytes out.old) (O.told_bytes out.new) result }
 {
     match task {
-        Task::Log(job, report) => put_log(alloc, job, *report, out),
-        Task::Tail(job, count, report) => put_answer(tail_of(alloc, job, *count, *report), out),
-        Task::Table(job) => put_answer(plan_of(alloc, job), out),
-        Task::Check(job, certificate) => put_answer(check_of(alloc, job, certificate), out),
-        Task::Summary(number) => put_answer(summary_of_made(alloc, *number), out),
-        Task::Choice(job, wish) => put_answer(choice_of(alloc, job, wish), out),
-        Task::Handover(job, at) => put_handed(alloc, job, *at, out),
-        Task::Audit(job, log) => put_answer(audit_of(alloc, job, log.as_slice()), out),
+        Task::Log(job, report) => put_log(alloc, &job, report, out),
+        Task::Tail(job, count, report) => put_answer(tail_of(alloc, &job, count, report), out),
+        Task::Table(job) => put_answer(plan_of(alloc, &job), out),
+        Task::Check(job, certificate) => put_answer(check_of(alloc, &job, &certificate), out),
+        Task::Summary(number) => put_answer(summary_of_made(alloc, number), out),
+        Task::Choice(job, wish) => put_answer(choice_of(alloc, &job, &wish), out),
+        Task::Handover(job, at) => put_handed(alloc, &job, at, out),
+        Task::Audit(job, log) => put_answer(audit_of(alloc, &job, log.as_slice()), out),
+        Task::Poll(job, streams) => put_polled(alloc, &job, streams, out),
     }
 }
 
@@ -60,7 +62,7 @@ fn call<S: Shelf, O: Sink>(
     ensures out_faults_never_fall { O.faults out.old ≤ O.faults out.new }
 {
     let task = load(alloc, words, shelf)?;
-    carry_out(alloc, &task, out)
+    carry_out(alloc, task, out)
 }
 
 /// Carries out the words of a call, the program's name left out. Lines on what went wrong go to `err`; a failure of
@@ -79,9 +81,14 @@ fn call<S: Shelf, O: Sink>(
 /// - `handover SYSTEM STEPS AT` and `handover SYSTEM STEPS AT REQUESTS` run as `replay` does, with AT from 0 to 20,000.
 ///   After AT cycles were opened the first master is dropped. Its standby goes on, which was told the accepted changes
 ///   and heard the triggers. What is written is what `replay` writes.
-/// - `audit SYSTEM STEPS LOG` and `audit SYSTEM STEPS LOG REQUESTS` write `yes` where the rows of the log are those of a
-///   whole run of the steps, of `replay` or of `live`. Otherwise they write the first row up to which no run's log has
-///   these rows, or that the log ends too early. Nothing of the log's maker is trusted.
+/// - `poll SYSTEM STEPS STREAMS` runs as `replay` does without requests. The frames of the slots that the third file
+///   names carry its requests in place of instance numbers. Behind the log a row tells of each request in which cycle it
+///   was sent, or that it waits.
+/// - `audit SYSTEM STEPS LOG` and `audit SYSTEM STEPS LOG REQUESTS` write `yes` where the rows of the log are all rows of
+///   a whole run of the steps, as `replay` and `live` write them. Otherwise they write the least number of first rows
+///   that cannot stand. Rows can stand where the history that is read from them is that of a run whose log begins with
+///   them. Where all rows can stand, and are not all rows of a whole run, they write `unfinished`. Nothing of the log's
+///   maker is trusted.
 pub fn plain<S: Shelf, O: Sink, R: Sink>(
     alloc: Global,
     words: &[String],

@@ -19,6 +19,7 @@ usage: fttcan gen NUMBER
 usage: fttcan live SYSTEM STEPS [REQUESTS] [--report]
 usage: fttcan audit SYSTEM STEPS LOG [REQUESTS]
 usage: fttcan handover SYSTEM STEPS AT [REQUESTS]
+usage: fttcan poll SYSTEM STEPS STREAMS
 usage: fttcan elastic SYSTEM STEPS WISHES
 ";
 

@@ -3,5 +3,6 @@ mod Calls
 mod Carried
 mod Cutting
 mod Due
+mod Passing
 mod Told
 mod Whole

@@ -76,6 +76,15 @@ fn answer_act<L: Listener>(
     Ok(())
 }
 
+/// Has the rows so far passed on. No row is told, and no call answered.
+fn pass_on<L: Listener>(handed: &Handed, listener: &mut L) -> Result<(), Cut>
+    ensures goes_on { OnOk result (GoesOn L.heard handed.now listener.old [] handed.now listener.new) }
+    ensures stops { IfErr result (IsCutBehind L.heard L.broke handed.now listener.old [] listener.new) }
+{
+    listener.pass_on()?;
+    Ok(())
+}
+
 impl<'a, L: Listener> Driven for Logged<'a, L> {
     ghost use Rattle.std.specs.Prelude.{◌≡◌, refl};
     ghost use Rattle.std.proofs.Common.{◌∙◌};
@@ -103,6 +112,10 @@ impl<'a, L: Listener> Driven for Logged<'a, L> {
 
     fn answer(&mut self, alloc: Global, caller: u8, act: &Act) -> Result<(), Cut> {
         answer_act(self.handed, self.listener, alloc, caller, act)
+    }
+
+    fn pass_on(&mut self) -> Result<(), Cut> {
+        pass_on(self.handed, self.listener)
     }
 
     ghost at_once = { λ one. (refl, refl, goes-at_once L.heard one.handed.now one.listener.now) };

@@ -9,7 +9,7 @@ use Rattle.can_frame.specs.declared.data_frame.TimedFrame.{TimedFrame}
 use Rattle.cycle_layout.specs.Layout.{CycleLayout}
 use Rattle.requirement_table.specs.declared.entries.Placed.{Placed}
 use Rattle.requirement_table.specs.Flags.{IsFlaggedOnce}
-use Rattle.requirement_table.specs.Instance.{Instance, MaySend, bytes_of, payload, release_of}
+use Rattle.requirement_table.specs.Instance.{Instance, MaySend, bytes_of, release_of}
 use Rattle.requirement_table.specs.Opening.{Opening, width_of}
 use Rattle.requirement_table.specs.Slots.{contains_slot, most_slots}
 use Rattle.requirement_table.specs.Table.{IsInRange, instance_in}
@@ -20,8 +20,8 @@ use Rattle.admission_rules.specs.declared.Rules.{Rules}
 use Rattle.master_core.specs.History.{plan_of}
 use Rattle.trigger_codec.specs.Bytes.{second_frame, trigger_frame}
 use Rattle.node_model.specs.Opening.{first_identifier}
-use Rattle.cycle_engine.specs.Cycle.{IsRequestFrame, IsSentOnce, IsSlotFrame, RunsCycle, RunsCycles, cycle_of, frames_in, of_slot}
-use Rattle.kept_run.specs.Served.{AllGuarded, AllServed, IsInWindow, NoStrangers, frames_of}
+use Rattle.cycle_engine.specs.Cycle.{IsRequestFrame, IsSentOnceWith, IsSlotFrame, RunsCycleWith, RunsCyclesWith, cycle_of, frames_in, of_slot}
+use Rattle.kept_run.specs.Served.{AllGuarded, AllServedWith, ForgetsEnds, IsInWindow, NoStrangers, frames_of}
 use Rattle.kept_run.proofs.Lists.{Contains-cases, Contains-filter, Contains-nil, filter-filter, filter-none, filter-same, place-of}
 use Rattle.kept_run.proofs.Opened.{AreOpenedBy}
 use Rattle.kept_run.proofs.Plans.{PlanLaws, mask-planned, mask-sendable, planned_once}
@@ -41,7 +41,7 @@ ids-second false first second sent (x ∷ []) id are =
     All-cons (λ s. s.frame.identifier ≡ 1) x [] (ap (λ f. f.identifier) same ∙ id) (All-nil (λ s. s.frame.identifier ≡ 1))
 ids-second false first second sent (x ∷ y ∷ ys) id are = absurd (cc)
 
-module _ (layout : CycleLayout) (opening : Opening) (frames : List TimedFrame) (runs : RunsCycle layout opening frames) where
+module _ {sends : Instance → List ℕ} (layout : CycleLayout) (opening : Opening) (frames : List TimedFrame) (runs : RunsCycleWith sends layout opening frames) where
   -- the first trigger frame has identifier 0, and the second one identifier 1
   pub trigger_identifier : runs.trigger.frame.identifier ≡ 0
   trigger_identifier = ap (λ f. f.identifier) runs.is_trigger
@@ -81,7 +81,7 @@ module _ (layout : CycleLayout) (opening : Opening) (frames : List TimedFrame) (
 
   -- the frame that a slot sends in the cycle lies in its window
   in_window : (openings : List Opening) (slot : ℕ) → 0 < layout.cycle → Contains openings opening
-      → (sent : IsSentOnce layout opening runs.later slot) → IsInWindow layout openings sent.sent
+      → (sent : IsSentOnceWith sends layout opening runs.later slot) → IsInWindow layout openings sent.sent
   in_window openings slot some_time opened sent =
       let early = sent.within in
       let after = sent.after in
@@ -97,12 +97,16 @@ module _ (layout : CycleLayout) (opening : Opening) (frames : List TimedFrame) (
 
 -- Instances with and without ends
 
-bytes-same : (one other : Option Instance) → option_map without_end one ≡ option_map without_end other → option_map bytes_of one ≡ option_map bytes_of other
-bytes-same one other same = sym (bytes-without one) ∙ ap (option_map bytes_of) same ∙ bytes-without other
+bytes-same : (sends : Instance → List ℕ) → ForgetsEnds sends → (one other : Option Instance) → option_map without_end one ≡ option_map without_end other
+    → option_map sends one ≡ option_map sends other
+bytes-same sends forgets one other same = sym (bytes-without one) ∙ ap (option_map sends) same ∙ bytes-without other
   where
-    bytes-without : (o : Option Instance) → option_map bytes_of (option_map without_end o) ≡ option_map bytes_of o
+    bytes-without : (o : Option Instance) → option_map sends (option_map without_end o) ≡ option_map sends o
     bytes-without None = refl
-    bytes-without (Some i) = refl
+    bytes-without (Some i) = ap Some (forgets i)
+
+pub bytes_of-forgets : ForgetsEnds bytes_of
+bytes_of-forgets instance = refl
 
 some-of : {X : Type 0} (o : Option X) → IsSome o → (x : X) × (o ≡ Some x)
 some-of (Some x) is = (x, refl)
@@ -111,20 +115,20 @@ some-of None is = absurd (cc)
 -- The run of opened cycles
 
 -- the trace runs the openings, which are of the cycles below `next`, with the plan of this list
-pub record IsRunOf (rules : Rules) (layout : CycleLayout) (placed : List Placed) (next : ℕ) (openings : List Opening) (trace : List TimedFrame) : Type 0 where
+pub record IsRunOf (sends : Instance → List ℕ) (rules : Rules) (layout : CycleLayout) (placed : List Placed) (next : ℕ) (openings : List Opening) (trace : List TimedFrame) : Type 0 where
   pub some_time : 0 < layout.cycle
   pub opened : AreOpenedBy rules placed next openings
   pub within : All (λ sent. sent.start < next * layout.cycle) trace
-  pub cycles : RunsCycles layout openings trace
+  pub cycles : RunsCyclesWith sends layout openings trace
 
-module _ (laws : PlanLaws) (rules : Rules) (layout : CycleLayout) (placed : List Placed) (next : ℕ) (openings : List Opening) (trace : List TimedFrame)
-    (run : IsRunOf rules layout placed next openings trace) where
+module _ (sends : Instance → List ℕ) (laws : PlanLaws) (rules : Rules) (layout : CycleLayout) (placed : List Placed) (next : ℕ) (openings : List Opening) (trace : List TimedFrame)
+    (run : IsRunOf sends rules layout placed next openings trace) where
   abbrev plan : Planning
   plan = plan_of rules placed
 
   -- an opened cycle is run
-  runs-opening : (o : Opening) → Contains openings o → RunsCycle layout o (frames_in layout o.cycle trace)
-  runs-opening o opened = All-contains (λ x. RunsCycle layout x (frames_in layout x.cycle trace)) openings o run.cycles opened
+  runs-opening : (o : Opening) → Contains openings o → RunsCycleWith sends layout o (frames_in layout o.cycle trace)
+  runs-opening o opened = All-contains (λ x. RunsCycleWith sends layout x (frames_in layout x.cycle trace)) openings o run.cycles opened
 
   -- the flags of an opened cycle are those of the plan
   flagged-as_planned : (o : Opening) (slot : ℕ) → Contains openings o → slot < most_slots → contains_slot o.mask slot ≡ flags_of plan o.cycle slot
@@ -172,18 +176,18 @@ module _ (laws : PlanLaws) (rules : Rules) (layout : CycleLayout) (placed : List
       ∙ sym (filter-filter is_slot (λ s. eqb (cycle_of layout s) o.cycle) trace)
 
   -- the bytes that the slot sends in an opened cycle in which the instance may be sent
-  bytes-sent : (p : Placed) (k : ℕ) (o : Opening) → Contains openings o → Contains placed p → MaySend p k o.cycle
-      → option_map bytes_of (instance_in o.placed p.entry.slot o.cycle) ≡ Some (payload p.entry.length k)
-  bytes-sent p k o opened stands sends =
+  bytes-sent : ForgetsEnds sends → (p : Placed) (k : ℕ) (o : Opening) → Contains openings o → Contains placed p → MaySend p k o.cycle
+      → option_map sends (instance_in o.placed p.entry.slot o.cycle) ≡ Some (sends (record { placed = p; number = k }))
+  bytes-sent forgets p k o opened stands may_send =
       let place = place-of placed p stands in
-      let found = instance_in-found placed run.opened.well place.0 k o.cycle p place.1 sends in
-      bytes-same (instance_in o.placed p.entry.slot o.cycle) (instance_in placed p.entry.slot o.cycle)
+      let found = instance_in-found placed run.opened.well place.0 k o.cycle p place.1 may_send in
+      bytes-same sends forgets (instance_in o.placed p.entry.slot o.cycle) (instance_in placed p.entry.slot o.cycle)
       (All-contains (λ x. (slot : ℕ) → option_map without_end (instance_in x.placed slot x.cycle) ≡ option_map without_end (instance_in placed slot x.cycle)) openings o run.opened.instances opened p.entry.slot)
-      ∙ ap (option_map bytes_of) found
+      ∙ ap (option_map sends) found
 
   -- every instance whose last cycle was run is served
-  pub all_served : AllServed layout placed openings next trace
-  all_served p k last stands exists is_last early =
+  pub all_served : ForgetsEnds sends → AllServedWith sends layout placed openings next trace
+  all_served forgets p k last stands exists is_last early =
       let known = (All-contains IsInRange placed p run.opened.well.in_range stands).entry.slot in
       let slot : ℕ = p.entry.slot in
       let once = planned_once laws rules placed run.opened.well run.opened.in_time next p k last stands exists is_last early in
@@ -196,8 +200,8 @@ module _ (laws : PlanLaws) (rules : Rules) (layout : CycleLayout) (placed : List
       flagged-as_planned o slot opened.1 known ∙ ap (λ c. flags_of plan c slot) cycle ∙ once.flagged in
       let runs = runs-opening o opened.1 in
       let sent = runs.each slot known flagged in
-      let bytes = bytes-sent p k o opened.1 stands (record { exists = exists; released = omega arith; in_time = omega arith }) in
-      let carries : Some (payload p.entry.length k) ≡ Some sent.sent.frame.bytes = sym bytes ∙ sent.carries in
+      let bytes = bytes-sent forgets p k o opened.1 stands (record { exists = exists; released = omega arith; in_time = omega arith }) in
+      let carries : Some (sends (record { placed = p; number = k })) ≡ Some sent.sent.frame.bytes = sym bytes ∙ sent.carries in
       record {
         sent = sent.sent;
         once = sent_in-that_cycle p k last o known early opened.1 once cycle ∙ of_slot-cycle layout o _ runs slot ∙ sent.once;
@@ -269,11 +273,11 @@ module _ (laws : PlanLaws) (rules : Rules) (layout : CycleLayout) (placed : List
       let flagged : contains_slot (mask_at plan o.cycle) slot ≡ true = ap (λ m. contains_slot m slot) (sym mask) ∙ slot-flagged o sent slot known same frame.is in
       let some = some-of (instance_in placed slot o.cycle) (mask-sendable laws rules placed run.opened.well run.opened.in_time o.cycle slot flagged) in
       let i : Instance = some.0 in
-      let sends = subst (λ x. IfSome x (λ y. Contains placed y.placed × (y.placed.entry.slot ≡ slot) × MaySend y.placed y.number o.cycle)) some.1 (instance_in-sound placed slot o.cycle) in
+      let may_send = subst (λ x. IfSome x (λ y. Contains placed y.placed × (y.placed.entry.slot ≡ slot) × MaySend y.placed y.number o.cycle)) some.1 (instance_in-sound placed slot o.cycle) in
       record {
         p = i.placed;
         k = i.number;
-        stands = sends.0;
-        of_slot = sends.1;
-        in_time = subst (λ c. MaySend i.placed i.number c) frame.cycle sends.2;
+        stands = may_send.0;
+        of_slot = may_send.1;
+        in_time = subst (λ c. MaySend i.placed i.number c) frame.cycle may_send.2;
       }

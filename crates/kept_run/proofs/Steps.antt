@@ -4,6 +4,7 @@ use Rattle.std.proofs.lemmas.List.Elements.{All-nil}
 use Rattle.can_frame.specs.declared.data_frame.TimedFrame.{TimedFrame}
 use Rattle.cycle_layout.specs.Layout.{CycleLayout, IsLayout}
 use Rattle.requirement_table.specs.declared.entries.Placed.{Placed}
+use Rattle.requirement_table.specs.Instance.{Instance}
 use Rattle.requirement_table.specs.Opening.{Opening}
 use Rattle.requirement_table.specs.Slots.{contains_slot, most_slots}
 use Rattle.requirement_table.specs.Table.{IsWellPlaced, instance_in, width_in}
@@ -16,10 +17,11 @@ use Rattle.master_core.specs.Openings.{openings_of}
 use Rattle.async_window.specs.declared.request.Request.{Request}
 use Rattle.bus_line.specs.Trace.{Follows, end_of}
 use Rattle.node_model.specs.Opening.{end_of_cycle}
-use Rattle.cycle_engine.specs.Cycle.{FitsWindow, FollowsTrace, RunsCycles}
-use Rattle.cycle_engine.specs.Offered.{AreAsynchronous, AreOfDistinctCycles, IsCanTrace, offered_in}
-use Rattle.kept_run.specs.Kept.{Kept}
-use Rattle.kept_run.specs.Progress.{IsSetting, IsUnderWay, Setting}
+use Rattle.cycle_engine.specs.Cycle.{FitsWindow, FollowsTraceWith, RunsCycleWith, RunsCyclesWith}
+use Rattle.cycle_engine.specs.Offered.{AreAsynchronous, AreOfDistinctCycles, IsCanTraceWith, SendsWhole, offered_in_with}
+use Rattle.kept_run.specs.Kept.{KeptWith}
+use Rattle.kept_run.specs.Progress.{IsSetting, IsUnderWayWith, Setting}
+use Rattle.kept_run.specs.Served.{ForgetsEnds}
 use Rattle.kept_run.proofs.Histories.{legal-but_last, next_of-closed, next_of-push, openings_of-closed, openings_of-push}
 use Rattle.kept_run.proofs.Master.{MasterLaws}
 use Rattle.kept_run.proofs.Opened.{opened-legal}
@@ -28,26 +30,29 @@ use Rattle.kept_run.proofs.Served.{IsRunOf, all_guarded, all_served, no_stranger
 
 -- the laws of opened cycles
 pub record CycleLaws : Type 0 where
-  pub can_trace : (layout : CycleLayout) (requests : List Request) (openings : List Opening) (opening : Opening) (trace frames : List TimedFrame)
-      → IsLayout layout → FollowsTrace layout requests openings opening trace frames
-      → IsCanTrace layout requests (openings ++ opening ∷ []) (opening.cycle + 1) (trace ++ frames)
-  pub ended : (layout : CycleLayout) (requests : List Request) (openings : List Opening) (opening : Opening) (trace frames : List TimedFrame)
-      → IsLayout layout → FollowsTrace layout requests openings opening trace frames → AreAsynchronous requests → FitsWindow layout opening
+  pub can_trace : (sends : Instance → List ℕ) (layout : CycleLayout) (requests : List Request) (openings : List Opening) (opening : Opening) (trace frames : List TimedFrame)
+      → IsLayout layout → FollowsTraceWith sends layout requests openings opening trace frames
+      → IsCanTraceWith sends layout requests (openings ++ opening ∷ []) (opening.cycle + 1) (trace ++ frames)
+  pub ended : (sends : Instance → List ℕ) (layout : CycleLayout) (requests : List Request) (openings : List Opening) (opening : Opening) (trace frames : List TimedFrame)
+      → IsLayout layout → FollowsTraceWith sends layout requests openings opening trace frames → SendsWhole sends → AreAsynchronous requests → FitsWindow layout opening
       → All (λ sent. end_of sent ≤ end_of_cycle layout opening) (trace ++ frames)
-  pub all_run : (layout : CycleLayout) (requests : List Request) (openings : List Opening) (opening : Opening) (trace frames : List TimedFrame)
-      → IsLayout layout → FollowsTrace layout requests openings opening trace frames → AreAsynchronous requests → FitsWindow layout opening
-      → RunsCycles layout openings trace → RunsCycles layout (openings ++ opening ∷ []) (trace ++ frames)
+  pub runs : (sends : Instance → List ℕ) (layout : CycleLayout) (requests : List Request) (openings : List Opening) (opening : Opening) (trace frames : List TimedFrame)
+      → IsLayout layout → FollowsTraceWith sends layout requests openings opening trace frames → SendsWhole sends → AreAsynchronous requests → FitsWindow layout opening
+      → RunsCycleWith sends layout opening frames
+  pub all_run : (sends : Instance → List ℕ) (layout : CycleLayout) (requests : List Request) (openings : List Opening) (opening : Opening) (trace frames : List TimedFrame)
+      → IsLayout layout → FollowsTraceWith sends layout requests openings opening trace frames → SendsWhole sends → AreAsynchronous requests → FitsWindow layout opening
+      → RunsCyclesWith sends layout openings trace → RunsCyclesWith sends layout (openings ++ opening ∷ []) (trace ++ frames)
 
 -- there is only one trace that arbitration decides
 pub record IsTheOnlyTrace : Type 0 where
-  pub is : (layout : CycleLayout) (requests : List Request) (openings : List Opening) (count : ℕ) (one other : List TimedFrame)
+  pub is : (sends : Instance → List ℕ) (layout : CycleLayout) (requests : List Request) (openings : List Opening) (count : ℕ) (one other : List TimedFrame)
       → IsLayout layout → AreAsynchronous requests → AreOfDistinctCycles openings
-      → IsCanTrace layout requests openings count one → IsCanTrace layout requests openings count other → one ≡ other
+      → IsCanTraceWith sends layout requests openings count one → IsCanTraceWith sends layout requests openings count other → one ≡ other
 
 -- Nothing was called
 
-pub begins : (setting : Setting) → IsUnderWay setting [] []
-begins setting = record {
+pub begins : (sends : Instance → List ℕ) (setting : Setting) → IsUnderWayWith sends setting [] []
+begins sends setting = record {
   legal = tt;
   can_trace = record {
     ordered = record { lengths = All-nil _; apart = λ i j d before within. absurd (omega arith) };
@@ -61,17 +66,17 @@ begins setting = record {
 
 -- A call that opens no cycle
 
-pub answered : (setting : Setting) (trace : List TimedFrame) (history : List Event) (event : Event) → is_open event ≡ false
-    → IsLegal setting.rules (history ++ event ∷ []) → IsUnderWay setting history trace → IsUnderWay setting (history ++ event ∷ []) trace
-answered setting trace history event closed legal way =
+pub answered : (sends : Instance → List ℕ) (setting : Setting) (trace : List TimedFrame) (history : List Event) (event : Event) → is_open event ≡ false
+    → IsLegal setting.rules (history ++ event ∷ []) → IsUnderWayWith sends setting history trace → IsUnderWayWith sends setting (history ++ event ∷ []) trace
+answered sends setting trace history event closed legal way =
     let openings = openings_of-closed history event closed in
     let next = next_of-closed history event closed in
     record {
       legal = legal;
-      can_trace = subst (λ os. IsCanTrace setting.layout setting.requests os (next_of (history ++ event ∷ [])) trace) (sym openings)
-          (subst (λ n. IsCanTrace setting.layout setting.requests (openings_of history) n trace) (sym next) way.can_trace);
+      can_trace = subst (λ os. IsCanTraceWith sends setting.layout setting.requests os (next_of (history ++ event ∷ [])) trace) (sym openings)
+          (subst (λ n. IsCanTraceWith sends setting.layout setting.requests (openings_of history) n trace) (sym next) way.can_trace);
       ended = subst (λ n. All (λ sent. end_of sent ≤ n * setting.layout.cycle) trace) (sym next) way.ended;
-      cycles = subst (λ os. RunsCycles setting.layout os trace) (sym openings) way.cycles;
+      cycles = subst (λ os. RunsCyclesWith sends setting.layout os trace) (sym openings) way.cycles;
     }
 
 -- A cycle is opened and run
@@ -86,51 +91,71 @@ fits-window laws rules layout placed cycle mask well in_time window is =
     subst (λ m. width_in placed cycle (contains_slot m) ≤ rules.window) (sym is) (mask-fits laws rules placed well in_time cycle) in
     record { present = present; width = subst (λ w. width_in placed cycle (contains_slot mask) ≤ w) window fits }
 
-pub opened : (master : MasterLaws) (plans : PlanLaws) (cycles : CycleLaws) (setting : Setting) (history : List Event) (cycle mask : ℕ) (trace frames : List TimedFrame)
-    → IsSetting setting → IsUnderWay setting history trace → IsLegal setting.rules (history ++ Open cycle mask ∷ [])
-    → Follows (offered_in setting.layout setting.requests (record { cycle = cycle; mask = mask; placed = placed_of history })) trace (cycle * setting.layout.cycle) ((cycle + 1) * setting.layout.cycle) frames
-    → IsUnderWay setting (history ++ Open cycle mask ∷ []) (trace ++ frames)
-opened master plans cycles setting history cycle mask trace frames known way legal follows =
-    let right = (legal-but_last setting.rules history (Open cycle mask) legal).1 in
-    let now : cycle ≡ next_of history = right.0 in
-    let by = opened-legal master setting.rules history way.legal in
-    let openings : List Opening = openings_of history in
-    let o : Opening = record { cycle = cycle; mask = mask; placed = placed_of history } in
-    let fits = fits-window plans setting.rules setting.layout (placed_of history) cycle mask by.well by.in_time known.same_window right.1 in
-    let behind : FollowsTrace setting.layout setting.requests openings o trace frames = record {
-      below = subst (λ n. All (λ earlier. earlier.cycle < n) openings) (sym now) by.below;
-      can_trace = subst (λ n. IsCanTrace setting.layout setting.requests openings n trace) (sym now) way.can_trace;
+-- a cycle that is opened right after a legal history
+module _ (master : MasterLaws) (plans : PlanLaws) (setting : Setting) (history : List Event) (cycle mask : ℕ)
+    (known : IsSetting setting) (legal : IsLegal setting.rules (history ++ Open cycle mask ∷ [])) where
+  abbrev opening : Opening
+  opening = record { cycle = cycle; mask = mask; placed = placed_of history }
+
+  abbrev openings : List Opening
+  openings = openings_of history
+
+  so_far : IsLegal setting.rules history
+  so_far = (legal-but_last setting.rules history (Open cycle mask) legal).0
+
+  now : cycle ≡ next_of history
+  now = (legal-but_last setting.rules history (Open cycle mask) legal).1.0
+
+  pub opened-fits : FitsWindow setting.layout opening
+  opened-fits =
+      let right = (legal-but_last setting.rules history (Open cycle mask) legal).1 in
+      let by = opened-legal master setting.rules history so_far in
+      fits-window plans setting.rules setting.layout (placed_of history) cycle mask by.well by.in_time known.same_window right.1
+
+  module _ (cycles : CycleLaws) (sends : Instance → List ℕ) (whole : SendsWhole sends) (trace frames : List TimedFrame)
+      (way : IsUnderWayWith sends setting history trace)
+      (follows : Follows (offered_in_with sends setting.layout setting.requests opening) trace (cycle * setting.layout.cycle) ((cycle + 1) * setting.layout.cycle) frames) where
+    behind : FollowsTraceWith sends setting.layout setting.requests openings opening trace frames
+    behind = record {
+      below = subst (λ n. All (λ earlier. earlier.cycle < n) openings) (sym now) (opened-legal master setting.rules history so_far).below;
+      can_trace = subst (λ n. IsCanTraceWith sends setting.layout setting.requests openings n trace) (sym now) way.can_trace;
       ended = subst (λ n. All (λ sent. end_of sent ≤ n * setting.layout.cycle) trace) (sym now) way.ended;
       follows = follows;
-    } in
-    let more : openings_of (history ++ Open cycle mask ∷ []) ≡ openings ++ o ∷ [] = openings_of-push history (Open cycle mask) in
-    let next : next_of (history ++ Open cycle mask ∷ []) ≡ cycle + 1 = next_of-push history (Open cycle mask) ∙ ap (λ n. n + 1) (sym now) in
-    let can_trace = cycles.can_trace setting.layout setting.requests openings o trace frames known.known behind in
-    let ended = cycles.ended setting.layout setting.requests openings o trace frames known.known behind known.asynchronous fits in
-    let run = cycles.all_run setting.layout setting.requests openings o trace frames known.known behind known.asynchronous fits way.cycles in
-    record {
-      legal = legal;
-      can_trace = subst (λ os. IsCanTrace setting.layout setting.requests os (next_of (history ++ Open cycle mask ∷ [])) (trace ++ frames)) (sym more)
-          (subst (λ n. IsCanTrace setting.layout setting.requests (openings ++ o ∷ []) n (trace ++ frames)) (sym next) can_trace);
-      ended = subst (λ n. All (λ sent. end_of sent ≤ n * setting.layout.cycle) (trace ++ frames)) (sym next) ended;
-      cycles = subst (λ os. RunsCycles setting.layout os (trace ++ frames)) (sym more) run;
     }
+
+    pub opened-runs : RunsCycleWith sends setting.layout opening frames
+    opened-runs = cycles.runs sends setting.layout setting.requests openings opening trace frames known.known behind whole known.asynchronous opened-fits
+
+    pub opened : IsUnderWayWith sends setting (history ++ Open cycle mask ∷ []) (trace ++ frames)
+    opened =
+        let more : openings_of (history ++ Open cycle mask ∷ []) ≡ openings ++ opening ∷ [] = openings_of-push history (Open cycle mask) in
+        let next : next_of (history ++ Open cycle mask ∷ []) ≡ cycle + 1 = next_of-push history (Open cycle mask) ∙ ap (λ n. n + 1) (sym now) in
+        let can_trace = cycles.can_trace sends setting.layout setting.requests openings opening trace frames known.known behind in
+        let ended = cycles.ended sends setting.layout setting.requests openings opening trace frames known.known behind whole known.asynchronous opened-fits in
+        let run = cycles.all_run sends setting.layout setting.requests openings opening trace frames known.known behind whole known.asynchronous opened-fits way.cycles in
+        record {
+          legal = legal;
+          can_trace = subst (λ os. IsCanTraceWith sends setting.layout setting.requests os (next_of (history ++ Open cycle mask ∷ [])) (trace ++ frames)) (sym more)
+              (subst (λ n. IsCanTraceWith sends setting.layout setting.requests (openings ++ opening ∷ []) n (trace ++ frames)) (sym next) can_trace);
+          ended = subst (λ n. All (λ sent. end_of sent ≤ n * setting.layout.cycle) (trace ++ frames)) (sym next) ended;
+          cycles = subst (λ os. RunsCyclesWith sends setting.layout os (trace ++ frames)) (sym more) run;
+        }
 
 -- A run that is under way keeps what is promised
 
-pub keeps : (master : MasterLaws) (plans : PlanLaws) (only : IsTheOnlyTrace) (setting : Setting) (history : List Event) (trace : List TimedFrame)
-    → IsSetting setting → IsUnderWay setting history trace → Kept setting.rules setting.layout setting.requests history trace
-keeps master plans only setting history trace known way =
+pub keeps : (master : MasterLaws) (plans : PlanLaws) (only : IsTheOnlyTrace) (sends : Instance → List ℕ) (setting : Setting) (history : List Event) (trace : List TimedFrame)
+    → IsSetting setting → ForgetsEnds sends → IsUnderWayWith sends setting history trace → KeptWith sends setting.rules setting.layout setting.requests history trace
+keeps master plans only sends setting history trace known forgets way =
     let by = opened-legal master setting.rules history way.legal in
     let range = known.known.cycle_range.above in
-    let run : IsRunOf setting.rules setting.layout (placed_of history) (next_of history) (openings_of history) trace =
+    let run : IsRunOf sends setting.rules setting.layout (placed_of history) (next_of history) (openings_of history) trace =
     record { some_time = omega arith; opened = by; within = way.can_trace.within; cycles = way.cycles } in
     record {
       legal = way.legal;
       can_trace = way.can_trace;
       only_trace = λ other is.
-          only.is setting.layout setting.requests (openings_of history) (next_of history) other trace known.known known.asynchronous by.each_once is way.can_trace;
-      served = all_served plans setting.rules setting.layout (placed_of history) (next_of history) (openings_of history) trace run;
-      no_strangers = no_strangers plans setting.rules setting.layout (placed_of history) (next_of history) (openings_of history) trace run;
-      guarded = all_guarded plans setting.rules setting.layout (placed_of history) (next_of history) (openings_of history) trace run;
+          only.is sends setting.layout setting.requests (openings_of history) (next_of history) other trace known.known known.asynchronous by.each_once is way.can_trace;
+      served = all_served sends plans setting.rules setting.layout (placed_of history) (next_of history) (openings_of history) trace run forgets;
+      no_strangers = no_strangers sends plans setting.rules setting.layout (placed_of history) (next_of history) (openings_of history) trace run;
+      guarded = all_guarded sends plans setting.rules setting.layout (placed_of history) (next_of history) (openings_of history) trace run;
     }

@@ -3,6 +3,7 @@ use Rattle.std.specs.Prelude.{◌≡◌, ℕ, ◌*◌, ◌<◌, ◌≤◌, false
 use Rattle.can_frame.specs.declared.data_frame.TimedFrame.{TimedFrame}
 use Rattle.cycle_layout.specs.Layout.{CycleLayout, IsLayout}
 use Rattle.requirement_table.specs.declared.entries.Placed.{Placed}
+use Rattle.requirement_table.specs.Instance.{Instance, bytes_of}
 use Rattle.admission_rules.specs.declared.Rules.{Rules}
 use Rattle.async_window.specs.declared.request.Owner.{Owner}
 use Rattle.async_window.specs.declared.request.Request.{Request}
@@ -10,9 +11,9 @@ use Rattle.bus_line.specs.Trace.{end_of}
 use Rattle.master_core.specs.declared.event.Event.{Event}
 use Rattle.master_core.specs.History.{IsLegal, is_changed, next_of, placed_of}
 use Rattle.master_core.specs.Openings.{openings_of}
-use Rattle.cycle_engine.specs.Cycle.{RunsCycles}
+use Rattle.cycle_engine.specs.Cycle.{RunsCyclesWith}
 use Rattle.cycle_engine.specs.Nodes.{IsBus, IsNumber, NodesView, states_of}
-use Rattle.cycle_engine.specs.Offered.{AreAsynchronous, IsCanTrace}
+use Rattle.cycle_engine.specs.Offered.{AreAsynchronous, IsCanTraceWith}
 
 -- what a run stands on: the rules by which changes are judged and cycles are planned, the layout of the bus, the owners
 -- of its asynchronous identifiers, and the requests
@@ -31,12 +32,17 @@ pub record IsSetting (setting : Setting) : Type 0 where
   pub asynchronous : AreAsynchronous setting.requests
 
 -- the history and the trace of a run so far: the history is legal, the trace is that which arbitration decides in the
--- opened cycles, it has ended by the start of the next cycle, and in each opened cycle it sends what the opening says
-pub record IsUnderWay (setting : Setting) (history : List Event) (trace : List TimedFrame) : Type 0 where
+-- opened cycles, it has ended by the start of the next cycle, and in each opened cycle it sends what the opening says,
+-- with the bytes that an instance sends
+pub record IsUnderWayWith (sends : Instance → List ℕ) (setting : Setting) (history : List Event) (trace : List TimedFrame) : Type 0 where
   pub legal : IsLegal setting.rules history
-  pub can_trace : IsCanTrace setting.layout setting.requests (openings_of history) (next_of history) trace
+  pub can_trace : IsCanTraceWith sends setting.layout setting.requests (openings_of history) (next_of history) trace
   pub ended : All (λ sent. end_of sent ≤ next_of history * setting.layout.cycle) trace
-  pub cycles : RunsCycles setting.layout (openings_of history) trace
+  pub cycles : RunsCyclesWith sends setting.layout (openings_of history) trace
+
+-- the same where each instance sends its number
+abbrev pub IsUnderWay : Setting → List Event → List TimedFrame → Type 0
+IsUnderWay = IsUnderWayWith bytes_of
 
 -- the nodes of a run before its next cycle: there is one of each number, they heard the trace, and each knows its
 -- entries of a list, which is that of the placed entries where no change was accepted since the last opening

@@ -5,9 +5,10 @@ use Rattle.std.specs.Prelude.{◌≡◌, ℕ, ◌+◌, ◌<◌, ◌≤◌, ◌&&
 use Rattle.can_frame.specs.declared.data_frame.TimedFrame.{TimedFrame}
 use Rattle.cycle_layout.specs.Layout.{CycleLayout, async_open}
 use Rattle.requirement_table.specs.declared.entries.Placed.{Placed}
-use Rattle.requirement_table.specs.Instance.{Exists, IsLastCycle, MaySend, payload, release_of}
+use Rattle.requirement_table.specs.Instance.{Exists, Instance, IsLastCycle, MaySend, bytes_of, release_of}
 use Rattle.requirement_table.specs.Opening.{Opening}
 use Rattle.requirement_table.specs.Slots.{most_slots}
+use Rattle.change_protocol.specs.Applied.{without_end}
 use Rattle.bus_line.specs.Trace.{end_of}
 use Rattle.node_model.specs.Opening.{end_of_cycle, first_identifier, window_start}
 use Rattle.cycle_engine.specs.Cycle.{cycle_of}
@@ -27,20 +28,31 @@ pub record IsInWindow (layout : CycleLayout) (openings : List Opening) (sent : T
   pub after : window_start layout opening ≤ sent.start
   pub before : end_of sent ≤ end_of_cycle layout opening
 
+-- an instance sends the same bytes also where its entry got an end later
+abbrev pub ForgetsEnds : (Instance → List ℕ) → Type 0
+ForgetsEnds sends = (instance : Instance) → sends (without_end instance) ≡ sends instance
+
 -- *Served*: of the instance `k` of an entry, whose last cycle is `last`, exactly one frame of the slot starts in the
 -- cycles from the instance's release to its last one, within the synchronous window of its cycle, and it carries the
--- instance's bytes
-pub record IsServed (layout : CycleLayout) (openings : List Opening) (trace : List TimedFrame)
+-- bytes that the instance sends
+pub record IsServedWith (sends : Instance → List ℕ) (layout : CycleLayout) (openings : List Opening) (trace : List TimedFrame)
     (placed : Placed) (k last : ℕ) : Type 0 where
   pub sent : TimedFrame
   pub once : frames_of layout (first_identifier + placed.entry.slot) (release_of placed k) last trace ≡ sent ∷ []
   pub in_window : IsInWindow layout openings sent
-  pub carries : sent.frame.bytes ≡ payload placed.entry.length k
+  pub carries : sent.frame.bytes ≡ sends (record { placed = placed; number = k })
 
 -- every instance of these entries whose last cycle is below `next` is served
+abbrev pub AllServedWith : (Instance → List ℕ) → CycleLayout → List Placed → List Opening → ℕ → List TimedFrame → Type 0
+AllServedWith sends layout placed openings next trace = (p : Placed) (k last : ℕ) → Contains placed p
+    → Exists p (release_of p k) → IsLastCycle p k last → last < next → IsServedWith sends layout openings trace p k last
+
+-- the same where each instance sends its number
+abbrev pub IsServed : CycleLayout → List Opening → List TimedFrame → Placed → ℕ → ℕ → Type 0
+IsServed = IsServedWith bytes_of
+
 abbrev pub AllServed : CycleLayout → List Placed → List Opening → ℕ → List TimedFrame → Type 0
-AllServed layout placed openings next trace = (p : Placed) (k last : ℕ) → Contains placed p → Exists p (release_of p k)
-    → IsLastCycle p k last → last < next → IsServed layout openings trace p k last
+AllServed = AllServedWith bytes_of
 
 -- the frame starts in a cycle in which an instance of the slot may be sent
 pub record IsOwed (layout : CycleLayout) (placed : List Placed) (slot : ℕ) (sent : TimedFrame) : Type 0 where

@@ -6,7 +6,7 @@ use Rattle.cycle_layout.specs.Layout.{sync_start}
 use Rattle.async_window.specs.declared.mailboxes.Offer.{Offer}
 use Rattle.async_window.specs.Mailbox.{IsMail, StaysUntil}
 use Rattle.node_model.specs.Node.{IsNextOffer, NodeState, node_offer}
-use Rattle.node_model.specs.Ahead.{IsAhead, IsQuietAt, IsTold, Stays, next_time}
+use Rattle.node_model.specs.Ahead.{IsAhead, IsTold, Stays, next_time}
 use Rattle.node_model.specs.Kept.{IsOpenAt}
 use Rattle.node_model.specs.declared.ahead.Ahead.{Ahead}
 use Rattle.node_model.specs.declared.ahead.Next.{Next}
@@ -18,7 +18,8 @@ never-some : (found : Option ℕ) → (IsSome found → ⊥) → found ≡ None
 never-some None never = refl
 never-some (Some n) never = absurd (never refl)
 
--- nothing is offered between a time and the next offer behind it, and the next offer behind a time in between is the same
+-- nothing is offered between a time and the next offer behind it, and the next offer behind a time from there up to that
+-- offer is the same
 not-between : (node : NodeState) (since at : ℕ) (found : Option Next) → IsNextOffer node since (next_time found) → since < at
     → IfSome found (λ next. at < next.from) → IsSome (node_offer node at) → ⊥
 not-between node since at None next behind before some = next at (behind, some)
@@ -26,14 +27,15 @@ not-between node since at (Some found) next behind before some =
     let reached : found.from ≤ at = next.1 at (behind, some) in
     absurd (omega arith)
 
-next-between : (node : NodeState) (since at : ℕ) (found : Option Next) → IsNextOffer node since (next_time found) → since < at
+next-between : (node : NodeState) (since at : ℕ) (found : Option Next) → IsNextOffer node since (next_time found) → since ≤ at
     → IfSome found (λ next. at < next.from) → IsNextOffer node at (next_time found)
 next-between node since at None next behind before = λ later has. next later (omega (arith, has.0), has.1)
 next-between node since at (Some found) next behind before =
     ((before, next.0.1), λ later has. next.1 later (omega (arith, has.0), has.1))
 
-pub next-quiet : (node : NodeState) (look : Ahead) (at : ℕ) → IsAhead node look → IsQuietAt look at → IsNextOffer node at (next_time look.next)
-next-quiet node look at ahead quiet = next-between node look.since at look.next ahead.0 quiet.behind quiet.before
+pub next-behind : (node : NodeState) (look : Ahead) (at : ℕ) → IsAhead node look → look.since ≤ at
+    → IfSome look.next (λ next. at < next.from) → IsNextOffer node at (next_time look.next)
+next-behind node look at ahead since before = next-between node look.since at look.next ahead.0 since before
 
 -- what a look ahead tells is so
 told : (node : NodeState) (look : Ahead) (at : ℕ) (offered : Option ℕ) → IsAhead node look → IsTold look at offered → node_offer node at ≡ offered

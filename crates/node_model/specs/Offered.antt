@@ -1,14 +1,16 @@
 -- What is offered on the bus in an opened cycle: its trigger frames, requests in its asynchronous window, and the frames of
 -- its flagged slots in its synchronous window. `past` are the frames that started before, on the whole bus.
-use Rattle.std.specs.Prelude.{◌≡◌, ℕ, ◌+◌, ◌<◌, ◌≤◌, true, List, All, Contains, Some}
+use Rattle.std.specs.Prelude.{◌≡◌, ℕ, ◌+◌, ◌<◌, ◌≤◌, true, List, All, Contains, Option, Some, option_map}
 use Rattle.can_frame.specs.DataFrame.{DataFrame}
 use Rattle.can_frame.specs.declared.data_frame.TimedFrame.{TimedFrame}
 use Rattle.cycle_layout.specs.Layout.{CycleLayout, trigger_part}
+use Rattle.requirement_table.specs.Instance.{Instance, bytes_of}
 use Rattle.requirement_table.specs.Slots.{contains_slot, most_slots}
+use Rattle.requirement_table.specs.Table.{instance_in}
 use Rattle.trigger_codec.specs.Bytes.{triggers_with}
 use Rattle.async_window.specs.declared.request.Request.{Request}
 use Rattle.async_window.specs.Waiting.{unsent_after, MayStart}
-use Rattle.requirement_table.specs.Opening.{Opening, bytes_in, width_of}
+use Rattle.requirement_table.specs.Opening.{Opening, width_of}
 use Rattle.node_model.specs.Opening.{first_identifier, start_of, end_of_cycle, window_start}
 
 -- no frame of the identifier started in the cycle, among the frames before
@@ -42,10 +44,14 @@ pub record OffersRequest (layout : CycleLayout) (requests : List Request) (openi
 abbrev pub IsUnsent : CycleLayout → Opening → ℕ → List TimedFrame → Type 0
 IsUnsent layout opening slot past = HasNotStarted layout opening (first_identifier + slot) past
 
+-- the bytes that the slot sends in the cycle, where an instance sends these: those of the instance that may be sent in it
+abbrev pub bytes_sent : (Instance → List ℕ) → Opening → ℕ → Option (List ℕ)
+bytes_sent sends opening slot = option_map sends (instance_in opening.placed slot opening.cycle)
+
 -- in the cycle, from the synchronous window's start on, which lies behind the trigger part where the window is at most
--- the largest one, each flagged slot is offered that has not been sent in the
--- cycle: with its identifier, and the bytes of the instance that may be sent in the cycle
-pub record OffersSlot (layout : CycleLayout) (opening : Opening) (past : List TimedFrame)
+-- the largest one, each flagged slot is offered that has not been sent in the cycle: with its identifier, and the bytes
+-- that the instance sends which may be sent in the cycle
+pub record OffersSlotWith (sends : Instance → List ℕ) (layout : CycleLayout) (opening : Opening) (past : List TimedFrame)
     (at : ℕ) (frame : DataFrame) (slot : ℕ) : Type 0 where
   pub begun : start_of layout opening ≤ at
   pub late_enough : window_start layout opening ≤ at
@@ -54,4 +60,8 @@ pub record OffersSlot (layout : CycleLayout) (opening : Opening) (past : List Ti
   pub flagged : contains_slot opening.mask slot ≡ true
   pub unsent : IsUnsent layout opening slot past
   pub identifier : frame.identifier ≡ first_identifier + slot
-  pub bytes : bytes_in opening slot ≡ Some frame.bytes
+  pub bytes : bytes_sent sends opening slot ≡ Some frame.bytes
+
+-- so where each instance sends its number
+abbrev pub OffersSlot : CycleLayout → Opening → List TimedFrame → ℕ → DataFrame → ℕ → Type 0
+OffersSlot = OffersSlotWith bytes_of

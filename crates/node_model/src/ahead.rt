@@ -1,6 +1,6 @@
 //! A look ahead to a node's next offer.
 
-ghost use Rattle.std.specs.Prelude.{◌≡◌, ◌<◌, true, IfSome};
+ghost use Rattle.std.specs.Prelude.{◌≡◌, ◌<◌, ◌≤◌, true, IfSome};
 ghost use Rattle.node_model.specs.Ahead.{IsQuietAt, IsTold, next_time};
 
 use async_window::Offer;
@@ -37,6 +37,15 @@ impl Ahead {
         ensures quiet { result ≡ true → IsQuietAt self.now at }
     {
         self.since < at && is_before(at, &self.next)
+    }
+
+    /// Whether the next offer behind a time is the one that the look found: the time is that of the look, or it lies
+    /// behind it and before what the look found.
+    pub fn tells_behind(&self, at: u64) -> bool
+        ensures since { result ≡ true → self.now.since ≤ at }
+        ensures before { result ≡ true → IfSome self.now.next (λ next. at < next.from) }
+    {
+        self.since <= at && is_before(at, &self.next)
     }
 
     /// What is offered at a time, where the look ahead tells it.

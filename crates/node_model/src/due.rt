@@ -39,24 +39,22 @@ impl Node {
         self.ahead = None;
         self.frames = self.frames.saturating_add(frames.len() as u64);
         let own = common(self.own, sent);
-        self.opened = after_slots(&self.opened, own);
+        mark_slots(&mut self.opened, own);
     }
 }
 
-/// The open cycle, where there is one, of a node that heard frames of these of its slots.
-fn after_slots(before: &Option<Open>, heard: Mask) -> Option<Open>
-    ensures opened { option_map opened_of result ≡ option_map (with_all_heard heard) (option_map opened_of before.now) }
-    ensures due { (entries : List Placed) → IfSome before.now (KnowsDue entries) → IfSome result (KnowsDue entries) }
-    ensures known { IfSome before.now (λ open_cycle. open_cycle.heard < 2 ^ most_slots) }
+/// Marks these of the node's slots, of which it heard frames, in the open cycle, where there is one.
+fn mark_slots(opened: &mut Option<Open>, heard: Mask)
+    ensures opened { option_map opened_of opened.new
+        ≡ option_map (with_all_heard heard) (option_map opened_of opened.old) }
+    ensures due { (entries : List Placed) → IfSome opened.old (KnowsDue entries) → IfSome opened.new (KnowsDue entries) }
+    ensures known { IfSome opened.old (λ open_cycle. open_cycle.heard < 2 ^ most_slots) }
 {
-    let before = before.as_ref()?;
-    before.heard.known();
-    let all_heard = both(before.heard, heard);
-    Some(Open {
-        heard: all_heard,
-        due: without_all(before.due, heard),
-        ..*before
-    })
+    if let Some(open_cycle) = opened {
+        open_cycle.heard.known();
+        open_cycle.heard = both(open_cycle.heard, heard);
+        open_cycle.due = without_all(open_cycle.due, heard);
+    }
 }
 
 /// The slots that stand in two sets.

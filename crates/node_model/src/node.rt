@@ -496,7 +496,7 @@ impl Node {
         requires time { at < 2 ^ 60 }
         ensures next { IsNextOffer self.now.state at result }
     {
-        match self.quiet_at(at) {
+        match self.told_behind(at) {
             Some(ahead) => ahead.next_time(),
             None => self.next_behind(at),
         }
@@ -524,14 +524,14 @@ impl Node {
         }
     }
 
-    /// What the node found when it looked ahead, where by that nothing is offered at a time. The next offer behind it
-    /// is then the same.
-    fn quiet_at(&self, at: u64) -> Option<Ahead>
-        ensures quiet { IfSome result (λ look. IsNextOffer self.now.state at (next_time look.next)) }
+    /// What the node found when it looked ahead, where by that the next offer behind a time is the same. Right behind a
+    /// frame, the time is that of the look.
+    fn told_behind(&self, at: u64) -> Option<Ahead>
+        ensures told { IfSome result (λ look. IsNextOffer self.now.state at (next_time look.next)) }
     {
         match self.ahead {
             Some(ahead) => {
-                if ahead.is_quiet(at) {
+                if ahead.tells_behind(at) {
                     Some(ahead)
                 } else {
                     None

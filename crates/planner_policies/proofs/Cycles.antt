@@ -1,5 +1,5 @@
 -- The plan of a cycle, from what is planned of its pending instances and what is left of them.
-use Rattle.std.proofs.Common.{◌≡◌, ◌≢◌, ℕ, ◌+◌, ◌<◌, ◌≤◌, Bool, true, Some, None, List, [], All, AllPairs, Contains, refl, sym, ap, ◌∙◌, arith}
+use Rattle.std.proofs.Common.{◌≡◌, ◌≢◌, ℕ, ◌+◌, ◌<◌, ◌≤◌, Bool, true, Some, None, List, All, AllPairs, Contains, refl, sym, ap, ◌∙◌, arith}
 use Rattle.std.specs.List.{sum_by}
 use Rattle.std.proofs.lemmas.Bool.{and_from, and_parts, eq-eqb, eqb-true, false_from_ne_true}
 use Rattle.std.proofs.lemmas.List.Elements.{All-contains, All-map, All-weaker}
@@ -24,17 +24,6 @@ pub split-of : (plan : Planning) (c : ℕ) (before : ℕ → Bool) (line : List 
     → IsSplit plan c before (taken_of fill plan.window line) (left_of fill plan.window line)
 split-of plan c before line Prefix is whole = split-front plan c before line is whole
 split-of plan c before line Skip is whole = split-each plan c before line is whole
-
-pub split-none : (plan : Planning) (c : ℕ) (before : ℕ → Bool) → IsWholeLine plan c before [] → IsSplit plan c before [] []
-split-none plan c before whole = rw (taken-none plan.fill plan.window, left-none plan.fill plan.window) at (split-of plan c before [] plan.fill refl whole)
-  where
-    taken-none : (fill : Fill) (window : ℕ) → taken_of fill window [] ≡ []
-    taken-none Prefix window = refl
-    taken-none Skip window = refl
-
-    left-none : (fill : Fill) (window : ℕ) → left_of fill window [] ≡ []
-    left-none Prefix window = refl
-    left-none Skip window = refl
 
 module _ (plan : Planning) (c : ℕ) (before : ℕ → Bool) (taken left : List Due) (split : IsSplit plan c before taken left) where
   -- the set of the slots that are planned, and that of the slots that are left

@@ -1,4 +1,5 @@
 pub mod Shared
+mod AllFitting
 mod Cycles
 mod DueSlots
 mod EachLoop

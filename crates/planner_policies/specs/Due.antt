@@ -36,6 +36,13 @@ pub record IsPending (policy : Policy) (before : ℕ → Bool) (c : ℕ) (p : Pl
   pub waiting : waits before c p number ≡ true
   pub is : IsOf policy (record { placed = p; number = number }) due
 
+-- an instance that waits in the cycle was released then
+pub record IsReleaseWaiting (before : ℕ → Bool) (c : ℕ) (p : Placed) (release : ℕ) : Type 0 where
+  pub number : ℕ
+  pub may : MaySend p number c
+  pub waiting : waits before c p number ≡ true
+  pub is : release ≡ release_of p number
+
 abbrev pub IsDueOf : Policy → (ℕ → Bool) → ℕ → Placed → Option Due → Type 0
 IsDueOf policy before c p None = (k : ℕ) → MaySend p k c → waits before c p k ≡ false
 IsDueOf policy before c p (Some due) = IsPending policy before c p due
@@ -108,6 +115,14 @@ left_of Skip room (due ∷ line) =
 pub record IsSetOf (mask : ℕ) (line : List Due) : Type 0 where
   pub slots : (slot : ℕ) → contains_slot mask slot ≡ list_any (λ due. nat_eq due.slot slot) line
   pub below : mask < 2 ^ most_slots
+
+-- all that is pending in a cycle fits the window together: its slots, and what it costs
+pub record IsAllFitting (plan : Planning) (c : ℕ) (before : ℕ → Bool) (mask width : ℕ) : Type 0 where
+  pub line : List Due
+  pub whole : IsWholeLine plan c before line
+  pub slots : IsSetOf mask line
+  pub cost : width ≡ sum_by (λ due. due.cost) line
+  pub fits : width ≤ plan.window
 
 -- of a miss, where there is one, and that of an instance in its last cycle, the one of the lesser slot
 abbrev pub miss_of : Due → Miss

@@ -1,14 +1,15 @@
 //! What a placed entry has to send in a cycle.
 
-ghost use Rattle.std.specs.Prelude.{◌≡◌, ◌^◌, ◌<◌, nat_le};
+ghost use Rattle.std.specs.Prelude.{◌≡◌, ◌^◌, ◌<◌, ℕ, IfSome, None, false, nat_le};
+ghost use Rattle.requirement_table.specs.Instance.{MaySend};
 ghost use Rattle.requirement_table.specs.Slots.{contains_slot};
 ghost use Rattle.requirement_table.specs.Table.{IsInRange};
-ghost use Rattle.planner_policies.specs.Due.{IsDueOf, is_due_by, key_with};
+ghost use Rattle.planner_policies.specs.Due.{IsDueOf, IsReleaseWaiting, is_due_by, key_with, waits};
 ghost use Rattle.planner_policies.specs.Plan.{by_number};
 
 use crate::Policy;
 use crate::state::PlanState;
-use requirement_table::{Placed, cost, current_instance};
+use requirement_table::{Placed, cost, current_instance, releases};
 
 /// What is kept of an instance that is pending in a cycle.
 #[derive(Clone, Copy, Debug)]
@@ -55,17 +56,14 @@ impl Due {
 }
 
 /// The instance of a placed entry that is pending in the cycle of the state, where there is one.
+#[inline(always)]
 pub fn due_of(policy: Policy, placed: &Placed, state: &PlanState) -> Option<Due>
     requires in_range { IsInRange placed.now }
     requires cycle { state.now.cycle < 2 ^ 42 }
     ensures pending { IsDueOf policy (contains_slot state.now.pending) state.now.cycle placed.now result }
 {
-    let instance = current_instance(placed, state.cycle)?;
-    let release = instance.release;
+    let release = release_waiting(placed, state)?;
     let entry = &placed.entry;
-    if release < state.cycle && !state.pending.has(entry.slot) {
-        return None;
-    }
     let deadline = release + u64::from(entry.deadline);
     Some(Due {
         key: key(policy, placed, deadline),
@@ -75,6 +73,27 @@ pub fn due_of(policy: Policy, placed: &Placed, state: &PlanState) -> Option<Due>
         release,
         last: deadline - 1,
     })
+}
+
+/// The release of the instance of a placed entry that is pending in the cycle of the state, where there is one.
+///
+/// Where the slot is pending, that is the instance which may be sent in the cycle. Else it is the one that is released
+/// in the cycle. So an entry costs one division.
+fn release_waiting(placed: &Placed, state: &PlanState) -> Option<u64>
+    requires in_range { IsInRange placed.now }
+    requires cycle { state.now.cycle < 2 ^ 42 }
+    ensures waiting { IfSome result
+        (λ release. IsReleaseWaiting (contains_slot state.now.pending) state.now.cycle placed.now release) }
+    ensures none { result ≡ None → (k : ℕ) → MaySend placed.now k state.now.cycle
+        → waits (contains_slot state.now.pending) state.now.cycle placed.now k ≡ false }
+{
+    if state.pending.has(placed.entry.slot) {
+        let instance = current_instance(placed, state.cycle)?;
+        Some(instance.release)
+    } else {
+        releases(placed, state.cycle)?;
+        Some(state.cycle)
+    }
 }
 
 /// The number that the policy looks at first; the least goes first. The deadline is that of an instance, the cycle

@@ -1,12 +1,12 @@
 //! The plan of one cycle.
 
-ghost use Rattle.std.specs.Prelude.{◌≡◌, ℕ, ◌+◌, ◌^◌, ◌<◌, ◌≤◌, ◌↔◌, nat_eq, []};
-ghost use Rattle.std.specs.Prelude.{sum_by, take, All, IsTrue, IfOk, IfErr, length, None, Some};
+ghost use Rattle.std.specs.Prelude.{◌≡◌, ℕ, ◌+◌, ◌^◌, ◌<◌, ◌≤◌, ◌↔◌, nat_eq};
+ghost use Rattle.std.specs.Prelude.{sum_by, take, All, IsTrue, IfOk, IfErr, IfSome, length, None, Some};
 ghost use Rattle.planner_policies.specs.declared.Fill.TheVariants.{Prefix, Skip};
 ghost use Rattle.std.specs.List.{list_any};
 ghost use Rattle.requirement_table.specs.Slots.{contains_slot, set_of, most_slots};
 ghost use Rattle.requirement_table.specs.Table.{IsInRange, IsWellPlaced, width_in};
-ghost use Rattle.planner_policies.specs.Due.{IsLeastMissed, IsLongestFit, IsSetOf, IsWholeLine, is_held_in, left_of, lesser_miss};
+ghost use Rattle.planner_policies.specs.Due.{IsAllFitting, IsLeastMissed, IsLongestFit, IsSetOf, IsWholeLine, is_held_in, left_of, lesser_miss};
 ghost use Rattle.planner_policies.specs.Due.{taken_of, with_missed};
 ghost use Rattle.planner_policies.specs.Plan.{HasNoMissIn, IsMissIn, IsValid, left_after, planned_in, planning_of};
 
@@ -119,10 +119,10 @@ pub fn plan_with_width(ranked: &Ranked, w: u32, state: &PlanState) -> Result<Pla
         IfErr result (λ miss. IsMissIn plan state.now.cycle (contains_slot state.now.pending) miss.slot miss.release) }
     ensures missed_cycle { IfErr result (λ miss. miss.cycle ≡ state.now.cycle) }
 {
-    if is_idle(ranked, w, state) {
+    if let Some(all) = all_fitting(ranked, w, state) {
         return Ok(Planned {
-            mask: Mask::empty(),
-            width: 0,
+            mask: all.mask,
+            width: all.width,
             next: PlanState {
                 cycle: state.cycle + 1,
                 pending: Mask::empty(),
@@ -193,16 +193,43 @@ fn mask_of_rows<const ROOM: usize>(ranked: &Ranked, w: u32, state: &PlanState) -
     mask_of_line(line.as_slice(), ranked.fill(), w)
 }
 
-/// Whether the table is empty. Then nothing is pending in the cycle of the state, and no line has to be made.
-fn is_idle(ranked: &Ranked, w: u32, state: &PlanState) -> bool
+/// All that is pending in a cycle.
+#[derive(Drop)]
+struct Fitting {
+    /// The slots.
+    mask: Mask,
+    /// What their instances cost together, in bit times.
+    width: u32,
+}
+
+/// All that is pending in the cycle of the state, where it fits a window of `w` bit times together: then all is planned,
+/// and need not be ordered. `None` where it does not fit. `None` too where something was left before the cycle: then most
+/// often it does not fit, and no row is looked at twice.
+fn all_fitting(ranked: &Ranked, w: u32, state: &PlanState) -> Option<Fitting>
     requires cycle { state.now.cycle < 2 ^ 42 }
     requires valid { IsValid ranked.now.placed state.now.cycle state.now.pending }
-    ensures idle { IsTrue result
-        → IsWholeLine (planning_of ranked.now w state.now.cycle state.now.pending) state.now.cycle
-        (contains_slot state.now.pending) [] }
+    ensures fitting { let plan = planning_of ranked.now w state.now.cycle state.now.pending in
+        IfSome result
+        (λ all. IsAllFitting plan state.now.cycle (contains_slot state.now.pending) all.mask all.width) }
     ensures well_placed { IsWellPlaced ranked.now.placed }
 {
-    ranked.rows().is_empty()
+    let rows = ranked.rows();
+    let mut mask = Mask::empty();
+    if state.pending != mask {
+        return None;
+    }
+    let mut width = 0;
+    for row in rows {
+        if let Some(due) = due_of(ranked.policy(), row, state) {
+            if w - width < due.cost {
+                return None;
+            }
+            width += due.cost;
+            mask = mask.with(due.slot);
+        }
+    }
+    mask.known();
+    Some(Fitting { mask, width })
 }
 
 /// The instances that are pending in the cycle of the state, in key order.

@@ -2,6 +2,8 @@
 
 ghost use Rattle.std.specs.Prelude.{◌≤◌};
 
+use crate::runs::run;
+use requirement_table::Entry;
 use sporadic_poll::{PolledBytes, Queues, Stream, read_streams};
 use std::alloc::{AllocError, Global};
 
@@ -41,13 +43,52 @@ fn answer(alloc: Global, queues: &mut Queues, call: &str) -> Result<String, Allo
     if word == "streams" {
         return read(alloc, queues, rest);
     }
-    let mut numbers = Vec::new(alloc);
-    for word in rest.split(' ') {
-        numbers.push(word.parse::<u64>().unwrap_or(u64::MAX))?;
+    if word == "run" {
+        let (numbers, rows) = rest.split_once(" of ").unwrap_or((rest, ""));
+        return ran(alloc, numbers_in(alloc, numbers)?.as_slice(), rows);
     }
-    match numbers.as_slice() {
+    match numbers_in(alloc, rest)?.as_slice() {
         [slot, release, length] if *slot < 256 && *length <= 8 => {
             frame(alloc, queues, *slot as u8, *release, *length as u8)
+        }
+        _ => Ok(String::new(alloc)),
+    }
+}
+
+/// The numbers of a text, which a blank separates. In place of a word that is none stands the largest number.
+fn numbers_in(alloc: Global, text: &str) -> Result<Vec<u64>, AllocError> {
+    let mut numbers = Vec::new(alloc);
+    for word in text.split(' ') {
+        numbers.push(word.parse::<u64>().unwrap_or(u64::MAX))?;
+    }
+    Ok(numbers)
+}
+
+/// What a run answers with the requests of a streams file, whose rows a `;` separates. The numbers are the slot,
+/// length, phase, period and deadline of its one entry, and how many cycles it has.
+fn ran(alloc: Global, numbers: &[u64], rows: &str) -> Result<String, AllocError> {
+    let text = rows.replace(alloc, ";", "\n")?;
+    let streams = match read_streams(alloc, text.as_bytes(), SLOTS) {
+        Ok(streams) => streams,
+        Err(fault) => return format!(in alloc; "{fault}"),
+    };
+    match numbers {
+        [slot, length, phase, period, deadline, count]
+            if *slot < 40
+                && *length <= 8
+                && *phase < 65_536
+                && *period < 65_536
+                && *deadline < 65_536 => {
+            let entry = Entry {
+                slot: *slot as u8,
+                node: 0,
+                length: *length as u8,
+                phase: *phase as u16,
+                period: *period as u16,
+                deadline: *deadline as u16,
+                priority: 0,
+            };
+            run(alloc, streams.as_slice(), entry, *count)
         }
         _ => Ok(String::new(alloc)),
     }

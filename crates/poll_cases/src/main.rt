@@ -6,6 +6,7 @@
 #![tactic(auto)]
 
 mod calls;
+mod runs;
 
 use std::{fs, io};
 

@@ -3,3 +3,4 @@ mod Answering
 mod Listed
 mod Noted
 mod Walking
+mod Places

@@ -21,7 +21,7 @@ pair_equal one other first second =
     let right : ℕ → ℕ × ℕ = λ n. (other.0, n) in
     ap left first ∙ ap right second
 
-key_cases : (one other : ℕ × ℕ) → (one ≡ other) ⊎ (one ≢ other)
+pub key_cases : (one other : ℕ × ℕ) → (one ≡ other) ⊎ (one ≢ other)
 key_cases one other = elim (cases_eq one.0 other.0) [
   | inl first ↦ elim (cases_eq one.1 other.1) [
     | inl second ↦ inl (pair_equal one other first second)
@@ -31,7 +31,7 @@ key_cases one other = elim (cases_eq one.0 other.0) [
 ]
 
 -- nothing was found in an empty table
-Meets-empty : (old new : ℕ × ℕ → Option ℕ) (key : Option (ℕ × ℕ)) (steps : ℕ) (before : Option ℕ)
+pub Meets-empty : (old new : ℕ × ℕ → Option ℕ) (key : Option (ℕ × ℕ)) (steps : ℕ) (before : Option ℕ)
     → ((q : ℕ × ℕ) → old q ≡ None) → Meets old new key steps before → before ≡ None
 Meets-empty old new None steps before empty met = met.0
 Meets-empty old new (Some key) steps before empty met = met.0 ∙ empty key

@@ -1,5 +1,5 @@
 -- A table of the steps to states, by their keys.
-use Rattle.std.specs.Prelude.{◌≡◌, ◌≢◌, ℕ, Option, Some, None}
+use Rattle.std.specs.Prelude.{◌≡◌, ◌≢◌, ℕ, ◌<◌, ◌≤◌, length, nat_eq, if◌then◌else◌, List, Option, Some, None, slice_index_or}
 
 -- the key was looked up in the table, which had `before` under it, and where that was nothing the key now stands there
 -- with these steps; no key stands nowhere
@@ -8,3 +8,18 @@ Meets old new None steps before = (before ≡ None) × ((key : ℕ × ℕ) → n
 Meets old new (Some key) steps before =
     (before ≡ old key)
     × (before ≡ None → (new key ≡ Some steps) × ((other : ℕ × ℕ) → key ≢ other → new other ≡ old other))
+
+-- what stands under a mark at a place whose first mark, and its steps, are these: other marks stand elsewhere
+abbrev pub at_place : Option (ℕ × ℕ) → ℕ → Option ℕ → Option ℕ
+at_place None mark elsewhere = elsewhere
+at_place (Some first) mark elsewhere = if nat_eq first.0 mark then Some first.1 else elsewhere
+
+-- the table whose first marks stand in a row by their places, and whose other keys stand in another table
+abbrev pub table : List (Option (ℕ × ℕ)) → (ℕ × ℕ → Option ℕ) → ℕ × ℕ → Option ℕ
+table row others key = at_place (slice_index_or row key.1 None) key.0 (others key)
+
+-- no key stands in the other table before the row has a first mark at its place; the row has room for places below
+-- 100,000
+pub record IsSparse (row : List (Option (ℕ × ℕ))) (others : ℕ × ℕ → Option ℕ) : Type 0 where
+  pub short : length row ≤ 100000
+  pub first : (key : ℕ × ℕ) → key.1 < 100000 → slice_index_or row key.1 None ≡ None → others key ≡ None

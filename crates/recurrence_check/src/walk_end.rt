@@ -2,7 +2,7 @@
 
 ghost use Rattle.std.specs.Prelude.{◌≡◌};
 
-use std::alloc::AllocFailed;
+use std::alloc::{AllocError, AllocFailed};
 use std::error::Error;
 use std::fmt;
 
@@ -52,6 +52,16 @@ impl<T: Drop> From<AllocFailed<T>> for WalkEnd {
     ghost from_gives = { λ _ end. end ≡ Memory };
 
     fn from(_failed: AllocFailed<T>) -> WalkEnd {
+        WalkEnd::Memory
+    }
+}
+
+impl From<AllocError> for WalkEnd {
+    ghost use Rattle.recurrence_check.specs.declared.walk_end.WalkEnd.TheVariants.{Memory};
+
+    ghost from_gives = { λ _ end. end ≡ Memory };
+
+    fn from(_failed: AllocError) -> WalkEnd {
         WalkEnd::Memory
     }
 }

@@ -1,10 +1,14 @@
 -- What begins a legal history is legal, and what is opened behind it are cycles from the next one on. So a run of the
 -- first calls of steps begins the run of all calls.
-use Rattle.std.proofs.Common.{◌≡◌, ℕ, ◌+◌, ◌*◌, ◌<◌, ◌≤◌, List, [], ◌∷◌, ◌++◌, All, cond, sym, ap, ◌∙◌, subst, arith, append_assoc, append-nil}
+use Rattle.std.proofs.Common.{◌≡◌, ℕ, ◌+◌, ◌*◌, ◌<◌, ◌≤◌, List, [], ◌∷◌, ◌++◌, get_or, length, map, All, cond, sym, ap, ◌∙◌, subst, arith, append_assoc, append-nil, zero-add}
+use Rattle.std.specs.List.{range_with_len}
+use Rattle.std.proofs.lemmas.List.{get_or-map, length-map}
 use Rattle.std.proofs.lemmas.List.Elements.{All-append, All-cons, All-nil, All-weaker}
+use Rattle.std.proofs.lemmas.List.FromFn.{get_or-range_with_len, length-range_with_len}
 use Rattle.std.proofs.lemmas.List.Sums.{sum_by-append, sum_by-cons}
 use Rattle.can_frame.specs.declared.data_frame.TimedFrame.{TimedFrame}
 use Rattle.cycle_layout.specs.Layout.{CycleLayout, IsLayout}
+use Rattle.requirement_table.specs.Instance.{Instance, bytes_of}
 use Rattle.requirement_table.specs.Opening.{Opening}
 use Rattle.admission_rules.specs.declared.Rules.{Rules}
 use Rattle.master_core.specs.declared.event.Event.{Event}
@@ -13,7 +17,7 @@ use Rattle.master_core.specs.History.{AllAfter, IsLegal, IsRight, is_open, next_
 use Rattle.master_core.specs.Openings.{opening_of, openings_after, openings_of}
 use Rattle.async_window.specs.declared.request.Request.{Request}
 use Rattle.bus_line.specs.Trace.{started_before}
-use Rattle.cycle_engine.specs.Offered.{IsCanTrace}
+use Rattle.cycle_engine.specs.Offered.{AreOfDistinctCycles, IsCanTrace, IsCanTraceWith}
 use Rattle.kept_run.proofs.Shared.{AllAfter-parts}
 use Rattle.system_file.specs.SystemFile.{IsSystem}
 use Rattle.steps_file.specs.declared.steps.Step.{Step}
@@ -72,12 +76,22 @@ cycles-between rules before (event ∷ events) right =
     (opening-between rules before event high right.0 (omega arith))
     (All-weaker (IsBetween (next_of (before ++ event ∷ [])) high) (IsBetween low high) (λ o is. (omega (arith, is.0), is.1)) (openings_after (before ++ event ∷ []) events) rest)
 
+-- openings of the cycles from 0 on are of distinct cycles
+pub distinct : (openings : List Opening) (n : ℕ) → map (λ o. o.cycle) openings ≡ range_with_len 0 n → AreOfDistinctCycles openings
+distinct openings n in_order i j d before within same =
+    let all : length openings ≡ n = sym (length-map openings (λ o. o.cycle)) ∙ ap length in_order ∙ length-range_with_len 0 n in
+    let at : (k : ℕ) → k < length openings → (get_or openings k d).cycle ≡ k = λ k here.
+    sym (get_or-map (λ o. o.cycle) openings k d d.cycle here) ∙ ap (λ l. get_or l k d.cycle) in_order ∙ get_or-range_with_len 0 n k d.cycle (omega (arith, here, all)) ∙ zero-add k in
+    let one = at i (omega (arith, before, within)) in
+    let other = at j within in
+    omega (arith, one, other, same, before)
+
 -- The trace
 
-module _ (layout : CycleLayout) (known : IsLayout layout) (requests : List Request) (rules : Rules) where
+module _ (sends : Instance → List ℕ) (layout : CycleLayout) (known : IsLayout layout) (requests : List Request) (rules : Rules) where
   -- the trace of the opened cycles of a history
   abbrev IsTraceOf : List Event → List TimedFrame → Type 0
-  IsTraceOf history trace = IsCanTrace layout requests (openings_of history) (next_of history) trace
+  IsTraceOf history trace = IsCanTraceWith sends layout requests (openings_of history) (next_of history) trace
 
   -- what the trace of a legal history sends in the cycles that a front of the history opens is the trace of that front
   pub front-trace : (history later : List Event) (trace : List TimedFrame) → IsLegal rules (history ++ later)
@@ -87,9 +101,9 @@ module _ (layout : CycleLayout) (known : IsLayout layout) (requests : List Reque
       let parts = AllAfter-parts (IsRight rules) [] history later legal in
       let between = cycles-between rules history later parts.1 in
       let count : next_of (history ++ later) ≡ next_of history + next_of later = next_of-append history later in
-      front-can_trace layout known requests (openings_of history) (openings_after history later) (next_of history)
+      front-can_trace sends layout known requests (openings_of history) (openings_after history later) (next_of history)
       (λ k d within. (between k d within).0) (next_of (history ++ later)) trace (omega arith)
-      (subst (λ os. IsCanTrace layout requests os (next_of (history ++ later)) trace) (openings_of-append history later) is)
+      (subst (λ os. IsCanTraceWith sends layout requests os (next_of (history ++ later)) trace) (openings_of-append history later) is)
 
 -- The run of the first calls of steps
 
@@ -109,9 +123,9 @@ pub begun-trace : OneVerdict
 begun-trace verdicts system steps requests history whole trace frames is begun run =
     let (rest, all) = begun-history verdicts system steps requests history whole trace frames begun run in
     let legal : IsLegal system.rules (history ++ rest) = subst (IsLegal system.rules) all run.plain.legal in
-    let trace_of : IsTraceOf system.layout is.layout requests system.rules (history ++ rest) frames =
+    let trace_of : IsTraceOf bytes_of system.layout is.layout requests system.rules (history ++ rest) frames =
     subst (λ h. IsCanTrace system.layout requests (openings_of h) (next_of h) frames) all run.kept.can_trace in
-    let front = front-trace system.layout is.layout requests system.rules history rest frames legal trace_of in
+    let front = front-trace bytes_of system.layout is.layout requests system.rules history rest frames legal trace_of in
     let until : ℕ = next_of history * system.layout.cycle in
     let same : started_before until frames ≡ trace = begun.kept.only_trace (started_before until frames) front in
     let cut = cut-at until frames run.kept.can_trace.ordered.apart in

@@ -1,18 +1,22 @@
 -- The rows of a history with one event more.
-use Rattle.std.proofs.Common.{◌≡◌, ◌≢◌, ℕ, ◌+◌, ◌≤◌, false, cond, eqb, List, [], ◌∷◌, ◌++◌, fold, All, refl, sym, ap, ◌∙◌, arith, append_assoc}
+use Rattle.std.proofs.Common.{◌≡◌, ◌≢◌, ℕ, ◌+◌, ◌≤◌, ◌⊎◌, false, cond, eqb, List, [], ◌∷◌, ◌++◌, fold, get_or, All, inl, inr, refl, subst, sym, ap, ◌∙◌, arith, append_assoc}
 use Rattle.std.specs.List.{flat_map}
 use Rattle.std.proofs.lemmas.Bool.{ne_eqb, eq-eqb, cond-true, cond-false}
 use Rattle.std.proofs.lemmas.List.{append-nil}
-use Rattle.std.proofs.lemmas.List.Elements.{All-head, All-tail}
+use Rattle.std.proofs.lemmas.List.Elements.{All-append, All-head, All-tail}
 use Rattle.std.proofs.lemmas.List.Sums.{fold-append, sum_by-cons}
 use Rattle.can_frame.specs.declared.data_frame.TimedFrame.{TimedFrame}
-use Rattle.requirement_table.specs.Opening.{width_of}
+use Rattle.cycle_layout.specs.Layout.{CycleLayout, IsLayout}
+use Rattle.requirement_table.specs.Instance.{Instance}
+use Rattle.requirement_table.specs.Opening.{Opening, width_of}
+use Rattle.trigger_codec.specs.Bytes.{trigger_bytes, width_told}
+use Rattle.cycle_engine.specs.Cycle.{FitsWindow, IsRequestFrame, IsSlotFrame, RunsCycleWith}
 use Rattle.admission_rules.specs.declared.Rules.{Rules}
 use Rattle.master_core.specs.declared.event.Event.{Event}
 use Rattle.master_core.specs.declared.event.Event.TheVariants.{Submit, Look, Open}
 use Rattle.master_core.specs.History.{AllAfter, IsRight, is_open, next_of, placed_of}
-use Rattle.kept_run.proofs.Shared.{next_of-push}
-use Rattle.bus_trace.specs.EventRows.{opened_row, rows_of_event, width_told_in}
+use Rattle.kept_run.proofs.Shared.{next_of-push, second_identifiers}
+use Rattle.bus_trace.specs.EventRows.{BeginsCycle, opened_row, rows_of_event, width_told_in}
 use Rattle.bus_trace.specs.Log.{event_rows, events_rows, frame_row, open_row, started_in, triggers_in, triggers_with}
 use Rattle.bus_trace.proofs.Shared.{events_rows-push, started_in-later, starts-elsewhere, triggers_with-le, triggers_with-trigger}
 
@@ -133,3 +137,52 @@ pub called-rows : (trace : List TimedFrame) (history : List Event) (event : Even
 called-rows trace history (Submit caller change from verdict trail) closed = events_rows-push trace [] history (Submit caller change from verdict trail)
 called-rows trace history (Look caller next) closed = events_rows-push trace [] history (Look caller next)
 called-rows trace history (Open cycle mask) closed = absurd (cc)
+
+-- The frames of an opened cycle
+
+pub not-first : (layout : CycleLayout) (opening : Opening) (sent : TimedFrame) → IsRequestFrame layout opening sent ⊎ IsSlotFrame layout opening sent
+    → sent.frame.identifier ≢ 0
+not-first layout opening sent (inl request) = λ is. let above = request.identifier in omega arith
+not-first layout opening sent (inr slot) = λ is. let id = slot.identifier in omega arith
+
+pub width-told : (cycle l mask : ℕ) → width_told (trigger_bytes cycle l mask) ≡ l
+width-told cycle l mask = omega arith
+
+-- they begin with the cycle's first trigger frame, and no other has its identifier
+pub begins-cycle : {sends : Instance → List ℕ} (layout : CycleLayout) (opening : Opening) (frames : List TimedFrame) → IsLayout layout
+    → FitsWindow layout opening → RunsCycleWith sends layout opening frames → BeginsCycle opening.cycle opening.mask frames
+begins-cycle layout opening frames known fits run =
+    let within = fits.width in
+    let range = known.window_range.below in
+    record {
+      trigger = run.trigger;
+      later = run.second ++ run.later;
+      frames_are = run.all_frames;
+      width = width_of opening;
+      wide = omega arith;
+      says = run.is_trigger;
+      others = All-append (λ sent. sent.frame.identifier ≢ 0) run.second run.later
+          (λ k d within none. let one = second_identifiers layout opening frames run k d within in omega arith)
+          (λ k d within. not-first layout opening (get_or run.later k d) (run.all k d within));
+    }
+
+-- that frame says the length of the synchronous window
+pub says-its_width : {sends : Instance → List ℕ} (layout : CycleLayout) (opening : Opening) (frames : List TimedFrame)
+    → RunsCycleWith sends layout opening frames → width_told_in frames ≡ width_of opening
+says-its_width layout opening frames run =
+    ap width_told_in run.all_frames ∙ ap (λ f. width_told f.bytes) run.is_trigger ∙ width-told opening.cycle (width_of opening) opening.mask
+
+-- so they bring their rows behind those of the trace
+pub opened-more : (rules : Rules) (trace frames : List TimedFrame) (history : List Event) (cycle mask : ℕ)
+    → AllAfter (IsRight rules) [] history → triggers_in trace ≡ next_of history → cycle ≡ next_of history → BeginsCycle cycle mask frames
+    → width_told_in frames ≡ width_of (record { cycle = cycle; mask = mask; placed = placed_of history })
+    → events_rows (trace ++ frames) [] (history ++ Open cycle mask ∷ []) ≡ events_rows trace [] history ++ rows_of_event (Open cycle mask) frames
+opened-more rules trace frames history cycle mask legal so_far now begins width =
+    let first : begins.trigger.frame.identifier ≡ 0 = ap (λ f. f.identifier) begins.says in
+    subst (λ l. events_rows (trace ++ l) [] (history ++ Open cycle mask ∷ []) ≡ events_rows trace [] history ++ rows_of_event (Open cycle mask) l) (sym begins.frames_are)
+    (opened-rows rules trace begins.trigger begins.later history cycle mask legal so_far now first begins.others (ap width_told_in (sym begins.frames_are) ∙ width))
+
+pub opened-counted : (trace frames : List TimedFrame) (cycle mask : ℕ) → BeginsCycle cycle mask frames → triggers_in (trace ++ frames) ≡ triggers_in trace + 1
+opened-counted trace frames cycle mask begins =
+    ap (λ l. triggers_in (trace ++ l)) begins.frames_are
+    ∙ triggers-more trace begins.trigger begins.later (ap (λ f. f.identifier) begins.says) begins.others

@@ -1,11 +1,11 @@
 -- What keeps a run going.
-use Rattle.std.proofs.Common.{◌≡◌, ◌≢◌, ℕ, ◌+◌, ◌*◌, ◌/◌, ◌^◌, ◌<◌, ◌≤◌, ◌⊎◌, false, cond, length, List, [], ◌∷◌, ◌++◌, map, All, sym, ap, ◌∙◌, subst, arith, inl, inr, add-zero}
+use Rattle.std.proofs.Common.{◌≡◌, ◌≢◌, ℕ, ◌+◌, ◌*◌, ◌/◌, ◌^◌, ◌<◌, ◌≤◌, ◌⊎◌, false, cond, length, List, [], ◌∷◌, ◌++◌, map, All, sym, ap, ◌∙◌, subst, arith, add-zero}
 use Rattle.std.specs.Prelude.{is_some}
 use Rattle.std.specs.List.{range_with_len}
 use Rattle.std.proofs.lemmas.List.{append-nil, map-append}
 use Rattle.std.proofs.lemmas.List.Elements.{All-append, All-cons, All-nil, All-weaker}
 use Rattle.can_frame.specs.declared.data_frame.TimedFrame.{TimedFrame}
-use Rattle.trigger_codec.specs.Bytes.{trigger_bytes, trigger_frame, triggers_with, width_told}
+use Rattle.trigger_codec.specs.Bytes.{trigger_frame, triggers_with, width_told}
 use Rattle.cycle_layout.specs.Layout.{CycleLayout, IsLayout}
 use Rattle.requirement_table.specs.Opening.{Opening, width_of}
 use Rattle.requirement_table.specs.Slots.{contains_slot}
@@ -32,7 +32,7 @@ use Rattle.bus_trace.specs.Log.{events_rows, triggers_in}
 use Rattle.replay_run.specs.declared.bus.Bus.{Bus}
 use Rattle.replay_run.specs.Progress.{BeginWithTriggers, CanGo, CanTellLast, GoesStill, IsBroughtOn, IsGoing}
 use Rattle.replay_run.specs.Written.{KeepsFrames}
-use Rattle.replay_run.proofs.EventRows.{called-rows, opened-rows, triggers-more}
+use Rattle.replay_run.proofs.EventRows.{called-rows, not-first, opened-rows, triggers-more, width-told}
 
 -- a run whose master has answered a call that opens no cycle goes on
 pub answered : CallsBetween → (setting : Setting) (trace : List TimedFrame) (run after : Bus) (call : Event) → is_open call ≡ false
@@ -78,14 +78,6 @@ pub record CyclesSent : Type 0 where
       → RunsCycle layout opening frames
 
 -- The frames of an opened cycle
-
-no-trigger : (layout : CycleLayout) (opening : Opening) (sent : TimedFrame) → IsRequestFrame layout opening sent ⊎ IsSlotFrame layout opening sent
-    → sent.frame.identifier ≢ 0
-no-trigger layout opening sent (inl request) = λ is. let above = request.identifier in omega arith
-no-trigger layout opening sent (inr slot) = λ is. let id = slot.identifier in omega arith
-
-says-width : (cycle l mask : ℕ) → width_told (trigger_bytes cycle l mask) ≡ l
-says-width cycle l mask = omega arith
 
 -- a cycle's trigger and the frames behind it, where these entries are placed
 pub record Sends (placed : List Placed) (order : Order) (frames : List TimedFrame) : Type 0 where
@@ -133,7 +125,7 @@ sends laws setting history trace frames nodes new order ordered did way =
       is_trigger = run.is_trigger;
       others = All-append (λ sent. sent.frame.identifier ≢ 0) run.second run.later
           (λ k d within none. let one = second_identifiers layout opening frames run k d within in omega arith)
-          (All-weaker (λ sent. IsRequestFrame layout opening sent ⊎ IsSlotFrame layout opening sent) (λ sent. sent.frame.identifier ≢ 0) (no-trigger layout opening) run.later run.all);
+          (All-weaker (λ sent. IsRequestFrame layout opening sent ⊎ IsSlotFrame layout opening sent) (λ sent. sent.frame.identifier ≢ 0) (not-first layout opening) run.later run.all);
       wide = omega arith;
     }
 
@@ -189,7 +181,7 @@ ran-rows : (rules : Rules) (trace frames : List TimedFrame) (history : List Even
 ran-rows rules trace frames history order legal so_far now is =
     let zero_id : is.trigger.frame.identifier ≡ 0 = ap (λ f. f.identifier) is.is_trigger in
     let width : width_told_in (is.trigger ∷ is.later) ≡ width_of (opening_of order (placed_of history)) =
-    ap (λ f. width_told f.bytes) is.is_trigger ∙ says-width order.cycle (width_of (opening_of order (placed_of history))) order.mask in
+    ap (λ f. width_told f.bytes) is.is_trigger ∙ width-told order.cycle (width_of (opening_of order (placed_of history))) order.mask in
     subst (λ l. events_rows (trace ++ l) [] (history ++ Open order.cycle order.mask ∷ []) ≡ events_rows trace [] history ++ rows_of_event (Open order.cycle order.mask) l)
     (sym is.frames_are) (opened-rows rules trace is.trigger is.later history order.cycle order.mask legal so_far now zero_id is.others width)
 

@@ -5,6 +5,7 @@ mod Fronts
 mod Going
 mod Histories
 mod RowsSoFar
+mod RunNext
 pub mod Shared
 mod Steps
 mod UnderWay

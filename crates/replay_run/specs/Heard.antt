@@ -1,11 +1,16 @@
 -- What those who hear the rows of a run have heard.
 use Rattle.std.specs.Prelude.{ℕ, ◌≤◌}
-use Rattle.std.proofs.Common.{◌≡◌, List, [], ◌++◌, Option, refl, sym, ap, ◌∙◌, subst, arith, append-nil, append_assoc}
-use Rattle.ftt_io.specs.Counts.{Rose, next_count}
+use Rattle.std.proofs.Common.{◌≡◌, List, [], ◌++◌, Option, refl, sym, ◌∙◌, subst, arith, append-nil, append_assoc}
+use Rattle.ftt_io.specs.Counts.{Rose}
 use Rattle.ftt_io.specs.Puts.{Puts, PutsPrefix}
 use Rattle.ftt_io.proofs.Shared.{Puts-append, Puts-nothing, PutsPrefix-append, Stays-same}
 use Rattle.bus_trace.specs.LastRows.{HasLast}
 use Rattle.bus_trace.specs.Recent.{LastRows}
+
+-- no row was heard meanwhile: where the first relation held of some rows, whoever heard the first of them, the second
+-- does now
+abbrev pub PassesOn : {L : Type 0} → (L → List ℕ → L → Type 0) → (L → List ℕ → L → Type 0) → L → L → Type 0
+PassesOn {L = L} Before Now old new = (one : L) (rows : List ℕ) → Before one rows old → Now one rows new
 
 -- A sink
 

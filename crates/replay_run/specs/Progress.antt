@@ -1,5 +1,5 @@
 -- A run between two of its steps, the rows of which something hears.
-use Rattle.std.specs.Prelude.{◌≡◌, ℕ, ◌+◌, ◌≤◌, List, [], ◌∷◌, ◌++◌, Option, Some, None, Vec, is_some, length, map, vec_len, vec_capacity}
+use Rattle.std.specs.Prelude.{◌≡◌, ℕ, ◌+◌, ◌*◌, ◌≤◌, List, [], ◌∷◌, ◌++◌, Option, Some, None, Vec, is_some, length, map, vec_len, vec_capacity}
 use Rattle.can_frame.specs.DataFrame.{DataFrame}
 use Rattle.can_frame.specs.declared.data_frame.TimedFrame.{TimedFrame}
 use Rattle.requirement_table.specs.declared.entries.Order.{Order}
@@ -9,9 +9,12 @@ use Rattle.async_window.specs.declared.request.Request.{Request}
 use Rattle.system_file.specs.declared.system.System.{System}
 use Rattle.master_core.specs.Calls.{Call, call_of}
 use Rattle.master_core.specs.declared.event.Event.{Event}
+use Rattle.master_core.specs.declared.event.Event.TheVariants.{Open}
 use Rattle.master_core.specs.History.{IsLegal, IsPlainlyLegal, next_of, placed_of}
 use Rattle.master_core.specs.Orders.{IsOrder}
+use Rattle.bus_line.specs.Trace.{Follows}
 use Rattle.cycle_engine.specs.Nodes.{HaveSpare}
+use Rattle.cycle_engine.specs.Offered.{offered_in}
 use Rattle.kept_run.specs.Progress.{IsOnTheWay, IsSetting, IsUnderWay, Setting}
 use Rattle.bus_trace.specs.EventRows.{HasItsFrames, rows_of_event}
 use Rattle.bus_trace.specs.Log.{events_rows, triggers_in}
@@ -92,6 +95,21 @@ pub record IsBroughtOn (setting : Setting) (trace : List TimedFrame) (old new : 
 abbrev pub BringsOn : Bus → Bus → List TimedFrame → Type 0
 BringsOn old new frames = (setting : Setting) (trace : List TimedFrame)
     → IsGoing setting trace old → IsBroughtOn setting trace old new frames
+
+-- the run was brought on by an opening, whose cycle was run with these frames: they follow the trace by what is offered in
+-- the cycle
+pub record IsRunNext (setting : Setting) (trace : List TimedFrame) (old new : Bus) (frames : List TimedFrame) : Type 0 where
+  pub cycle : ℕ
+  pub mask : ℕ
+  pub history : new.master.history ≡ old.master.history ++ Open cycle mask ∷ []
+  pub follows : Follows (offered_in setting.layout setting.requests
+      (record { cycle = cycle; mask = mask; placed = placed_of old.master.history }))
+      trace (cycle * setting.layout.cycle) ((cycle + 1) * setting.layout.cycle) frames
+
+-- so it is in each setting and with each trace with which the run was going
+abbrev pub RunsNext : Bus → Bus → List TimedFrame → Type 0
+RunsNext old new frames = (setting : Setting) (trace : List TimedFrame)
+    → IsGoing setting trace old → IsRunNext setting trace old new frames
 
 -- What hears the rows
 

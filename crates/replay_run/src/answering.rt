@@ -48,6 +48,11 @@ impl Driven for Master {
         Ok(())
     }
 
+    /// A master alone tells no rows.
+    fn pass_on(&mut self) -> Result<(), AllocError> {
+        Ok(())
+    }
+
     ghost at_once = { answered-nothing };
 
     ghost in_turn = { answered-more };

@@ -77,6 +77,11 @@ impl Driven for Asked {
         }
     }
 
+    /// It tells no rows.
+    fn pass_on(&mut self) -> Result<(), AllocError> {
+        Ok(())
+    }
+
     ghost at_once = { on-nothing };
 
     ghost in_turn = { on-more };

@@ -12,13 +12,13 @@ ghost use Rattle.master_core.specs.History.{next_of};
 ghost use Rattle.kept_run.specs.Progress.{AreReady, IsSetting};
 ghost use Rattle.cycle_engine.specs.Nodes.{HaveSpare, KeepSpare, states_of};
 ghost use Rattle.replay_run.specs.Progress.{BeginWithTriggers, BringsOn, CanGo, CanTellLast, GoesStill, HasRoom, IsGoing, IsReady};
-ghost use Rattle.replay_run.specs.Progress.{setting_of};
+ghost use Rattle.replay_run.specs.Progress.{RunsNext, setting_of};
 ghost use Rattle.replay_run.specs.Written.{KeepsFrames};
 
 use async_window::Request;
 use can_frame::TimedFrame;
 use change_protocol::{Act, Change};
-use cycle_engine::laws::next_cycle;
+use cycle_engine::laws::{next_cycle, numbers_are_whole};
 use cycle_engine::{Nodes, Segment, run_cycle_in};
 use kept_run::laws::{beginning, calls_between, cycles_run, orders, requests_of_owners};
 use master_core::Master;
@@ -174,6 +174,8 @@ impl Bus {
         requires ready { IsReady self.old }
         requires few { next_of self.old.master.history < 20000 }
         ensures on { BringsOn self.old self.new self.new.segment }
+        ensures follows { RunsNext self.old self.new self.new.segment }
+        ensures few { length self.new.segment ≤ 2128 }
         ensures last { CanTellLast self.new.master.history self.new.segment }
         ensures triggers { BeginWithTriggers self.old.master.rules self.old.master.history self.new.segment }
         ensures calls { map call_of self.new.master.history ≡ map call_of self.old.master.history ++ opens ∷ [] }
@@ -183,6 +185,7 @@ impl Bus {
         orders();
         cycles_run();
         next_cycle();
+        numbers_are_whole();
         opened_cycles();
         let order = self.master.open();
         run_cycle_in(&order, &mut self.nodes, &mut self.segment);

@@ -43,6 +43,12 @@ pub trait Driven {
         ensures cycles { OnOk result (cycles self.new ≡ cycles self.old) }
         ensures stops { IfErr result (stops self.old (asked caller act.now ∷ []) self.new) };
 
+    /// Passes on what it holds back of the rows that it told. It answers no call meanwhile.
+    fn pass_on(&mut self) -> Result<(), Self::Stop>
+        ensures goes_on { OnOk result (goes_on self.old [] self.new) }
+        ensures cycles { OnOk result (cycles self.new ≡ cycles self.old) }
+        ensures stops { IfErr result (stops self.old [] self.new) };
+
     ghost at_once: { (one : Self) → goes_on one [] one };
 
     ghost in_turn: { (one other third : Self) (calls later : List Call)
@@ -69,7 +75,30 @@ fn open_cycles<D: Driven>(driven: &mut D, alloc: Global, count: u64) -> Result<(
     Ok(())
 }
 
-/// Takes a step.
+/// Has an act of operator `caller`, 1 to 8, answered. The rows so far are passed on before, and the act's own when they
+/// were told.
+///
+/// To plan a change may take seconds. So whoever watches the log sees the rows before it, and then the change's own.
+fn answer_shown<D: Driven>(
+    driven: &mut D,
+    alloc: Global,
+    caller: u8,
+    act: &Act,
+) -> Result<(), D::Stop>
+    requires ready { D.is_ready driven.old }
+    requires few { D.cycles driven.old ≤ 20000 }
+    requires caller { (1 ≤ caller) × (caller ≤ 8) }
+    ensures goes_on { OnOk result (D.goes_on driven.old (asked caller act.now ∷ []) driven.new) }
+    ensures cycles { OnOk result (D.cycles driven.new ≡ D.cycles driven.old) }
+    ensures stops { IfErr result (D.stops driven.old (asked caller act.now ∷ []) driven.new) }
+{
+    driven.pass_on()?;
+    driven.answer(alloc, caller, act)?;
+    driven.pass_on()?;
+    Ok(())
+}
+
+/// Takes a step. A look plans nothing, so no row is passed on for it.
 fn take_step<D: Driven>(driven: &mut D, alloc: Global, step: &Step) -> Result<(), D::Stop>
     requires ready { D.is_ready driven.old }
     requires step { IsStep step.now }
@@ -80,7 +109,10 @@ fn take_step<D: Driven>(driven: &mut D, alloc: Global, step: &Step) -> Result<()
 {
     match step {
         Step::Cycle { count } => open_cycles(driven, alloc, *count),
-        Step::Act { caller, act } => driven.answer(alloc, *caller, act),
+        Step::Act { caller, act } => match act {
+            Act::Ask { .. } => answer_shown(driven, alloc, *caller, act),
+            Act::Look => driven.answer(alloc, *caller, act),
+        },
     }
 }
 

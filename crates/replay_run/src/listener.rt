@@ -6,6 +6,7 @@ ghost use Rattle.bus_trace.specs.EventRows.{HasItsFrames, rows_of_event};
 ghost use Rattle.bus_trace.specs.LastRows.{AreRows, HasLast};
 ghost use Rattle.bus_trace.specs.Log.{end_row};
 ghost use Rattle.bus_trace.specs.Logged.{IsNear};
+ghost use Rattle.replay_run.specs.Heard.{PassesOn};
 
 use bus_trace::laws::rows_are_whole;
 use bus_trace::{Gathered, Recent, push_rows, put_end_row, put_event_rows};
@@ -34,6 +35,11 @@ pub trait Listener {
     fn hear_end(&mut self, alloc: Global, next: u64) -> Result<(), Failed>
         ensures heard { OnOk result (heard self.old (end_row next) self.new) }
         ensures broke { OnErr result (broke self.old (end_row next) self.new) };
+
+    /// Passes on what it holds back of the rows that it heard. It hears none meanwhile.
+    fn pass_on(&mut self) -> Result<(), Failed>
+        ensures heard { OnOk result (PassesOn heard heard self.old self.new) }
+        ensures broke { OnErr result (PassesOn heard broke self.old self.new) };
 
     ghost nothing: { (one : Self) → heard one [] one };
 
@@ -68,6 +74,10 @@ impl Listener for Silence {
         Ok(())
     }
 
+    fn pass_on(&mut self) -> Result<(), Failed> {
+        Ok(())
+    }
+
     ghost nothing = { λ one. tt };
 
     ghost more = { λ one other third rows later first second. tt };
@@ -98,6 +108,10 @@ impl<'a, O: Sink> Listener for ToSink<'a, O> {
 
     fn hear_end(&mut self, _alloc: Global, next: u64) -> Result<(), Failed> {
         put_end_row(self.out, next)
+    }
+
+    fn pass_on(&mut self) -> Result<(), Failed> {
+        self.out.pass_on()
     }
 
     ghost nothing = { λ one. (refl, takes-nothing O.told_bytes O.faults one.out.now) };
@@ -182,6 +196,11 @@ impl Listener for Tail {
         self.rows.text.clear();
         put_end_row(&mut self.rows, next)?;
         push(&mut self.recent, alloc, self.rows.text.as_slice())
+    }
+
+    /// The last rows are known at the end alone, so it passes on nothing before.
+    fn pass_on(&mut self) -> Result<(), Failed> {
+        Ok(())
     }
 
     ghost nothing = { λ one. keeps-nothing one.recent };

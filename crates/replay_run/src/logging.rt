@@ -88,6 +88,15 @@ fn answer_act<L: Listener>(
     Ok(())
 }
 
+/// Has the rows so far passed on. No row is told, and no call answered.
+fn pass_on<L: Listener>(bus: &Bus, listener: &mut L) -> Result<(), Cut>
+    ensures goes_on { OnOk result (GoesOn L.heard bus.now listener.old [] bus.now listener.new) }
+    ensures stops { IfErr result (IsCutBehind L.heard L.broke bus.now listener.old [] listener.new) }
+{
+    listener.pass_on()?;
+    Ok(())
+}
+
 impl<'a, L: Listener> Driven for Logged<'a, L> {
     ghost use Rattle.std.specs.Prelude.{◌≡◌, refl};
     ghost use Rattle.std.proofs.Common.{◌∙◌};
@@ -115,6 +124,10 @@ impl<'a, L: Listener> Driven for Logged<'a, L> {
 
     fn answer(&mut self, alloc: Global, caller: u8, act: &Act) -> Result<(), Cut> {
         answer_act(self.bus, self.listener, alloc, caller, act)
+    }
+
+    fn pass_on(&mut self) -> Result<(), Cut> {
+        pass_on(self.bus, self.listener)
     }
 
     ghost at_once = { λ one. (refl, refl, goes-at_once L.heard one.bus.now one.listener.now) };

@@ -1,6 +1,10 @@
+pub mod Current
+pub mod Polled
+pub mod PolledNodes
+pub mod Polling
+pub mod Ride
+pub mod Rides
 pub mod StreamRow
 pub mod StreamText
 pub mod StreamsFile
-pub mod Ride
 pub mod Waiting
-pub mod Polling

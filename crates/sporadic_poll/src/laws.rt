@@ -5,10 +5,20 @@ ghost use Rattle.std.specs.List.{slice_get};
 ghost use Rattle.requirement_table.specs.declared.entries.Placed.{Placed};
 ghost use Rattle.requirement_table.specs.Instance.{IsReleasedIn};
 ghost use Rattle.requirement_table.specs.Table.{IsWellPlaced};
+ghost use Rattle.can_frame.specs.declared.data_frame.TimedFrame.{TimedFrame};
+ghost use Rattle.cycle_layout.specs.Layout.{CycleLayout, IsLayout};
+ghost use Rattle.requirement_table.specs.Opening.{Opening};
+ghost use Rattle.cycle_engine.specs.Cycle.{RunsCycle};
+ghost use Rattle.cycle_engine.specs.Offered.{AreOfDistinctCycles};
 ghost use Rattle.sporadic_poll.specs.declared.stream.Stream.{Stream};
+ghost use Rattle.sporadic_poll.specs.Polled.{AreRides, lengths_of};
+ghost use Rattle.sporadic_poll.specs.Rides.{AreRidesAt, IsPlainCycle};
 ghost use Rattle.sporadic_poll.specs.Ride.{CanCarry, IsOfSlot, IsRide, IsTakenBefore, Releases, length_released};
 ghost use Rattle.sporadic_poll.specs.Waiting.{ride_of};
 ghost use Rattle.sporadic_poll.specs.Polling.{IsCarriedInTime, IsPolled};
+
+use bus_line::laws::same_along;
+use cycle_engine::laws::{OneCycle, next_cycle, numbers_are_whole};
 
 /// A slot's releases are those of its entries in the list, where that is well placed.
 pub fn releases_of_a_slot()
@@ -26,6 +36,24 @@ pub fn one_ride()
         (carried other : ℕ → Option ℕ) → IsRide layout_cycle streams slot lengths carried
         → IsRide layout_cycle streams slot lengths other → (cycle : ℕ) → carried cycle ≡ other cycle }
 {}
+
+/// *Ride* over the openings of a run is *Ride* in each of its cycles, where no two openings are of one cycle.
+pub fn rides_of_openings()
+    ensures at { (layout_cycle : ℕ) (streams : List Stream) (openings : List Opening) (opening : Opening)
+        (carried : ℕ → ℕ → Option ℕ) → AreOfDistinctCycles openings → Contains openings opening
+        → AreRides layout_cycle streams openings carried
+        → AreRidesAt layout_cycle streams opening (lengths_of openings) carried }
+{}
+
+/// A cycle that was run on the bus without requests runs what its opening says.
+pub fn plain_cycle()
+    ensures runs { (layout : CycleLayout) (opening : Opening) (frames : List TimedFrame) → IsLayout layout
+        → IsPlainCycle layout opening frames → RunsCycle layout opening frames }
+{
+    next_cycle();
+    numbers_are_whole();
+    same_along::<OneCycle, OneCycle>();
+}
 
 /// A request is carried by at most one instance. That instance is one of the request's slot, released behind the
 /// request's arrival, with room for its bytes. The requests of a slot are carried in the order of the file, and none

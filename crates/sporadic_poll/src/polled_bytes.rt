@@ -56,9 +56,10 @@ impl PolledBytes {
         }
     }
 
-    /// The bytes.
+    /// The bytes, at most eight.
     pub fn as_slice(&self) -> &[u8]
         ensures bytes { result.now ≡ self.now }
+        ensures few { length result.now ≤ 8 }
     {
         &self.bytes[..self.count]
     }

@@ -1,6 +1,6 @@
 //! Which request of its slot the next instance takes.
 
-ghost use Rattle.std.specs.Prelude.{◌≡◌, ℕ, ◌+◌, ◌*◌, ◌<◌, All, IfOk, IfSome, IsSomeAnd, Option, Some};
+ghost use Rattle.std.specs.Prelude.{◌≡◌, ℕ, ◌+◌, ◌*◌, ◌<◌, All, IfOk, IfSome, IsSomeAnd, Option, None, Some, false};
 ghost use Rattle.std.specs.List.{slice_get};
 ghost use Rattle.std.specs.Prelude.{get_or, length};
 ghost use Rattle.sporadic_poll.specs.Ride.{CanCarry, IsOfSlot, IsRide};
@@ -76,6 +76,16 @@ fn taken_from(streams: &[Stream], time: u64, entry_length: u8, next: usize) -> O
     Some(next)
 }
 
+/// Whether the next request of a slot arrived before a time.
+fn has_arrived(streams: &[Stream], time: u64, next: usize) -> bool
+    ensures none { result ≡ false → (entry_length : ℕ) → taken_from streams.now time entry_length next ≡ None }
+{
+    if next >= streams.len() {
+        return false;
+    }
+    streams[next].at < time
+}
+
 impl Queues {
     /// All requests wait. Each is of a slot below `slots`.
     pub fn new(alloc: Global, streams: Vec<Stream>, slots: u8) -> Result<Queues, AllocError>
@@ -111,6 +121,17 @@ impl Queues {
         self.next.len()
     }
 
+    /// Whether the next request of the slot arrived before a time, in bit times. Else no instance that is released at
+    /// that time takes one.
+    pub fn has_arrived(&self, slot: u8, time: u64) -> bool
+        requires known { slot < length self.now.next }
+        ensures none { result ≡ false → (entry_length : ℕ)
+            → taken_from self.now.streams time entry_length (get_or self.now.next slot 0) ≡ None }
+    {
+        let next = self.next[usize::from(slot)];
+        has_arrived(self.streams.as_slice(), time, next)
+    }
+
     /// An instance of the slot that is released at this time takes the next request of the slot, where it can carry it.
     /// The answer is the place of that request in the file, from 0.
     ///
@@ -121,7 +142,8 @@ impl Queues {
         // It is one of the slot, and can be carried.
         ensures inside { IfSome result (λ place. place < length self.old.streams) }
         ensures its_slot { IfSome result (IsOfSlot self.old.streams slot) }
-        ensures can { IfSome result (λ place. IsSomeAnd (slice_get self.old.streams place) (CanCarry time entry_length)) }
+        ensures can { IfSome result
+            (λ place. IsSomeAnd (slice_get self.old.streams place) (CanCarry time entry_length)) }
         ensures streams { self.new.streams ≡ self.old.streams }
         ensures slots { length self.new.next ≡ length self.old.next }
         ensures others { (other : ℕ) → other < length self.old.next → (other ≡ slot → ⊥)

@@ -1,7 +1,7 @@
 //! The streams file: rows `AT,SLOT,DATA` of comma-separated fields.
 //!
-//! AT is the arrival in bit times, below 2^40, and never falls from row to row. SLOT is below the number of slots of the
-//! bus. DATA is two hexadecimal digits for each of 0 to 7 bytes. There are at most 10,000 rows.
+//! AT is the arrival in bit times, below 2^40, and never falls from row to row. SLOT is below the number of slots of
+//! the bus. DATA is two hexadecimal digits for each of 0 to 7 bytes. There are at most 10,000 rows.
 
 ghost use Rattle.std.specs.Prelude.{◌≡◌, ◌⊎◌, ℕ, ◌^◌, ◌<◌, ◌≤◌, IfOk, IfErr, IfSome, MatchResult};
 ghost use Rattle.std.specs.Prelude.{Err, Ok, map, length, option_map};

@@ -1,5 +1,5 @@
 -- The answer to the rows of a log so far, and to all of them.
-use Rattle.std.proofs.Common.{◌≡◌, ◌+◌, ◌<◌, ◌≤◌, ◌++◌, ℕ, zero, suc, Bool, false, true, List, [], ◌∷◌, All, None, Option, Some, IfNone, get_or, length, take, refl, sym, ap, ◌∙◌, subst, arith, inl, inr}
+use Rattle.std.proofs.Common.{◌≡◌, ◌+◌, ◌<◌, ◌≤◌, ◌++◌, ℕ, zero, suc, Bool, false, true, List, [], ◌∷◌, All, Some, get_or, length, take, refl, sym, ap, ◌∙◌, subst, arith, inl, inr}
 use Rattle.std.specs.Prelude.{slice_get, sum_by}
 use Rattle.std.proofs.lemmas.Bool.{cases_lt}
 use Rattle.std.proofs.lemmas.List.{length-append}
@@ -221,8 +221,3 @@ module _ (system : System) (steps : List Step) (requests : List Request) (rows :
           kept = kept.kept (setting_of system requests) history last.auditing.trace way.known way.under_way;
         } in
         subst (IsAudited system steps requests) (sym last.rows_are) audited
-
--- where no row is found, what holds then does
-pub none-found : {X P : Type 0} (found : Option X) → ((row : X) → found ≡ Some row → ⊥) → IfNone found P → P
-none-found None other is = is
-none-found (Some row) other is = absurd (other row refl)

@@ -6,13 +6,14 @@ use thiserror::Error;
 /// Why rows are not the log of a whole run.
 #[derive(Clone, Copy, PartialEq, Eq, Debug, Error)]
 pub enum AuditFault {
-    /// No run's log begins with the first so many rows.
+    /// The first so many rows cannot stand: no history that is read from them is that of a run whose log begins with
+    /// them.
     #[error("row {number}")]
     Row {
-        /// The least such number: that of the row, from 1, up to which the rows cannot stand.
+        /// The least such number, which is that of the last of these rows, counted from 1.
         number: u64,
     },
-    /// The rows can stand, and they are not all rows of a whole run.
+    /// Each number of first rows can stand, and the rows are not all rows of a whole run.
     #[error("unfinished")]
     Unfinished,
     /// Memory ran out, which says nothing of the rows.

@@ -2,29 +2,17 @@
 
 ghost use Rattle.std.specs.Prelude.{◌≡◌, ◌∷◌, ◌^◌, ◌<◌, IfOk, Some, false, map, slice_get, true};
 ghost use Rattle.bus_trace.specs.EventRows.{told_at};
-ghost use Rattle.bus_trace.specs.Log.{until_of};
 ghost use Rattle.bus_trace.specs.Logged.{IsNear};
 ghost use Rattle.bus_trace.specs.LogRows.{plan_told, verdict_told};
 ghost use Rattle.bus_trace.specs.declared.row.LogRow.TheVariants as row;
 
 use crate::same_rows::same_row;
 use admission::Verdict;
-use bus_trace::{LogRow, LogVerdict};
+use bus_trace::{LogRow, LogVerdict, until_of};
 use can_frame::TimedFrame;
-use change_protocol::Why;
 use master_core::Event;
 use requirement_table::Mask;
 use std::alloc::{AllocError, Global};
-
-/// The cycle that the reason of a refusal names, where it names one.
-fn until_of(why: &Why) -> Option<u64>
-    ensures until { result ≡ until_of why.now }
-{
-    match why {
-        Why::SlotBusy { until } => *until,
-        _ => None,
-    }
-}
 
 /// A verdict, as a row tells it.
 fn verdict_told(verdict: &Verdict) -> LogVerdict

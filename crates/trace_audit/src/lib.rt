@@ -1,5 +1,5 @@
-//! The audit of a log: whether rows can be those of a run of a system, steps and requests. Nothing of the log's maker
-//! is trusted: each event of the rows is done again.
+//! The audit of a log: whether rows are all rows of a whole run of a system, steps and requests. Nothing of the log's
+//! maker is trusted: each event of the rows is done again.
 //!
 //! Cycles are elementary cycles, counted from 0; times are bit times.
 #![tactic(auto)]

@@ -1,4 +1,5 @@
 use Rattle.std.proofs.Common.{◌*◌, ◌+◌, subst}
+use Rattle.requirement_table.specs.Instance.{bytes_of}
 use Rattle.bus_line.specs.Trace.{Follows}
 use Rattle.master_core.specs.declared.event.Event.TheVariants.{Open}
 use Rattle.cycle_engine.specs.Offered.{offered_in}
@@ -8,11 +9,30 @@ use Rattle.kept_run.proofs.Histories.{legal-push}
 use Rattle.kept_run.proofs.Master.{MasterLaws}
 use Rattle.kept_run.proofs.Plans.{PlanLaws}
 use Rattle.kept_run.proofs.Ready.{order-right, ready-run}
-use Rattle.kept_run.proofs.Steps.{CycleLaws, opened}
+use Rattle.kept_run.proofs.Steps.{CycleLaws, opened, opened-fits, opened-runs}
 use Rattle.kept_run.proofs.laws.cycles_run.Goals as goal
 
-pub returns-clause-opened : goal.returns-clause-opened
-returns-clause-opened c =
+pub returns-clause-fits : goal.returns-clause-fits
+returns-clause-fits c =
+    let master : MasterLaws = record {
+      well_placed = c.legal_histories.ensures.well_placed;
+      in_time = c.legal_histories.ensures.in_time;
+      cycles = c.opened_cycles.ensures.cycles;
+      masks = c.opened_cycles.ensures.masks;
+      instances = c.opened_cycles.ensures.instances;
+    } in
+    let plans : PlanLaws = record {
+      good = c.keeping.ensures.good;
+      once = c.flagged_once.ensures.once;
+      planned = c.states.ensures.planned;
+      fits = c.planned_slots.ensures.fits;
+      sendable = c.planned_slots.ensures.sendable;
+      along = c.valid_states.ensures.along;
+    } in
+    opened-fits master plans
+
+pub returns-clause-runs_with : goal.returns-clause-runs_with
+returns-clause-runs_with c = λ sends setting history cycle mask trace frames known whole way legal.
     let master : MasterLaws = record {
       well_placed = c.legal_histories.ensures.well_placed;
       in_time = c.legal_histories.ensures.in_time;
@@ -31,9 +51,39 @@ returns-clause-opened c =
     let cycles : CycleLaws = record {
       can_trace = c.next_cycle.ensures.can_trace;
       ended = c.next_cycle.ensures.ended;
+      runs = c.next_cycle.ensures.runs;
       all_run = c.next_cycle.ensures.all_run;
     } in
-    opened master plans cycles
+    opened-runs master plans setting history cycle mask known legal cycles sends whole trace frames way
+
+pub returns-clause-opened_with : goal.returns-clause-opened_with
+returns-clause-opened_with c = λ sends setting history cycle mask trace frames known whole way legal.
+    let master : MasterLaws = record {
+      well_placed = c.legal_histories.ensures.well_placed;
+      in_time = c.legal_histories.ensures.in_time;
+      cycles = c.opened_cycles.ensures.cycles;
+      masks = c.opened_cycles.ensures.masks;
+      instances = c.opened_cycles.ensures.instances;
+    } in
+    let plans : PlanLaws = record {
+      good = c.keeping.ensures.good;
+      once = c.flagged_once.ensures.once;
+      planned = c.states.ensures.planned;
+      fits = c.planned_slots.ensures.fits;
+      sendable = c.planned_slots.ensures.sendable;
+      along = c.valid_states.ensures.along;
+    } in
+    let cycles : CycleLaws = record {
+      can_trace = c.next_cycle.ensures.can_trace;
+      ended = c.next_cycle.ensures.ended;
+      runs = c.next_cycle.ensures.runs;
+      all_run = c.next_cycle.ensures.all_run;
+    } in
+    opened master plans setting history cycle mask known legal cycles sends whole trace frames way
+
+pub returns-clause-opened : goal.returns-clause-opened
+returns-clause-opened c = λ setting history cycle mask trace frames known.
+    returns-clause-opened_with c bytes_of setting history cycle mask trace frames known c.numbers_are_whole.ensures.whole
 
 pub returns-clause-under_way : goal.returns-clause-under_way
 returns-clause-under_way c = λ setting history trace frames nodes order known way ready is follows.

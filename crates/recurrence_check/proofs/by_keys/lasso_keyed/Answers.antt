@@ -2,8 +2,9 @@ use Rattle.std.proofs.Common.{◌+◌, ◌-◌, ◌<◌, Ok, Err, arith, refl}
 use Rattle.std.specs.BTreeMap.{get}
 use Rattle.recurrence_check.specs.Ends.{IsFirstRepeat}
 use Rattle.recurrence_check.specs.declared.walk_end.WalkEnd.TheVariants.{Broken, NoRepeat}
+use Rattle.recurrence_check.specs.Keys.{table}
 use Rattle.recurrence_check.proofs.Walking.{Walking-start, Walking-breaks, Walking-stays}
-use Rattle.recurrence_check.proofs.Noted.{Noted-start, Meeting, Meeting-found, Meeting-first, Meeting-next, Meeting-noted, key_cmp}
+use Rattle.recurrence_check.proofs.Noted.{Meets-empty, Noted-start, Meeting, Meeting-found, Meeting-first, Meeting-next, Meeting-noted, key_cmp}
 use Rattle.recurrence_check.proofs.Answering.{only_answer}
 use Rattle.recurrence_check.proofs.by_keys.lasso_keyed.Goals as goal
 use Rattle.recurrence_check.proofs.by_keys.lasso_keyed.Goals.{In_ok-first, In-Some-2}
@@ -13,7 +14,8 @@ use Rattle.recurrence_check.proofs.by_keys.lasso_keyed.Given.{Over}
 meeting : (g : Over) (c : In_ok-first g)
     → Meeting (g.W.Walk.course c.args.walk.now) (g.W.Keyed.key_of c.args.walk.now)
     (g.W.Walk.is_good c.args.walk.now) (g.W.Walk.number c.args.walk.now) c.loop-walked.walked c.loop-walked.here
-    c.in-Some.next (get key_cmp c.loop-walked.steps_to) (get key_cmp c.meet-in-loop-walked.new.steps_to)
+    c.in-Some.next (table c.loop-walked.row.items (get key_cmp c.loop-walked.others))
+    (table c.meet-in-loop-walked.new.row.items (get key_cmp c.meet-in-loop-walked.new.others))
     c.key-in-loop-walked.result c.in_ok-first.field-0
 meeting g c = record {
   tells = g.met.W.Keyed.keyed c.args.walk.now;
@@ -45,9 +47,11 @@ loop-walked-init g c =
     record {
       walking = Walking-start course (g.W.Walk.is_good walk) (g.W.Walk.number walk) c.first-here.result first.start
           first.good first.number;
-      noted = Noted-start course (g.W.Keyed.key_of walk) (get key_cmp c.new-steps_to.result)
-          (get key_cmp c.meet.new.steps_to) c.first-here.result c.key.result c.in_ok-meet.field-0 first.start
-          c.key.ensures.key (λ key. rw c.new-steps_to.ensures.empty) c.in_ok-meet.ensures.met;
+      noted = Noted-start course (g.W.Keyed.key_of walk) (table c.new-row.result.items (get key_cmp c.new-others.result))
+          (table c.meet.new.row.items (get key_cmp c.meet.new.others)) c.first-here.result c.key.result c.in_ok-meet.field-0 first.start
+          c.key.ensures.key (λ key. rw (c.new-row.ensures.items, c.new-others.ensures.empty)) c.in_ok-meet.ensures.met;
+      sparse = c.in_ok-meet.ensures.sparse
+          (Meets-empty (table c.new-row.result.items (get key_cmp c.new-others.result)) _ c.key.result 0 c.in_ok-meet.field-0 (λ key. rw (c.new-row.ensures.items, c.new-others.ensures.empty)) c.in_ok-meet.ensures.met);
     }
 
 pub overflow_sub-result : goal.overflow_sub-result
@@ -85,6 +89,7 @@ loop-walked-preserved g c =
     record {
       walking = Meeting-next _ _ _ _ _ _ _ _ _ _ _ at c.in_default-2.is;
       noted = Meeting-noted _ _ _ _ _ _ _ _ _ _ _ at c.in_default-2.is;
+      sparse = c.in_ok-first.ensures.sparse c.in_default-2.is;
     }
 
 pub returns-clause-only : goal.returns-clause-only
@@ -92,3 +97,9 @@ returns-clause-only g c = λ other.
     let stays = Walking-stays _ _ _ c.loop-walked.walked c.args.horizon c.loop-walked.here
     c.loop-walked.invariant.walking (omega arith) in
     only_answer (g.W.Walk.course c.args.walk.now) c.args.horizon (Err (NoRepeat c.args.horizon)) other (refl, stays)
+
+pub returns-clause-ends : goal.returns-clause-ends
+returns-clause-ends g c =
+    let stays = Walking-stays _ _ _ c.loop-walked.walked c.args.horizon c.loop-walked.here
+    c.loop-walked.invariant.walking (omega arith) in
+    (refl, stays)

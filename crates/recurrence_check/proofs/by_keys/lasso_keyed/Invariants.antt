@@ -1,5 +1,6 @@
 use Rattle.std.proofs.Common.{◌+◌}
 use Rattle.std.specs.BTreeMap.{get}
+use Rattle.recurrence_check.specs.Keys.{IsSparse, table}
 use Rattle.recurrence_check.proofs.Noted.{Noted, key_cmp}
 use Rattle.recurrence_check.proofs.Walking.{Walking}
 use Rattle.recurrence_check.proofs.by_keys.lasso_keyed.Given as goal
@@ -8,5 +9,6 @@ use Rattle.recurrence_check.proofs.by_keys.lasso_keyed.Given as goal
 abbrev pub invariant-loop-walked : goal.invariant-loop-walked
 invariant-loop-walked g l = record {
   walking : Walking (g.W.Walk.course l.walk) (g.W.Walk.is_good l.walk) (g.W.Walk.number l.walk) l.walked l.here;
-  noted : Noted (g.W.Walk.course l.walk) (g.W.Keyed.key_of l.walk) (get key_cmp l.steps_to) (l.walked + 1);
+  noted : Noted (g.W.Walk.course l.walk) (g.W.Keyed.key_of l.walk) (table l.row.items (get key_cmp l.others)) (l.walked + 1);
+  sparse : IsSparse l.row.items (get key_cmp l.others);
 }

@@ -1,6 +1,7 @@
 use Rattle.std.proofs.Common.{◌≡◌, ◌++◌, ◌∷◌, [], length-append, subst, arith}
 use Rattle.trace_audit.specs.Auditing.{IsHeard}
-use Rattle.trace_audit.proofs.Whole.{first-break, none-found}
+use Rattle.bus_trace.proofs.Shared.{none-found}
+use Rattle.trace_audit.proofs.Whole.{first-break}
 use Rattle.trace_audit.proofs.auditing.audit_text.Goals as goal
 
 pub loop-reader-init : goal.loop-reader-init

@@ -18,9 +18,9 @@ returns-clause-heard c =
       frames = c.self.inside.frames;
       noted = c.self.inside.noted;
     } in
-    let marks = c.after_slots-self-inside.ensures.opened
+    let marks = c.mark_slots.ensures.opened
     ∙ mark-sent before.entries c.self.inside.own c.args.sent c.common-own.result c.args.frames.now (option_map opened_of was)
-    c.self.invariant.own_slots c.requires.slots c.common-own.ensures.slots (small-opened was c.after_slots-self-inside.ensures.known) in
+    c.self.invariant.own_slots c.requires.slots c.common-own.ensures.slots (small-opened was c.mark_slots.ensures.known) in
     rw (← c.self.view_is)
-    (heard-slots before c.args.frames.now c.saturating_add-self-inside.result (option_map opened_of c.after_slots-self-inside.result)
+    (heard-slots before c.args.frames.now c.saturating_add-self-inside.result (option_map opened_of c.mark_slots.new.opened)
     c.self.invariant.node.frames c.self.invariant.node.mail.least c.requires.slots.all c.saturating_add-self-inside.ensures marks)

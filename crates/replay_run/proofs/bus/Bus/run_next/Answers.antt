@@ -1,6 +1,8 @@
 use Rattle.std.proofs.Common.{◌≤◌, ◌++◌, length, subst, sym}
+use Rattle.requirement_table.specs.Instance.{bytes_of}
 use Rattle.replay_run.specs.Written.{KeepsFrames}
 use Rattle.replay_run.proofs.Going.{begin-with-triggers, few, its-frames, ran}
+use Rattle.replay_run.proofs.RunNext.{run-next}
 use Rattle.replay_run.proofs.bus.Bus.run_next.Goals as goal
 
 pub keep-requires-clause-few : goal.keep-requires-clause-few
@@ -14,7 +16,8 @@ returns-clause-on c = λ setting trace going.
       run = record { before = c.orders.ensures.before; under_way = c.cycles_run.ensures.under_way; ready = c.cycles_run.ensures.ready };
       fits = c.orders.ensures.fits;
       cycles = c.opened_cycles.ensures.cycles;
-      sends = c.next_cycle.ensures.runs;
+      sends = λ layout requests openings opening trace frames known behind.
+          c.next_cycle.ensures.runs bytes_of layout requests openings opening trace frames known behind c.numbers_are_whole.ensures.whole;
     })
     setting trace c.args.self.now
     (record c.args.self.now { master = c.open-order.new.self; nodes = c.run_cycle_in.new.nodes; segment = c.run_cycle_in.new.segment; trace = c.keep.new.trace })
@@ -36,7 +39,8 @@ returns-clause-last c =
       run = record { before = c.orders.ensures.before; under_way = c.cycles_run.ensures.under_way; ready = c.cycles_run.ensures.ready };
       fits = c.orders.ensures.fits;
       cycles = c.opened_cycles.ensures.cycles;
-      sends = c.next_cycle.ensures.runs;
+      sends = λ layout requests openings opening trace frames known behind.
+          c.next_cycle.ensures.runs bytes_of layout requests openings opening trace frames known behind c.numbers_are_whole.ensures.whole;
     })
     c.args.self.now c.run_cycle_in.new.nodes c.open-order.result c.run_cycle_in.new.segment c.open-order.new.self.history c.requires.going c.open-order.ensures.order
     (record {
@@ -53,7 +57,8 @@ returns-clause-triggers c =
       run = record { before = c.orders.ensures.before; under_way = c.cycles_run.ensures.under_way; ready = c.cycles_run.ensures.ready };
       fits = c.orders.ensures.fits;
       cycles = c.opened_cycles.ensures.cycles;
-      sends = c.next_cycle.ensures.runs;
+      sends = λ layout requests openings opening trace frames known behind.
+          c.next_cycle.ensures.runs bytes_of layout requests openings opening trace frames known behind c.numbers_are_whole.ensures.whole;
     })
     c.args.self.now c.run_cycle_in.new.nodes c.open-order.result c.run_cycle_in.new.segment c.requires.going c.open-order.ensures.order
     (record {
@@ -62,3 +67,20 @@ returns-clause-triggers c =
       runs = c.run_cycle_in.ensures.runs;
       stand = c.run_cycle_in.ensures.stand;
     })
+
+pub returns-clause-follows : goal.returns-clause-follows
+returns-clause-follows c = λ setting trace going.
+    run-next (record { before = c.orders.ensures.before; under_way = c.cycles_run.ensures.under_way; ready = c.cycles_run.ensures.ready })
+    setting trace c.args.self.now
+    (record c.args.self.now { master = c.open-order.new.self; nodes = c.run_cycle_in.new.nodes; segment = c.run_cycle_in.new.segment; trace = c.keep.new.trace })
+    c.open-order.result c.run_cycle_in.new.segment c.open-order.ensures.order
+    (record {
+      layout = c.run_cycle_in.ensures.layout;
+      heard = c.run_cycle_in.ensures.heard;
+      runs = c.run_cycle_in.ensures.runs;
+      stand = c.run_cycle_in.ensures.stand;
+    })
+    c.open-order.ensures.event going
+
+pub returns-clause-few : goal.returns-clause-few
+returns-clause-few c = few c.args.self.now c.run_cycle_in.new.segment c.requires.going c.run_cycle_in.ensures.few

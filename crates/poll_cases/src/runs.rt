@@ -1,0 +1,128 @@
+//! Runs of a bus with one node and one polled slot.
+
+ghost use Rattle.std.specs.Prelude.{◌≡◌, ◌+◌, ◌^◌, ◌<◌, ◌≤◌, true, All, IfOk, IfSome, OnOk};
+ghost use Rattle.requirement_table.specs.Table.{IsWellPlaced};
+ghost use Rattle.sporadic_poll.specs.PolledNodes.{AreNext};
+
+use can_frame::TimedFrame;
+use cycle_layout::Layout;
+use requirement_table::{Entry, Mask, Order, Placed, PlacedList, released_in, well_placed};
+use sporadic_poll::{PolledNodes, Stream, run_polled};
+use std::alloc::{AllocError, Global};
+
+/// The cycle's length, in bit times.
+const CYCLE: u32 = 1000;
+
+/// The longest synchronous window, in bit times: that of a frame of eight bytes.
+const WINDOW: u32 = 135;
+
+/// The number of slots.
+const SLOTS: u8 = 40;
+
+/// The most cycles of a run.
+const MOST_CYCLES: u64 = 10;
+
+/// The identifier of the frames of slot 0.
+const FIRST_IDENTIFIER: u16 = 0x100;
+
+/// Whether the slots of a set are slots of the bus.
+fn fits(mask: Mask) -> bool
+    ensures slots { result ≡ true → mask < 2 ^ 40 }
+{
+    mask.bits() < 1 << 40
+}
+
+/// The list, where it is to be learnt.
+fn list_if(alloc: Global, placed: &[Placed], wanted: bool) -> Result<Option<PlacedList>, AllocError>
+    requires well_placed { IsWellPlaced placed.now }
+    ensures well_placed { IfOk result (λ list. IfSome list IsWellPlaced) }
+{
+    if wanted {
+        Ok(Some(PlacedList::of(Vec::from_slice(alloc, placed)?)))
+    } else {
+        Ok(None)
+    }
+}
+
+/// Runs one cycle, in which these slots are flagged. The list is learnt before cycle 0.
+fn one_cycle(
+    alloc: Global,
+    nodes: &mut PolledNodes,
+    placed: &[Placed],
+    mask: Mask,
+    cycle: u64,
+    length: u8,
+) -> Result<Vec<TimedFrame>, AllocError>
+    requires well_placed { IsWellPlaced placed.now }
+    requires window { nodes.old.nodes.layout.window ≡ 135 }
+    requires slots { nodes.old.nodes.layout.slots ≡ 40 }
+    requires mask { mask < 2 ^ 40 }
+    requires next { AreNext cycle nodes.old }
+    requires few { cycle < 10 }
+    requires short { length ≤ 8 }
+    ensures layout { nodes.new.nodes.layout ≡ nodes.old.nodes.layout }
+    ensures next { OnOk result (AreNext (cycle + 1) nodes.new) }
+{
+    let worst = 55 + 10 * u32::from(length);
+    let l = if mask.bits() == 0 { 0 } else { worst };
+    let order = Order {
+        cycle,
+        mask,
+        l,
+        learned: list_if(alloc, placed, cycle == 0)?,
+    };
+    run_polled(alloc, &order, nodes)
+}
+
+/// The text, and behind it the cycle and the bytes of each frame of the slot.
+fn told(
+    alloc: Global,
+    text: &str,
+    cycle: u64,
+    slot: u8,
+    frames: &[TimedFrame],
+) -> Result<String, AllocError> {
+    let mut told = String::from_str(alloc, text)?;
+    for sent in frames {
+        if sent.frame.id() == FIRST_IDENTIFIER + u16::from(slot) {
+            let bytes = sent.frame.bytes();
+            told = format!(in alloc; "{told} {cycle} {bytes:?}")?;
+        }
+    }
+    Ok(told)
+}
+
+/// Runs the first cycles of a bus of one node, whose one entry is sent in the cycle of each release. The answer is the
+/// cycle and the bytes of each frame of the slot, and then what became of each request. Each request is of one of the
+/// 40 slots of the bus.
+pub fn run(
+    alloc: Global,
+    streams: &[Stream],
+    entry: Entry,
+    count: u64,
+) -> Result<String, AllocError>
+    requires known { All (λ stream. stream.slot < 40) streams.now }
+{
+    let mut text = String::from_str(alloc, "frames")?;
+    let placed = [Placed {
+        entry,
+        origin: 0,
+        end: None,
+    }];
+    let Ok(layout) = Layout::new(CYCLE, 0, WINDOW, SLOTS) else {
+        return Ok(text);
+    };
+    if !well_placed(&placed) || entry.length > 8 || count > MOST_CYCLES {
+        return Ok(text);
+    }
+    let mut nodes = PolledNodes::new(alloc, layout, 1, streams)?;
+    for cycle in 0..count {
+        let mask = released_in(&placed, cycle);
+        if !fits(mask) {
+            return Ok(text);
+        }
+        let frames = one_cycle(alloc, &mut nodes, &placed, mask, cycle, entry.length)?;
+        text = told(alloc, text.as_str(), cycle, entry.slot, frames.as_slice())?;
+    }
+    format!(in alloc; "{text}, fates {:?}", nodes.rides().fates())
+}

@@ -1,0 +1,82 @@
+-- The openings of a history with more events, and what holds of all of them.
+use Rattle.std.proofs.Common.{◌≡◌, ℕ, ◌<◌, false, List, [], ◌∷◌, ◌++◌, get_or, length, map, All, Contains, refl, sym, ap, ◌∙◌, arith, append_assoc, zero-add}
+use Rattle.std.specs.List.{range_with_len}
+use Rattle.std.proofs.lemmas.List.{append-nil, get_or-map, length-map}
+use Rattle.std.proofs.lemmas.List.Elements.{All-cons, All-head, All-nil, All-tail, Contains-get_or}
+use Rattle.std.proofs.lemmas.List.FromFn.{get_or-range_with_len, length-range_with_len}
+use Rattle.std.proofs.lemmas.List.Sums.{fold-append}
+use Rattle.requirement_table.specs.Opening.{Opening}
+use Rattle.admission_rules.specs.declared.Rules.{Rules}
+use Rattle.cycle_engine.specs.Offered.{AreOfDistinctCycles}
+use Rattle.master_core.specs.declared.event.Event.{Event}
+use Rattle.master_core.specs.declared.event.Event.TheVariants.{Submit, Look, Open}
+use Rattle.master_core.specs.History.{IsLegal, IsRight, is_open, placed_after, placed_of}
+use Rattle.master_core.specs.Openings.{opening_of, openings_after, openings_of}
+use Rattle.kept_run.proofs.Shared.{AllAfter-parts}
+
+openings_after-append : (before events later : List Event)
+    → openings_after before (events ++ later) ≡ openings_after before events ++ openings_after (before ++ events) later
+openings_after-append before [] later = ap (λ h. openings_after h later) (sym (append-nil before))
+openings_after-append before (event ∷ events) later =
+    ap (λ l. opening_of before event ++ l)
+    (openings_after-append (before ++ event ∷ []) events later
+    ∙ ap (λ h. openings_after (before ++ event ∷ []) events ++ openings_after h later) (append_assoc before (event ∷ []) events))
+    ∙ sym (append_assoc (opening_of before event) (openings_after (before ++ event ∷ []) events) (openings_after (before ++ event ∷ events) later))
+
+pub openings-append : (history later : List Event) → openings_of (history ++ later) ≡ openings_of history ++ openings_after history later
+openings-append history later = openings_after-append [] history later
+
+pub openings-push : (history : List Event) (event : Event) → openings_of (history ++ event ∷ []) ≡ openings_of history ++ opening_of history event
+openings-push history event = openings-append history (event ∷ []) ∙ ap (λ l. openings_of history ++ l) (append-nil (opening_of history event))
+
+opens-nothing : (history : List Event) (event : Event) → is_open event ≡ false → opening_of history event ≡ []
+opens-nothing history (Submit caller change from verdict trail) none = refl
+opens-nothing history (Look caller next) none = refl
+opens-nothing history (Open cycle mask) none = absurd (cc)
+
+pub openings-closed : (history : List Event) (event : Event) → is_open event ≡ false → openings_of (history ++ event ∷ []) ≡ openings_of history
+openings-closed history event none =
+    openings-push history event ∙ ap (λ l. openings_of history ++ l) (opens-nothing history event none) ∙ append-nil (openings_of history)
+
+pub placed-push : (history : List Event) (event : Event) → placed_of (history ++ event ∷ []) ≡ placed_after (placed_of history) event
+placed-push history event = fold-append placed_after [] history (event ∷ [])
+
+-- the last event of a legal history is right
+pub right-last : (rules : Rules) (history : List Event) (event : Event) → IsLegal rules (history ++ event ∷ []) → IsLegal rules history × IsRight rules history event
+right-last rules history event legal = let parts = AllAfter-parts (IsRight rules) [] history (event ∷ []) legal in (parts.0, parts.1.0)
+
+-- what holds of all holds of the first ones, and of the last one
+pub all-front : {X : Type 0} (P : X → Type 0) (xs ys : List X) → All P (xs ++ ys) → All P xs
+all-front P [] ys all = All-nil P
+all-front P (x ∷ xs) ys all = All-cons P x xs (All-head P x (xs ++ ys) all) (all-front P xs ys (All-tail P x (xs ++ ys) all))
+
+pub all-last : {X : Type 0} (P : X → Type 0) (xs : List X) (y : X) → All P (xs ++ y ∷ []) → P y
+all-last P [] y all = All-head P y [] all
+all-last P (x ∷ xs) y all = all-last P xs y (All-tail P x (xs ++ y ∷ []) all)
+
+-- openings of the cycles from 0 on stand at the places of their cycles
+module _ (openings : List Opening) (n : ℕ) (in_order : map (λ o. o.cycle) openings ≡ range_with_len 0 n) where
+  so-many : length openings ≡ n
+  so-many = sym (length-map openings (λ o. o.cycle)) ∙ ap length in_order ∙ length-range_with_len 0 n
+
+  cycle-at : (k : ℕ) (d : Opening) → k < length openings → (get_or openings k d).cycle ≡ k
+  cycle-at k d here =
+      let all = so-many in
+      sym (get_or-map (λ o. o.cycle) openings k d d.cycle here) ∙ ap (λ l. get_or l k d.cycle) in_order
+      ∙ get_or-range_with_len 0 n k d.cycle (omega (arith, here, all)) ∙ zero-add k
+
+  -- so they are of distinct cycles
+  pub distinct : AreOfDistinctCycles openings
+  distinct i j d before within same =
+      let one = cycle-at i d (omega (arith, before, within)) in
+      let other = cycle-at j d within in
+      omega (arith, one, other, same, before)
+
+-- and there is one of each cycle
+pub opening-at : (openings : List Opening) (n cycle : ℕ) → map (λ o. o.cycle) openings ≡ range_with_len 0 n → cycle < n
+    → (o : Opening) × Contains openings o × (o.cycle ≡ cycle)
+opening-at [] n cycle in_order early = absurd (let all = so-many [] n in_order in omega (arith, all, early))
+opening-at (o ∷ later) n cycle in_order early =
+    let all = so-many (o ∷ later) n in_order in
+    let here : cycle < length (o ∷ later) = omega (arith, all, early) in
+    (get_or (o ∷ later) cycle o, Contains-get_or (o ∷ later) cycle o here, cycle-at (o ∷ later) n in_order cycle o here)

@@ -1,0 +1,7 @@
+pub mod Delay
+pub mod Joined
+pub mod PolledRun
+pub mod PolledWritten
+pub mod Polling
+pub mod RequestRows
+pub mod Whole

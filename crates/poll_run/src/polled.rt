@@ -1,0 +1,118 @@
+//! A bus whose polled slots carry requests, call by call.
+
+ghost use Rattle.std.specs.Prelude.{◌≡◌, ◌+◌, ◌<◌, ◌≤◌, ◌∷◌, [], IfOk, OnOk};
+ghost use Rattle.system_file.specs.SystemFile.{IsSystem};
+ghost use Rattle.master_core.specs.Calls.{asked, opens};
+ghost use Rattle.master_core.specs.History.{next_of};
+ghost use Rattle.replay_run.specs.Progress.{CanTellLast, setting_of};
+ghost use Rattle.sporadic_poll.specs.StreamsFile.{AreLegal};
+ghost use Rattle.poll_run.specs.Polling.{CanPoll, IsPolled, PollsOn};
+
+use can_frame::TimedFrame;
+use change_protocol::Act;
+use cycle_engine::laws::numbers_are_whole;
+use cycle_layout::Layout;
+use kept_run::laws::{beginning, calls_between, cycles_run};
+use master_core::laws::{legal_histories, opened_cycles};
+use replay_run::laws::{opened_frames, rows_appended};
+use replay_run::{Bus, refuses_nothing};
+use sporadic_poll::laws::{one_ride, rides_of_openings};
+use sporadic_poll::{Rides, Stream};
+use std::alloc::{AllocError, Global};
+use system_file::System;
+
+/// The most frames that start in one cycle: the longest cycle has 100,000 bit times, and the shortest frame 47.
+const MOST_FRAMES: usize = 100_000 / 47 + 1;
+
+/// A master and the nodes of its bus, behind some calls, and the requests that the instances of polled slots carry.
+#[derive(Drop)]
+pub struct Polled {
+    /// The bus, without requests. On it each instance sends its number.
+    pub bus: Bus,
+    /// The requests, and what became of them.
+    pub rides: Rides,
+    layout: Layout,
+    /// The frames of the cycle that was run last, with the requests that they carry.
+    pub frames: Vec<TimedFrame>,
+    /// No change was refused so far.
+    pub quiet: bool,
+}
+
+impl Polled {
+    /// A run of no calls yet, on the bus of a system, where polled slots are to carry these requests.
+    ///
+    /// # Errors
+    ///
+    /// Only where memory runs out.
+    pub fn begin(alloc: Global, system: &System, streams: Vec<Stream>) -> Result<Polled, AllocError>
+        requires system { IsSystem system.now }
+        requires streams { AreLegal system.now.rules.slots streams.items }
+        ensures begun { IfOk result (IsPolled (setting_of system.now []) streams.items []) }
+        ensures empty { IfOk result (λ polled. polled.bus.master.history ≡ []) }
+    {
+        beginning();
+        Ok(Polled {
+            bus: Bus::begin(alloc, system, &[], false)?,
+            rides: Rides::new(alloc, streams, system.rules.slots)?,
+            layout: system.layout,
+            frames: Vec::with_capacity(alloc, MOST_FRAMES)?,
+            quiet: true,
+        })
+    }
+
+    /// Opens the next cycle, and runs it on the bus. The instances that are released in it take their requests.
+    ///
+    /// # Errors
+    ///
+    /// Only where memory runs out. Then no cycle was opened.
+    pub fn run_next(&mut self, alloc: Global) -> Result<(), AllocError>
+        requires can { CanPoll self.old }
+        requires few { next_of self.old.bus.master.history < 20000 }
+        ensures on { OnOk result (PollsOn self.old self.new self.new.frames.items (opens ∷ [])) }
+        ensures last { OnOk result (CanTellLast self.new.bus.master.history self.new.frames.items) }
+        ensures next { OnOk result
+            (next_of self.new.bus.master.history ≡ next_of self.old.bus.master.history + 1) }
+    {
+        cycles_run();
+        numbers_are_whole();
+        legal_histories();
+        opened_cycles();
+        one_ride();
+        rides_of_openings();
+        opened_frames();
+        rows_appended();
+        self.bus.make_ready(alloc)?;
+        let cycle = self.bus.master.next();
+        self.bus.run_next();
+        self.rides.carry(
+            &self.layout,
+            cycle,
+            self.bus.master.placed(),
+            self.bus.segment.frames(),
+            &mut self.frames,
+        );
+        Ok(())
+    }
+
+    /// Answers an act of operator `caller`, 1 to 8.
+    ///
+    /// # Errors
+    ///
+    /// Only where memory runs out. Then the act is not answered.
+    pub fn answer(&mut self, alloc: Global, caller: u8, act: &Act) -> Result<(), AllocError>
+        requires can { CanPoll self.old }
+        requires caller { (1 ≤ caller) × (caller ≤ 8) }
+        requires few { next_of self.old.bus.master.history ≤ 20000 }
+        ensures on { OnOk result (PollsOn self.old self.new [] (asked caller act.now ∷ [])) }
+        ensures last { OnOk result (CanTellLast self.new.bus.master.history []) }
+        ensures next { OnOk result
+            (next_of self.new.bus.master.history ≡ next_of self.old.bus.master.history) }
+    {
+        calls_between();
+        rows_appended();
+        self.bus.answer(alloc, caller, act)?;
+        let history = self.bus.master.history();
+        self.quiet = self.quiet & refuses_nothing(&history[history.len() - 1]);
+        Ok(())
+    }
+}
