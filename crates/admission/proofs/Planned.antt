@@ -4,8 +4,8 @@ use Rattle.std.proofs.lemmas.Bool.{cases_lt}
 use Rattle.requirement_table.specs.Slots.{contains_slot, set_of, most_slots}
 use Rattle.requirement_table.proofs.Shared.{set_of-contains_slot, set_of-same}
 use Rattle.planner_policies.specs.declared.state.PlanState.{PlanState}
-use Rattle.planner_policies.specs.Plan.{HasNoMiss, HasNoMissIn, IsMissAt, IsMissIn, IsValid, Planning, Ranking, is_missed_at, is_missed_in, left_after, mask_at, pending_at, pending_before, planned_at, planned_in, planning_of}
-use Rattle.admission.specs.Course.{state_at}
+use Rattle.planner_policies.specs.Plan.{HasNoMiss, HasNoMissIn, IsMissAt, IsMissIn, IsValid, Planning, Ranking, Standing, going_from, is_missed_at, is_missed_in, left_after, mask_at, pending_at, pending_before, planned_at, planned_in, planning_of}
+use Rattle.admission.specs.Course.{state_at, state_in}
 use Rattle.admission.specs.declared.decision.Decision.{Decision}
 use Rattle.admission.specs.declared.verdict.Verdict.TheVariants.{Miss}
 use Rattle.admission.specs.Verdict.{IsMissDecision, IsPlannedUpTo, masks_of}
@@ -20,7 +20,7 @@ abbrev pub remains_from : Ranking → ℕ → PlanState → ℕ
 remains_from ranking window state =
     set_of most_slots (left_after (planning_of ranking window state.cycle state.pending) state.cycle (contains_slot state.pending))
 
-state-parts : (x y : PlanState) → x.cycle ≡ y.cycle → x.pending ≡ y.pending → x ≡ y
+pub state-parts : (x y : PlanState) → x.cycle ≡ y.cycle → x.pending ≡ y.pending → x ≡ y
 state-parts x y cycle pending =
     ap (λ (n : ℕ). record x { cycle = n }) cycle ∙ ap (λ (n : ℕ). record y { pending = n }) pending
 
@@ -77,6 +77,17 @@ module _ (ranking : Ranking) (window from pending : ℕ) where
         list = ap (λ (list : List ℕ). list ++ mask ∷ []) planned.list ∙ ap (λ (m : ℕ). masks_of plan n ++ m ∷ []) mask_is;
       })
 
+  -- a planner of the ranking has planned the next cycle
+  pub planned-step : (n mask : ℕ) (masks : List ℕ) (old new : Standing) → IsPlannedUpTo plan n masks (state_in old) → old.ranking ≡ ranking
+      → mask ≡ planned_from old.ranking window (state_in old)
+      → new ≡ record { ranking = old.ranking; cycle = old.cycle + 1; pending = remains_from old.ranking window (state_in old) }
+      → IsValid new.ranking.placed new.cycle new.pending → IsPlannedUpTo plan (n + 1) (masks ++ mask ∷ []) (state_in new)
+  planned-step n mask masks old new planned same is next valid =
+      planned-next n mask masks (state_in old) (state_in new) planned (is ∙ ap (λ (r : Ranking). planned_from r window (state_in old)) same)
+      (ap (λ (s : Standing). s.cycle) next)
+      (ap (λ (s : Standing). s.pending) next ∙ ap (λ (r : Ranking). remains_from r window (state_in old)) same)
+      (subst (λ (r : Ranking). IsValid r.placed new.cycle new.pending) (ap (λ (s : Standing). s.ranking) next ∙ same) valid)
+
   -- a state in which nothing is missed
   pub none-more : (n : ℕ) (state : PlanState) → state ≡ state_at plan n
       → HasNoMissIn (planning_of ranking window state.cycle state.pending) state.cycle (contains_slot state.pending) → HasNoMiss plan n
@@ -106,6 +117,19 @@ module _ (ranking : Ranking) (window from pending : ℕ) where
         found = at.found;
         released = at.released;
       }
+
+  -- what is missed where a planner of the ranking stands
+  pub missed-there : (slot release : ℕ) (here : Standing) → here.ranking ≡ ranking
+      → IsMissIn (going_from here window) here.cycle (contains_slot here.pending) slot release
+      → IsMissIn (planning_of ranking window here.cycle here.pending) here.cycle (contains_slot here.pending) slot release
+  missed-there slot release here same miss =
+      subst (λ (r : Ranking). IsMissIn (planning_of r window here.cycle here.pending) here.cycle (contains_slot here.pending) slot release) same miss
+
+  pub none-there : (n : ℕ) (here : Standing) → state_in here ≡ state_at plan n → here.ranking ≡ ranking
+      → HasNoMissIn (going_from here window) here.cycle (contains_slot here.pending) → HasNoMiss plan n → HasNoMiss plan (n + 1)
+  none-there n here is same none before =
+      none-more n (state_in here) is
+      (subst (λ (r : Ranking). HasNoMissIn (planning_of r window here.cycle here.pending) here.cycle (contains_slot here.pending)) same none) before
 
   -- where none is missed before the cycle of the state, none of the first n is
   pub none-at : (n cycles : ℕ) (state : PlanState) → state ≡ state_at plan n → n < cycles → HasNoMiss plan cycles

@@ -7,7 +7,7 @@ use Rattle.requirement_table.specs.Instance.{release_of}
 use Rattle.requirement_table.specs.Slots.{contains_slot, set_of, most_slots}
 use Rattle.requirement_table.specs.Table.{instance_in}
 use Rattle.planner_policies.specs.declared.state.PlanState.{PlanState}
-use Rattle.planner_policies.specs.Plan.{IsValid, Planning, Ranking, is_missed_in, left_after, pending_at, planning_of}
+use Rattle.planner_policies.specs.Plan.{IsValid, Planning, Ranking, Standing, is_missed_in, left_after, pending_at, planning_of}
 use Rattle.recurrence_check.specs.Course.{Course}
 
 -- the slots with an instance that is missed in the cycle of a state, and those that are pending behind it
@@ -55,6 +55,10 @@ key_in_period bound (Some period) state =
 -- the state of a planning before its n-th cycle
 abbrev pub state_at : Planning → ℕ → PlanState
 state_at plan n = record { cycle = plan.from + n; pending = pending_at plan n }
+
+-- the state before the cycle that is planned next
+abbrev pub state_in : Standing → PlanState
+state_in standing = record { cycle = standing.cycle; pending = standing.pending }
 
 -- the state may be planned from, and is one of these
 pub record IsGoodState (ranking : Ranking) (from : ℕ) (state : PlanState) : Type 0 where

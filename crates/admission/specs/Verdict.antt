@@ -1,6 +1,7 @@
 -- *Verdict*: what is to be answered to a change.
 use Rattle.std.specs.Prelude.{◌≡◌, ℕ, zero, suc, ◌+◌, ◌-◌, ◌<◌, ◌≤◌}
 use Rattle.std.specs.Prelude.{Bool, true, false, List, [], ◌∷◌, ◌++◌, Option, Some, None}
+use Rattle.profile.specs.Limits.{greatest_horizon, longest_window, most_nodes, shortest_window}
 use Rattle.requirement_table.specs.declared.entries.Placed.{Placed}
 use Rattle.requirement_table.specs.Slots.{most_slots}
 use Rattle.requirement_table.specs.Table.{IsWellPlaced}
@@ -29,12 +30,12 @@ is_accepted (Accepted first length) = true
 -- the rules are in range
 pub record IsRules (rules : Rules) : Type 0 where
   pub some_nodes : 1 ≤ rules.nodes
-  pub few_nodes : rules.nodes ≤ 30
+  pub few_nodes : rules.nodes ≤ most_nodes
   pub few_slots : rules.slots ≤ most_slots
-  pub least_window : 55 ≤ rules.window
-  pub greatest_window : rules.window ≤ 16383
+  pub least_window : shortest_window ≤ rules.window
+  pub greatest_window : rules.window ≤ longest_window
   pub some_cycles : 1 ≤ rules.horizon
-  pub near_horizon : rules.horizon ≤ 100000
+  pub near_horizon : rules.horizon ≤ greatest_horizon
 
 -- the numbers of nodes and of slots of the rules, by which a change is tested
 abbrev pub bounds_by : Rules → Bounds

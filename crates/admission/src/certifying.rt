@@ -1,6 +1,7 @@
 //! Certificates of a table.
 
-ghost use Rattle.std.specs.Prelude.{◌≡◌, ◌+◌, ◌^◌, ◌<◌, ◌≤◌, ◌++◌, IfErr, IfOk};
+ghost use Rattle.std.specs.Prelude.{◌≡◌, ◌+◌, ◌<◌, ◌≤◌, ◌++◌, IfErr, IfOk};
+ghost use Rattle.profile.specs.Limits.{greatest_horizon, openings_end};
 ghost use Rattle.requirement_table.specs.Table.{IsWellPlaced};
 ghost use Rattle.planner_policies.specs.Plan.{HasNoMiss, pending_at, planning_of};
 ghost use Rattle.plan_check.specs.PlanKept.{IsTaken};
@@ -25,7 +26,7 @@ use std::alloc::{AllocError, Global};
 /// `opened` are the masks of the cycles from 0 to below the state's cycle, at most 2^41: the plan of the placed
 /// entries, in which nothing is missed. `state` is the state behind them. The rules have 1 to 30 nodes, 40 or 96 slots,
 /// a window of 55 to 16,383 bit times and a horizon of 1 to 100,000 cycles. It takes time for about twice the cycles
-/// that are walked times the entries that are not over, and memory for their states and for all masks.
+/// that are walked and the instances that are pending in them, and memory for their states and for all masks.
 ///
 /// # Errors
 ///
@@ -40,7 +41,7 @@ pub fn certify(
 ) -> Result<Certificate, CertifyFault>
     requires rules { IsRules rules.now }
     requires well_placed { IsWellPlaced placed.now }
-    requires next { state.now.cycle ≤ 2 ^ 41 }
+    requires next { state.now.cycle ≤ openings_end }
     requires opened { opened.now ≡ masks_of (plan_from rules.now placed.now 0 0) state.now.cycle }
     requires in_time { HasNoMiss (plan_from rules.now placed.now 0 0) state.now.cycle }
     requires pending { state.now.pending ≡ pending_at (plan_from rules.now placed.now 0 0) state.now.cycle }
@@ -90,14 +91,14 @@ fn joined(alloc: Global, opened: &[Mask], planned: &[Mask]) -> Result<Vec<Mask>,
 
 /// The miss of a plan, where the first one is in the cycle behind `at` cycles. They are planned once more.
 fn first_miss(alloc: Global, walk: &PlanWalk, at: u64) -> Result<Miss, AllocError>
-    requires near { at < 100000 }
+    requires near { at < greatest_horizon }
     requires none_before { let first = walk.now.first in
-        HasNoMiss (planning_of walk.now.ranked walk.now.window first.cycle first.pending) at }
+        HasNoMiss (planning_of walk.now.entries walk.now.window first.cycle first.pending) at }
     requires missed { let first = walk.now.first in
-        ¬ HasNoMiss (planning_of walk.now.ranked walk.now.window first.cycle first.pending) (at + 1) }
+        ¬ HasNoMiss (planning_of walk.now.entries walk.now.window first.cycle first.pending) (at + 1) }
     ensures miss { let first = walk.now.first in
-        IfOk result (IsMissBehind (planning_of walk.now.ranked walk.now.window first.cycle first.pending) at) }
+        IfOk result (IsMissBehind (planning_of walk.now.entries walk.now.window first.cycle first.pending) at) }
 {
-    let (_, state) = plan_cycles(alloc, walk, at)?;
-    Ok(miss(walk, &state))
+    let (_, mut planner) = plan_cycles(alloc, walk, at)?;
+    Ok(miss(&mut planner, walk.window))
 }

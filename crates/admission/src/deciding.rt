@@ -1,23 +1,26 @@
 //! What is decided of a change.
 
-ghost use Rattle.std.specs.Prelude.{◌≡◌, ◌+◌, ◌^◌, ◌<◌, ◌≤◌, [], None, IfErr, IfOk, IfSome};
+ghost use Rattle.std.specs.Prelude.{◌≡◌, ◌+◌, ◌<◌, ◌≤◌, [], None, IfErr, IfOk, IfSome};
+ghost use Rattle.profile.specs.Limits.{cycles_end, greatest_horizon, openings_end};
 ghost use Rattle.requirement_table.specs.Slots.{contains_slot};
 ghost use Rattle.requirement_table.specs.Table.{IsWellPlaced};
 ghost use Rattle.change_protocol.specs.Applied.{applied};
 ghost use Rattle.change_protocol.specs.Malformed.{IsFaultOf};
-ghost use Rattle.planner_policies.specs.Plan.{HasNoMiss, HasNoMissIn, IsMissIn, IsValid, NeverMisses, planning_of};
+ghost use Rattle.planner_policies.specs.Plan.{HasNoMiss, HasNoMissIn, IsMissIn, IsValid, NeverMisses, going_from, planning_of};
+ghost use Rattle.admission.specs.Course.{state_in};
 ghost use Rattle.admission.specs.Verdict.{IsDecision, IsDecisionOnPlan, IsInTime, IsMalformed, IsMissDecision};
 ghost use Rattle.admission.specs.Verdict.{IsPlannedUpTo, IsRules, IsSafe, IsTakenWhereDue, plan_from};
 ghost use Rattle.admission.specs.Walked.{IsWalked};
 
 use crate::decision::{Decision, Trail};
+use crate::entries::Entries;
 use crate::periods::{bound, period};
 use crate::verdict::Verdict;
 use crate::walk::PlanWalk;
 use admission_rules::Rules;
 use change_protocol::{ApplyFault, Change, apply};
 use planner_policies::laws::{loops, valid_states};
-use planner_policies::{Miss, PlanState, cycle_mask, plan_cycle, rank};
+use planner_policies::{Miss, PlanState, Planner, cycle_mask};
 use recurrence_check::{Repeat, WalkEnd, lasso_keyed};
 use requirement_table::{Mask, Placed, PlacedList, not_over};
 use std::alloc::{AllocError, Global};
@@ -26,8 +29,8 @@ use std::alloc::{AllocError, Global};
 /// and the slots that are pending before it.
 ///
 /// The state is valid, and its cycle is at most 2^41. The rules have 1 to 30 nodes, 40 or 96 slots, a window of 55 to
-/// 16,383 bit times and a horizon of 1 to 100,000 cycles. It takes time for about the cycles that are walked times the
-/// entries that are not over, and memory for the states.
+/// 16,383 bit times and a horizon of 1 to 100,000 cycles. It takes time for about the cycles that are walked and the
+/// instances that are pending in them, and memory for the states.
 ///
 /// # Errors
 ///
@@ -42,7 +45,7 @@ pub fn decide(
     requires rules { IsRules rules.now }
     requires well_placed { IsWellPlaced placed.now }
     requires valid { IsValid placed.now state.now.cycle state.now.pending }
-    requires next { state.now.cycle ≤ 2 ^ 41 }
+    requires next { state.now.cycle ≤ openings_end }
     ensures decision { IfOk result (IsDecision rules.now placed.now state.now.pending state.now.cycle change.now) }
     ensures complete { let plan = plan_from rules.now (applied placed.now change.now)
         state.now.cycle state.now.pending in
@@ -98,7 +101,7 @@ fn decide_list(
     requires rules { IsRules rules.now }
     requires well_placed { IsWellPlaced list.items }
     requires valid { IsValid list.items state.now.cycle state.now.pending }
-    requires next { state.now.cycle ≤ 2 ^ 41 }
+    requires next { state.now.cycle ≤ openings_end }
     ensures decision { let plan = plan_from rules.now list.items state.now.cycle state.now.pending in
         IfOk result (IsDecisionOnPlan rules.now.horizon plan) }
     ensures complete { let plan = plan_from rules.now list.items state.now.cycle state.now.pending in
@@ -137,14 +140,14 @@ pub fn walk_over(
     requires horizon { 1 ≤ rules.now.horizon }
     requires well_placed { IsWellPlaced list.now }
     requires valid { IsValid list.now state.now.cycle state.now.pending }
-    requires next { state.now.cycle ≤ 2 ^ 41 }
+    requires next { state.now.cycle ≤ openings_end }
     ensures walked { IfOk result (λ walk. IsWalked rules.now list.now state.now.cycle state.now.pending
-        walk.ranked walk.window walk.first walk.bound walk.period) }
+        walk.entries walk.window walk.first walk.bound walk.period) }
 {
     state.pending.known();
     let left = not_over(alloc, list, state.cycle)?;
     Ok(PlanWalk {
-        ranked: rank(alloc, left.as_slice(), rules.policy, rules.fill)?,
+        entries: Entries::of(left, rules.policy, rules.fill),
         window: rules.window,
         first: *state,
         bound: bound(list, state.cycle),
@@ -154,21 +157,22 @@ pub fn walk_over(
 
 /// The answer where the first miss is in the cycle behind `at` cycles. They are planned once more.
 fn missed(alloc: Global, walk: &PlanWalk, at: u64) -> Result<Decision, AllocError>
-    requires near { at < 100000 }
+    requires near { at < greatest_horizon }
     requires none_before { let first = walk.now.first in
-        HasNoMiss (planning_of walk.now.ranked walk.now.window first.cycle first.pending) at }
+        HasNoMiss (planning_of walk.now.entries walk.now.window first.cycle first.pending) at }
     requires missed { let first = walk.now.first in
-        ¬ HasNoMiss (planning_of walk.now.ranked walk.now.window first.cycle first.pending) (at + 1) }
+        ¬ HasNoMiss (planning_of walk.now.entries walk.now.window first.cycle first.pending) (at + 1) }
     ensures missed { let first = walk.now.first in
-        IfOk result (IsMissDecision (planning_of walk.now.ranked walk.now.window first.cycle first.pending) at) }
+        IfOk result (IsMissDecision (planning_of walk.now.entries walk.now.window first.cycle first.pending) at) }
 {
-    let (mut masks, state) = plan_cycles(alloc, walk, at)?;
-    masks.push(cycle_mask(&walk.ranked, walk.window, &state))?;
+    let (mut masks, mut planner) = plan_cycles(alloc, walk, at)?;
+    let state = planner.state();
+    masks.push(cycle_mask(planner.ranked(), walk.window, &state))?;
     let Miss {
         slot,
         release,
         cycle,
-    } = miss(walk, &state);
+    } = miss(&mut planner, walk.window);
     Ok(Decision {
         verdict: Verdict::Miss {
             slot,
@@ -180,44 +184,42 @@ fn missed(alloc: Global, walk: &PlanWalk, at: u64) -> Result<Decision, AllocErro
     })
 }
 
-/// Plans so many cycles, in which nothing is missed: the slots that are planned in them, and the state behind them.
+/// Plans so many cycles, in which nothing is missed: the slots that are planned in them, and the planning behind them.
 pub fn plan_cycles(
     alloc: Global,
     walk: &PlanWalk,
     cycles: u64,
-) -> Result<(Vec<Mask>, PlanState), AllocError>
-    requires near { cycles ≤ 100000 }
+) -> Result<(Vec<Mask>, Planner), AllocError>
+    requires near { cycles ≤ greatest_horizon }
     requires none_missed { let first = walk.now.first in
-        HasNoMiss (planning_of walk.now.ranked walk.now.window first.cycle first.pending) cycles }
+        HasNoMiss (planning_of walk.now.entries walk.now.window first.cycle first.pending) cycles }
     ensures planned { let first = walk.now.first in
-        IfOk result (λ r. IsPlannedUpTo (planning_of walk.now.ranked walk.now.window first.cycle first.pending)
-        cycles r.0.items r.1) }
+        IfOk result (λ r. IsPlannedUpTo (planning_of walk.now.entries walk.now.window first.cycle first.pending)
+        cycles r.0.items (state_in r.1)) }
+    ensures entries { IfOk result (λ r. r.1.ranking ≡ walk.now.entries) }
 {
     let mut masks = Vec::new(alloc);
-    let mut state = walk.first;
-    state.pending.known();
+    walk.first.pending.known();
+    let mut planner = walk.entries.planner(alloc, &walk.first)?;
     for _ in 0..cycles {
-        let (mask, next) = match plan_cycle(&walk.ranked, walk.window, &state) {
+        let planned = match planner.step(walk.window) {
             Ok(planned) => planned,
             Err(_) => unreachable!(),
         };
-        masks.push(mask)?;
-        state = next;
+        masks.push(planned.mask)?;
     }
-    Ok((masks, state))
+    Ok((masks, planner))
 }
 
-/// What is missed in the cycle of the state.
-pub fn miss(walk: &PlanWalk, state: &PlanState) -> Miss
-    requires cycle { state.now.cycle < 2 ^ 42 }
-    requires valid { IsValid walk.now.ranked.placed state.now.cycle state.now.pending }
-    requires missed { let plan = planning_of walk.now.ranked walk.now.window state.now.cycle state.now.pending in
-        ¬ HasNoMissIn plan state.now.cycle (contains_slot state.now.pending) }
-    ensures miss { let plan = planning_of walk.now.ranked walk.now.window state.now.cycle state.now.pending in
-        IsMissIn plan state.now.cycle (contains_slot state.now.pending) result.slot result.release }
-    ensures cycle { result.cycle ≡ state.now.cycle }
+/// What is missed in the cycle that is planned next.
+pub fn miss(planner: &mut Planner, window: u32) -> Miss
+    requires cycle { planner.old.cycle < cycles_end }
+    requires missed { ¬ HasNoMissIn (going_from planner.old window) planner.old.cycle (contains_slot planner.old.pending) }
+    ensures miss { IsMissIn (going_from planner.old window) planner.old.cycle (contains_slot planner.old.pending)
+        result.slot result.release }
+    ensures cycle { result.cycle ≡ planner.old.cycle }
 {
-    match plan_cycle(&walk.ranked, walk.window, state) {
+    match planner.step(window) {
         Ok(_) => unreachable!(),
         Err(miss) => miss,
     }

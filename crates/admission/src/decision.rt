@@ -1,40 +1,11 @@
 //! What is decided of a change: the verdict, and what goes with it.
 
-ghost use Rattle.std.specs.Prelude.{◌≡◌};
-
 use crate::verdict::Verdict;
+use items::Items;
 use requirement_table::{Mask, PlacedList};
-use std::marker::Model;
 
 /// The slots that a plan flags in some cycles, one set for each cycle. Contracts see the list of sets.
-#[derive(Drop, Debug)]
-pub struct Trail {
-    masks: Vec<Mask>,
-}
-
-impl Model for Trail {
-    ghost use Rattle.std.specs.Prelude.{List, ℕ};
-
-    ghost Value = { List ℕ };
-
-    ghost view = { λ t. t.masks.items };
-}
-
-impl Trail {
-    /// The list of the vector's items.
-    pub fn of(masks: Vec<Mask>) -> Trail
-        ensures list { result ≡ masks.items }
-    {
-        Trail { masks }
-    }
-
-    /// The list as a slice, the first cycle first.
-    pub fn as_slice(&self) -> &[Mask]
-        ensures list { result.now ≡ self.now }
-    {
-        self.masks.as_slice()
-    }
-}
+pub type Trail = Items<Mask>;
 
 /// What is decided of a change.
 #[derive(Drop, Debug)]

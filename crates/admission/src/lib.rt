@@ -8,6 +8,7 @@ mod certify_fault;
 mod certifying;
 mod deciding;
 mod decision;
+mod entries;
 pub mod laws;
 mod periods;
 mod verdict;

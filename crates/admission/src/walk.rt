@@ -1,18 +1,21 @@
 //! The planning of a list as a walk from state to state.
 
-ghost use Rattle.std.specs.Prelude.{◌≡◌, ℕ, ◌^◌, ◌<◌, ◌≤◌, true, Some};
+ghost use Rattle.std.specs.Prelude.{◌≡◌, ℕ, ◌<◌, ◌≤◌, true, Some};
+ghost use Rattle.profile.specs.Limits.{openings_end};
 ghost use Rattle.requirement_table.specs.Slots.{contains_slot};
 ghost use Rattle.admission.specs.Course.{is_held_from};
 ghost use Rattle.admission.specs.WalkLaws.{GoesOn};
 
-use planner_policies::{PlanState, Ranked, plan_cycle};
+use crate::entries::Entries;
+use planner_policies::{PlanState, Planner};
 use recurrence_check::{Keyed, Walk};
+use std::alloc::{AllocError, Global};
 
 /// The planning of a list of placed entries. It goes on as long as no deadline is missed.
 #[derive(Drop)]
 pub struct PlanWalk {
-    /// The entries in the order of the policy.
-    pub ranked: Ranked,
+    /// The entries, with the policy and the filling.
+    pub entries: Entries,
     /// The length of the largest synchronous window, in bit times.
     pub window: u32,
     /// The first state.
@@ -21,33 +24,43 @@ pub struct PlanWalk {
     pub bound: u64,
     /// The least common multiple of the periods of the live entries, where it is at most the horizon.
     pub period: Option<u64>,
-    ghost near: { first.cycle ≤ 2 ^ 41 },
+    ghost near: { first.cycle ≤ openings_end },
     ghost held: { (slot : ℕ) → contains_slot first.pending slot ≡ true
-        → is_held_from ranked.placed first.cycle slot ≡ true },
+        → is_held_from entries.placed first.cycle slot ≡ true },
     ghost positive: { (length : ℕ) → period ≡ Some length → 0 < length },
-    ghost goes_on: { GoesOn ranked window bound period },
+    ghost goes_on: { GoesOn entries window bound period },
 }
 
 impl Walk for PlanWalk {
     type State = PlanState;
 
+    type Here = Planner;
+
     ghost use Rattle.std.proofs.Common.{◌-◌};
-    ghost use Rattle.admission.specs.Course.{IsGoodState, course_of};
+    ghost use Rattle.admission.specs.Course.{IsGoodState, course_of, state_in};
     ghost use Rattle.admission.specs.WalkLaws.{kept, same-symmetric, same-transitive};
 
-    ghost course = { λ walk. course_of walk.ranked walk.window walk.first walk.bound walk.period };
+    ghost course = { λ walk. course_of walk.entries walk.window walk.first walk.bound walk.period };
 
-    ghost is_good = { λ walk state. IsGoodState walk.ranked walk.first.cycle state };
+    ghost is_good = { λ walk state. IsGoodState walk.entries walk.first.cycle state };
 
     ghost number = { λ walk state. state.cycle - walk.first.cycle };
 
-    fn first(&self) -> PlanState {
-        self.first
+    ghost state_of = { λ here. state_in here };
+
+    ghost is_on = { λ walk here. here.ranking ≡ walk.entries };
+
+    fn begin(&self, alloc: Global) -> Result<Planner, AllocError> {
+        self.entries.planner(alloc, &self.first)
     }
 
-    fn step(&self, state: &PlanState) -> Option<PlanState> {
-        match plan_cycle(&self.ranked, self.window, state) {
-            Ok((_, next)) => Some(next),
+    fn state(&self, here: &Planner) -> PlanState {
+        here.state()
+    }
+
+    fn step(&self, here: &mut Planner) -> Option<PlanState> {
+        match here.step(self.window) {
+            Ok(_) => Some(here.state()),
             Err(_) => None,
         }
     }
@@ -70,7 +83,7 @@ impl Walk for PlanWalk {
         same-transitive walk.bound walk.period one other third first second };
 
     ghost kept = { λ walk one other _ _ _ _ same.
-        kept walk.ranked walk.window walk.bound walk.period walk.goes_on one other same };
+        kept walk.entries walk.window walk.bound walk.period walk.goes_on one other same };
 }
 
 impl Keyed for PlanWalk {

@@ -7,6 +7,7 @@ use admission::{Rules, Verdict};
 use change_protocol::Change;
 use master_core::{Master, plan_apart};
 use planner_policies::{Fill, Policy};
+use profile::OPENINGS_END;
 use std::alloc::{AllocError, Global};
 use std::io;
 
@@ -86,7 +87,7 @@ fn open(rt: &HostRuntime, master: &mut Master) -> io::Result<()>
     requires spare { 1 ≤ master.old.spare }
     ensures spare { master.old.spare ≤ master.new.spare + 1 }
 {
-    if master.next() >= 1 << 41 {
+    if master.next() >= OPENINGS_END {
         return Ok(());
     }
     let order = master.open();

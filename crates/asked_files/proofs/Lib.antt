@@ -1,1 +1,2 @@
 mod LoadLemmas
+mod SourceLemmas

@@ -1,8 +1,9 @@
 //! What is asked for, from the words of a call and the bytes of the files that they name.
 
-ghost use Rattle.std.specs.Prelude.{◌≡◌, ◌+◌, ◌⊎◌, IfOk, IfErr, IsErrOf, Ok, Some, None, map, option_map, string_bytes};
+ghost use Rattle.std.specs.Prelude.{◌≡◌, ◌+◌, ◌⊎◌, [], ◌∷◌, IfOk, IfErr, IsErrOf, OnOk, Ok, Some, None, map, option_map};
+ghost use Rattle.std.specs.Prelude.{string_bytes};
 ghost use Rattle.std.specs.Option.{ForSome};
-ghost use Rattle.ftt_io.specs.Counts.{Rose};
+ghost use Rattle.ftt_io.specs.Counts.{Rose, next_count};
 ghost use Rattle.system_file.specs.SystemFile.{IsSystem};
 ghost use Rattle.requests_file.specs.RequestsFile.{AreLegal};
 ghost use Rattle.steps_file.specs.StepsFile.{AreLegalSteps};
@@ -11,6 +12,9 @@ ghost use Rattle.command_words.specs.Words.{admit, audit, check, command_of, ela
 ghost use Rattle.command_words.specs.WordsRead.{command_read, run_read};
 ghost use Rattle.asked_files.specs.Asked.{IsAsked, IsAskedOf, IsLiveAsked, IsLogIn, IsLogMeant, IsLogText, IsPlanIn, IsPlanMeant, job_in, live_log_of, requests_in, steps_in, streams_in, system_in, wish_in, within_limit};
 ghost use Rattle.asked_files.specs.Loads.{Bars, Fetches, IsBarred, IsJob, IsRefusedFor, IsTask, IsToCheck, IsToChoose, asked_of};
+ghost use Rattle.asked_files.specs.OfWords.{IsNamedJob, IsOfCommand, IsOfLiveWords, IsOfWords};
+ghost use Rattle.asked_files.specs.Sources.{IsStoppedAt, StopsAt, count_behind, job_sources, live_sources_of, requests_named};
+ghost use Rattle.asked_files.specs.Sources.{sources_of};
 
 use crate::runs::Job;
 use crate::stopping::{Refusal, Source, Stop};
@@ -67,6 +71,8 @@ fn fetch_file<S: Shelf>(
     name: &str,
 ) -> Result<Vec<u8>, Stop>
     ensures fetched { Fetches S.told_files S.fetches S.faults shelf.old shelf.new 1 }
+    ensures once { S.fetches shelf.new ≡ next_count (S.fetches shelf.old) }
+    ensures at { IfErr result (StopsAt source) }
     ensures ok { IfOk result (λ bytes. ForSome (S.told_files shelf.old)
         (λ files. within_limit source (files name.now) ≡ Ok bytes.items)) }
     ensures stop { IfErr result (Bars S.told_files S.faults shelf.old shelf.new
@@ -83,6 +89,8 @@ fn fetch_file<S: Shelf>(
 /// Fetches and reads the system file.
 fn load_system<S: Shelf>(alloc: Global, shelf: &mut S, name: &str) -> Result<System, Stop>
     ensures fetched { Fetches S.told_files S.fetches S.faults shelf.old shelf.new 1 }
+    ensures once { S.fetches shelf.new ≡ next_count (S.fetches shelf.old) }
+    ensures at { IfErr result (StopsAt Source.System) }
     ensures valid { IfOk result IsSystem }
     ensures ok { IfOk result (λ system. ForSome (S.told_files shelf.old)
         (λ files. system_in files name.now ≡ Ok system)) }
@@ -100,6 +108,8 @@ fn load_system<S: Shelf>(alloc: Global, shelf: &mut S, name: &str) -> Result<Sys
 /// Fetches and reads the steps file.
 fn load_steps<S: Shelf>(alloc: Global, shelf: &mut S, name: &str) -> Result<Vec<Step>, Stop>
     ensures fetched { Fetches S.told_files S.fetches S.faults shelf.old shelf.new 1 }
+    ensures once { S.fetches shelf.new ≡ next_count (S.fetches shelf.old) }
+    ensures at { IfErr result (StopsAt Source.Steps) }
     ensures valid { IfOk result (λ steps. AreLegalSteps steps.items) }
     ensures ok { IfOk result (λ steps. ForSome (S.told_files shelf.old)
         (λ files. steps_in files name.now ≡ Ok steps.items)) }
@@ -122,6 +132,8 @@ fn load_requests<S: Shelf>(
     owners: &[Owner],
 ) -> Result<Vec<Request>, Stop>
     ensures fetched { Fetches S.told_files S.fetches S.faults shelf.old shelf.new 1 }
+    ensures once { S.fetches shelf.new ≡ next_count (S.fetches shelf.old) }
+    ensures at { IfErr result (StopsAt Source.Requests) }
     ensures valid { IfOk result (λ requests. AreLegal owners.now requests.items) }
     ensures ok { IfOk result (λ requests. ForSome (S.told_files shelf.old)
         (λ files. requests_in files (Some name.now) owners.now ≡ Ok requests.items)) }
@@ -145,6 +157,12 @@ fn load_named_requests<S: Shelf>(
 ) -> Result<Vec<Request>, Stop>
     ensures fetched { Fetches S.told_files S.fetches S.faults shelf.old shelf.new
         (named (option_map (λ word. word.now) name.entry)) }
+    ensures once { S.fetches shelf.new
+        ≡ count_behind (S.fetches shelf.old) (requests_named (option_map (λ word. word.now) name.entry)) }
+    ensures at { IfErr result (λ why. StopsAt Source.Requests why
+        × (requests_named (option_map (λ word. word.now) name.entry) ≡ Source.Requests ∷ [])) }
+    ensures none { IfOk result
+        (λ requests. option_map (λ word. word.now) name.entry ≡ None → requests.items ≡ []) }
     ensures valid { IfOk result (λ requests. AreLegal owners.now requests.items) }
     ensures ok { IfOk result (λ requests. ForSome (S.told_files shelf.old)
         (λ files. requests_in files (option_map (λ word. word.now) name.entry) owners.now ≡ Ok requests.items)) }
@@ -168,7 +186,12 @@ fn load_job<S: Shelf>(
 ) -> Result<Job, Stop>
     ensures fetched { Fetches S.told_files S.fetches S.faults shelf.old shelf.new
         (2 + named (option_map (λ word. word.now) requests_name.entry)) }
+    ensures all { OnOk result (S.fetches shelf.new ≡ count_behind (S.fetches shelf.old)
+        (job_sources (option_map (λ word. word.now) requests_name.entry))) }
+    ensures stopped { IfErr result (IsStoppedAt
+        (job_sources (option_map (λ word. word.now) requests_name.entry)) (S.fetches shelf.old) (S.fetches shelf.new)) }
     ensures job { IfOk result IsJob }
+    ensures named { IfOk result (IsNamedJob (option_map (λ word. word.now) requests_name.entry)) }
     ensures ok { IfOk result (λ job. ForSome (S.told_files shelf.old)
         (λ files. job_in files system_name.now steps_name.now (option_map (λ word. word.now) requests_name.entry)
         ≡ Ok job)) }
@@ -187,6 +210,7 @@ fn plan_in(alloc: Global, bytes: &[u8]) -> Result<Certificate, Stop>
     ensures certificate { IfOk result IsToCheck }
     ensures ok { IfOk result (λ certificate. IsPlanMeant bytes.now (Ok certificate)) }
     ensures stop { IfErr result (IsRefusedFor (IsPlanMeant bytes.now)) }
+    ensures at { IfErr result (StopsAt Source.Plan) }
 {
     let certificate = match read_plan(alloc, bytes) {
         Ok(certificate) => certificate,
@@ -202,6 +226,8 @@ fn plan_in(alloc: Global, bytes: &[u8]) -> Result<Certificate, Stop>
 /// Fetches and reads the plan file.
 fn load_plan<S: Shelf>(alloc: Global, shelf: &mut S, name: &str) -> Result<Certificate, Stop>
     ensures fetched { Fetches S.told_files S.fetches S.faults shelf.old shelf.new 1 }
+    ensures once { S.fetches shelf.new ≡ next_count (S.fetches shelf.old) }
+    ensures at { IfErr result (StopsAt Source.Plan) }
     ensures certificate { IfOk result IsToCheck }
     ensures ok { IfOk result (λ certificate. ForSome (S.told_files shelf.old)
         (λ files. IsPlanIn files name.now (Ok certificate))) }
@@ -221,7 +247,12 @@ fn load_replay<S: Shelf>(
 ) -> Result<Task, Stop>
     ensures fetched { Fetches S.told_files S.fetches S.faults shelf.old shelf.new
         (files_named (Some (replay (run_read run.entry) tail))) }
+    ensures all { OnOk result (S.fetches shelf.new
+        ≡ count_behind (S.fetches shelf.old) (sources_of (Some (replay (run_read run.entry) tail)))) }
+    ensures stopped { IfErr result (IsStoppedAt
+        (sources_of (Some (replay (run_read run.entry) tail))) (S.fetches shelf.old) (S.fetches shelf.new)) }
     ensures task { IfOk result IsTask }
+    ensures words { IfOk result (λ task. IsOfCommand (replay (run_read run.entry) tail) (asked_of task)) }
     ensures ok { IfOk result (λ task. ForSome (S.told_files shelf.old)
         (λ files. IsAskedOf files (replay (run_read run.entry) tail) (Ok (asked_of task)))) }
     ensures stop { IfErr result (Bars S.told_files S.faults shelf.old shelf.new
@@ -242,7 +273,12 @@ fn load_table<S: Shelf>(
     steps_name: &str,
 ) -> Result<Task, Stop>
     ensures fetched { Fetches S.told_files S.fetches S.faults shelf.old shelf.new 2 }
+    ensures all { OnOk result (S.fetches shelf.new
+        ≡ count_behind (S.fetches shelf.old) (sources_of (Some (admit system_name.now steps_name.now)))) }
+    ensures stopped { IfErr result (IsStoppedAt
+        (sources_of (Some (admit system_name.now steps_name.now))) (S.fetches shelf.old) (S.fetches shelf.new)) }
     ensures task { IfOk result IsTask }
+    ensures words { IfOk result (λ task. IsOfCommand (admit system_name.now steps_name.now) (asked_of task)) }
     ensures ok { IfOk result (λ task. ForSome (S.told_files shelf.old)
         (λ files. IsAskedOf files (admit system_name.now steps_name.now) (Ok (asked_of task)))) }
     ensures stop { IfErr result (Bars S.told_files S.faults shelf.old shelf.new
@@ -261,7 +297,12 @@ fn load_check<S: Shelf>(
     plan_name: &str,
 ) -> Result<Task, Stop>
     ensures fetched { Fetches S.told_files S.fetches S.faults shelf.old shelf.new 3 }
+    ensures all { OnOk result (S.fetches shelf.new
+        ≡ count_behind (S.fetches shelf.old) (sources_of (Some (check system_name.now steps_name.now plan_name.now)))) }
+    ensures stopped { IfErr result (IsStoppedAt
+        (sources_of (Some (check system_name.now steps_name.now plan_name.now))) (S.fetches shelf.old) (S.fetches shelf.new)) }
     ensures task { IfOk result IsTask }
+    ensures words { IfOk result (λ task. IsOfCommand (check system_name.now steps_name.now plan_name.now) (asked_of task)) }
     ensures ok { IfOk result (λ task. ForSome (S.told_files shelf.old)
         (λ files. IsAskedOf files (check system_name.now steps_name.now plan_name.now) (Ok (asked_of task)))) }
     ensures stop { IfErr result (Bars S.told_files S.faults shelf.old shelf.new
@@ -275,6 +316,8 @@ fn load_check<S: Shelf>(
 /// Fetches and reads the wishes file.
 fn load_wish<S: Shelf>(alloc: Global, shelf: &mut S, name: &str) -> Result<Wish, Stop>
     ensures fetched { Fetches S.told_files S.fetches S.faults shelf.old shelf.new 1 }
+    ensures once { S.fetches shelf.new ≡ next_count (S.fetches shelf.old) }
+    ensures at { IfErr result (StopsAt Source.Wishes) }
     ensures valid { IfOk result IsToChoose }
     ensures ok { IfOk result (λ wish. ForSome (S.told_files shelf.old)
         (λ files. wish_in files name.now ≡ Ok wish)) }
@@ -298,7 +341,12 @@ fn load_choice<S: Shelf>(
     wishes_name: &str,
 ) -> Result<Task, Stop>
     ensures fetched { Fetches S.told_files S.fetches S.faults shelf.old shelf.new 3 }
+    ensures all { OnOk result (S.fetches shelf.new
+        ≡ count_behind (S.fetches shelf.old) (sources_of (Some (elastic system_name.now steps_name.now wishes_name.now)))) }
+    ensures stopped { IfErr result (IsStoppedAt
+        (sources_of (Some (elastic system_name.now steps_name.now wishes_name.now))) (S.fetches shelf.old) (S.fetches shelf.new)) }
     ensures task { IfOk result IsTask }
+    ensures words { IfOk result (λ task. IsOfCommand (elastic system_name.now steps_name.now wishes_name.now) (asked_of task)) }
     ensures ok { IfOk result (λ task. ForSome (S.told_files shelf.old)
         (λ files. IsAskedOf files (elastic system_name.now steps_name.now wishes_name.now) (Ok (asked_of task)))) }
     ensures stop { IfErr result (Bars S.told_files S.faults shelf.old shelf.new
@@ -320,7 +368,15 @@ fn load_handover<S: Shelf>(
 ) -> Result<Task, Stop>
     ensures fetched { Fetches S.told_files S.fetches S.faults shelf.old shelf.new
         (2 + named (option_map (λ word. word.now) requests_name.entry)) }
+    ensures all { OnOk result (S.fetches shelf.new
+        ≡ count_behind (S.fetches shelf.old) (sources_of (Some (handover system_name.now steps_name.now at
+        (option_map (λ word. word.now) requests_name.entry))))) }
+    ensures stopped { IfErr result (IsStoppedAt
+        (sources_of (Some (handover system_name.now steps_name.now at
+        (option_map (λ word. word.now) requests_name.entry)))) (S.fetches shelf.old) (S.fetches shelf.new)) }
     ensures task { IfOk result IsTask }
+    ensures words { IfOk result (λ task. IsOfCommand (handover system_name.now steps_name.now at
+        (option_map (λ word. word.now) requests_name.entry)) (asked_of task)) }
     ensures ok { IfOk result (λ task. ForSome (S.told_files shelf.old)
         (λ files. IsAskedOf files (handover system_name.now steps_name.now at
         (option_map (λ word. word.now) requests_name.entry)) (Ok (asked_of task)))) }
@@ -337,6 +393,7 @@ fn log_in(alloc: Global, bytes: Vec<u8>) -> Result<Vec<u8>, Stop>
     ensures text { IfOk result (λ text. IsLogText text.items) }
     ensures ok { IfOk result (λ text. IsLogMeant bytes.items (Ok text.items)) }
     ensures stop { IfErr result (IsRefusedFor (IsLogMeant bytes.items)) }
+    ensures at { IfErr result (StopsAt Source.Log) }
 {
     match check_log(alloc, bytes.as_slice()) {
         Ok(()) => Ok(bytes),
@@ -348,6 +405,8 @@ fn log_in(alloc: Global, bytes: Vec<u8>) -> Result<Vec<u8>, Stop>
 /// Fetches the log file, and sees that its records are those of rows of a log.
 fn load_log<S: Shelf>(alloc: Global, shelf: &mut S, name: &str) -> Result<Vec<u8>, Stop>
     ensures fetched { Fetches S.told_files S.fetches S.faults shelf.old shelf.new 1 }
+    ensures once { S.fetches shelf.new ≡ next_count (S.fetches shelf.old) }
+    ensures at { IfErr result (StopsAt Source.Log) }
     ensures text { IfOk result (λ text. IsLogText text.items) }
     ensures ok { IfOk result (λ text. ForSome (S.told_files shelf.old)
         (λ files. IsLogIn files name.now (Ok text.items))) }
@@ -369,7 +428,15 @@ fn load_audit<S: Shelf>(
 ) -> Result<Task, Stop>
     ensures fetched { Fetches S.told_files S.fetches S.faults shelf.old shelf.new
         (3 + named (option_map (λ word. word.now) requests_name.entry)) }
+    ensures all { OnOk result (S.fetches shelf.new
+        ≡ count_behind (S.fetches shelf.old) (sources_of (Some (audit system_name.now steps_name.now log_name.now
+        (option_map (λ word. word.now) requests_name.entry))))) }
+    ensures stopped { IfErr result (IsStoppedAt
+        (sources_of (Some (audit system_name.now steps_name.now log_name.now
+        (option_map (λ word. word.now) requests_name.entry)))) (S.fetches shelf.old) (S.fetches shelf.new)) }
     ensures task { IfOk result IsTask }
+    ensures words { IfOk result (λ task. IsOfCommand (audit system_name.now steps_name.now log_name.now
+        (option_map (λ word. word.now) requests_name.entry)) (asked_of task)) }
     ensures ok { IfOk result (λ task. ForSome (S.told_files shelf.old)
         (λ files. IsAskedOf files (audit system_name.now steps_name.now log_name.now
         (option_map (λ word. word.now) requests_name.entry)) (Ok (asked_of task)))) }
@@ -392,6 +459,8 @@ fn load_streams<S: Shelf>(
     slots: u8,
 ) -> Result<Vec<Stream>, Stop>
     ensures fetched { Fetches S.told_files S.fetches S.faults shelf.old shelf.new 1 }
+    ensures once { S.fetches shelf.new ≡ next_count (S.fetches shelf.old) }
+    ensures at { IfErr result (StopsAt Source.Streams) }
     ensures valid { IfOk result (λ streams. AreLegalStreams slots streams.items) }
     ensures ok { IfOk result (λ streams. ForSome (S.told_files shelf.old)
         (λ files. streams_in files name.now slots ≡ Ok streams.items)) }
@@ -415,7 +484,12 @@ fn load_poll<S: Shelf>(
     streams_name: &str,
 ) -> Result<Task, Stop>
     ensures fetched { Fetches S.told_files S.fetches S.faults shelf.old shelf.new 3 }
+    ensures all { OnOk result (S.fetches shelf.new
+        ≡ count_behind (S.fetches shelf.old) (sources_of (Some (poll system_name.now steps_name.now streams_name.now)))) }
+    ensures stopped { IfErr result (IsStoppedAt
+        (sources_of (Some (poll system_name.now steps_name.now streams_name.now))) (S.fetches shelf.old) (S.fetches shelf.new)) }
     ensures task { IfOk result IsTask }
+    ensures words { IfOk result (λ task. IsOfCommand (poll system_name.now steps_name.now streams_name.now) (asked_of task)) }
     ensures ok { IfOk result (λ task. ForSome (S.told_files shelf.old)
         (λ files. IsAskedOf files (poll system_name.now steps_name.now streams_name.now) (Ok (asked_of task)))) }
     ensures stop { IfErr result (Bars S.told_files S.faults shelf.old shelf.new
@@ -431,7 +505,12 @@ fn load_poll<S: Shelf>(
 fn load_command<S: Shelf>(alloc: Global, shelf: &mut S, command: Command<'_>) -> Result<Task, Stop>
     ensures fetched { Fetches S.told_files S.fetches S.faults shelf.old shelf.new
         (files_named (Some (command_read command.entry))) }
+    ensures all { OnOk result (S.fetches shelf.new
+        ≡ count_behind (S.fetches shelf.old) (sources_of (Some (command_read command.entry)))) }
+    ensures stopped { IfErr result (IsStoppedAt
+        (sources_of (Some (command_read command.entry))) (S.fetches shelf.old) (S.fetches shelf.new)) }
     ensures task { IfOk result IsTask }
+    ensures words { IfOk result (λ task. IsOfCommand (command_read command.entry) (asked_of task)) }
     ensures ok { IfOk result (λ task. ForSome (S.told_files shelf.old)
         (λ files. IsAskedOf files (command_read command.entry) (Ok (asked_of task)))) }
     ensures stop { IfErr result (Bars S.told_files S.faults shelf.old shelf.new
@@ -475,7 +554,12 @@ fn load_command<S: Shelf>(alloc: Global, shelf: &mut S, command: Command<'_>) ->
 pub fn load<S: Shelf>(alloc: Global, words: &[String], shelf: &mut S) -> Result<Task, Stop>
     ensures fetched { Fetches S.told_files S.fetches S.faults shelf.old shelf.new
         (file_count (map string_bytes words.now)) }
+    ensures all { OnOk result (S.fetches shelf.new
+        ≡ count_behind (S.fetches shelf.old) (sources_of (command_of (map string_bytes words.now)))) }
+    ensures stopped { IfErr result (IsStoppedAt
+        (sources_of (command_of (map string_bytes words.now))) (S.fetches shelf.old) (S.fetches shelf.new)) }
     ensures task { IfOk result IsTask }
+    ensures words { IfOk result (λ task. IsOfWords (map string_bytes words.now) (asked_of task)) }
     ensures ok { IfOk result (λ task. ForSome (S.told_files shelf.old)
         (λ files. IsAsked (map string_bytes words.now) files (Ok (asked_of task)))) }
     ensures stop { IfErr result (IsBarred (command_of (map string_bytes words.now) ≡ None)
@@ -492,7 +576,13 @@ pub fn load<S: Shelf>(alloc: Global, words: &[String], shelf: &mut S) -> Result<
 pub fn load_live<S: Shelf>(alloc: Global, words: &[String], shelf: &mut S) -> Result<LiveTask, Stop>
     ensures fetched { Fetches S.told_files S.fetches S.faults shelf.old shelf.new
         (live_file_count (map string_bytes words.now)) }
+    ensures all { OnOk result (S.fetches shelf.new
+        ≡ count_behind (S.fetches shelf.old) (live_sources_of (live_of (map string_bytes words.now)))) }
+    ensures stopped { IfErr result (IsStoppedAt
+        (live_sources_of (live_of (map string_bytes words.now))) (S.fetches shelf.old) (S.fetches shelf.new)) }
     ensures job { IfOk result (λ task. IsJob task.job) }
+    ensures words { IfOk result
+        (λ task. IsOfLiveWords (map string_bytes words.now) (live_log_of task.job task.report)) }
     ensures ok { IfOk result (λ task. ForSome (S.told_files shelf.old)
         (λ files. IsLiveAsked (map string_bytes words.now) files (Ok (live_log_of task.job task.report)))) }
     ensures stop { IfErr result (IsBarred (live_of (map string_bytes words.now) ≡ None)

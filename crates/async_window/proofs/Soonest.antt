@@ -2,6 +2,7 @@
 use Rattle.std.proofs.Common.{◌≡◌, ℕ, ◌+◌, ◌-◌, ◌*◌, ◌/◌, ◌^◌, ◌<◌, ◌≤◌, cond, leb, false, true, Option, Some, None, List, [], ◌∷◌, ◌++◌, length, get_or, min, inl, inr, refl, sym, ap, ◌∙◌, subst, arith}
 use Rattle.std.specs.List.{slice_get}
 use Rattle.std.specs.Option.{IsSome, option_to_list}
+use Rattle.std.specs.Prelude.{IfSome}
 use Rattle.std.proofs.Math.Nat.{div-eq_of_lt-le, div-mul-le_self}
 use Rattle.std.proofs.lemmas.Bool.{cases_Bool, cases_eq, cases_lt, le-leb, leb-true}
 use Rattle.std.proofs.lemmas.List.{get_or-map, get_or_default, length-map}
@@ -10,7 +11,7 @@ use Rattle.stuff_bound.specs.Stuffing.{worst}
 use Rattle.cycle_layout.specs.Layout.{CycleLayout, IsLayout, async_open, sync_start}
 use Rattle.async_window.specs.declared.request.Request.{Request}
 use Rattle.async_window.specs.Mailbox.{Mail, Offers, IsLeastWith, IsNextInCycle, StaysUntil, least_of, mail_offer, unsent_of}
-use Rattle.async_window.specs.Tournament.{IsSoonest, never, arrival_within, first_bytes, node_value}
+use Rattle.async_window.specs.Tournament.{IsSoonest, IsTournament, never, arrival_within, first_bytes, node_value}
 use Rattle.async_window.specs.Sorted.{AreKept, AreShort, mail_of}
 use Rattle.async_window.proofs.Offered.{IsLeastWith-either, IsLeastWith-one, IsLeastWith-same, IsLeastWith-some, Offers-among, Offers-least}
 use Rattle.async_window.proofs.Table.{unsent_of-at}
@@ -253,6 +254,54 @@ module _ (layout : CycleLayout) (l : ℕ) (ids : List ℕ) (boxes : List Mail) (
         | inr within ↦ none-waits later (λ place d is. let high = none place d is in omega arith)
       ])
       found.2
+
+-- of longer frames too some first request has arrived, where one has of shorter ones
+arrival-longer : (few many at : ℕ) (unsent : List Request) → few ≤ many → at < never → arrival_within few unsent ≤ at
+    → arrival_within many unsent ≤ at
+arrival-longer few many at unsent more time low =
+    let found = arrival-from few at unsent time low in
+    arrival-some many at unsent found.0 found.1 found.2 (omega (arith, found.3))
+
+module _ (levels : ℕ) (nodes : List (List ℕ)) (boxes : List Mail) (known : IsTournament levels nodes boxes) where
+  top-longer : (few many at : ℕ) → few ≤ many → many ≤ 8 → at < never → node_value few nodes boxes 1 ≤ at → node_value many nodes boxes 1 ≤ at
+  top-longer few many at more most time low =
+      let found = top-some few levels nodes boxes (omega arith) known at time low in
+      let d : Mail = record { identifier = 0; unsent = [] } in
+      let here : arrival_within many (get_or boxes found.0 d).unsent ≤ at
+      = arrival-longer few many at (get_or boxes found.0 d).unsent more time (found.2 d) in
+      let least : node_value many nodes boxes 1 ≤ arrival_within many (get_or boxes found.0 d).unsent
+      = top-all many levels nodes boxes most known found.0 d found.1 in
+      omega arith
+
+  -- where the longest frame may start at the soonest arrival, no other one starts sooner
+  pub IsSoonest-any : (opened closed at arrival : ℕ) (found : Option ℕ) → arrival ≡ node_value 8 nodes boxes 1
+      → IsLeastWith (λ later. (at < later) × (arrival ≤ later) × (opened ≤ later) × (later + worst 8 ≤ closed)) found
+      → IfSome found (λ time. time < 2 ^ 64) → IfSome found (λ next. IsSoonest nodes boxes opened closed at 9 (Some next))
+  IsSoonest-any opened closed at arrival None is least some = tt
+  IsSoonest-any opened closed at arrival (Some next) is least some = (
+    (8, omega arith, least.0.0, subst (λ n. n ≤ next) is least.0.1, least.0.2, least.0.3),
+    λ later has. elim (cases_lt later next) [
+      | inl sooner ↦
+          let arrived : node_value 8 nodes boxes 1 ≤ later = top-longer has.0 8 later (omega (arith, has.1)) (omega arith) (omega arith) has.3 in
+          let fits : next + worst 8 ≤ closed = least.0.3 in
+          least.1 later (has.2, subst (λ n. n ≤ later) (sym is) arrived, has.4, omega arith)
+      | inr later_on ↦ omega arith
+    ],
+  )
+
+  -- where no request arrives in the window that is short enough to start now, none starts later
+  pub IsSoonest-over : (opened closed at room arrival : ℕ) → room ≤ 8 → arrival ≤ never → arrival ≡ node_value room nodes boxes 1
+      → ((bytes : ℕ) → bytes ≤ 8 → at + worst bytes ≤ closed → bytes ≤ room) → closed < arrival
+      → IsSoonest nodes boxes opened closed at 9 None
+  IsSoonest-over opened closed at room arrival few some is fits high = λ later has.
+      let bytes : ℕ = has.0 in
+      let short : bytes < 9 = has.1 in
+      let behind : at < later = has.2 in
+      let whole : later + worst bytes ≤ closed = has.5 in
+      let room_for : bytes ≤ room = fits bytes (omega arith) (omega arith) in
+      let arrived : node_value room nodes boxes 1 ≤ later = top-longer bytes room later room_for few (omega arith) has.3 in
+      let same : arrival ≤ later = subst (λ n. n ≤ later) (sym is) arrived in
+      absurd (omega arith)
 
 pub IsSoonest-none : (nodes : List (List ℕ)) (boxes : List Mail) (opened closed at : ℕ) → IsSoonest nodes boxes opened closed at 0 None
 IsSoonest-none nodes boxes opened closed at = λ later found. let below : found.0 < 0 = found.1 in absurd (omega arith)

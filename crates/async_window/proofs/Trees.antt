@@ -48,23 +48,21 @@ module _ (bytes : ℕ) (nodes : List (List ℕ)) (mail : List Mail) where
         | inr past ↦ nowhere past ∙ sym (value-nowhere (node - size) node (omega arith) past)
       ]
 
--- a pair of neighbours with their lesser values so far
-pub record HasLessers (nodes : List (List ℕ)) (mail : List Mail) (node count : ℕ) (row : List ℕ) : Type 0 where
+-- a row that has its first values
+pub record IsFilled (count : ℕ) (value : ℕ → ℕ) (row : List ℕ) : Type 0 where
   pub long : length row ≡ 9
-  pub lesser : (bytes : ℕ) → bytes < count
-      → get_or row bytes never ≡ min (node_value bytes nodes mail node) (node_value bytes nodes mail (node + 1))
+  pub filled : (bytes : ℕ) → bytes < count → get_or row bytes never ≡ value bytes
 
-pub HasLessers-more : (nodes : List (List ℕ)) (mail : List Mail) (node count : ℕ) (row : List ℕ) (value : ℕ) → count < 9
-    → value ≡ min (node_value count nodes mail node) (node_value count nodes mail (node + 1)) → HasLessers nodes mail node count row
-    → HasLessers nodes mail node (count + 1) (set row count value)
-HasLessers-more nodes mail node count row value within is has = record {
-  long = length-set row count value ∙ has.long;
-  lesser = λ bytes below. elim (cases_eq bytes count) [
-    | inl same ↦ ap (λ n. get_or (set row count value) n never) same
-        ∙ get_or-set_same row count value never (omega (arith, has.long))
+pub IsFilled-more : (count : ℕ) (value : ℕ → ℕ) (row : List ℕ) (x : ℕ) → count < 9 → x ≡ value count → IsFilled count value row
+    → IsFilled (count + 1) value (set row count x)
+IsFilled-more count value row x within is has = record {
+  long = length-set row count x ∙ has.long;
+  filled = λ bytes below. elim (cases_eq bytes count) [
+    | inl same ↦ ap (λ n. get_or (set row count x) n never) same
+        ∙ get_or-set_same row count x never (omega (arith, has.long))
         ∙ is
-        ∙ ap (λ n. min (node_value n nodes mail node) (node_value n nodes mail (node + 1))) (sym same)
-    | inr apart ↦ get_or-set_other row count bytes value never apart ∙ has.lesser bytes (omega arith)
+        ∙ ap value (sym same)
+    | inr apart ↦ get_or-set_other row count bytes x never apart ∙ has.filled bytes (omega arith)
   ];
 }
 

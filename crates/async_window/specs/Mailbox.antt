@@ -1,8 +1,9 @@
 -- Mailboxes: the unsent requests of each of some identifiers, and what they offer. Times are bit times.
-use Rattle.std.specs.Prelude.{◌≡◌, ◌≢◌, ℕ, ◌+◌, ◌/◌, ◌^◌, ◌<◌, ◌≤◌, ◌==◌, ◌&&◌, Bool, false}
+use Rattle.std.specs.Prelude.{◌≡◌, ◌≢◌, ℕ, ◌+◌, ◌/◌, ◌<◌, ◌≤◌, ◌==◌, ◌&&◌, Bool, false}
 use Rattle.std.specs.Prelude.{nat_le, if◌then◌else◌, List, [], ◌∷◌, length, All, AllPairs, map}
 use Rattle.std.specs.Prelude.{filter, drop, find, fold, min, sum_by, Option, Some, None}
 use Rattle.std.specs.Option.{option_map_or}
+use Rattle.profile.specs.Limits.{arrivals_end, greatest_identifier, least_asynchronous}
 use Rattle.stuff_bound.specs.Stuffing.{worst}
 use Rattle.can_frame.specs.declared.data_frame.TimedFrame.{TimedFrame}
 use Rattle.cycle_layout.specs.Layout.{CycleLayout, async_open, sync_start}
@@ -38,10 +39,10 @@ left mail = sum_by (λ box. length box.unsent) mail
 -- its mailbox
 pub record IsMail (mail : List Mail) : Type 0 where
   pub distinct : AllPairs (λ one other. one.identifier ≢ other.identifier) mail
-  pub least : All (λ box. 0x200 ≤ box.identifier) mail
-  pub greatest : All (λ box. box.identifier ≤ 0x7EF) mail
+  pub least : All (λ box. least_asynchronous ≤ box.identifier) mail
+  pub greatest : All (λ box. box.identifier ≤ greatest_identifier) mail
   pub own : All (λ box. All (λ request. request.frame.identifier ≡ box.identifier) box.unsent) mail
-  pub early : All (λ box. All (λ request. request.at < 2 ^ 40) box.unsent) mail
+  pub early : All (λ box. All (λ request. request.at < arrivals_end) box.unsent) mail
 
 -- the identifier is offered at this time: its first unsent request waits and may start, in the cycle of that time,
 -- whose synchronous window has the length l

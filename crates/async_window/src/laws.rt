@@ -1,7 +1,8 @@
 //! What follows from the definitions, each as the contract of a function that does nothing.
 
-ghost use Rattle.std.specs.Prelude.{◌≡◌, ◌≢◌, ◌↔◌, ℕ, ◌/◌, ◌^◌, ◌<◌, ◌≤◌, ◌==◌, if◌then◌else◌, All, AllPairs};
+ghost use Rattle.std.specs.Prelude.{◌≡◌, ◌≢◌, ◌↔◌, ℕ, ◌/◌, ◌<◌, ◌≤◌, ◌==◌, if◌then◌else◌, All, AllPairs};
 ghost use Rattle.std.specs.Prelude.{Contains, IsSome, IsTrue, List, [], ◌∷◌, ◌++◌, Option, Some, drop, map};
+ghost use Rattle.profile.specs.Limits.{arrivals_end, greatest_identifier, least_asynchronous};
 ghost use Rattle.can_frame.specs.declared.data_frame.TimedFrame.{TimedFrame};
 ghost use Rattle.cycle_layout.specs.Layout.{CycleLayout};
 ghost use Rattle.async_window.specs.declared.request.Request.{Request};
@@ -13,7 +14,8 @@ ghost use Rattle.async_window.specs.Mailbox.{mail_offer, may_start, unsent_of, w
 pub fn unsent_laws()
     ensures known { (ids : List ℕ) (requests : List Request) (past : List TimedFrame)
         → AllPairs (λ one other. one ≢ other) ids
-        → All (λ id. 0x200 ≤ id) ids → All (λ id. id ≤ 0x7EF) ids → All (λ request. request.at < 2 ^ 40) requests
+        → All (λ id. least_asynchronous ≤ id) ids → All (λ id. id ≤ greatest_identifier) ids
+        → All (λ request. request.at < arrivals_end) requests
         → IsMail (mail_after ids requests past) }
 
     // An identifier that has a mailbox has the requests that wait by the frames in the past, and another one has none.

@@ -12,4 +12,4 @@ mod tournament;
 mod window;
 
 pub use mailboxes::{Mailboxes, Offer};
-pub use request::{LEAST_ASYNCHRONOUS, Owner, Request};
+pub use request::{Owner, Request};

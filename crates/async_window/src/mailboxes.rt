@@ -1,9 +1,10 @@
 //! Mailboxes: the requests of some identifiers, first in, first out for each identifier.
 
-ghost use Rattle.std.specs.Prelude.{◌≡◌, ◌≢◌, ◌↔◌, ℕ, ◌+◌, ◌-◌, ◌/◌, ◌^◌, ◌<◌, ◌≤◌, ◌==◌, [], ◌++◌, All};
+ghost use Rattle.std.specs.Prelude.{◌≡◌, ◌≢◌, ◌↔◌, ℕ, ◌+◌, ◌-◌, ◌/◌, ◌<◌, ◌≤◌, ◌==◌, [], ◌++◌, All};
 ghost use Rattle.std.specs.Prelude.{AllPairs, IfOk, IfSome, IsSome, MatchOption, Some, true, drop, is_some};
 ghost use Rattle.std.specs.Prelude.{if◌then◌else◌, length, map, min, option_map, slice_get, slice_index_or};
 ghost use Rattle.std.specs.Option.{option_map_or, option_to_list};
+ghost use Rattle.profile.specs.Limits.{arrivals_end, greatest_identifier, least_asynchronous, times_end};
 ghost use Rattle.async_window.specs.Mailbox.{IsLeastWith, IsMail, IsNextInCycle, Mail, Offers, StaysUntil};
 ghost use Rattle.async_window.specs.Mailbox.{least_of, left, mail_after, mail_offer, unsent_of, without_first};
 ghost use Rattle.async_window.specs.Adding.{with_request};
@@ -64,10 +65,10 @@ impl Mailboxes {
     /// The identifiers are distinct and 0x200 to 0x7EF. Arrivals never fall and are below 2^40.
     pub fn new(alloc: Global, ids: &[u16], requests: &[Request]) -> Result<Mailboxes, AllocError>
         requires distinct { AllPairs (λ one other. one ≢ other) ids.now }
-        requires least { All (λ id. 0x200 ≤ id) ids.now }
-        requires greatest { All (λ id. id ≤ 0x7EF) ids.now }
+        requires least { All (λ id. least_asynchronous ≤ id) ids.now }
+        requires greatest { All (λ id. id ≤ greatest_identifier) ids.now }
         requires arrivals { AllPairs (λ one other. one.at ≤ other.at) requests.now }
-        requires early { All (λ request. request.at < 2 ^ 40) requests.now }
+        requires early { All (λ request. request.at < arrivals_end) requests.now }
         ensures mail { IfOk result (λ boxes. boxes ≡ mail_after ids.now requests.now []) }
     {
         let sorted = in_order(alloc, ids)?;
@@ -92,7 +93,7 @@ impl Mailboxes {
     /// synchronous window has the length `l`; `None` exactly where there is none.
     pub fn offer(&self, layout: &Layout, at: u64, l: u32) -> Option<u16>
         requires window { l ≤ layout.now.window }
-        requires time { at < 2 ^ 60 }
+        requires time { at < times_end }
         ensures least { IsLeastWith (Offers layout.now l self.now at) result }
         ensures value { result ≡ mail_offer layout.now l self.now at }
         ensures known { IsMail self.now }
@@ -104,7 +105,7 @@ impl Mailboxes {
     /// looked at.
     pub fn offer_in(&self, layout: &Layout, cycle: u64, at: u64, l: u32) -> Option<u16>
         requires window { l ≤ layout.now.window }
-        requires time { at < 2 ^ 60 }
+        requires time { at < times_end }
         requires cycle { cycle ≡ at / layout.now.cycle }
         ensures least { IsLeastWith (Offers layout.now l self.now at) result }
         ensures value { result ≡ mail_offer layout.now l self.now at }
@@ -120,7 +121,7 @@ impl Mailboxes {
     /// identifier has a first request that may start.
     pub fn offer_until(&self, layout: &Layout, cycle: u64, at: u64, l: u32) -> Option<Offer>
         requires window { l ≤ layout.now.window }
-        requires time { at < 2 ^ 60 }
+        requires time { at < times_end }
         requires cycle { cycle ≡ at / layout.now.cycle }
         ensures least { IsLeastWith (Offers layout.now l self.now at) (option_map (λ offer. offer.id) result) }
         ensures value { option_map (λ offer. offer.id) result ≡ mail_offer layout.now l self.now at }
@@ -186,7 +187,7 @@ impl Mailboxes {
     /// `None` exactly where there is none. The cycle's synchronous window has the length `l`.
     pub fn wake(&self, layout: &Layout, at: u64, l: u32) -> Option<u64>
         requires window { l ≤ layout.now.window }
-        requires time { at < 2 ^ 60 }
+        requires time { at < times_end }
         ensures next { IsNextInCycle layout.now.cycle at
             (λ later. IsSome (mail_offer layout.now l self.now later)) result }
     {
@@ -197,7 +198,7 @@ impl Mailboxes {
     /// synchronous window, or none may start behind `at`, no further look is taken.
     pub fn wake_in(&self, layout: &Layout, cycle: u64, at: u64, l: u32) -> Option<u64>
         requires window { l ≤ layout.now.window }
-        requires time { at < 2 ^ 60 }
+        requires time { at < times_end }
         requires cycle { cycle ≡ at / layout.now.cycle }
         ensures next { IsNextInCycle layout.now.cycle at
             (λ later. IsSome (mail_offer layout.now l self.now later)) result }
@@ -276,7 +277,7 @@ fn put(boxes: &mut [Mailbox], places: &[u16], request: &Request) -> Result<usize
     requires length { length places.now ≡ 2048 }
     requires places { IsPlaceTable boxes.old places.now }
     requires rising { AllPairs (λ one other. one.identifier < other.identifier) boxes.old }
-    requires greatest { All (λ box. box.identifier ≤ 0x7EF) boxes.old }
+    requires greatest { All (λ box. box.identifier ≤ greatest_identifier) boxes.old }
     ensures put { IfOk result (λ _. boxes.new ≡ map (with_request request.now) boxes.old) }
     ensures counted { IfOk result (λ count. left boxes.new ≡ left boxes.old + count) }
     ensures one { IfOk result (λ count. count ≤ 1) }

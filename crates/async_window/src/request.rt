@@ -2,9 +2,6 @@
 
 use can_frame::Frame;
 
-/// The least identifier of a frame that is sent in an asynchronous window.
-pub const LEAST_ASYNCHRONOUS: u16 = 0x200;
-
 /// A request to send a frame in an asynchronous window.
 #[derive(Clone, Copy, PartialEq, Eq, Debug)]
 pub struct Request {

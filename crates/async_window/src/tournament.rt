@@ -2,18 +2,19 @@
 //! arrived and is short enough is found in as many steps as the tree has levels.
 
 ghost use Rattle.std.specs.Prelude.{◌≡◌, ℕ, ◌+◌, ◌*◌, ◌/◌, ◌^◌, ◌<◌, ◌≤◌, ◌++◌};
-ghost use Rattle.std.specs.Prelude.{IfOk, MatchOption, false, length, min, slice_index_or};
+ghost use Rattle.std.specs.Prelude.{IfOk, IfSome, MatchOption, None, Some, false, true, length, min, slice_index_or};
 ghost use Rattle.std.specs.Option.{option_to_list};
+ghost use Rattle.profile.specs.Limits.{times_end};
 ghost use Rattle.async_window.specs.Mailbox.{Mail, least_of};
 ghost use Rattle.async_window.specs.Tournament.{IsSoonest, IsTournament, IsTournamentBut};
 ghost use Rattle.async_window.specs.Tournament.{Renews, arrival_within, never, node_value};
 
-use crate::mailbox::{Mailbox, NEVER};
+use crate::mailbox::{LENGTHS, Mailbox, NEVER};
 use crate::window::Window;
 use std::alloc::{AllocError, Global};
 
-/// How many numbers of data bytes a frame may have: 0 to 8.
-const LENGTHS: usize = 9;
+/// The greatest number of data bytes.
+const MOST_BYTES: u8 = 8;
 
 /// A binary tree whose leaves are mailboxes, in their order. A node's value for a number of data bytes is the least
 /// arrival, in bit times, of a first request below it that has at most so many.
@@ -94,13 +95,26 @@ impl Tournament {
             ≡ min (node_value bytes self.now.nodes.items boxes.now node)
             (node_value bytes self.now.nodes.items boxes.now (node + 1)) }
     {
-        let mut least = [NEVER; LENGTHS];
-        for bytes in 0..LENGTHS {
-            least[bytes] = self
-                .value(boxes, node, bytes)
-                .min(self.value(boxes, node + 1, bytes));
+        let inner = self.nodes.len();
+        if node + 1 < inner {
+            lesser_values(&self.nodes[node], &self.nodes[node + 1])
+        } else {
+            lesser_values(&self.row(boxes, node), &self.row(boxes, node + 1))
         }
-        least
+    }
+
+    /// The values of a node, one for each number of data bytes.
+    #[inline(always)]
+    fn row(&self, boxes: &[Mailbox], node: usize) -> [u64; LENGTHS]
+        ensures row { (bytes : ℕ) → bytes ≤ 8 → slice_index_or result bytes never
+            ≡ node_value bytes self.now.nodes.items boxes.now node }
+    {
+        let inner = self.nodes.len();
+        if node < inner {
+            self.nodes[node]
+        } else {
+            leaf_row(boxes, node - inner)
+        }
     }
 
     /// Whether some first request has arrived at `at`. Where none has, all of them come later.
@@ -116,6 +130,7 @@ impl Tournament {
     fn soonest(&self, boxes: &[Mailbox], bytes: usize) -> u64
         requires bytes { bytes ≤ 8 }
         ensures value { result ≡ node_value bytes self.now.nodes.items boxes.now 1 }
+        ensures some { result ≤ never }
     {
         self.value(boxes, 1, bytes)
     }
@@ -137,7 +152,7 @@ impl Tournament {
     /// the soonest arrival is told.
     pub fn first(&self, boxes: &[Mailbox], bytes: usize, at: u64) -> Option<First>
         requires bytes { bytes ≤ 8 }
-        requires time { at < 2 ^ 60 }
+        requires time { at < times_end }
         requires tournament { IsTournament self.now.levels self.now.nodes.items boxes.now }
         ensures first { MatchOption result
             ((place : ℕ) (d : Mail) → place < length boxes.now
@@ -166,7 +181,46 @@ impl Tournament {
 
     /// The least time behind `at` at which a first request has arrived and may start in the window.
     pub fn next(&self, boxes: &[Mailbox], window: &Window, at: u64) -> Option<u64>
-        requires time { at < 2 ^ 60 }
+        requires time { at < times_end }
+        requires tournament { IsTournament self.now.levels self.now.nodes.items boxes.now }
+        ensures next { IsSoonest self.now.nodes.items boxes.now window.now.opened window.now.closed at 9 result }
+    {
+        if self.none_fits(boxes, window, at) {
+            return None;
+        }
+        match self.next_of_any(boxes, window, at) {
+            Some(next) => Some(next),
+            None => self.next_by_length(boxes, window, at),
+        }
+    }
+
+    /// Whether no first request arrives in the window that is short enough to start at `at`. None that is longer starts
+    /// behind that time.
+    fn none_fits(&self, boxes: &[Mailbox], window: &Window, at: u64) -> bool
+        requires time { at < times_end }
+        requires tournament { IsTournament self.now.levels self.now.nodes.items boxes.now }
+        ensures none { result ≡ true
+            → IsSoonest self.now.nodes.items boxes.now window.now.opened window.now.closed at 9 None }
+    {
+        match window.room(at) {
+            Some(bytes) => window.closed < self.soonest(boxes, usize::from(bytes)),
+            None => false,
+        }
+    }
+
+    /// The same time, where the longest frame may start at the soonest arrival: then no other request starts sooner.
+    fn next_of_any(&self, boxes: &[Mailbox], window: &Window, at: u64) -> Option<u64>
+        requires time { at < times_end }
+        requires tournament { IsTournament self.now.levels self.now.nodes.items boxes.now }
+        ensures next { IfSome result (λ next.
+            IsSoonest self.now.nodes.items boxes.now window.now.opened window.now.closed at 9 (Some next)) }
+    {
+        window.earliest(at, self.soonest(boxes, LENGTHS - 1), MOST_BYTES)
+    }
+
+    /// The same time, as the least of those of all numbers of data bytes.
+    fn next_by_length(&self, boxes: &[Mailbox], window: &Window, at: u64) -> Option<u64>
+        requires time { at < times_end }
         ensures next { IsSoonest self.now.nodes.items boxes.now window.now.opened window.now.closed at 9 result }
     {
         let mut least = None;
@@ -235,6 +289,33 @@ fn leaf_value(boxes: &[Mailbox], place: usize, bytes: usize) -> u64
     match boxes.get(place) {
         Some(mailbox) => mailbox.arrival(bytes),
         None => NEVER,
+    }
+}
+
+/// The lesser of two values for each number of data bytes.
+#[inline(always)]
+fn lesser_values(one: &[u64; LENGTHS], other: &[u64; LENGTHS]) -> [u64; LENGTHS]
+    ensures lesser { (bytes : ℕ) → bytes ≤ 8 → slice_index_or result bytes never
+        ≡ min (slice_index_or one.now bytes never) (slice_index_or other.now bytes never) }
+{
+    let mut least = [NEVER; LENGTHS];
+    for bytes in 0..LENGTHS {
+        least[bytes] = one[bytes].min(other[bytes]);
+    }
+    least
+}
+
+/// The arrivals of the first request of a mailbox, where there is one, for each number of data bytes.
+#[inline(always)]
+fn leaf_row(boxes: &[Mailbox], place: usize) -> [u64; LENGTHS]
+    ensures row { (bytes : ℕ) (d : Mail) → bytes ≤ 8 → place < length boxes.now
+        → slice_index_or result bytes never ≡ arrival_within bytes (slice_index_or boxes.now place d).unsent }
+    ensures nowhere { (bytes : ℕ) → bytes ≤ 8 → length boxes.now ≤ place
+        → slice_index_or result bytes never ≡ never }
+{
+    match boxes.get(place) {
+        Some(mailbox) => mailbox.arrivals(),
+        None => [NEVER; LENGTHS],
     }
 }
 

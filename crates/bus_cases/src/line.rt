@@ -7,6 +7,7 @@ use crate::recordings::read;
 use crate::scripted::{Scripted, Station};
 use bus_line::run_until;
 use case_lines::{Fault, Table, hexadecimal, parts, push_behind, text_of_trace, time};
+use profile::SHORTEST_FRAME;
 use std::alloc::Global;
 
 /// A bus with three scripted stations, from one line that gives them to the next.
@@ -69,7 +70,7 @@ fn run(alloc: Global, stations: &mut Scripted, from: u64, until: u64) -> Result<
     if until < from || until - from > 10_000 {
         return Err(Fault::Unread);
     }
-    let room = (until - from) / 47 + 1;
+    let room = (until - from) / u64::from(SHORTEST_FRAME) + 1;
     let mut trace = Vec::with_capacity(alloc, room as usize)?;
     let free = run_until(stations, from, until, &mut trace);
     let mut text = text_of_trace(alloc, trace.as_slice())?;

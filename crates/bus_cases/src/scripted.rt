@@ -1,7 +1,8 @@
 //! Three scripted stations on a bus line.
 
-ghost use Rattle.std.specs.Prelude.{◌≡◌, ◌==◌, ◌&&◌, ◌++◌, ◌∷◌, ◌^◌, ◌<◌, ◌≤◌, ℕ, []};
+ghost use Rattle.std.specs.Prelude.{◌≡◌, ◌==◌, ◌&&◌, ◌++◌, ◌∷◌, ◌<◌, ◌≤◌, ℕ, []};
 ghost use Rattle.std.specs.Prelude.{⊤, Contains, length, nat_le, nat_lt, if◌then◌else◌};
+ghost use Rattle.profile.specs.Limits.{greatest_identifier, times_end};
 ghost use Rattle.can_frame.specs.declared.data_frame.TimedFrame.{TimedFrame};
 ghost use Rattle.bus_line.specs.Stations.{IsWake, sooner};
 
@@ -9,6 +10,7 @@ use arbitration::Contenders;
 use bus_line::Stations;
 use bus_line::laws::sooner_wake;
 use can_frame::{Frame, TimedFrame};
+use profile::GREATEST_IDENTIFIER;
 
 /// A station that offers an empty frame from one time to below another, and once that is sent, from
 /// `again` to below `again_until`.
@@ -37,7 +39,7 @@ impl Station {
 
     /// The least time behind `at` at which the station offers its frame.
     fn wake(&self, at: u64) -> Option<u64>
-        requires time { at < 2 ^ 60 }
+        requires time { at < times_end }
         ensures wake { IsWake
             (λ later. if nat_le self.now.from later && nat_lt later self.now.until
             then self.now.id ∷ [] else []) at result }
@@ -72,13 +74,13 @@ pub struct Scripted {
     middle: Station,
     high: Station,
     ghost apart: { (low.id < middle.id) × (middle.id < high.id) },
-    ghost range: { high.id ≤ 0x7EF },
+    ghost range: { high.id ≤ greatest_identifier },
 }
 
 impl Scripted {
     /// The three stations, where their identifiers rise and are those of frames.
     pub fn of(low: Station, middle: Station, high: Station) -> Option<Scripted> {
-        if low.id < middle.id && middle.id < high.id && high.id <= 0x7EF {
+        if low.id < middle.id && middle.id < high.id && high.id <= GREATEST_IDENTIFIER {
             Some(Scripted { low, middle, high })
         } else {
             None

@@ -1,6 +1,7 @@
 //! The run of a bus over its stations, from one event to the next.
 
-ghost use Rattle.std.specs.Prelude.{◌≡◌, ◌+◌, ◌-◌, ◌/◌, ◌^◌, ◌<◌, ◌≤◌, [], IfSome, MatchOption, vec_len, vec_capacity};
+ghost use Rattle.std.specs.Prelude.{◌≡◌, ◌+◌, ◌-◌, ◌/◌, ◌<◌, ◌≤◌, [], IfSome, MatchOption, vec_len, vec_capacity};
+ghost use Rattle.profile.specs.Limits.{shortest_frame, times_end};
 ghost use Rattle.bus_line.specs.Trace.{IsNext, NothingOffered};
 ghost use Rattle.bus_line.specs.Stations.{Ran, offers_of};
 
@@ -22,8 +23,8 @@ pub fn run_until<S: Stations>(
     out: &mut Vec<TimedFrame>,
 ) -> u64
     requires order { from ≤ until }
-    requires time { until < 2 ^ 60 }
-    requires room { vec_len out.old + ((until - from) / 47 + 1) ≤ vec_capacity out.old }
+    requires time { until < times_end }
+    requires room { vec_len out.old + ((until - from) / shortest_frame + 1) ≤ vec_capacity out.old }
     ensures ran { Ran S.line (S.state stations.old) (S.state stations.new) from until
         out.old.items out.new.items result }
     ensures capacity { vec_capacity out.old ≤ vec_capacity out.new }
@@ -40,8 +41,8 @@ pub fn run_until<S: Stations>(
 
 /// The frame that is sent next on a bus that is free from `free` on, if one starts before `until`.
 fn next_frame<S: Stations>(stations: &S, free: u64, until: u64) -> Option<TimedFrame>
-    requires time { until < 2 ^ 60 }
-    ensures long { IfSome result (λ next. 47 ≤ next.len) }
+    requires time { until < times_end }
+    ensures long { IfSome result (λ next. shortest_frame ≤ next.len) }
     ensures next { MatchOption result
         (NothingOffered (offers_of S.line (S.state stations.now)) [] free until)
         (IsNext (offers_of S.line (S.state stations.now)) [] free until) }

@@ -1,6 +1,7 @@
 //! The bits of a bus that was recorded, one for each bit time, and the trace that they are read back as.
 
 ghost use Rattle.std.specs.Prelude.{◌≡◌, ◌≢◌, ◌+◌, ◌-◌, ◌^◌, ◌<◌, ◌≤◌, All, List, ◌++◌, get_or, length, replicate, take, IfErr, IfOk, OnOk};
+ghost use Rattle.profile.specs.Limits.{shortest_frame};
 ghost use Rattle.can_frame.specs.declared.data_frame.TimedFrame.{TimedFrame};
 ghost use Rattle.can_frame.specs.DataFrame.{IsFrame};
 ghost use Rattle.can_frame.specs.Wire.{dominant, recessive, wire_of};
@@ -122,7 +123,7 @@ fn next_dominant(bits: &[bool], from: usize) -> usize
 fn sent_at(bits: &[bool], start: usize) -> Result<TimedFrame, LineFault>
     requires within { start ≤ length bits.now }
     ensures stands { IfOk result (StandsAt bits.now start) }
-    ensures long { IfOk result (λ sent. 47 ≤ sent.len) }
+    ensures long { IfOk result (λ sent. shortest_frame ≤ sent.len) }
     ensures fails { IfErr result (FailsAt bits.now start) }
 {
     wire_lengths();

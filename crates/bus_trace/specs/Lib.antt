@@ -1,4 +1,5 @@
 pub mod EventRows
+pub mod FaultText
 pub mod LastRows
 pub mod Log
 pub mod LogReading

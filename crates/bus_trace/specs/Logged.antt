@@ -2,6 +2,7 @@
 -- be sent.
 use Rattle.std.specs.Prelude.{◌≡◌, ℕ, ◌^◌, ◌<◌, ◌≤◌, ◌==◌, ◌&&◌}
 use Rattle.std.specs.Prelude.{Bool, true, is_some, if◌then◌else◌, List, [], ◌∷◌}
+use Rattle.profile.specs.Limits.{most_nodes}
 use Rattle.can_frame.specs.declared.data_frame.TimedFrame.{TimedFrame}
 use Rattle.requirement_table.specs.declared.entries.Placed.{Placed}
 use Rattle.requirement_table.specs.Instance.{instance_of, worst}
@@ -72,7 +73,7 @@ told_with placed frames event = told_at (width_with placed event) event frames
 -- the change breaks no rule, for some numbers of nodes and slots that rules can have
 pub record IsFormed (placed : List Placed) (change : Change) : Type 0 where
   pub bounds : Bounds
-  pub few : bounds.nodes ≤ 30
+  pub few : bounds.nodes ≤ most_nodes
   pub room : bounds.slots ≤ most_slots
   pub well_formed : IsWellFormed placed bounds change
 

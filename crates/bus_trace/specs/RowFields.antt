@@ -2,6 +2,7 @@
 use Rattle.std.specs.Prelude.{ℕ, ◌-◌, ◌^◌, ◌==◌, ◌&&◌, Bool, if◌then◌else◌, List, length, slice_get}
 use Rattle.std.specs.Prelude.{codes, Option, Some, None, option_map, option_and_then}
 use Rattle.std.specs.Str.{bytes_eq}
+use Rattle.profile.specs.Limits.{greatest_identifier}
 use Rattle.can_frame.specs.DataFrame.{DataFrame}
 use Rattle.text_fields.specs.ByteText.{data_of}
 use Rattle.text_fields.specs.Decimal.{decimal_of, within}
@@ -38,7 +39,7 @@ frame_with identifier bytes = record { identifier = identifier; bytes = bytes }
 -- the frame of the identifier and the bytes in the fields at two places
 abbrev pub frame_at : List (List ℕ) → Option DataFrame
 frame_at fields = do
-  identifier ← hex_at fields 3 3 >>= within 0 0x7EF
+  identifier ← hex_at fields 3 3 >>= within 0 greatest_identifier
   bytes ← slice_get fields 4 >>= data_of
   Some (frame_with identifier bytes)
 

@@ -9,12 +9,10 @@ ghost use Rattle.bus_trace.specs.Logged.{HasEntries, IsFormed, cost_in};
 
 use change_protocol::laws::well_formed_changes;
 use change_protocol::{ApplyFault, Change, apply};
+use profile::MOST_NODES;
 use requirement_table::laws::entries_that_are_over;
 use requirement_table::{MOST_SLOTS, Mask, Placed, cost, current, not_over};
 use std::alloc::{AllocError, Global};
-
-/// The greatest number of nodes that rules can have.
-const NODES: u8 = 30;
 
 /// The placed entries at a place of a history.
 #[derive(Drop, Debug)]
@@ -75,7 +73,7 @@ fn after_change(
     ensures well_placed { IfOk result (λ list. IsWellPlaced list.items) }
 {
     well_formed_changes();
-    match apply(alloc, placed, NODES, MOST_SLOTS, change) {
+    match apply(alloc, placed, MOST_NODES, MOST_SLOTS, change) {
         Ok(list) => Ok(list),
         Err(ApplyFault::Memory) => Err(AllocError),
         Err(ApplyFault::Malformed { .. }) => unreachable!(),

@@ -4,12 +4,14 @@
 //! its slots are below 40, and 24 otherwise; an identifier has three, and data bytes have two each. Nothing is trimmed.
 
 ghost use Rattle.std.specs.Prelude.{◌≡◌, ◌≤◌, IfSome, option_and_then};
+ghost use Rattle.profile.specs.Limits.{greatest_identifier};
 ghost use Rattle.csv.specs.Records.{fields_of};
 ghost use Rattle.text_fields.specs.Decimal.{within};
 ghost use Rattle.bus_trace.specs.RowFields.{frame_at, hex_at, number_at, slots_at};
 
-use can_frame::{Frame, MAX_IDENTIFIER};
+use can_frame::Frame;
 use csv::ByteRecord;
+use profile::GREATEST_IDENTIFIER;
 use requirement_table::Mask;
 use text_fields::{field_in, read_data, read_decimal, read_hex, read_mask};
 
@@ -37,12 +39,12 @@ pub fn mask(row: &ByteRecord, place: usize) -> Option<Mask>
 
 /// The identifier in the fourth field of a row, where a frame can have it.
 fn identifier(row: &ByteRecord) -> Option<u16>
-    ensures value { result ≡ option_and_then (within 0 0x7EF) (hex_at (fields_of row.now) 3 3) }
-    ensures range { IfSome result (λ identifier. identifier ≤ 0x7EF) }
+    ensures value { result ≡ option_and_then (within 0 greatest_identifier) (hex_at (fields_of row.now) 3 3) }
+    ensures range { IfSome result (λ identifier. identifier ≤ greatest_identifier) }
 {
     let field = field_in(row, 3)?;
     let number = read_hex(field, IDENTIFIER_DIGITS)?;
-    if number <= u128::from(MAX_IDENTIFIER) {
+    if number <= u128::from(GREATEST_IDENTIFIER) {
         Some(number as u16)
     } else {
         None

@@ -1,8 +1,11 @@
 //! The rows of the log. Each is made from its end to its start, at the end of an array that is
-//! lent for it.
+//! lent for it, or before the row that follows it there.
 
-ghost use Rattle.std.specs.Prelude.{◌≡◌, ◌+◌, ◌^◌, ◌<◌, ◌≤◌, ◌++◌, IfSome, codes, drop, length};
+ghost use Rattle.std.specs.Prelude.{◌≡◌, ◌+◌, ◌^◌, ◌<◌, ◌≤◌, ◌++◌, ◌∷◌, [], All, IfSome, codes, drop, length, map};
 ghost use Rattle.std.specs.Fmt.{decimal};
+ghost use Rattle.std.specs.List.{flat_map};
+ghost use Rattle.can_frame.specs.DataFrame.{IsFrame};
+ghost use Rattle.text_fields.specs.Hexadecimal.{hex_digits};
 ghost use Rattle.bus_trace.specs.Log.{end_row, frame_row, last_field, look_row, plan_row};
 ghost use Rattle.bus_trace.specs.Log.{submit_row, until_of, verdict_fields};
 ghost use Rattle.bus_trace.specs.LogRows.{verdict_told};
@@ -15,8 +18,15 @@ use can_frame::TimedFrame;
 use change_protocol::Why;
 use requirement_table::Mask;
 use text_fields::{
-    ROOM, put_byte, put_data_bytes, put_decimal, put_identifier, put_mask, put_word, row_from,
+    HighDigits, ROOM, put_byte, put_data_bytes, put_decimal, put_field, put_first, put_identifier,
+    put_length, put_line_feed, put_mask, put_word, row_from,
 };
+
+/// The most frames whose rows are made together.
+pub const FRAMES_TOGETHER: usize = 16;
+
+/// The room for the rows that are made together, in bytes: one of a cycle, and those of frames.
+pub const ROWS_ROOM: usize = 1024;
 
 /// The cycle that the reason of a refusal names, where it names one.
 pub fn until_of(why: &Why) -> Option<u64>
@@ -28,28 +38,6 @@ pub fn until_of(why: &Why) -> Option<u64>
         Why::SlotBusy { until: None } => None,
         _ => None,
     }
-}
-
-/// Puts the line feed that ends a row.
-#[inline(always)]
-fn put_line_feed(row: &mut [u8; ROOM]) -> usize
-    ensures start { result ≡ 127 }
-    ensures row { drop result row.new ≡ codes "\n" }
-{
-    put_byte(row, ROOM, b'\n')
-}
-
-/// Puts a number with a comma before it.
-#[inline(always)]
-fn put_field(row: &mut [u8; ROOM], end: usize, number: u64) -> usize
-    requires room { 21 ≤ end }
-    requires within { end ≤ 128 }
-    ensures start { result ≤ end }
-    ensures few { end ≤ result + 21 }
-    ensures row { drop result row.new ≡ codes "," ++ (decimal number ++ drop end row.old) }
-{
-    let start = put_decimal(row, end, number);
-    put_byte(row, start, b',')
 }
 
 /// Puts a last field, where there is one.
@@ -64,19 +52,6 @@ fn put_last_field(row: &mut [u8; ROOM], end: usize, field: Option<u64>) -> usize
         Some(number) => put_field(row, end, number),
         None => end,
     }
-}
-
-/// Puts a word and the number behind it.
-#[inline(always)]
-fn put_first(row: &mut [u8; ROOM], end: usize, word: &[u8], number: u64) -> usize
-    requires room { 20 + length word.now ≤ end }
-    requires within { end ≤ 128 }
-    ensures start { result ≤ end }
-    ensures few { end ≤ result + 20 + length word.now }
-    ensures row { drop result row.new ≡ word.now ++ (decimal number ++ drop end row.old) }
-{
-    let start = put_decimal(row, end, number);
-    put_word(row, start, word)
 }
 
 /// Puts the fields of a verdict.
@@ -154,32 +129,144 @@ pub fn look_row<'a>(row: &'a mut [u8; ROOM], caller: u8, next: u64) -> &'a [u8]
     row_from(row, start)
 }
 
-/// Makes the row of an opened cycle, with its flagged slots and the length of its synchronous window in bit times.
-pub fn open_row<'a>(row: &'a mut [u8; ROOM], cycle: u64, mask: Mask, width: u32) -> &'a [u8]
-    ensures row { result.now ≡ opened_row cycle mask width }
-    ensures in_range { IsLogRow (Open cycle mask width) }
+/// Puts what stands behind the start in the row of a frame.
+#[inline(always)]
+fn put_behind_start<const N: usize>(rows: &mut [u8; N], end: usize, sent: &TimedFrame) -> usize
+    requires room { 33 ≤ end }
+    requires within { end ≤ N }
+    ensures start { result ≤ end }
+    ensures few { end ≤ result + 33 }
+    ensures row { drop result rows.new ≡ codes "," ++ (decimal sent.now.len
+        ++ (codes "," ++ (hex_digits 3 sent.now.frame.identifier ++ (codes ","
+        ++ (flat_map (hex_digits 2) sent.now.frame.bytes ++ (codes "\n" ++ drop end rows.old)))))) }
+    ensures len { sent.now.len < 2 ^ 32 }
+    ensures legal { IsFrame sent.now.frame }
 {
-    let start = put_line_feed(row);
-    let start = put_field(row, start, u64::from(width));
-    let start = put_mask(row, start, mask.bits());
-    let start = put_byte(row, start, b',');
-    let start = put_first(row, start, b"open,", cycle);
-    row_from(row, start)
+    let place = put_byte(rows, end, b'\n');
+    let place = put_data_bytes(rows, place, sent.frame.bytes());
+    let place = put_byte(rows, place, b',');
+    let place = put_identifier(rows, place, sent.frame.id());
+    let place = put_byte(rows, place, b',');
+    let place = put_length(rows, place, sent.len);
+    put_byte(rows, place, b',')
 }
 
-/// Makes the row of a frame.
-pub fn frame_row<'a>(row: &'a mut [u8; ROOM], sent: &TimedFrame) -> &'a [u8]
-    ensures row { result.now ≡ frame_row sent.now }
+/// Puts the row of a frame of which no other frame is told meanwhile.
+#[inline(always)]
+fn put_lone_frame(row: &mut [u8; ROOM], end: usize, sent: &TimedFrame) -> usize
+    requires room { 59 ≤ end }
+    requires within { end ≤ 128 }
+    ensures start { result ≤ end }
+    ensures few { end ≤ result + 59 }
+    ensures row { drop result row.new ≡ frame_row sent.now ++ drop end row.old }
     ensures in_range { IsLogRow (Frame sent.now) }
 {
-    let (start, len) = (sent.start, sent.len);
-    let place = put_line_feed(row);
-    let place = put_data_bytes(row, place, sent.frame.bytes());
-    let place = put_byte(row, place, b',');
-    let place = put_identifier(row, place, sent.frame.id());
-    let place = put_byte(row, place, b',');
-    let place = put_field(row, place, u64::from(len));
-    let place = put_first(row, place, b"frame,", start);
+    let start = sent.start;
+    let place = put_behind_start(row, end, sent);
+    let place = put_decimal(row, place, start);
+    put_word(row, place, b"frame,")
+}
+
+/// Puts the row of a frame, one of several. `starts` are the digits of the start that was put before.
+#[inline(always)]
+fn put_frame(
+    rows: &mut [u8; ROWS_ROOM],
+    end: usize,
+    starts: &mut HighDigits,
+    sent: &TimedFrame,
+) -> usize
+    requires room { 59 ≤ end }
+    requires within { end ≤ 1024 }
+    ensures start { result ≤ end }
+    ensures few { end ≤ result + 59 }
+    ensures row { drop result rows.new ≡ frame_row sent.now ++ drop end rows.old }
+    ensures in_range { IsLogRow (Frame sent.now) }
+{
+    let start = sent.start;
+    let place = put_behind_start(rows, end, sent);
+    let place = starts.put(rows, place, start);
+    put_word(rows, place, b"frame,")
+}
+
+/// Puts the rows of frames, from that of the last frame to that of the first one.
+fn put_frames(rows: &mut [u8; ROWS_ROOM], frames: &[TimedFrame]) -> usize
+    requires few { length frames.now ≤ 16 }
+    ensures within { result ≤ 1024 }
+    ensures room { 80 ≤ result }
+    ensures rows { drop result rows.new ≡ flat_map frame_row frames.now }
+    ensures in_range { All IsLogRow (map Frame frames.now) }
+{
+    let mut starts = HighDigits::new();
+    let mut place = ROWS_ROOM;
+    for number in (0..frames.len()).rev() {
+        place = put_frame(rows, place, &mut starts, &frames[number]);
+    }
+    place
+}
+
+/// Makes the rows of frames.
+pub fn frame_rows<'a>(rows: &'a mut [u8; ROWS_ROOM], frames: &[TimedFrame]) -> &'a [u8]
+    requires few { length frames.now ≤ 16 }
+    ensures rows { result.now ≡ flat_map frame_row frames.now }
+    ensures in_range { All IsLogRow (map Frame frames.now) }
+{
+    let place = put_frames(rows, frames);
+    row_from(rows, place)
+}
+
+/// Puts the row of an opened cycle, with its flagged slots and the length of its synchronous window in bit times.
+fn put_open<const N: usize>(
+    rows: &mut [u8; N],
+    end: usize,
+    cycle: u64,
+    mask: Mask,
+    width: u32,
+) -> usize
+    requires room { 62 ≤ end }
+    requires within { end ≤ N }
+    ensures start { result ≤ end }
+    ensures row { drop result rows.new ≡ opened_row cycle mask width ++ drop end rows.old }
+    ensures in_range { IsLogRow (Open cycle mask width) }
+{
+    let place = put_byte(rows, end, b'\n');
+    let place = put_length(rows, place, width);
+    let place = put_byte(rows, place, b',');
+    let place = put_mask(rows, place, mask.bits());
+    let place = put_byte(rows, place, b',');
+    let place = put_decimal(rows, place, cycle);
+    put_word(rows, place, b"open,")
+}
+
+/// Makes the row of an opened cycle, and those of the first frames that were sent in it.
+pub fn opened_rows<'a>(
+    rows: &'a mut [u8; ROWS_ROOM],
+    cycle: u64,
+    mask: Mask,
+    width: u32,
+    frames: &[TimedFrame],
+) -> &'a [u8]
+    requires few { length frames.now ≤ 16 }
+    ensures rows { result.now ≡ opened_row cycle mask width ++ flat_map frame_row frames.now }
+    ensures in_range { All IsLogRow (Open cycle mask width ∷ map Frame frames.now) }
+{
+    let place = put_frames(rows, frames);
+    let place = put_open(rows, place, cycle, mask, width);
+    row_from(rows, place)
+}
+
+/// Makes the row of an opened cycle, and that of the one frame that was sent in it.
+pub fn lone_rows<'a>(
+    row: &'a mut [u8; ROOM],
+    cycle: u64,
+    mask: Mask,
+    width: u32,
+    sent: &TimedFrame,
+) -> &'a [u8]
+    ensures rows { result.now ≡ opened_row cycle mask width ++ frame_row sent.now }
+    ensures in_range { All IsLogRow (Open cycle mask width ∷ Frame sent.now ∷ []) }
+{
+    let place = put_lone_frame(row, ROOM, sent);
+    let place = put_open(row, place, cycle, mask, width);
     row_from(row, place)
 }
 

@@ -1,20 +1,23 @@
 //! The rows of one event: put to a sink, as of a log that is written while the run goes on, or appended to a text.
 
-ghost use Rattle.std.specs.Prelude.{◌≡◌, ◌^◌, ◌<◌, ◌≤◌, ◌++◌, All, length, map, OnOk, OnErr};
+ghost use Rattle.std.specs.Prelude.{◌≡◌, ◌^◌, ◌<◌, ◌≤◌, ◌++◌, ◌∷◌, All, length, map, OnOk, OnErr};
 ghost use Rattle.std.specs.List.{flat_map};
 ghost use Rattle.ftt_io.specs.Counts.{Rose};
 ghost use Rattle.ftt_io.specs.Puts.{Puts, PutsPrefix};
 ghost use Rattle.trigger_codec.specs.Bytes.{width_told};
 ghost use Rattle.bus_trace.specs.EventRows.{HasItsFrames, HasWidth, rows_at, rows_of_event, told_at, told_of_event};
-ghost use Rattle.bus_trace.specs.EventRows.{width_told_in};
+ghost use Rattle.bus_trace.specs.EventRows.{opened_row, width_told_in};
 ghost use Rattle.bus_trace.specs.Log.{end_row, frame_row, plan_rows};
 ghost use Rattle.bus_trace.specs.LogRows.{plan_told};
 ghost use Rattle.bus_trace.specs.Logged.{IsNear};
 ghost use Rattle.bus_trace.specs.Row.{IsLogRow};
-ghost use Rattle.bus_trace.specs.declared.row.LogRow.TheVariants.{Frame as FrameRow, End};
+ghost use Rattle.bus_trace.specs.declared.row.LogRow.TheVariants.{Frame as FrameRow, Open as OpenRow, End};
 
 use crate::gathering::Gathered;
-use crate::rows::{end_row, frame_row, look_row, open_row, plan_row, submit_row};
+use crate::rows::{
+    FRAMES_TOGETHER, ROWS_ROOM, end_row, frame_rows, lone_rows, look_row, opened_rows, plan_row,
+    submit_row,
+};
 use can_frame::{Frame, TimedFrame};
 use ftt_io::{Failed, Sink, write_all};
 use master_core::Event;
@@ -93,8 +96,12 @@ fn put_plan_rows<O: Sink>(out: &mut O, from: u64, masks: &[Mask]) -> Result<(), 
     Ok(())
 }
 
-/// Puts the rows of frames.
-fn put_frame_rows<O: Sink>(out: &mut O, frames: &[TimedFrame]) -> Result<(), Failed>
+/// Puts the rows of frames, up to 16 by a call.
+fn put_frame_rows<O: Sink>(
+    out: &mut O,
+    rows: &mut [u8; ROWS_ROOM],
+    frames: &[TimedFrame],
+) -> Result<(), Failed>
     ensures faults_never_fall { O.faults out.old ≤ O.faults out.new }
     ensures all { OnOk result (Puts (O.told_bytes out.old) (O.told_bytes out.new) (flat_map frame_row frames.now)) }
     ensures failed { OnErr result (Rose (O.faults out.old) (O.faults out.new)) }
@@ -102,14 +109,66 @@ fn put_frame_rows<O: Sink>(out: &mut O, frames: &[TimedFrame]) -> Result<(), Fai
         (PutsPrefix (O.told_bytes out.old) (O.told_bytes out.new) (flat_map frame_row frames.now)) }
     ensures in_range { OnOk result (All IsLogRow (map FrameRow frames.now)) }
 {
-    let mut row = [0; ROOM];
-    for sent in frames {
-        write_all(out, frame_row(&mut row, sent))?;
+    let mut left = frames;
+    while !left.is_empty() {
+        let (some, later) = left.split_at(left.len().min(FRAMES_TOGETHER));
+        write_all(out, frame_rows(rows, some))?;
+        left = later;
     }
     Ok(())
 }
 
-/// Puts the rows of an event and of these frames, each by a call of its own. Where the event opens a cycle, the cycle's
+/// Puts the row of an opened cycle and those of the frames that were sent in it, its own and up to 16 of theirs by a
+/// call.
+fn put_full_cycle<O: Sink>(
+    out: &mut O,
+    cycle: u64,
+    mask: Mask,
+    width: u32,
+    frames: &[TimedFrame],
+) -> Result<(), Failed>
+    ensures faults_never_fall { O.faults out.old ≤ O.faults out.new }
+    ensures all { OnOk result
+        (Puts (O.told_bytes out.old) (O.told_bytes out.new)
+        (opened_row cycle mask width ++ flat_map frame_row frames.now)) }
+    ensures failed { OnErr result (Rose (O.faults out.old) (O.faults out.new)) }
+    ensures prefix { OnErr result
+        (PutsPrefix (O.told_bytes out.old) (O.told_bytes out.new)
+        (opened_row cycle mask width ++ flat_map frame_row frames.now)) }
+    ensures in_range { OnOk result (All IsLogRow (OpenRow cycle mask width ∷ map FrameRow frames.now)) }
+{
+    let mut rows = [0; ROWS_ROOM];
+    let (first, later) = frames.split_at(frames.len().min(FRAMES_TOGETHER));
+    write_all(out, opened_rows(&mut rows, cycle, mask, width, first))?;
+    put_frame_rows(out, &mut rows, later)
+}
+
+/// Puts the row of an opened cycle and those of the frames that were sent in it. Many cycles have one frame alone.
+fn put_cycle<O: Sink>(
+    out: &mut O,
+    cycle: u64,
+    mask: Mask,
+    width: u32,
+    frames: &[TimedFrame],
+) -> Result<(), Failed>
+    ensures faults_never_fall { O.faults out.old ≤ O.faults out.new }
+    ensures all { OnOk result
+        (Puts (O.told_bytes out.old) (O.told_bytes out.new)
+        (opened_row cycle mask width ++ flat_map frame_row frames.now)) }
+    ensures failed { OnErr result (Rose (O.faults out.old) (O.faults out.new)) }
+    ensures prefix { OnErr result
+        (PutsPrefix (O.told_bytes out.old) (O.told_bytes out.new)
+        (opened_row cycle mask width ++ flat_map frame_row frames.now)) }
+    ensures in_range { OnOk result (All IsLogRow (OpenRow cycle mask width ∷ map FrameRow frames.now)) }
+{
+    if let [sent] = frames {
+        let mut row = [0; ROOM];
+        return write_all(out, lone_rows(&mut row, cycle, mask, width, sent));
+    }
+    put_full_cycle(out, cycle, mask, width, frames)
+}
+
+/// Puts the rows of an event and of these frames, up to 16 frames of a cycle together. Where the event opens a cycle, the cycle's
 /// synchronous window has this length, in bit times.
 pub fn put_rows<O: Sink>(
     out: &mut O,
@@ -126,7 +185,6 @@ pub fn put_rows<O: Sink>(
         (PutsPrefix (O.told_bytes out.old) (O.told_bytes out.new) (rows_at width event.now frames.now)) }
     ensures in_range { OnOk result (All IsLogRow (told_at width event.now frames.now)) }
 {
-    let mut row = [0; ROOM];
     match event {
         Event::Submit {
             caller,
@@ -135,18 +193,19 @@ pub fn put_rows<O: Sink>(
             trail,
             ..
         } => {
+            let mut row = [0; ROOM];
             write_all(out, submit_row(&mut row, *caller, *from, verdict))?;
             put_plan_rows(out, *from, trail.as_slice())
         }
-        Event::Look { caller, next } => { write_all(out, look_row(&mut row, *caller, *next)) }
-        Event::Open { cycle, mask } => {
-            write_all(out, open_row(&mut row, *cycle, *mask, width))?;
-            put_frame_rows(out, frames)
+        Event::Look { caller, next } => {
+            let mut row = [0; ROOM];
+            write_all(out, look_row(&mut row, *caller, *next))
         }
+        Event::Open { cycle, mask } => put_cycle(out, *cycle, *mask, width, frames),
     }
 }
 
-/// Puts the rows that [`event_rows`] appends, each by a call of its own, and takes no memory.
+/// Puts the rows that [`event_rows`] appends, up to 16 frames of a cycle together, and takes no memory.
 ///
 /// # Errors
 ///

@@ -4,6 +4,7 @@ mod Carried
 mod Expectations
 mod Fields
 mod Finish
+mod LowBytes
 mod Fronts
 mod OneAnswer
 mod Plain

@@ -1,5 +1,6 @@
 -- Data frames with an 11-bit identifier (CAN Specification 2.0 Part A, data frame).
 use Rattle.std.specs.Prelude.{◌≡◌, ℕ, ◌-◌, ◌<◌, ◌≤◌, List, ◌++◌, length, take, replicate, All}
+use Rattle.profile.specs.Limits.{greatest_identifier}
 
 -- a data frame is its identifier and its data bytes, in the order of sending
 pub record DataFrame : Type 0 where
@@ -8,13 +9,13 @@ pub record DataFrame : Type 0 where
 
 -- the seven most significant of the 11 identifier bits are not all recessive, and there are at most eight bytes
 pub record IsFrame (frame : DataFrame) : Type 0 where
-  pub identifier : frame.identifier ≤ 0x7EF
+  pub identifier : frame.identifier ≤ greatest_identifier
   pub few : length frame.bytes ≤ 8
   pub bytes : All (λ byte. byte < 256) frame.bytes
 
 -- eight places of storage hold that many data bytes, and zeros behind them
 pub record IsStored (identifier count : ℕ) (places : List ℕ) : Type 0 where
-  pub in_range : identifier ≤ 0x7EF
+  pub in_range : identifier ≤ greatest_identifier
   pub few : count ≤ 8
   pub room : length places ≡ 8
   pub small : All (λ byte. byte < 256) places

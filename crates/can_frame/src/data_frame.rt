@@ -1,16 +1,15 @@
 //! The data frame, as a value of at most 8 data bytes, and a frame with its place in time.
 
-ghost use Rattle.std.specs.Prelude.{◌≡◌, ◌<◌, ◌≤◌, length, slice_index, IfOk, IfErr};
+ghost use Rattle.std.specs.Prelude.{◌≡◌, ◌-◌, ◌<◌, ◌≤◌, ◌++◌, length, replicate, slice_index, IfOk, IfErr};
+ghost use Rattle.std.specs.Int.{bytes_high_first};
+ghost use Rattle.profile.specs.Limits.{greatest_identifier};
 ghost use Rattle.can_frame.specs.DataFrame.{IsFrame};
 ghost use Rattle.can_frame.specs.FrameFault.{Refuses};
 
+use profile::GREATEST_IDENTIFIER;
 use std::error::Error;
 use std::fmt;
 use std::marker::Model;
-
-/// The greatest identifier of a frame: the seven most significant of its 11 bits are not all
-/// recessive (CAN 2.0 Part A, arbitration field).
-pub const MAX_IDENTIFIER: u16 = 0x7EF;
 
 /// The greatest number of data bytes of a frame (CAN 2.0 Part A, data length code).
 pub const MAX_BYTES: usize = 8;
@@ -60,6 +59,17 @@ impl fmt::Display for FrameFault {
 
 impl Error for FrameFault {}
 
+/// The low bytes of a number, the most significant of them first, and zeros behind them: eight places in all.
+fn low_bytes(len: u8, number: u64) -> [u8; MAX_BYTES]
+    requires few { len ≤ 8 }
+    ensures places { result ≡ bytes_high_first len number ++ replicate (8 - len) 0 }
+{
+    if len == 0 {
+        return [0; MAX_BYTES];
+    }
+    (number << (64 - 8 * u32::from(len))).to_be_bytes()
+}
+
 impl Frame {
     /// The frame of an identifier and its data bytes, in the order of sending.
     ///
@@ -69,7 +79,7 @@ impl Frame {
         ensures legal { IfOk result IsFrame }
         ensures fault { IfErr result (Refuses id bytes.now) }
     {
-        if id > MAX_IDENTIFIER {
+        if id > GREATEST_IDENTIFIER {
             return Err(FrameFault::IdRange { id });
         }
         if bytes.len() > MAX_BYTES {
@@ -84,10 +94,33 @@ impl Frame {
         })
     }
 
+    /// The frame of an identifier and the low `len` bytes of a number, the most significant of them first. Nothing
+    /// refuses it.
+    pub fn of_number(id: u16, len: u8, number: u64) -> Frame
+        requires identifier { id ≤ greatest_identifier }
+        requires few { len ≤ 8 }
+        ensures frame { result ≡ record { identifier = id; bytes = bytes_high_first len number } }
+        ensures legal { IsFrame result }
+    {
+        Frame {
+            id,
+            len,
+            bytes: low_bytes(len, number),
+        }
+    }
+
+    /// The number whose low bytes the data bytes are, the first of them as the most significant one.
+    pub(crate) fn number(&self) -> u64
+        requires some { 0 < length self.now.bytes }
+        ensures bytes { bytes_high_first (length self.now.bytes) result ≡ self.now.bytes }
+    {
+        u64::from_be_bytes(self.bytes) >> (64 - 8 * u32::from(self.len))
+    }
+
     /// The identifier, at most 0x7EF.
     pub fn id(&self) -> u16
         ensures value { result ≡ self.now.identifier }
-        ensures range { result ≤ 0x7EF }
+        ensures range { result ≤ greatest_identifier }
         ensures legal { IsFrame self.now }
     {
         self.id

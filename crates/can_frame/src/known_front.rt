@@ -2,6 +2,8 @@
 //! for one of 256: the bits before it need not be gone through again.
 
 ghost use Rattle.std.specs.Prelude.{◌≡◌, ◌+◌, ◌-◌, ◌*◌, ◌<◌, ◌≤◌, length, true};
+ghost use Rattle.std.specs.Int.{bytes_high_first};
+ghost use Rattle.profile.specs.Limits.{shortest_frame};
 ghost use Rattle.stuff_bound.specs.Stuffing.{worst};
 ghost use Rattle.can_frame.specs.Begun.{HasBegun, HaveOneFront, IsKnown};
 ghost use Rattle.can_frame.specs.Wire.{wire_length};
@@ -58,24 +60,28 @@ impl KnownFront {
         }
     }
 
-    /// Whether a frame has these bits, and a data byte behind them.
-    fn is_of(&self, frame: &Frame) -> bool
+    /// Whether a frame has these bits, and a data byte behind them. Its data bytes are the low ones of a number.
+    fn is_of(&self, frame: &Frame, number: u64) -> bool
+        requires some { 0 < length frame.now.bytes }
+        requires number { bytes_high_first (length frame.now.bytes) number ≡ frame.now.bytes }
         ensures same { result ≡ true → HaveOneFront self.now.frame frame.now }
         ensures known { IsKnown self.now }
     {
-        let bytes = usize::from(frame.dlc());
         self.frame.dlc() == frame.dlc()
             && self.frame.id() == frame.id()
-            && self.frame.bytes()[..bytes - 1] == frame.bytes()[..bytes - 1]
+            && self.frame.number() / 256 == number / 256
     }
 
-    /// Has the bits before the last data byte of a frame known.
-    fn know(&mut self, frame: &Frame)
+    /// Has the bits before the last data byte of a frame known, whose data bytes are the low ones of a number. Only a
+    /// copy of the frame is lent further, so that the frame itself can stay in registers.
+    fn know(&mut self, frame: &Frame, number: u64)
         requires some { 0 < length frame.now.bytes }
+        requires number { bytes_high_first (length frame.now.bytes) number ≡ frame.now.bytes }
         ensures known { HasBegun frame.now (length frame.now.bytes - 1) self.new.sum self.new.sender }
     {
-        if !self.is_of(frame) {
-            *self = KnownFront::of(frame);
+        if !self.is_of(frame, number) {
+            let copy = *frame;
+            *self = KnownFront::of(&copy);
         }
     }
 
@@ -83,18 +89,19 @@ impl KnownFront {
     /// known, these are not gone through again; else they are known afterwards.
     pub fn wire_len(&mut self, frame: &Frame) -> u32
         ensures value { result ≡ wire_length frame.now }
-        ensures at_least { 47 + 8 * length frame.now.bytes ≤ result }
+        ensures at_least { shortest_frame + 8 * length frame.now.bytes ≤ result }
         ensures at_most { result ≤ worst (length frame.now.bytes) }
     {
-        let bytes = frame.dlc();
-        if bytes == 0 {
-            return wire_len(frame);
+        if frame.dlc() == 0 {
+            let copy = *frame;
+            return wire_len(&copy);
         }
-        self.know(frame);
+        let number = frame.number();
+        self.know(frame, number);
         let front = Begun {
             sum: self.sum,
             sender: self.sender,
         };
-        len_after(frame, front.then(0, frame.byte(bytes - 1)))
+        len_after(frame, front.then(0, (number % 256) as u8))
     }
 }

@@ -1,6 +1,7 @@
 //! What follows from the definitions, each as the contract of a function that does nothing.
 
 ghost use Rattle.std.specs.Prelude.{◌≡◌, ℕ, ◌+◌, ◌*◌, ◌<◌, ◌≤◌, Bool, List, ◌∷◌, drop, length, Result, Ok};
+ghost use Rattle.profile.specs.Limits.{shortest_frame};
 ghost use Rattle.stuff_bound.specs.Stuffing.{worst};
 ghost use Rattle.can_frame.specs.declared.data_frame.Front.{Front};
 ghost use Rattle.can_frame.specs.declared.wire_fault.WireFault.{WireFault};
@@ -19,7 +20,7 @@ pub fn one_crc_sequence()
 /// A wire is not empty, and its length is from 47 + 8n to 55 + 10n bits, where n is the number of bytes.
 pub fn wire_lengths()
     ensures not_empty { (frame : DataFrame) → 0 < wire_length frame }
-    ensures at_least { (frame : DataFrame) → 47 + 8 * length frame.bytes ≤ wire_length frame }
+    ensures at_least { (frame : DataFrame) → shortest_frame + 8 * length frame.bytes ≤ wire_length frame }
     ensures at_most { (frame : DataFrame) → wire_length frame ≤ worst (length frame.bytes) }
 {}
 

@@ -13,7 +13,7 @@ mod shares;
 mod wire_bits;
 mod wire_fault;
 
-pub use data_frame::{Frame, FrameFault, Front, MAX_BYTES, MAX_IDENTIFIER, TimedFrame};
+pub use data_frame::{Frame, FrameFault, Front, MAX_BYTES, TimedFrame};
 pub use known_front::KnownFront;
 pub use reader::{read_front, read_wire};
 pub use sequence::crc;

@@ -3,6 +3,7 @@
 ghost use Rattle.std.specs.Prelude.{◌≡◌, ◌+◌, ◌*◌, ◌<◌, ◌≤◌, ◌^◌, Bool, List, [], ◌∷◌, ◌++◌};
 ghost use Rattle.std.specs.Prelude.{length, take, drop, reverse, nat_le, Result, Err, IfOk, IfErr, OnOk, MatchOption};
 ghost use Rattle.std.specs.List.{flat_map};
+ghost use Rattle.profile.specs.Limits.{greatest_identifier};
 ghost use Rattle.stuff_bound.specs.Stuffing.{run, HasNoSix, at_stuff_place, stuffed};
 ghost use Rattle.can_frame.specs.declared.data_frame.Front.{Front};
 ghost use Rattle.can_frame.specs.declared.wire_fault.WireFault.{WireFault};
@@ -188,7 +189,7 @@ impl<'a> Reader<'a> {
         requires no_six { HasNoSix (reverse self.old.read) }
         requires at { carried self.old.read ≡ dominant ∷ [] }
         ensures ok { IfOk result (λ id. Went self.old self.new (bits 11 id)) }
-        ensures range { IfOk result (λ id. id ≤ 0x7EF) }
+        ensures range { IfOk result (λ id. id ≤ greatest_identifier) }
         ensures fault { IfErr result (λ fault. ReadsFront (all_bits self.old) (Err fault)) }
     {
         let high = self.field(7)?;
@@ -223,7 +224,7 @@ impl<'a> Reader<'a> {
     fn header(&mut self) -> Result<(u16, u8), WireFault>
         requires start { self.old.read ≡ [] }
         ensures ok { IfOk result (λ fields. Went self.old self.new (header fields.0 fields.1)) }
-        ensures id { IfOk result (λ fields. fields.0 ≤ 0x7EF) }
+        ensures id { IfOk result (λ fields. fields.0 ≤ greatest_identifier) }
         ensures code { IfOk result (λ fields. fields.1 ≤ 8) }
         ensures fault { IfErr result (λ fault. ReadsFront (all_bits self.old) (Err fault)) }
     {

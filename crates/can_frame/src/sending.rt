@@ -1,6 +1,7 @@
 //! A frame as a sender of stuffed bits is given it, byte by byte, and as its bytes are added up to the CRC sequence.
 
 ghost use Rattle.std.specs.Prelude.{◌≡◌, ℕ, ◌+◌, ◌*◌, ◌<◌, ◌≤◌, ◌^◌, length, slice_index};
+ghost use Rattle.profile.specs.Limits.{shortest_frame};
 ghost use Rattle.stuff_bound.specs.Stuffing.{worst};
 ghost use Rattle.can_frame.specs.Begun.{HasBegun};
 ghost use Rattle.can_frame.specs.DataFrame.{DataFrame};
@@ -81,7 +82,7 @@ pub fn begin_eight(frame: &Frame) -> Begun
 pub fn len_after(frame: &Frame, begun: Begun) -> u32
     requires begun { HasBegun frame.now (length frame.now.bytes) begun.sum begun.sender }
     ensures value { result ≡ wire_length frame.now }
-    ensures at_least { 47 + 8 * length frame.now.bytes ≤ result }
+    ensures at_least { shortest_frame + 8 * length frame.now.bytes ≤ result }
     ensures at_most { result ≤ worst (length frame.now.bytes) }
 {
     let plain = 34 + 8 * u32::from(frame.dlc());

@@ -1,6 +1,7 @@
 //! The bits of a frame in the order of sending.
 
 ghost use Rattle.std.specs.Prelude.{◌≡◌, ◌+◌, ◌*◌, ◌≤◌, length, IfOk};
+ghost use Rattle.profile.specs.Limits.{shortest_frame};
 ghost use Rattle.stuff_bound.specs.Stuffing.{worst};
 ghost use Rattle.can_frame.specs.DataFrame.{IsFrame};
 ghost use Rattle.can_frame.specs.Wire.{covered, plain, wire_of, wire_length};
@@ -57,7 +58,7 @@ fn plain_bits(frame: &Frame) -> BitList
 /// data byte, and its stuff bits. It takes no memory.
 pub fn wire_len(frame: &Frame) -> u32
     ensures value { result ≡ wire_length frame.now }
-    ensures at_least { 47 + 8 * length frame.now.bytes ≤ result }
+    ensures at_least { shortest_frame + 8 * length frame.now.bytes ≤ result }
     ensures at_most { result ≤ worst (length frame.now.bytes) }
 {
     let bytes = frame.dlc();

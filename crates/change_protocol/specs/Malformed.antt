@@ -1,9 +1,10 @@
 -- When a change is malformed. `faults` lists every rule that it breaks, in the order in which they are tested: the
 -- rules of the whole change, and then those of each operation in its order. The first of these is the answer.
-use Rattle.std.specs.Prelude.{◌≡◌, ℕ, ◌^◌, ◌||◌, Bool, false, nat_eq, nat_lt, nat_le, if◌then◌else◌}
+use Rattle.std.specs.Prelude.{◌≡◌, ℕ, ◌||◌, Bool, false, nat_eq, nat_lt, nat_le, if◌then◌else◌}
 use Rattle.std.specs.Prelude.{Option, Some, None, is_none, List, [], ◌∷◌, ◌++◌, length, map, slice_get}
 use Rattle.std.specs.List.{list_any}
 use Rattle.std.specs.Option.{option_map_or}
+use Rattle.profile.specs.Limits.{starts_end}
 use Rattle.requirement_table.specs.declared.entries.Entry.{Entry}
 use Rattle.requirement_table.specs.declared.entries.Placed.{Placed}
 use Rattle.change_protocol.specs.declared.operations.Op.{Op}
@@ -43,7 +44,7 @@ abbrev pub too_many_ops : List Op → List Why
 too_many_ops ops = where_holds (nat_lt 16 (length ops)) TooManyOps
 
 abbrev pub start_range : ℕ → List Why
-start_range start = where_holds (nat_le (2 ^ 40) start) StartRange
+start_range start = where_holds (nat_le starts_end start) StartRange
 
 -- the rules of an operation; `earlier` are the operations of the change before it
 

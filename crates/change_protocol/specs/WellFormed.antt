@@ -1,6 +1,7 @@
 -- A change that breaks no rule, in the words of its operations and of the placed entries. A law says that this is a
 -- well formed change.
-use Rattle.std.specs.Prelude.{◌≡◌, ◌≢◌, ℕ, ◌^◌, ◌<◌, ◌≤◌, None, IfSome, List, All, AllPairs, Any, length}
+use Rattle.std.specs.Prelude.{◌≡◌, ◌≢◌, ℕ, ◌<◌, ◌≤◌, None, IfSome, List, All, AllPairs, Any, length}
+use Rattle.profile.specs.Limits.{starts_end}
 use Rattle.requirement_table.specs.declared.entries.Entry.{Entry}
 use Rattle.requirement_table.specs.declared.entries.Placed.{Placed}
 use Rattle.requirement_table.specs.Table.{IsFreeAt}
@@ -41,6 +42,6 @@ pub record KeepsRules (placed : List Placed) (bounds : Bounds) (start : ℕ) (op
 pub record BreaksNoRule (placed : List Placed) (bounds : Bounds) (change : TableChange) : Type 0 where
   pub some : 1 ≤ length change.ops
   pub few : length change.ops ≤ 16
-  pub start : change.start < 2 ^ 40
+  pub start : change.start < starts_end
   pub each : All (KeepsRules placed bounds change.start) change.ops
   pub distinct : AllPairs (λ one other. slot_of one ≢ slot_of other) change.ops

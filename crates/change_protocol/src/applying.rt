@@ -1,8 +1,9 @@
 //! The application of a change.
 
-ghost use Rattle.std.specs.Prelude.{◌≡◌, ◌<◌, ◌≤◌, ◌^◌, ◌++◌, ◌&&◌, ◌||◌, ℕ, []};
+ghost use Rattle.std.specs.Prelude.{◌≡◌, ◌<◌, ◌≤◌, ◌++◌, ◌&&◌, ◌||◌, ℕ, []};
 ghost use Rattle.std.specs.Prelude.{Some, None, All, IfErr, IfOk, OnOk, is_none, if◌then◌else◌, map};
 ghost use Rattle.std.specs.List.{cons_option, filter_map, list_any};
+ghost use Rattle.profile.specs.Limits.{starts_end};
 ghost use Rattle.requirement_table.specs.Slots.{contains_slot, most_slots};
 ghost use Rattle.requirement_table.specs.Table.{IsWellPlaced};
 ghost use Rattle.change_protocol.specs.Applied.{IsChangedAt, applied, ended, origin_behind, placed_by};
@@ -92,7 +93,7 @@ fn live(entry: Entry, origin: u64) -> Placed
 /// The origin of the entry that follows the live entry of the slot, which ends at `start`.
 fn origin_behind(table: &Table, start: u64, slot: u8) -> u64
     requires slot { slot < most_slots }
-    requires start { start < 2 ^ 40 }
+    requires start { start < starts_end }
     ensures origin { result ≡ origin_behind table.now.placed.now start slot }
 {
     match table.slot(slot).live {
@@ -107,7 +108,7 @@ fn origin_behind(table: &Table, start: u64, slot: u8) -> u64
 /// The entry that an operation places.
 fn placed_by(table: &Table, start: u64, op: &Op) -> Option<Placed>
     requires slot { slot_of op.now < most_slots }
-    requires start { start < 2 ^ 40 }
+    requires start { start < starts_end }
     ensures placed { result ≡ placed_by table.now.placed.now start op.now }
     ensures types { HasTypes op.now }
 {
@@ -132,7 +133,7 @@ fn put(list: &mut Vec<Placed>, p: Option<Placed>) -> Result<(), ApplyFault>
 /// Puts the entries behind the list that the operations place.
 fn place(list: &mut Vec<Placed>, table: &Table, start: u64, ops: &[Op]) -> Result<(), ApplyFault>
     requires slots { All (λ op. slot_of op < most_slots) ops.now }
-    requires start { start < 2 ^ 40 }
+    requires start { start < starts_end }
     ensures list { OnOk result
         (list.new.items ≡ list.old.items ++ filter_map (placed_by table.now.placed.now start) ops.now) }
     ensures types { OnOk result (All HasTypes ops.now) }

@@ -3,8 +3,8 @@
 ghost use Rattle.std.specs.Prelude.{◌≡◌};
 ghost use Rattle.change_protocol.specs.Operations.{entry_of, slot_of};
 
+use items::Items;
 use requirement_table::Entry;
-use std::marker::Model;
 
 /// One operation of a change, on one slot. `start` is the start of its change.
 #[derive(Clone, Copy, PartialEq, Eq, Debug)]
@@ -41,35 +41,7 @@ impl Op {
 }
 
 /// A list of operations that a value holds. Contracts see the list.
-#[derive(Drop, Debug)]
-pub struct Ops {
-    operations: Vec<Op>,
-}
-
-impl Model for Ops {
-    ghost use Rattle.std.specs.Prelude.{List};
-    ghost use Rattle.change_protocol.specs.declared.operations.Op.{Op};
-
-    ghost Value = { List Op };
-
-    ghost view = { λ o. o.operations.items };
-}
-
-impl Ops {
-    /// The list of the vector's items.
-    pub fn of(operations: Vec<Op>) -> Ops
-        ensures list { result ≡ operations.items }
-    {
-        Ops { operations }
-    }
-
-    /// The list as a slice.
-    pub fn as_slice(&self) -> &[Op]
-        ensures list { result.now ≡ self.now }
-    {
-        self.operations.as_slice()
-    }
-}
+pub type Ops = Items<Op>;
 
 /// A change of the table.
 #[derive(Drop, Debug)]

@@ -14,12 +14,10 @@ ghost use Rattle.change_protocol.specs.declared.malformed.Why.{Why};
 use crate::malformed::{ApplyFault, Why};
 use crate::operations::Op;
 use crate::slots::Table;
+use profile::STARTS_END;
 
 /// A change has at most this many operations.
 const MOST_OPS: usize = 16;
-
-/// The start of a change is below this.
-const STARTS: u64 = 1 << 40;
 
 /// The greatest number of data bytes of a frame.
 const LONGEST: u8 = 8;
@@ -53,7 +51,7 @@ fn start_range(start: u64) -> Result<(), Why>
     ensures ok { OnOk result (start_range start ≡ []) }
     ensures fault { IfErr result (IsFirst (start_range start)) }
 {
-    unless(start >= STARTS, Why::StartRange)
+    unless(start >= STARTS_END, Why::StartRange)
 }
 
 /// The same answer as the fault of a change at this operation.

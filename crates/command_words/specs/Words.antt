@@ -5,6 +5,7 @@ use Rattle.std.specs.Prelude.{ℕ, ◌+◌, ◌^◌, pos, List, [], ◌∷◌, B
 use Rattle.std.specs.Option.{option_map_or}
 use Rattle.std.specs.Str.{bytes_eq}
 use Rattle.std.specs.Str.Parse.{digits_value, without_leading_plus}
+use Rattle.profile.specs.Limits.{most_cycles}
 use Rattle.clap.specs.ValueTests.{is_numeral}
 use Rattle.clap.specs.Walk.{is_empty, one_of, first_of}
 use Rattle.clap.specs.Words.{App, Row, Rule, Text, fault_of, matches_of, new_app, new_rule, with_rule}
@@ -87,7 +88,8 @@ elastic_app = with_rule (files_app (codes "elastic")) (needed (codes "wishes"))
 -- `handover SYSTEM STEPS AT [REQUESTS]`
 unfoldable pub handover_app : App
 handover_app =
-    with_rule (with_rule (files_app (codes "handover")) (number_up_to 20000 (codes "at"))) (optional (codes "requests"))
+    with_rule (with_rule (files_app (codes "handover")) (number_up_to most_cycles (codes "at")))
+    (optional (codes "requests"))
 
 -- `audit SYSTEM STEPS LOG [REQUESTS]`
 unfoldable pub audit_app : App

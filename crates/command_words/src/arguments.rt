@@ -1,6 +1,7 @@
 //! The table of commands, as clap is told it: a simple command for each row.
 
 ghost use Rattle.std.specs.Prelude.{◌≡◌, false, IfOk, codes};
+ghost use Rattle.profile.specs.Limits.{most_cycles};
 ghost use Rattle.clap.specs.Words.{app_of, rule_of};
 ghost use Rattle.command_words.specs.Words.{admit_app, audit_app, check_app, counted_option, elastic_app, files_app, flag, generate_app, handover_app, live_app, needed, number_up_to, optional, poll_app, replay_app, run_app};
 
@@ -53,7 +54,7 @@ fn number<'a>(alloc: Global) -> Arg<'a>
 
 /// `AT`.
 fn cycles<'a>(alloc: Global) -> Arg<'a>
-    ensures rule { rule_of result ≡ number_up_to 20000 (codes "at") }
+    ensures rule { rule_of result ≡ number_up_to most_cycles (codes "at") }
     ensures local { result.global ≡ false }
 {
     Arg::new(alloc, "at")

@@ -3,9 +3,10 @@
 use crate::values::{frame, mask, text_of_mask};
 use can_frame::Frame;
 use case_lines::{Fault, Table, length, text_of_frame, time};
+use profile::LONGEST_WINDOW;
 use requirement_table::Mask;
 use std::alloc::Global;
-use trigger_codec::{MAX_WINDOW, decode, decode_second, encode, encode_second, flags_of_both};
+use trigger_codec::{decode, decode_second, encode, encode_second, flags_of_both};
 
 /// Trigger frames, in both directions.
 #[derive(Drop)]
@@ -36,7 +37,7 @@ impl Table for Triggers {
 
 /// The first trigger frame of a cycle.
 pub fn trigger(cycle: u64, l: u32, mask: Mask) -> Result<Frame, Fault> {
-    if l > MAX_WINDOW {
+    if l > LONGEST_WINDOW {
         return Err(Fault::Unread);
     }
     Ok(encode(cycle, l, mask))

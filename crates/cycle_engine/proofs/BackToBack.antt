@@ -9,6 +9,7 @@ use Rattle.std.proofs.lemmas.Option.{none-some, same_Some}
 use Rattle.std.proofs.lemmas.List.Elements.{All-cons, All-contains, All-head, All-map, All-tail}
 use Rattle.std.proofs.lemmas.List.Sums.{fold-append}
 use Rattle.std.proofs.lemmas.List.{take_all}
+use Rattle.profile.specs.Limits.{first_identifier}
 use Rattle.can_frame.specs.DataFrame.{DataFrame}
 use Rattle.can_frame.specs.Wire.{wire_length}
 use Rattle.can_frame.specs.declared.data_frame.TimedFrame.{TimedFrame}
@@ -16,7 +17,6 @@ use Rattle.cycle_layout.specs.Layout.{CycleLayout}
 use Rattle.requirement_table.specs.Slots.{most_slots}
 use Rattle.bus_line.specs.Trace.{Follows}
 use Rattle.bus_line.specs.Stations.{IsOffered, offers_of, told}
-use Rattle.node_model.specs.Opening.{first_identifier}
 use Rattle.node_model.specs.Node.{IsNode, NodeState, after_hearing, node_frame, node_offer}
 use Rattle.node_model.specs.Window.{IsInWindow, due_frame, is_due_slot}
 use Rattle.cycle_engine.specs.Stations.{Stationed, all_hear, cycle_line, frame_by_nodes, offered_by_nodes, offers_this}

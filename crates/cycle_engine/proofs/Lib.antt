@@ -24,3 +24,4 @@ mod Window
 mod BackToBack
 mod BySlots
 mod TwoParts
+mod Sent

@@ -5,12 +5,13 @@ use Rattle.std.proofs.lemmas.List.Folds.{list_any-append, list_any-from_Any, lis
 use Rattle.std.proofs.lemmas.List.{get_or_default}
 use Rattle.std.proofs.Math.Bool.{or-false}
 use Rattle.std.specs.List.{Any}
+use Rattle.profile.specs.Limits.{first_identifier}
 use Rattle.can_frame.specs.declared.data_frame.TimedFrame.{TimedFrame}
 use Rattle.cycle_layout.specs.Layout.{CycleLayout}
 use Rattle.requirement_table.specs.Slots.{contains_slot}
 use Rattle.requirement_table.specs.Table.{width_in}
 use Rattle.requirement_table.specs.Opening.{Opening}
-use Rattle.node_model.specs.Opening.{first_identifier, start_of}
+use Rattle.node_model.specs.Opening.{start_of}
 use Rattle.node_model.specs.Offered.{IsUnsent}
 use Rattle.node_model.specs.Own.{was_sent}
 

@@ -9,6 +9,7 @@ use Rattle.std.proofs.lemmas.Bool.{cases_eq, cases_lt, both_ways, and_from, and_
 use Rattle.std.proofs.lemmas.List.{length-map}
 use Rattle.std.proofs.lemmas.List.Elements.{All-append, All-cons, All-from_recursion, All-head, All-tail}
 use Rattle.std.proofs.lemmas.Option.{none-some, same_Some}
+use Rattle.profile.specs.Limits.{first_identifier}
 use Rattle.can_frame.specs.DataFrame.{DataFrame}
 use Rattle.can_frame.specs.declared.data_frame.TimedFrame.{TimedFrame}
 use Rattle.can_frame.specs.Wire.{wire_length}
@@ -20,7 +21,7 @@ use Rattle.requirement_table.proofs.Shared.{sum_where-same}
 use Rattle.async_window.specs.declared.request.Request.{Request}
 use Rattle.bus_line.specs.Trace.{end_of, Follows, IsNext, free_after}
 use Rattle.requirement_table.specs.Opening.{Opening, width_of}
-use Rattle.node_model.specs.Opening.{first_identifier, start_of, end_of_cycle, window_start}
+use Rattle.node_model.specs.Opening.{start_of, end_of_cycle, window_start}
 use Rattle.node_model.specs.Offered.{OffersRequest, OffersSlotWith, bytes_sent, trigger_frames}
 use Rattle.node_model.specs.Own.{was_sent}
 use Rattle.cycle_engine.specs.Cycle.{IsRequestFrame, IsSentOnceWith, IsSlotFrame, RunsCycleWith, of_slot}

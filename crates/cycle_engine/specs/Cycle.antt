@@ -1,6 +1,7 @@
 -- What an opened cycle sends on the bus, behind the cycles before it. Times are bit times.
 use Rattle.std.specs.Prelude.{◌≡◌, ℕ, ◌+◌, ◌/◌, ◌<◌, ◌≤◌, ◌⊎◌, ◌==◌}
 use Rattle.std.specs.Prelude.{true, false, List, [], ◌∷◌, ◌++◌, All, filter, map, Some, IsSome}
+use Rattle.profile.specs.Limits.{first_identifier, least_asynchronous}
 use Rattle.can_frame.specs.declared.data_frame.TimedFrame.{TimedFrame}
 use Rattle.cycle_layout.specs.Layout.{CycleLayout, async_open}
 use Rattle.requirement_table.specs.Slots.{contains_slot, most_slots}
@@ -10,7 +11,7 @@ use Rattle.async_window.specs.declared.request.Request.{Request}
 use Rattle.bus_line.specs.Trace.{Follows, end_of}
 use Rattle.requirement_table.specs.Instance.{Instance, bytes_of}
 use Rattle.requirement_table.specs.Opening.{Opening, width_of}
-use Rattle.node_model.specs.Opening.{first_identifier, start_of, end_of_cycle, window_start}
+use Rattle.node_model.specs.Opening.{start_of, end_of_cycle, window_start}
 use Rattle.node_model.specs.Offered.{bytes_sent, trigger_frames}
 use Rattle.cycle_engine.specs.Offered.{IsCanTraceWith, offered_in_with}
 
@@ -48,7 +49,7 @@ pub record IsSlotFrame (layout : CycleLayout) (opening : Opening) (sent : TimedF
 -- a frame of a request, within the cycle's asynchronous window: it touches neither the trigger part nor the synchronous
 -- window
 pub record IsRequestFrame (layout : CycleLayout) (opening : Opening) (sent : TimedFrame) : Type 0 where
-  pub identifier : 0x200 ≤ sent.frame.identifier
+  pub identifier : least_asynchronous ≤ sent.frame.identifier
   pub after : async_open layout opening.cycle ≤ sent.start
   pub before : end_of sent ≤ window_start layout opening
 

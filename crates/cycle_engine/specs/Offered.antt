@@ -1,5 +1,6 @@
 -- *CAN trace* of opened cycles: what is offered on the bus in them, and the trace that arbitration decides.
 use Rattle.std.specs.Prelude.{◌≡◌, ◌≢◌, ℕ, ◌*◌, ◌≤◌, ◌⊎◌, List, All, AllPairs, Contains, length}
+use Rattle.profile.specs.Limits.{greatest_identifier, least_asynchronous}
 use Rattle.can_frame.specs.declared.data_frame.TimedFrame.{TimedFrame}
 use Rattle.cycle_layout.specs.Layout.{CycleLayout}
 use Rattle.async_window.specs.declared.request.Request.{Request}
@@ -47,4 +48,5 @@ AreOfDistinctCycles openings = AllPairs (λ one other. one.cycle ≢ other.cycle
 -- the identifiers of all requests are asynchronous ones
 abbrev pub AreAsynchronous : List Request → Type 0
 AreAsynchronous requests =
-    All (λ request. (0x200 ≤ request.frame.identifier) × (request.frame.identifier ≤ 0x7EF)) requests
+    All (λ request. (least_asynchronous ≤ request.frame.identifier)
+    × (request.frame.identifier ≤ greatest_identifier)) requests

@@ -1,9 +1,10 @@
 -- The nodes of a bus as stations, and with them the master, which offers the trigger frames of a cycle, one after the
 -- other, from the cycle's start on.
-use Rattle.std.specs.Prelude.{◌≡◌, ◌≢◌, ℕ, ◌^◌, ◌<◌, ◌≤◌, ◌==◌, Bool, false, nat_le, if◌then◌else◌, List, [], ◌∷◌, ◌++◌}
+use Rattle.std.specs.Prelude.{◌≡◌, ◌≢◌, ℕ, ◌<◌, ◌≤◌, ◌==◌, Bool, false, nat_le, if◌then◌else◌, List, [], ◌∷◌, ◌++◌}
 use Rattle.std.specs.Prelude.{All, AllPairs, length, Option, None, Some, find, map, filter_map}
 use Rattle.std.specs.Option.{option_map_or}
 use Rattle.std.specs.List.{cons_option}
+use Rattle.profile.specs.Limits.{cycles_end, most_nodes}
 use Rattle.can_frame.specs.DataFrame.{DataFrame}
 use Rattle.can_frame.specs.declared.data_frame.TimedFrame.{TimedFrame}
 use Rattle.cycle_layout.specs.Layout.{CycleLayout}
@@ -95,7 +96,7 @@ cycle_line = record {
 
 -- what holds of the nodes of a bus: they are at most 30, of one layout and of different numbers, and apart
 pub record AreNodes (layout : CycleLayout) (nodes : List NodeState) : Type 0 where
-  pub few : length nodes ≤ 30
+  pub few : length nodes ≤ most_nodes
   pub are : All IsNode nodes
   pub layouts : All (λ node. node.layout ≡ layout) nodes
   pub numbers : AllPairs (λ one other. one.number ≢ other.number) nodes
@@ -111,7 +112,7 @@ pub record AreDue (layout : CycleLayout) (triggers : List DueTrigger) : Type 0 w
 pub record AreStations (stations : Stationed) : Type 0 where
   pub nodes : AreNodes stations.layout stations.nodes
   pub triggers : AreDue stations.layout stations.triggers
-  pub next : stations.triggers ≢ [] → All (λ node. node.next < 2 ^ 42) stations.nodes
+  pub next : stations.triggers ≢ [] → All (λ node. node.next < cycles_end) stations.nodes
 
 -- nodes before trigger frames are sent that are offered from a time on
 abbrev pub announced : CycleLayout → ℕ → List DataFrame → List NodeState → Stationed

@@ -1,8 +1,9 @@
 -- A synchronous window: the nodes are asked once for the frames that they are to send in it, and these leave in the
 -- order of their slots.
 use Rattle.std.specs.Prelude.{◌≡◌, ℕ, ◌+◌, ◌*◌, ◌<◌, ◌≤◌, nat_lt, if◌then◌else◌, List, [], ◌∷◌, ◌++◌}
-use Rattle.std.specs.Prelude.{All, filter_map, length, Option, None, Some}
-use Rattle.std.specs.List.{range_with_len}
+use Rattle.std.specs.Prelude.{◌==◌, All, Bool, filter_map, length, Option, None, Some}
+use Rattle.std.specs.List.{list_any, range_with_len}
+use Rattle.profile.specs.Limits.{first_identifier, shortest_frame}
 use Rattle.can_frame.specs.DataFrame.{DataFrame}
 use Rattle.can_frame.specs.Wire.{wire_length}
 use Rattle.can_frame.specs.declared.data_frame.TimedFrame.{TimedFrame}
@@ -44,6 +45,10 @@ back_to_back [] at until = []
 back_to_back (frame ∷ later) at until =
     if nat_lt at until then sent_at at frame ∷ back_to_back later (at + wire_length frame) until else []
 
+-- whether one of the frames is that of the slot
+abbrev pub is_among : ℕ → List TimedFrame → Bool
+is_among slot frames = list_any (λ one. one.frame.identifier == first_identifier + slot) frames
+
 -- the nodes without trigger frames
 abbrev pub nodes_alone : CycleLayout → List NodeState → Stationed
 nodes_alone layout nodes = record { layout = layout; triggers = []; nodes = nodes }
@@ -61,7 +66,7 @@ pub record IsSentBy (before after : List NodeState) (from until : ℕ) (old new 
 pub record IsBeforeWindow (layout : CycleLayout) (cycle l mask : ℕ) (before after : List NodeState)
     (frames : List TimedFrame) (from : ℕ) : Type 0 where
   pub in_window : All (IsInWindow from ((cycle + 1) * layout.cycle)) after
-  pub few : cycle * layout.cycle + 47 * length frames ≤ from
+  pub few : cycle * layout.cycle + shortest_frame * length frames ≤ from
   pub heard : after ≡ heard_by frames before
   pub whole : (later : List TimedFrame)
       → Follows (offers_of cycle_line (nodes_alone layout after)) [] from ((cycle + 1) * layout.cycle) later

@@ -2,6 +2,7 @@
 
 ghost use Rattle.std.specs.Prelude.{◌≡◌, ℕ, ◌+◌, ◌*◌, ◌/◌, ◌^◌, ◌<◌, ◌≤◌, ◌++◌, All, IfOk, IfSome, List, OnErr, OnOk};
 ghost use Rattle.std.specs.Prelude.{length};
+ghost use Rattle.profile.specs.Limits.{cycles_end, shortest_frame};
 ghost use Rattle.can_frame.specs.declared.data_frame.TimedFrame.{TimedFrame};
 ghost use Rattle.requirement_table.specs.declared.entries.Placed.{Placed};
 ghost use Rattle.requirement_table.specs.Table.{IsWellPlaced};
@@ -27,7 +28,7 @@ use std::alloc::{AllocError, Global};
 /// learned is well placed. Of each flagged slot some node knows, once the list is learnt, an instance that may be sent in
 /// the cycle. All memory is taken first: after an error the nodes are as before, and the call may be made again.
 pub fn run_cycle(alloc: Global, order: &Order, nodes: &mut Nodes) -> Result<Segment, AllocError>
-    requires cycle { order.now.cycle < 2 ^ 42 }
+    requires cycle { order.now.cycle < cycles_end }
     requires next { All (λ node. node.next ≡ order.now.cycle) (states_of nodes.old.nodes) }
     requires learned { IfSome order.now.learned IsWellPlaced }
     requires window { order.now.l ≤ nodes.old.layout.window }
@@ -64,7 +65,7 @@ pub fn run_cycle(alloc: Global, order: &Order, nodes: &mut Nodes) -> Result<Segm
 /// take the place of those of the segment: no more than one for every 47 bit times of the cycle, and one. Nothing
 /// refuses it.
 pub fn run_cycle_in(order: &Order, nodes: &mut Nodes, segment: &mut Segment)
-    requires cycle { order.now.cycle < 2 ^ 42 }
+    requires cycle { order.now.cycle < cycles_end }
     requires next { All (λ node. node.next ≡ order.now.cycle) (states_of nodes.old.nodes) }
     requires learned { IfSome order.now.learned IsWellPlaced }
     requires window { order.now.l ≤ nodes.old.layout.window }
@@ -75,7 +76,7 @@ pub fn run_cycle_in(order: &Order, nodes: &mut Nodes, segment: &mut Segment)
         ≡ heard_by segment.new (learnt_by order.now.learned (states_of nodes.old.nodes)) }
     ensures next { All (λ node. node.next ≡ order.now.cycle + 1) (states_of nodes.new.nodes) }
     ensures spare { KeepSpare nodes.old.nodes nodes.new.nodes }
-    ensures few { length segment.new ≤ nodes.old.layout.cycle / 47 + 1 }
+    ensures few { length segment.new ≤ nodes.old.layout.cycle / shortest_frame + 1 }
     ensures runs { (owners : List Owner) (requests : List Request) (placed : List Placed) (past : List TimedFrame)
         → IsBefore nodes.old.layout owners requests placed past order.now
         (learnt_by order.now.learned (states_of nodes.old.nodes))

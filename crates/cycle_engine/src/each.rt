@@ -2,6 +2,7 @@
 
 ghost use Rattle.std.specs.Prelude.{◌≡◌, ◌≢◌, ℕ, ◌+◌, ◌^◌, ◌<◌, ◌≤◌, ◌++◌};
 ghost use Rattle.std.specs.Prelude.{Some, All, AllPairs, Contains, IfSome, IsSome, OnOk, is_some, length, map, true};
+ghost use Rattle.profile.specs.Limits.{cycles_end, times_end};
 ghost use Rattle.arbitration.specs.Arbitration.{AreDistinct};
 ghost use Rattle.requirement_table.specs.Slots.{contains_slot, most_slots};
 ghost use Rattle.requirement_table.specs.Table.{IsWellPlaced};
@@ -57,7 +58,7 @@ pub fn learn(nodes: &mut [Node], placed: &[Placed])
 pub fn hear(nodes: &mut [Node], slots: u8, first: usize, sent: &TimedFrame)
     requires slots { All (λ node. node.layout.slots ≡ slots) (states_of nodes.old) }
     requires next { All (λ node. sent.now.frame.identifier ≡ opening_identifier node.layout.slots
-        → node.next < 2 ^ 42) (states_of nodes.old) }
+        → node.next < cycles_end) (states_of nodes.old) }
     requires are { All IsNode (states_of nodes.old) }
     requires apart { AllPairs AreApart (states_of nodes.old) }
     ensures heard { states_of nodes.new ≡ all_hear (states_of nodes.old) sent.now }
@@ -80,7 +81,7 @@ fn hear_trigger(nodes: &mut [Node], sent: &TimedFrame, trigger: &Option<Trigger>
     requires identifier { sent.now.frame.identifier ≡ 0 }
     requires reading { trigger.now ≡ trigger_of sent.now.frame }
     requires next { All (λ node. sent.now.frame.identifier ≡ opening_identifier node.layout.slots
-        → node.next < 2 ^ 42) (states_of nodes.old) }
+        → node.next < cycles_end) (states_of nodes.old) }
     ensures heard { states_of nodes.new ≡ all_hear (states_of nodes.old) sent.now }
     ensures spare { spares_of nodes.new ≡ spares_of nodes.old }
 {
@@ -96,7 +97,7 @@ fn hear_second(nodes: &mut [Node], sent: &TimedFrame, second: &Option<Second>)
     requires reading { second.now ≡ second_of sent.now.frame }
     requires slots { All (λ node. node.layout.slots ≢ 40) (states_of nodes.old) }
     requires next { All (λ node. sent.now.frame.identifier ≡ opening_identifier node.layout.slots
-        → node.next < 2 ^ 42) (states_of nodes.old) }
+        → node.next < cycles_end) (states_of nodes.old) }
     ensures heard { states_of nodes.new ≡ all_hear (states_of nodes.old) sent.now }
     ensures spare { spares_of nodes.new ≡ spares_of nodes.old }
 {
@@ -109,7 +110,7 @@ fn hear_second(nodes: &mut [Node], sent: &TimedFrame, second: &Option<Second>)
 /// nodes only count the frame.
 fn hear_from(nodes: &mut [Node], place: usize, sent: &TimedFrame)
     requires next { All (λ node. sent.now.frame.identifier ≡ opening_identifier node.layout.slots
-        → node.next < 2 ^ 42) (states_of nodes.old) }
+        → node.next < cycles_end) (states_of nodes.old) }
     requires place { place < length nodes.old }
     requires are { All IsNode (states_of nodes.old) }
     requires apart { AllPairs AreApart (states_of nodes.old) }
@@ -138,7 +139,7 @@ fn count(nodes: &mut [Node])
 /// Tells each node of a frame, whosever it is.
 fn hear_other(nodes: &mut [Node], sent: &TimedFrame)
     requires next { All (λ node. sent.now.frame.identifier ≡ opening_identifier node.layout.slots
-        → node.next < 2 ^ 42) (states_of nodes.old) }
+        → node.next < cycles_end) (states_of nodes.old) }
     ensures heard { states_of nodes.new ≡ all_hear (states_of nodes.old) sent.now }
     ensures spare { spares_of nodes.new ≡ spares_of nodes.old }
 {
@@ -189,7 +190,7 @@ pub fn hear_slots(nodes: &mut [Node], sent: Mask, frames: &[TimedFrame])
 
 /// Adds what the nodes offer at a time to the contenders.
 pub fn push_offers(nodes: &[Node], at: u64, ids: &mut Contenders)
-    requires time { at < 2 ^ 60 }
+    requires time { at < times_end }
     requires few { length ids.old + length nodes.now ≤ 32 }
     requires distinct { AreDistinct (ids.old ++ offered_by_nodes (states_of nodes.now) at) }
     ensures pushed { ids.new ≡ ids.old ++ offered_by_nodes (states_of nodes.now) at }
@@ -204,7 +205,7 @@ pub fn push_offers(nodes: &[Node], at: u64, ids: &mut Contenders)
 /// The least time behind `at` at which a node offers something while nothing is heard; `None` exactly where no node
 /// does. Behind the first node that offers something right behind `at` no other is asked.
 pub fn wake(nodes: &[Node], at: u64) -> Option<u64>
-    requires time { at < 2 ^ 60 }
+    requires time { at < times_end }
     ensures wake { IsWake (offered_by_nodes (states_of nodes.now)) at result }
 {
     sooner_wake();
@@ -221,7 +222,7 @@ pub fn wake(nodes: &[Node], at: u64) -> Option<u64>
 
 /// Whether a time, where there is one, is the first one behind another.
 fn is_right_behind(time: Option<u64>, at: u64) -> bool
-    requires time { at < 2 ^ 60 }
+    requires time { at < times_end }
     ensures behind { result ≡ true → time ≡ Some (at + 1) }
 {
     match time {
@@ -244,7 +245,7 @@ pub fn sooner(one: Option<u64>, other: Option<u64>) -> Option<u64>
 /// The frame of the node that offers an identifier at a time, of which there is only one. The node at the place `first`
 /// is asked first, and the others where that one does not offer it.
 pub fn frame(nodes: &[Node], first: usize, at: u64, id: u16) -> Frame
-    requires time { at < 2 ^ 60 }
+    requires time { at < times_end }
     requires offered { Contains (offered_by_nodes (states_of nodes.now) at) id }
     requires only { AllPairs (λ one other. node_offer one at ≡ Some id
         → node_offer other at ≡ Some id → ⊥) (states_of nodes.now) }
@@ -259,7 +260,7 @@ pub fn frame(nodes: &[Node], first: usize, at: u64, id: u16) -> Frame
 
 /// The frame of the node at a place, where there is one and it offers an identifier at a time.
 fn frame_at(nodes: &[Node], place: usize, at: u64, id: u16) -> Option<Frame>
-    requires time { at < 2 ^ 60 }
+    requires time { at < times_end }
     requires only { AllPairs (λ one other. node_offer one at ≡ Some id
         → node_offer other at ≡ Some id → ⊥) (states_of nodes.now) }
     ensures frame { IfSome result (λ frame. frame ≡ frame_by_nodes (states_of nodes.now) at id) }
@@ -274,7 +275,7 @@ fn frame_at(nodes: &[Node], place: usize, at: u64, id: u16) -> Option<Frame>
 
 /// The frame of the first node that offers an identifier at a time.
 fn first_frame(nodes: &[Node], at: u64, id: u16) -> Frame
-    requires time { at < 2 ^ 60 }
+    requires time { at < times_end }
     requires offered { Contains (offered_by_nodes (states_of nodes.now) at) id }
     ensures frame { result ≡ frame_by_nodes (states_of nodes.now) at id }
     ensures identifier { result.identifier ≡ id }

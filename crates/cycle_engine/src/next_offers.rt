@@ -1,6 +1,7 @@
 //! A look ahead to what the nodes of a bus offer soonest.
 
-ghost use Rattle.std.specs.Prelude.{◌≡◌, ℕ, ◌+◌, ◌^◌, ◌<◌, ◌≤◌, ◌++◌, List, [], true, IfSome, length};
+ghost use Rattle.std.specs.Prelude.{◌≡◌, ℕ, ◌+◌, ◌<◌, ◌≤◌, ◌++◌, List, [], true, IfSome, length};
+ghost use Rattle.profile.specs.Limits.{times_end};
 ghost use Rattle.arbitration.specs.Arbitration.{AreDistinct};
 ghost use Rattle.bus_line.specs.Stations.{IsWake};
 ghost use Rattle.cycle_engine.specs.Nodes.{states_of};
@@ -22,7 +23,7 @@ pub struct Soonest {
 
 /// What nodes offer soonest behind a time. All of them are asked.
 pub fn find(nodes: &[Node], since: u64) -> Soonest
-    requires time { since < 2 ^ 60 }
+    requires time { since < times_end }
     ensures soonest { IsSoonest (states_of nodes.now) result }
 {
     let next = each::wake(nodes, since);
@@ -61,7 +62,7 @@ fn is_before(at: u64, next: &Option<u64>) -> bool
 /// that it is nothing.
 pub fn push(nodes: &[Node], soonest: &Option<Soonest>, at: u64, ids: &mut Contenders)
     requires soonest { IfSome soonest.now (IsSoonest (states_of nodes.now)) }
-    requires time { at < 2 ^ 60 }
+    requires time { at < times_end }
     requires few { length ids.old + length nodes.now ≤ 32 }
     requires distinct { AreDistinct (ids.old ++ offered_by_nodes (states_of nodes.now) at) }
     ensures pushed { ids.new ≡ ids.old ++ offered_by_nodes (states_of nodes.now) at }
@@ -76,7 +77,7 @@ pub fn push(nodes: &[Node], soonest: &Option<Soonest>, at: u64, ids: &mut Conten
 /// does. The nodes are asked where what they offer soonest does not tell it.
 pub fn wake(nodes: &[Node], soonest: &Option<Soonest>, at: u64) -> Option<u64>
     requires soonest { IfSome soonest.now (IsSoonest (states_of nodes.now)) }
-    requires time { at < 2 ^ 60 }
+    requires time { at < times_end }
     ensures wake { IsWake (offered_by_nodes (states_of nodes.now)) at result }
 {
     match quiet_at(soonest, at) {

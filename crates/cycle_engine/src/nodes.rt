@@ -3,6 +3,7 @@
 ghost use Rattle.std.specs.Prelude.{◌≡◌, ◌≢◌, ℕ, ◌+◌, ◌*◌, ◌/◌, ◌^◌, ◌<◌, ◌≤◌, [], ◌∷◌, All, AllPairs, Any, IfOk, IfSome};
 ghost use Rattle.std.specs.List.{cons_option};
 ghost use Rattle.std.specs.Prelude.{OnErr, OnOk, Some, length, slice_get, slice_index_or, vec_len, vec_capacity};
+ghost use Rattle.profile.specs.Limits.{arrivals_end, cycles_end, most_nodes, shortest_frame};
 ghost use Rattle.cycle_layout.specs.Layout.{IsLayout};
 ghost use Rattle.requirement_table.specs.Table.{IsWellPlaced};
 ghost use Rattle.trigger_codec.specs.Bytes.{trigger_frame, triggers_with};
@@ -61,12 +62,12 @@ impl Nodes {
         requests: &[Request],
     ) -> Result<Nodes, AllocError>
         requires some { 1 ≤ nodes }
-        requires few { nodes ≤ 30 }
+        requires few { nodes ≤ most_nodes }
         requires owners { AreOwners owners.now }
         requires numbers { All (λ owner. owner.node < nodes) owners.now }
         requires owned { All (λ request. Any (λ owner. owner.id ≡ request.frame.identifier) owners.now) requests.now }
         requires arrivals { AllPairs (λ one other. one.at ≤ other.at) requests.now }
-        requires early { All (λ request. request.at < 2 ^ 40) requests.now }
+        requires early { All (λ request. request.at < arrivals_end) requests.now }
         ensures layout { IfOk result (λ bus. bus.layout ≡ layout) }
         ensures count { IfOk result (λ bus. length (states_of bus.nodes) ≡ nodes) }
         ensures each { IfOk result (λ bus. (number : ℕ) → number < nodes
@@ -148,12 +149,12 @@ impl Nodes {
     /// Runs the bus over the nodes through the cycle of an order, and puts the frames into `frames`, which has room for
     /// them.
     pub(crate) fn run(&mut self, order: &Order, frames: &mut Vec<TimedFrame>)
-        requires cycle { order.now.cycle < 2 ^ 42 }
+        requires cycle { order.now.cycle < cycles_end }
         requires next { All (λ node. node.next ≡ order.now.cycle) (states_of self.old.nodes) }
         requires window { order.now.l ≤ self.old.layout.window }
         requires slots { order.now.mask < 2 ^ self.old.layout.slots }
         requires empty { frames.old.items ≡ [] }
-        requires room { self.old.layout.cycle / 47 + 1 ≤ vec_capacity frames.old }
+        requires room { self.old.layout.cycle / shortest_frame + 1 ≤ vec_capacity frames.old }
         ensures layout { self.new.layout ≡ self.old.layout }
         ensures heard { states_of self.new.nodes ≡ heard_by frames.new.items (states_of self.old.nodes) }
         ensures runs { Follows
@@ -174,12 +175,12 @@ impl Nodes {
     /// Runs the bus over the nodes through the cycle of an order up to its synchronous window, and puts the frames into
     /// `frames`, which has room for them. The answer is the first time in that window at which the bus is free.
     fn run_up_to_window(&mut self, order: &Order, frames: &mut Vec<TimedFrame>) -> u64
-        requires cycle { order.now.cycle < 2 ^ 42 }
+        requires cycle { order.now.cycle < cycles_end }
         requires next { All (λ node. node.next ≡ order.now.cycle) (states_of self.old.nodes) }
         requires window { order.now.l ≤ self.old.layout.window }
         requires slots { order.now.mask < 2 ^ self.old.layout.slots }
         requires empty { frames.old.items ≡ [] }
-        requires room { self.old.layout.cycle / 47 + 1 ≤ vec_capacity frames.old }
+        requires room { self.old.layout.cycle / shortest_frame + 1 ≤ vec_capacity frames.old }
         ensures layout { self.new.layout ≡ self.old.layout }
         ensures before_window { IsBeforeWindow self.old.layout order.now.cycle order.now.l order.now.mask
             (states_of self.old.nodes)
@@ -234,7 +235,7 @@ fn fresh_nodes(
 ) -> Result<Vec<Node>, AllocError>
     requires owners { AreOwners owners.now }
     requires arrivals { AllPairs (λ one other. one.at ≤ other.at) requests.now }
-    requires early { All (λ request. request.at < 2 ^ 40) requests.now }
+    requires early { All (λ request. request.at < arrivals_end) requests.now }
     ensures count { IfOk result (λ made. length made.items ≡ nodes) }
     ensures each { IfOk result (λ made. (number : ℕ) (d : NodeView) → number < nodes
         → (slice_index_or made.items number d).state ≡ fresh_node layout owners.now requests.now number) }

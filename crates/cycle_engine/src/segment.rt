@@ -4,11 +4,12 @@ ghost use Rattle.std.specs.Prelude.{◌≡◌, ◌/◌, ◌+◌, ◌≤◌, [], 
 
 use can_frame::TimedFrame;
 use cycle_layout::Layout;
+use profile::MOST_FRAMES;
 use std::alloc::{AllocError, Global};
 use std::marker::Model;
 
 /// The most frames of one cycle, and one more: the longest cycle has 100,000 bit times, and the shortest frame 47.
-const ROOM: usize = 100_000 / 47 + 2;
+const ROOM: usize = MOST_FRAMES + 1;
 
 /// The frames that start in one cycle, in the order of their starts, with room for those of another one. Contracts see
 /// the list.
@@ -19,13 +20,14 @@ pub struct Segment {
 
 impl Model for Segment {
     ghost use Rattle.std.specs.Prelude.{◌/◌, ◌+◌, ◌≤◌, List, vec_capacity};
+    ghost use Rattle.profile.specs.Limits.{longest_cycle, shortest_frame};
     ghost use Rattle.can_frame.specs.declared.data_frame.TimedFrame.{TimedFrame};
 
     ghost Value = { List TimedFrame };
 
     ghost view = { λ s. s.frames.items };
 
-    ghost invariant = { λ s. 100000 / 47 + 2 ≤ vec_capacity s.frames };
+    ghost invariant = { λ s. longest_cycle / shortest_frame + 2 ≤ vec_capacity s.frames };
 }
 
 impl Segment {

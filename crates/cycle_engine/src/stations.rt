@@ -3,6 +3,7 @@
 ghost use Rattle.std.specs.Prelude.{◌≡◌, ◌≢◌, ◌+◌, ◌-◌, ◌/◌, ◌^◌, ◌<◌, ◌≤◌, [], ◌∷◌};
 ghost use Rattle.std.specs.Prelude.{All, AllPairs, Contains, OnOk, length, map, vec_capacity};
 ghost use Rattle.std.specs.List.{cons_option};
+ghost use Rattle.profile.specs.Limits.{cycles_end, shortest_frame, times_end};
 ghost use Rattle.cycle_layout.specs.Layout.{IsLayout};
 ghost use Rattle.requirement_table.specs.Table.{IsWellPlaced};
 ghost use Rattle.node_model.specs.Node.{learnt};
@@ -141,7 +142,7 @@ impl NodeStations {
     /// Makes trigger frames the next ones, from a time on: one, and another one behind it, where there are two.
     pub fn announce(&mut self, at: u64, first: Frame, second: Option<Frame>)
         requires due { AreDue self.old.layout (due_from at (first ∷ cons_option second [])) }
-        requires next { All (λ node. node.next < 2 ^ 42) (states_of self.old.nodes) }
+        requires next { All (λ node. node.next < cycles_end) (states_of self.old.nodes) }
         ensures announced { self.new ≡ record {
           layout = self.old.layout;
           triggers = due_from at (first ∷ cons_option second []);
@@ -163,7 +164,7 @@ impl NodeStations {
 
     /// The frame of the node that offers an identifier at a time.
     fn frame_of_node(&self, at: u64, id: u16) -> Frame
-        requires time { at < 2 ^ 60 }
+        requires time { at < times_end }
         requires offered { Contains (offered_by_nodes (states_of self.now.nodes) at) id }
         ensures frame { result ≡ frame_by_nodes (states_of self.now.nodes) at id }
         ensures identifier { result.identifier ≡ id }
@@ -175,9 +176,10 @@ impl NodeStations {
     /// Runs the bus over the nodes in their synchronous window from `from` on, and puts the frames that start before
     /// `until` behind `out`, which has room for them. The trigger frames were sent.
     pub fn run_window(&mut self, from: u64, until: u64, out: &mut Vec<TimedFrame>)
-        requires time { until < 2 ^ 60 }
+        requires time { until < times_end }
         requires window { All (IsInWindow from until) (states_of self.old.nodes) }
-        requires room { from < until → length out.old.items + ((until - from) / 47 + 1) ≤ vec_capacity out.old }
+        requires room { from < until
+            → length out.old.items + ((until - from) / shortest_frame + 1) ≤ vec_capacity out.old }
         ensures layout { self.new.layout ≡ self.old.layout }
         ensures sent { IsSentBy (states_of self.old.nodes)
             (states_of self.new.nodes) from until out.old.items out.new.items }
@@ -277,7 +279,7 @@ fn push_trigger(due: &Option<Due>, at: u64, ids: &mut Contenders)
 
 /// The least time behind `at` at which the first of the trigger frames is offered while nothing is sent.
 fn wake_of_trigger(due: &Option<Due>, at: u64) -> Option<u64>
-    requires time { at < 2 ^ 60 }
+    requires time { at < times_end }
     ensures wake { IsWake (offered_trigger (due_list due.now)) at result }
 {
     let due = due.as_ref()?;

@@ -1,6 +1,7 @@
 -- The windows of an elementary cycle. Lengths and times are bit times; cycle c covers the times from c·E to below
 -- (c + 1)·E, and its first trigger frame starts at c·E.
 use Rattle.std.specs.Prelude.{◌≡◌, ℕ, ◌+◌, ◌-◌, ◌*◌, ◌≤◌, ◌⊎◌, nat_eq, if◌then◌else◌}
+use Rattle.profile.specs.Limits.{longest_cycle, longest_turnaround, longest_window, shortest_cycle, shortest_window}
 use Rattle.stuff_bound.specs.Stuffing.{worst}
 
 -- the length E of each cycle, the turnaround R behind the trigger part, the largest synchronous window W, and the number
@@ -17,13 +18,13 @@ pub record IsWithin (low high number : ℕ) : Type 0 where
   pub below : number ≤ high
 
 abbrev pub IsCycleLength : ℕ → Type 0
-IsCycleLength cycle = IsWithin 400 100000 cycle
+IsCycleLength cycle = IsWithin shortest_cycle longest_cycle cycle
 
 abbrev pub IsTurnaround : ℕ → Type 0
-IsTurnaround turnaround = IsWithin 0 1000 turnaround
+IsTurnaround turnaround = IsWithin 0 longest_turnaround turnaround
 
 abbrev pub IsWindow : ℕ → Type 0
-IsWindow window = IsWithin 55 16383 window
+IsWindow window = IsWithin shortest_window longest_window window
 
 -- a table has 40 slots or 96
 abbrev pub IsSlots : ℕ → Type 0

@@ -2,10 +2,12 @@
 //! synchronous window that ends the cycle. All lengths and times are bit times.
 #![tactic(auto)]
 
-ghost use Rattle.std.specs.Prelude.{◌≡◌, ℕ, ◌+◌, ◌*◌, ◌/◌, ◌^◌, ◌<◌, ◌≤◌, ◌↔◌, IfErr, IfOk, IsTrue};
+ghost use Rattle.std.specs.Prelude.{◌≡◌, ℕ, ◌+◌, ◌*◌, ◌/◌, ◌<◌, ◌≤◌, ◌↔◌, IfErr, IfOk, IsTrue};
+ghost use Rattle.profile.specs.Limits.{cycles_end};
 ghost use Rattle.cycle_layout.specs.Layout.{IsAllowed, IsLayout, IsSlots, async_open, sync_start, trigger_part, trigger_part_of};
 ghost use Rattle.cycle_layout.specs.LayoutFault.{Refuses};
 
+use profile::{LONGEST_CYCLE, LONGEST_TURNAROUND, LONGEST_WINDOW, SHORTEST_CYCLE, SHORTEST_WINDOW};
 use std::error::Error;
 use std::fmt;
 use std::marker::Model;
@@ -94,13 +96,13 @@ impl Layout {
         ensures known { IfOk result IsLayout }
         ensures fault { IfErr result (Refuses e r w slots) }
     {
-        if !(400..=100_000).contains(&e) {
+        if !(SHORTEST_CYCLE..=LONGEST_CYCLE).contains(&e) {
             return Err(LayoutFault::CycleRange);
         }
-        if r > 1_000 {
+        if r > LONGEST_TURNAROUND {
             return Err(LayoutFault::TurnRange);
         }
-        if !(55..=16_383).contains(&w) {
+        if !(SHORTEST_WINDOW..=LONGEST_WINDOW).contains(&w) {
             return Err(LayoutFault::WindowRange);
         }
         let need = trigger_part_of(slots) + r + w;
@@ -165,7 +167,7 @@ impl Layout {
 
     /// The start of the asynchronous window of a cycle.
     pub fn async_open(&self, cycle: u64) -> u64
-        requires cycle { cycle < 2 ^ 42 }
+        requires cycle { cycle < cycles_end }
         ensures value { result ≡ async_open self.now cycle }
     {
         cycle * u64::from(self.cycle) + u64::from(self.trigger_part() + self.turnaround)
@@ -173,7 +175,7 @@ impl Layout {
 
     /// The start of the synchronous window of a cycle, where that window has the length `l`.
     pub fn sync_start(&self, cycle: u64, l: u32) -> u64
-        requires cycle { cycle < 2 ^ 42 }
+        requires cycle { cycle < cycles_end }
         requires window { l ≤ self.now.window }
         ensures value { result ≡ sync_start self.now cycle l }
     {

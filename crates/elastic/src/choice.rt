@@ -4,10 +4,10 @@ ghost use Rattle.std.specs.Prelude.{◌≡◌};
 
 use crate::wish::Periods;
 use admission::Verdict;
+use items::Items;
 use std::alloc::{AllocError, AllocFailed};
 use std::error::Error;
 use std::fmt;
-use std::marker::Model;
 
 /// What is chosen of a wish.
 #[derive(Drop, Debug)]
@@ -23,35 +23,7 @@ pub struct Choice {
 }
 
 /// A list of verdicts that a value holds. Contracts see the list.
-#[derive(Drop, Debug)]
-pub struct Verdicts {
-    verdicts: Vec<Verdict>,
-}
-
-impl Model for Verdicts {
-    ghost use Rattle.std.specs.Prelude.{List};
-    ghost use Rattle.admission.specs.declared.verdict.Verdict.{Verdict};
-
-    ghost Value = { List Verdict };
-
-    ghost view = { λ v. v.verdicts.items };
-}
-
-impl Verdicts {
-    /// The list of the vector's items.
-    pub fn of(verdicts: Vec<Verdict>) -> Verdicts
-        ensures list { result ≡ verdicts.items }
-    {
-        Verdicts { verdicts }
-    }
-
-    /// The list as a slice.
-    pub fn as_slice(&self) -> &[Verdict]
-        ensures list { result.now ≡ self.now }
-    {
-        self.verdicts.as_slice()
-    }
-}
+pub type Verdicts = Items<Verdict>;
 
 /// Why nothing is chosen of a wish. The first of these that is true is the answer, in this order.
 #[derive(Drop, Debug)]

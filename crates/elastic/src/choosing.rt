@@ -1,6 +1,7 @@
 //! The choice of a combination.
 
-ghost use Rattle.std.specs.Prelude.{◌≡◌, ℕ, ◌^◌, ◌<◌, ◌≤◌, List, IfOk, IfErr, IfSome, IfNone, All, length};
+ghost use Rattle.std.specs.Prelude.{◌≡◌, ℕ, ◌<◌, ◌≤◌, List, IfOk, IfErr, IfSome, IfNone, All, length};
+ghost use Rattle.profile.specs.Limits.{openings_end};
 ghost use Rattle.requirement_table.specs.Table.{IsWellPlaced};
 ghost use Rattle.change_protocol.specs.declared.operations.Op.{Op};
 ghost use Rattle.planner_policies.specs.Plan.{IsValid};
@@ -107,7 +108,7 @@ fn verdict_on(
     requires rules { IsRules rules.now }
     requires well_placed { IsWellPlaced placed.now }
     requires valid { IsValid placed.now state.now.cycle state.now.pending }
-    requires next { state.now.cycle ≤ 2 ^ 41 }
+    requires next { state.now.cycle ≤ openings_end }
     requires below { number < combinations wish.now.ops }
     requires few { combinations wish.now.ops ≤ 4096 }
     ensures verdict { IfOk result
@@ -130,7 +131,7 @@ fn first_accepted(
     requires rules { IsRules rules.now }
     requires well_placed { IsWellPlaced placed.now }
     requires valid { IsValid placed.now state.now.cycle state.now.pending }
-    requires next { state.now.cycle ≤ 2 ^ 41 }
+    requires next { state.now.cycle ≤ openings_end }
     requires all { count ≡ combinations wish.now.ops }
     requires few { count ≤ 4096 }
     ensures tried { IfOk result
@@ -166,7 +167,7 @@ pub fn choose(
     requires rules { IsRules rules.now }
     requires well_placed { IsWellPlaced placed.now }
     requires valid { IsValid placed.now state.now.cycle state.now.pending }
-    requires next { state.now.cycle ≤ 2 ^ 41 }
+    requires next { state.now.cycle ≤ openings_end }
     requires few_ops { length wish.now.ops ≤ 256 }
     requires few_periods { All HasFewChoices wish.now.ops }
     ensures choice { IfOk result (IsChoice rules.now placed.now state.now.pending state.now.cycle wish.now) }

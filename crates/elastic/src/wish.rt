@@ -3,38 +3,11 @@
 ghost use Rattle.std.specs.Prelude.{◌≡◌};
 ghost use Rattle.elastic.specs.Combination.{choices};
 
+use items::Items;
 use requirement_table::Entry;
-use std::marker::Model;
 
 /// A list of periods that a value holds, in cycles. Contracts see the list.
-#[derive(Drop, Debug)]
-pub struct Periods {
-    periods: Vec<u16>,
-}
-
-impl Model for Periods {
-    ghost use Rattle.std.specs.Prelude.{List, ℕ};
-
-    ghost Value = { List ℕ };
-
-    ghost view = { λ p. p.periods.items };
-}
-
-impl Periods {
-    /// The list of the vector's items.
-    pub fn of(periods: Vec<u16>) -> Periods
-        ensures list { result ≡ periods.items }
-    {
-        Periods { periods }
-    }
-
-    /// The list as a slice.
-    pub fn as_slice(&self) -> &[u16]
-        ensures list { result.now ≡ self.now }
-    {
-        self.periods.as_slice()
-    }
-}
+pub type Periods = Items<u16>;
 
 /// One operation of a wish, on one slot.
 #[derive(Drop, Debug)]
@@ -66,35 +39,7 @@ impl WishOp {
 }
 
 /// A list of operations of a wish that a value holds. Contracts see the list.
-#[derive(Drop, Debug)]
-pub struct WishOps {
-    operations: Vec<WishOp>,
-}
-
-impl Model for WishOps {
-    ghost use Rattle.std.specs.Prelude.{List};
-    ghost use Rattle.elastic.specs.declared.wish.WishOp.{WishOp};
-
-    ghost Value = { List WishOp };
-
-    ghost view = { λ o. o.operations.items };
-}
-
-impl WishOps {
-    /// The list of the vector's items.
-    pub fn of(operations: Vec<WishOp>) -> WishOps
-        ensures list { result ≡ operations.items }
-    {
-        WishOps { operations }
-    }
-
-    /// The list as a slice.
-    pub fn as_slice(&self) -> &[WishOp]
-        ensures list { result.now ≡ self.now }
-    {
-        self.operations.as_slice()
-    }
-}
+pub type WishOps = Items<WishOp>;
 
 /// A change of which some periods may be chosen.
 #[derive(Drop, Debug)]

@@ -1,5 +1,5 @@
 -- Why something is chosen of the wish of a file, or nothing is: never for want of a period.
-use Rattle.std.proofs.Common.{◌≡◌, ℕ, ◌<◌, ◌≤◌, List, length, get_or, Some, sym, ◌∙◌, arith, subst}
+use Rattle.std.proofs.Common.{◌≡◌, ℕ, ◌<◌, ◌≤◌, List, length, get_or, sym, ◌∙◌, arith, subst}
 use Rattle.std.proofs.lemmas.Option.{same_Some, slice_get-get_or, slice_get_within}
 use Rattle.requirement_table.specs.declared.entries.Placed.{Placed}
 use Rattle.admission_rules.specs.declared.Rules.{Rules}

@@ -1,17 +1,19 @@
 -- How a call ended, by cases.
-use Rattle.std.proofs.Common.{◌≡◌, List, ℕ, Option, Result, Ok, Err, sym, ap, ◌∙◌, subst, inl, inr}
+use Rattle.std.proofs.Common.{◌≡◌, List, [], ℕ, append-nil, Option, Result, Ok, Err, sym, ap, ◌∙◌, subst, inl, inr}
 use Rattle.std.specs.Prelude.{◌⊎◌, IfOk, IsErrOf, IsSome}
 use Rattle.std.specs.Result.{IsErrAnd}
 use Rattle.std.specs.Option.{ForSome}
 use Rattle.ftt_io.specs.Files.{NamedFiles}
 use Rattle.asked_files.specs.Asked.{Asked}
 use Rattle.asked_files.specs.Loads.{IsBarred}
+use Rattle.asked_files.specs.Sources.{IsStoppedAt, count_behind}
 use Rattle.asked_files.specs.declared.stopping.Refusal.{Refusal}
+use Rattle.asked_files.specs.declared.stopping.Source.{Source}
 use Rattle.asked_files.specs.declared.stopping.Stop.{Stop}
 use Rattle.asked_files.specs.declared.stopping.Stop.TheVariants.{Words, Input, Read, Write, Memory}
 use Rattle.fttcan_top.specs.declared.status.Status.{Status}
 use Rattle.fttcan_top.specs.declared.status.Status.TheVariants.{Done, Refused, No}
-use Rattle.fttcan_top.specs.Ends.{IsCarried, IsEnd, IsStatusOf, PutsPart, end_status, refusal_of}
+use Rattle.fttcan_top.specs.Ends.{HasFetched, IsCarried, IsEnd, IsStatusOf, PutsPart, end_status, refusal_of}
 use Rattle.fttcan_top.specs.Output.{IsAnswer, IsCut, IsDone, IsStopped, Tells, TellsFront}
 
 front-part : (asked_for : Asked) (old new : Option (List ℕ)) → (new ≡ old) ⊎ TellsFront asked_for old new
@@ -48,16 +50,40 @@ not-stopped Refused done stopped = stopped
 not-stopped No done stopped = stopped
 not-stopped _ done stopped = done
 
+fetched-done : (sources : List Source) (before behind : ℕ) (status : Status) → IsDone status
+    → behind ≡ count_behind before sources → HasFetched sources before behind status Refusal.LaterPlan
+fetched-done sources before behind Done done all = all
+fetched-done sources before behind Refused done all = all
+fetched-done sources before behind No done all = all
+fetched-done sources before behind _ done all = absurd done
+
+-- memory may run out behind all files
+fetched-all : (sources : List Source) (before behind : ℕ) → behind ≡ count_behind before sources
+    → IsStoppedAt sources before behind Memory
+fetched-all sources before behind all =
+    record { fetched = sources; rest = []; parts = sym (append-nil sources); counted = all; behind = tt }
+
+-- or where it runs out for the line of a refused one
+fetched-some : (sources : List Source) (before behind : ℕ) (refusal : Refusal)
+    → IsStoppedAt sources before behind (Input refusal) → IsStoppedAt sources before behind Memory
+fetched-some sources before behind refusal is =
+    record { fetched = is.fetched; rest = is.rest; parts = is.parts; counted = is.counted; behind = tt }
+
 module _ (none : Type 0) (told : Option NamedFiles) (IsFor : NamedFiles → Result Asked Stop → Type 0)
+    (IsOf : Asked → Type 0) (sources : List Source) (before behind : ℕ)
     (IsPart : Asked → Option (List ℕ) → Option (List ℕ) → Type 0) (shelf_rose out_rose : Type 0)
     (old new : Option (List ℕ)) where
   -- a call whose `?` handed on why it has nothing to do
   pub end-barred : (ended : Result Status Stop) (why : Stop) → IsErrAnd ended (λ now. now ≡ why)
-      → IsBarred none shelf_rose told IsFor why → new ≡ old
-      → IsEnd none told IsFor IsPart shelf_rose out_rose old new ended
-  end-barred (Ok status) why is barred same = absurd is
-  end-barred (Err now) why is barred same =
-      inl (subst (λ stop. IsBarred none shelf_rose told IsFor stop) (sym is) barred, same)
+      → IsBarred none shelf_rose told IsFor why → IsStoppedAt sources before behind why → new ≡ old
+      → IsEnd none told IsFor IsOf sources before behind IsPart shelf_rose out_rose old new ended
+  end-barred (Ok status) why is barred stopped same = absurd is
+  end-barred (Err now) why is barred stopped same =
+      inl (
+        subst (λ stop. IsBarred none shelf_rose told IsFor stop) (sym is) barred,
+        subst (λ stop. IsStoppedAt sources before behind stop) (sym is) stopped,
+        same,
+      )
 
   -- what a top call says that answers this status, and of a refused file tells this refusal
   pub record IsSaid (status : Status) (refusal : Refusal) : Type 0 where
@@ -66,34 +92,41 @@ module _ (none : Type 0) (told : Option NamedFiles) (IsFor : NamedFiles → Resu
     pub read : status ≡ Status.Read → shelf_rose ⊎ IsSome told
     pub write : status ≡ Status.Write → out_rose
     pub done : IsDone status → (asked_for : Asked) × ForSome told (λ files. IsFor files (Ok asked_for))
-        × Tells asked_for status old new
+        × IsOf asked_for × Tells asked_for status old new
     pub cut : IsCut status → (new ≡ old) ⊎ ((asked_for : Asked)
-        × ForSome told (λ files. IsFor files (Ok asked_for)) × IsPart asked_for old new)
+        × ForSome told (λ files. IsFor files (Ok asked_for)) × IsOf asked_for
+        × (behind ≡ count_behind before sources) × IsPart asked_for old new)
     pub nothing : IsStopped status → new ≡ old
     pub input : status ≡ Status.Input → ForSome told (λ files. IsFor files (Err (Input refusal)))
+    pub fetched : HasFetched sources before behind status refusal
 
   said-done : (status : Status) → IsDone status → (asked_for : Asked) → ForSome told (λ files. IsFor files (Ok asked_for))
-      → Tells asked_for status old new → IsSaid status Refusal.LaterPlan
-  said-done status done asked_for asks tells = record {
+      → IsOf asked_for → behind ≡ count_behind before sources → Tells asked_for status old new
+      → IsSaid status Refusal.LaterPlan
+  said-done status done asked_for asks of_words all tells = record {
     answer = λ files t. answer-done (IsFor files) shelf_rose out_rose status done (asked_for, asks files t);
     words = λ e. absurd (subst IsDone e done);
     read = λ e. absurd (subst IsDone e done);
     write = λ e. absurd (subst IsDone e done);
-    done = λ d. (asked_for, asks, tells);
+    done = λ d. (asked_for, asks, of_words, tells);
     cut = λ d. absurd (not-cut status done d);
     nothing = λ d. absurd (not-stopped status done d);
     input = λ e. absurd (subst IsDone e done);
+    fetched = fetched-done sources before behind status done all;
   }
 
-  cut-of : (asked_for : Asked) → ForSome told (λ files. IsFor files (Ok asked_for))
-      → (new ≡ old) ⊎ IsPart asked_for old new
-      → (new ≡ old) ⊎ ((asked : Asked) × ForSome told (λ files. IsFor files (Ok asked)) × IsPart asked old new)
-  cut-of asked_for asks (inl same) = inl same
-  cut-of asked_for asks (inr part) = inr (asked_for, asks, part)
+  cut-of : (asked_for : Asked) → ForSome told (λ files. IsFor files (Ok asked_for)) → IsOf asked_for
+      → behind ≡ count_behind before sources → (new ≡ old) ⊎ IsPart asked_for old new
+      → (new ≡ old) ⊎ ((asked : Asked) × ForSome told (λ files. IsFor files (Ok asked)) × IsOf asked
+      × (behind ≡ count_behind before sources) × IsPart asked old new)
+  cut-of asked_for asks of_words all (inl same) = inl same
+  cut-of asked_for asks of_words all (inr part) = inr (asked_for, asks, of_words, all, part)
 
-  said-memory : (refusal : Refusal) → (new ≡ old) ⊎ ((asked : Asked) × ForSome told (λ files. IsFor files (Ok asked)) × IsPart asked old new)
+  said-memory : (refusal : Refusal) → IsStoppedAt sources before behind Memory
+      → (new ≡ old) ⊎ ((asked : Asked) × ForSome told (λ files. IsFor files (Ok asked)) × IsOf asked
+      × (behind ≡ count_behind before sources) × IsPart asked old new)
       → IsSaid Status.Memory refusal
-  said-memory refusal is = record {
+  said-memory refusal stopped is = record {
     answer = λ files t. tt;
     words = λ e. absurd (cc);
     read = λ e. absurd (cc);
@@ -102,24 +135,28 @@ module _ (none : Type 0) (told : Option NamedFiles) (IsFor : NamedFiles → Resu
     cut = λ d. is;
     nothing = λ d. absurd d;
     input = λ e. absurd (cc);
+    fetched = stopped;
   }
 
-  said-write : out_rose → (asked_for : Asked) → ForSome told (λ files. IsFor files (Ok asked_for))
+  said-write : out_rose → (asked_for : Asked) → ForSome told (λ files. IsFor files (Ok asked_for)) → IsOf asked_for
+      → behind ≡ count_behind before sources
       → (new ≡ old) ⊎ IsPart asked_for old new → IsSaid Status.Write Refusal.LaterPlan
-  said-write rose asked_for asks part = record {
+  said-write rose asked_for asks of_words all part = record {
     answer = λ files t. (rose, (asked_for, asks files t));
     words = λ e. absurd (cc);
     read = λ e. absurd (cc);
     write = λ e. rose;
     done = λ d. absurd d;
-    cut = λ d. cut-of asked_for asks part;
+    cut = λ d. cut-of asked_for asks of_words all part;
     nothing = λ d. absurd d;
     input = λ e. absurd (cc);
+    fetched = all;
   }
 
-  said-nothing : (why : Stop) → IsBarred none shelf_rose told IsFor why → new ≡ old
+  said-nothing : (why : Stop) → IsBarred none shelf_rose told IsFor why → IsStoppedAt sources before behind why
+      → new ≡ old
       → (none → (files : NamedFiles) → IsFor files (Err Words)) → IsSaid (end_status (Err why)) (refusal_of (Err why))
-  said-nothing Words is same named = record {
+  said-nothing Words is stopped same named = record {
     answer = λ files t. named is files;
     words = λ e. is;
     read = λ e. absurd (cc);
@@ -128,8 +165,9 @@ module _ (none : Type 0) (told : Option NamedFiles) (IsFor : NamedFiles → Resu
     cut = λ d. absurd d;
     nothing = λ d. same;
     input = λ e. absurd (cc);
+    fetched = stopped;
   }
-  said-nothing (Input refusal) asks same named = record {
+  said-nothing (Input refusal) asks stopped same named = record {
     answer = λ files t. (refusal, asks files t);
     words = λ e. absurd (cc);
     read = λ e. absurd (cc);
@@ -138,8 +176,9 @@ module _ (none : Type 0) (told : Option NamedFiles) (IsFor : NamedFiles → Resu
     cut = λ d. absurd d;
     nothing = λ d. same;
     input = λ e. asks;
+    fetched = stopped;
   }
-  said-nothing Read (cause, asks) same named = record {
+  said-nothing Read (cause, asks) stopped same named = record {
     answer = λ files t. asks files t;
     words = λ e. absurd (cc);
     read = λ e. cause;
@@ -148,40 +187,48 @@ module _ (none : Type 0) (told : Option NamedFiles) (IsFor : NamedFiles → Resu
     cut = λ d. absurd d;
     nothing = λ d. same;
     input = λ e. absurd (cc);
+    fetched = stopped;
   }
-  said-nothing Write is same named = absurd is
-  said-nothing Memory is same named = said-memory Refusal.LaterPlan (inl same)
+  said-nothing Write is stopped same named = absurd is
+  said-nothing Memory is stopped same named = said-memory Refusal.LaterPlan stopped (inl same)
 
   said-carried : (ended : Result Status Stop) → IfOk ended IsDone → (asked_for : Asked)
-      → ForSome told (λ files. IsFor files (Ok asked_for)) → IsCarried asked_for IsPart out_rose old new ended
-      → IsSaid (end_status ended) (refusal_of ended)
-  said-carried (Ok status) done asked_for asks tells = said-done status done asked_for asks tells
-  said-carried (Err Words) done asked_for asks is = absurd is
-  said-carried (Err (Input refusal)) done asked_for asks is = absurd is
-  said-carried (Err Read) done asked_for asks is = absurd is
-  said-carried (Err Write) done asked_for asks (rose, part) = said-write rose asked_for asks part
-  said-carried (Err Memory) done asked_for asks part = said-memory Refusal.LaterPlan (cut-of asked_for asks part)
+      → ForSome told (λ files. IsFor files (Ok asked_for)) → IsOf asked_for → behind ≡ count_behind before sources
+      → IsCarried asked_for IsPart out_rose old new ended → IsSaid (end_status ended) (refusal_of ended)
+  said-carried (Ok status) done asked_for asks of_words all tells = said-done status done asked_for asks of_words all tells
+  said-carried (Err Words) done asked_for asks of_words all is = absurd is
+  said-carried (Err (Input refusal)) done asked_for asks of_words all is = absurd is
+  said-carried (Err Read) done asked_for asks of_words all is = absurd is
+  said-carried (Err Write) done asked_for asks of_words all (rose, part) =
+      said-write rose asked_for asks of_words all part
+  said-carried (Err Memory) done asked_for asks of_words all part =
+      said-memory Refusal.LaterPlan (fetched-all sources before behind all) (cut-of asked_for asks of_words all part)
 
-  said-end : (ended : Result Status Stop) → IfOk ended IsDone → IsEnd none told IsFor IsPart shelf_rose out_rose old new ended
+  said-end : (ended : Result Status Stop) → IfOk ended IsDone → IsEnd none told IsFor IsOf sources before behind IsPart shelf_rose out_rose old new ended
       → (none → (files : NamedFiles) → IsFor files (Err Words)) → IsSaid (end_status ended) (refusal_of ended)
   said-end (Ok status) done (inl is) named = absurd is
-  said-end (Ok status) done (inr worked) named = said-carried (Ok status) done worked.asked_for worked.asks worked.carried
-  said-end (Err why) done (inl (is, same)) named = said-nothing why is same named
-  said-end (Err why) done (inr worked) named = said-carried (Err why) done worked.asked_for worked.asks worked.carried
+  said-end (Ok status) done (inr worked) named =
+      said-carried (Ok status) done worked.asked_for worked.asks worked.of_words worked.fetched worked.carried
+  said-end (Err why) done (inl (is, stopped, same)) named = said-nothing why is stopped same named
+  said-end (Err why) done (inr worked) named =
+      said-carried (Err why) done worked.asked_for worked.asks worked.of_words worked.fetched worked.carried
 
-  unput : (refusal : Refusal) → IsEnd none told IsFor IsPart shelf_rose out_rose old new (Err (Input refusal)) → new ≡ old
-  unput refusal (inl (is, same)) = same
+  unput : (refusal : Refusal)
+      → IsEnd none told IsFor IsOf sources before behind IsPart shelf_rose out_rose old new (Err (Input refusal))
+      → IsStoppedAt sources before behind (Input refusal) × (new ≡ old)
+  unput refusal (inl (is, stopped, same)) = (stopped, same)
   unput refusal (inr worked) = absurd worked.carried
 
   -- what a call did that ended so, as its status says it
   pub said : (ended : Result Status Stop) (status : Status) → IsStatusOf ended status → IfOk ended IsDone
-      → IsEnd none told IsFor IsPart shelf_rose out_rose old new ended
+      → IsEnd none told IsFor IsOf sources before behind IsPart shelf_rose out_rose old new ended
       → (none → (files : NamedFiles) → IsFor files (Err Words)) → IsSaid status (refusal_of ended)
   said ended status (inl same) done is named =
       subst (λ s. IsSaid s (refusal_of ended)) (sym same) (said-end ended done is named)
   said (Ok answered) status (inr (input, same)) done is named = absurd (subst IsDone input done)
   said (Err (Input refusal)) status (inr (input, same)) done is named =
-      subst (λ s. IsSaid s refusal) (sym same) (said-memory refusal (inl (unput refusal is)))
+      let stopped = fetched-some sources before behind refusal (unput refusal is).0 in
+      subst (λ s. IsSaid s refusal) (sym same) (said-memory refusal stopped (inl (unput refusal is).1))
   said (Err Words) status (inr (input, same)) done is named = absurd (cc)
   said (Err Read) status (inr (input, same)) done is named = absurd (cc)
   said (Err Write) status (inr (input, same)) done is named = absurd (cc)

@@ -1,7 +1,6 @@
 -- The headline's definitions: what is written for what the words and the files ask for, and how a call ends.
-use Rattle.std.specs.Prelude.{◌≡◌, ℕ, ◌⊎◌, ⊤, Bool, true, List, [], ◌++◌, length, codes, if◌then◌else◌, Option, None, Result, Ok, Err}
+use Rattle.std.specs.Prelude.{◌≡◌, ℕ, ◌⊎◌, ⊤, Bool, List, [], ◌++◌, length, codes, if◌then◌else◌, Option, None, Result, Ok, Err}
 use Rattle.std.specs.Fmt.{decimal}
-use Rattle.std.specs.List.{list_all}
 use Rattle.can_frame.specs.declared.TimedFrame.{TimedFrame}
 use Rattle.ftt_io.specs.Puts.{Puts, PutsPrefix}
 use Rattle.plan_check.specs.Breaches.{IsBreach}
@@ -24,11 +23,10 @@ use Rattle.poll_run.specs.RequestRows.{IsPolledText}
 use Rattle.sporadic_poll.specs.declared.stream.Stream.{Stream}
 use Rattle.async_window.specs.declared.request.Owner.{Owner}
 use Rattle.async_window.specs.declared.request.Request.{Request}
-use Rattle.admission.specs.Verdict.{bounds_by, is_accepted}
+use Rattle.admission.specs.Verdict.{bounds_by}
 use Rattle.master_core.specs.Certificates.{IsCertificateOfPlan}
 use Rattle.master_core.specs.History.{IsPlainlyLegal, placed_of}
 use Rattle.master_core.specs.declared.event.Event.{Event}
-use Rattle.master_core.specs.declared.event.Event.TheVariants.{Submit, Look, Open}
 use Rattle.fttcan_top.specs.declared.status.Status.{Status}
 use Rattle.fttcan_top.specs.declared.status.Status.TheVariants.{Done, Refused, Words, Input, Read, Write, Memory, No}
 use Rattle.asked_files.specs.declared.stopping.Refusal.{Refusal}

@@ -1,8 +1,9 @@
 -- *Summary*: the counts of a run, as the text that `gen` writes. Each row ends with one line feed; numbers are decimal
 -- without leading zeros.
-use Rattle.std.specs.Prelude.{ℕ, ◌-◌, ◌&&◌, Bool, false, not, List, ◌++◌, codes, count_by, nat_le, nat_lt}
+use Rattle.std.specs.Prelude.{ℕ, ◌+◌, ◌-◌, ◌&&◌, Bool, false, not, List, ◌++◌, codes, count_by, nat_le, nat_lt}
 use Rattle.std.specs.List.{sum_by}
 use Rattle.std.specs.Fmt.{decimal}
+use Rattle.profile.specs.Limits.{first_identifier, least_asynchronous}
 use Rattle.can_frame.specs.declared.data_frame.TimedFrame.{TimedFrame}
 use Rattle.admission.specs.Verdict.{is_accepted}
 use Rattle.master_core.specs.declared.event.Event.{Event}
@@ -18,11 +19,12 @@ refuses (Open cycle mask) = false
 -- whether the frame is a synchronous one of a generated system, which has 40 slots: it has an identifier from 0x100 to
 -- 0x127
 abbrev pub is_synchronous : TimedFrame → Bool
-is_synchronous sent = nat_le 256 sent.frame.identifier && nat_lt sent.frame.identifier 296
+is_synchronous sent =
+    nat_le first_identifier sent.frame.identifier && nat_lt sent.frame.identifier (first_identifier + 40)
 
 -- whether the frame is an asynchronous one: it has an identifier from 0x200 on
 abbrev pub is_asynchronous : TimedFrame → Bool
-is_asynchronous sent = nat_le 512 sent.frame.identifier
+is_asynchronous sent = nat_le least_asynchronous sent.frame.identifier
 
 -- a row of a name and a number
 abbrev pub row : List ℕ → ℕ → List ℕ

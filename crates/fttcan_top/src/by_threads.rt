@@ -8,8 +8,10 @@ ghost use Rattle.command_words.specs.Words.{live_file_count, live_of};
 ghost use Rattle.asked_files.specs.declared.stopping.Refusal.{Refusal};
 ghost use Rattle.asked_files.specs.Asked.{Asked, IsLiveAsked};
 ghost use Rattle.asked_files.specs.Loads.{Fetches};
+ghost use Rattle.asked_files.specs.OfWords.{IsOfLiveWords};
+ghost use Rattle.asked_files.specs.Sources.{count_behind, live_sources_of};
 ghost use Rattle.fttcan_top.specs.declared.status.Status.{Status};
-ghost use Rattle.fttcan_top.specs.Ends.{IsEnd};
+ghost use Rattle.fttcan_top.specs.Ends.{HasFetched, IsEnd};
 ghost use Rattle.fttcan_top.specs.Output.{IsAnswer, IsCut, IsDone, IsStopped, Says, Tells, TellsFront, message_of};
 
 use crate::status::Status;
@@ -33,7 +35,8 @@ fn call<T: Threads + Wait + Sync, S: Shelf, O: Sink, G: Gate>(
 ) -> Result<Status, Stop>
     ensures done { IfOk result IsDone }
     ensures ended { IsEnd (live_of (map string_bytes words.now) ≡ None) (S.told_files shelf.old)
-        (IsLiveAsked (map string_bytes words.now))
+        (IsLiveAsked (map string_bytes words.now)) (IsOfLiveWords (map string_bytes words.now))
+        (live_sources_of (live_of (map string_bytes words.now))) (S.fetches shelf.old) (S.fetches shelf.new)
         TellsFront (Rose (S.faults shelf.old) (S.faults shelf.new)) (Rose (O.faults out.old) (O.faults out.new))
         (O.told_bytes out.old) (O.told_bytes out.new) result }
     ensures command { live_of (map string_bytes words.now) ≡ None
@@ -77,19 +80,27 @@ pub fn live<T: Threads + Wait + Sync, S: Shelf, O: Sink, R: Sink, G: Gate>(
         → Rose (S.faults shelf.old) (S.faults shelf.new) ⊎ IsSome (S.told_files shelf.old) }
     ensures write { result ≡ Status.Write → Rose (O.faults out.old) (O.faults out.new) }
 
-    // What was put to `out`: the answer to what was asked, its first bytes, or nothing.
+    // What was put to `out`: the answer to what was asked, its first bytes, or nothing. Something is put only once all
+    // files were fetched. What was asked is what the words say, also where the shelf does not tell its files.
     ensures done { IsDone result → (asked_for : Asked)
         × ForSome (S.told_files shelf.old) (λ files. IsLiveAsked (map string_bytes words.now) files (Ok asked_for))
+        × IsOfLiveWords (map string_bytes words.now) asked_for
         × Tells asked_for result (O.told_bytes out.old) (O.told_bytes out.new) }
     ensures cut { IsCut result → (O.told_bytes out.new ≡ O.told_bytes out.old) ⊎ ((asked_for : Asked)
         × ForSome (S.told_files shelf.old) (λ files. IsLiveAsked (map string_bytes words.now) files (Ok asked_for))
+        × IsOfLiveWords (map string_bytes words.now) asked_for
+        × (S.fetches shelf.new
+        ≡ count_behind (S.fetches shelf.old) (live_sources_of (live_of (map string_bytes words.now))))
         × TellsFront asked_for (O.told_bytes out.old) (O.told_bytes out.new)) }
     ensures nothing { IsStopped result → O.told_bytes out.new ≡ O.told_bytes out.old }
 
-    // What was put to `err`, and how often a file was fetched.
+    // What was put to `err`, and how many files were fetched: as many as the words name, or none behind the one that is
+    // refused.
     ensures message { (refusal : Refusal)
         × (result ≡ Status.Input → ForSome (S.told_files shelf.old)
         (λ files. IsLiveAsked (map string_bytes words.now) files (Err (Stop.Input refusal))))
+        × HasFetched (live_sources_of (live_of (map string_bytes words.now))) (S.fetches shelf.old)
+        (S.fetches shelf.new) result refusal
         × Says (R.told_bytes err.old) (R.told_bytes err.new) (Rose (R.faults err.old) (R.faults err.new))
         (message_of result refusal) }
     ensures fetches { S.fetches shelf.new ≤ S.fetches shelf.old + live_file_count (map string_bytes words.now) }

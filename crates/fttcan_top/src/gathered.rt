@@ -24,7 +24,8 @@ pub fn flushed<W: Write + Drop, R: Sink>(
         ⊎ (IsDone status × (result ≡ Status.Write) × Rose out.old.faults out.new.faults) }
     ensures written { IsDone result → writer_buffer out.new.writer ≡ [] }
 
-    // What was put to `out`, and to `err`.
+    // What was put to `out`, and to `err`; where nothing was done, nothing is written of what is held back.
+    ensures untouched { (IsDone status → ⊥) → out.new ≡ out.old }
     ensures nothing { Stays (writer_contents W.contents out.old.writer) (writer_contents W.contents out.new.writer) }
     ensures quiet { result ≡ status → R.told_bytes err.new ≡ R.told_bytes err.old }
     ensures message { (result ≡ status → ⊥)

@@ -7,7 +7,9 @@ ghost use Rattle.command_words.specs.Words.{command_of, file_count};
 ghost use Rattle.asked_files.specs.declared.stopping.Refusal.{Refusal};
 ghost use Rattle.asked_files.specs.Asked.{Asked, IsAsked};
 ghost use Rattle.asked_files.specs.Loads.{Fetches, IsTask, asked_of};
-ghost use Rattle.fttcan_top.specs.Ends.{IsCarried, IsEnd, PutsPart};
+ghost use Rattle.asked_files.specs.OfWords.{IsOfWords};
+ghost use Rattle.asked_files.specs.Sources.{count_behind, sources_of};
+ghost use Rattle.fttcan_top.specs.Ends.{HasFetched, IsCarried, IsEnd, PutsPart};
 ghost use Rattle.fttcan_top.specs.Output.{IsAnswer, IsCut, IsCutWhileRun, IsDone, IsStopped, Says, Tells, TellsFront, message_of};
 
 use crate::auditing::audit_of;
@@ -52,7 +54,8 @@ fn call<S: Shelf, O: Sink>(
 ) -> Result<Status, Stop>
     ensures done { IfOk result IsDone }
     ensures ended { IsEnd (command_of (map string_bytes words.now) ≡ None) (S.told_files shelf.old)
-        (IsAsked (map string_bytes words.now))
+        (IsAsked (map string_bytes words.now)) (IsOfWords (map string_bytes words.now))
+        (sources_of (command_of (map string_bytes words.now))) (S.fetches shelf.old) (S.fetches shelf.new)
         PutsPart (Rose (S.faults shelf.old) (S.faults shelf.new)) (Rose (O.faults out.old) (O.faults out.new))
         (O.told_bytes out.old) (O.told_bytes out.new) result }
     ensures command { command_of (map string_bytes words.now) ≡ None
@@ -108,20 +111,28 @@ pub fn plain<S: Shelf, O: Sink, R: Sink>(
     ensures write { result ≡ Status.Write → Rose (O.faults out.old) (O.faults out.new) }
 
     // What was put to `out`: the answer to what was asked, its first bytes, the first rows of a run that was begun, or
-    // nothing.
+    // nothing. Something is put only once all files were fetched. What was asked is what the words say, also where the
+    // shelf does not tell its files.
     ensures done { IsDone result → (asked_for : Asked)
         × ForSome (S.told_files shelf.old) (λ files. IsAsked (map string_bytes words.now) files (Ok asked_for))
+        × IsOfWords (map string_bytes words.now) asked_for
         × Tells asked_for result (O.told_bytes out.old) (O.told_bytes out.new) }
     ensures cut { IsCut result → (O.told_bytes out.new ≡ O.told_bytes out.old) ⊎ ((asked_for : Asked)
         × ForSome (S.told_files shelf.old) (λ files. IsAsked (map string_bytes words.now) files (Ok asked_for))
+        × IsOfWords (map string_bytes words.now) asked_for
+        × (S.fetches shelf.new
+        ≡ count_behind (S.fetches shelf.old) (sources_of (command_of (map string_bytes words.now))))
         × (TellsFront asked_for (O.told_bytes out.old) (O.told_bytes out.new)
         ⊎ IsCutWhileRun asked_for (O.told_bytes out.old) (O.told_bytes out.new))) }
     ensures nothing { IsStopped result → O.told_bytes out.new ≡ O.told_bytes out.old }
 
-    // What was put to `err`, and how often a file was fetched.
+    // What was put to `err`, and how many files were fetched: as many as the words name, or none behind the one that is
+    // refused.
     ensures message { (refusal : Refusal)
         × (result ≡ Status.Input → ForSome (S.told_files shelf.old)
         (λ files. IsAsked (map string_bytes words.now) files (Err (Stop.Input refusal))))
+        × HasFetched (sources_of (command_of (map string_bytes words.now))) (S.fetches shelf.old)
+        (S.fetches shelf.new) result refusal
         × Says (R.told_bytes err.old) (R.told_bytes err.new) (Rose (R.faults err.old) (R.faults err.new))
         (message_of result refusal) }
     ensures fetches { S.fetches shelf.new ≤ S.fetches shelf.old + file_count (map string_bytes words.now) }

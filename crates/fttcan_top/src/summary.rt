@@ -5,11 +5,10 @@ ghost use Rattle.std.specs.List.{sum_by};
 ghost use Rattle.master_core.specs.History.{accepts, is_open};
 ghost use Rattle.fttcan_top.specs.Summary.{is_asynchronous, history_rows, is_synchronous, refuses, rest_rows, row, summary_text, trace_rows};
 
-use async_window::LEAST_ASYNCHRONOUS;
 use can_frame::TimedFrame;
 use generated_input::GENERATED_SLOTS;
 use master_core::Event;
-use node_model::FIRST_IDENTIFIER;
+use profile::{FIRST_IDENTIFIER, LEAST_ASYNCHRONOUS};
 use std::alloc::{AllocError, Global};
 
 /// Whether the event refuses a change.

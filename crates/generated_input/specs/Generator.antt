@@ -2,6 +2,7 @@
 use Rattle.std.specs.Prelude.{ℕ, zero, suc, ◌+◌, ◌*◌, ◌/◌, ◌%◌, ◌^◌, ◌==◌}
 use Rattle.std.specs.Prelude.{if◌then◌else◌, List, [], ◌∷◌, ◌++◌, map, get_or, sum_by}
 use Rattle.std.specs.List.{range_with_len}
+use Rattle.profile.specs.Limits.{least_asynchronous}
 use Rattle.requirement_table.specs.declared.entries.Entry.{Entry}
 use Rattle.change_protocol.specs.declared.operations.Op.TheVariants.{Add}
 use Rattle.change_protocol.specs.declared.operations.Act.TheVariants.{Ask}
@@ -36,7 +37,7 @@ abbrev pub policy_made : ℕ → Policy
 policy_made number = if number % 3 == 0 then Rm else if number % 3 == 1 then Dm else Edf
 
 abbrev pub owner_made : ℕ → Owner
-owner_made place = record { id = 0x200 + place; node = place % 8 }
+owner_made place = record { id = least_asynchronous + place; node = place % 8 }
 
 -- how many slots a generated system has
 abbrev pub generated_slots : ℕ
@@ -90,7 +91,7 @@ abbrev pub gap_made : ℕ → ℕ → ℕ
 gap_made number before = draw number (before + 1) % 1000
 
 abbrev pub identifier_made : ℕ → ℕ → ℕ
-identifier_made number before = 0x200 + draw number (before + 2) % 32
+identifier_made number before = least_asynchronous + draw number (before + 2) % 32
 
 -- how many bytes it has
 abbrev pub size_made : ℕ → ℕ → ℕ

@@ -3,7 +3,8 @@
 //! A linear congruential generator of 64 bits starts at the number. Its draws, in their order, are
 //! the forty changes of the steps, six draws each, and then the requests.
 
-ghost use Rattle.std.specs.Prelude.{◌≡◌, ◌+◌, ◌*◌, ◌/◌, ◌^◌, ◌%◌, ◌<◌, ◌≤◌, ℕ, [], ◌∷◌, IfOk, OnOk};
+ghost use Rattle.std.specs.Prelude.{◌≡◌, ◌+◌, ◌*◌, ◌/◌, ◌%◌, ◌<◌, ◌≤◌, ℕ, [], ◌∷◌, IfOk, OnOk};
+ghost use Rattle.profile.specs.Limits.{arrivals_end, greatest_identifier};
 ghost use Rattle.change_protocol.specs.declared.operations.Op.TheVariants.{Add};
 ghost use Rattle.generated_input.specs.Generator.{bytes_made, draw, each_below, entry_made, gap_made};
 ghost use Rattle.generated_input.specs.Generator.{generated, generated_slots, identifier_made, owner_made, policy_made};
@@ -14,11 +15,12 @@ ghost use Rattle.steps_file.specs.StepsReading.{asking};
 ghost use Rattle.system_file.specs.SystemFile.{IsSystem};
 
 use admission_rules::Rules;
-use async_window::{LEAST_ASYNCHRONOUS, Owner, Request};
+use async_window::{Owner, Request};
 use can_frame::{Frame, MAX_BYTES};
 use change_protocol::{Act, Change, Op, Ops};
 use cycle_layout::Layout;
 use planner_policies::{Fill, Policy};
+use profile::LEAST_ASYNCHRONOUS;
 use requests_file::RequestList;
 use requirement_table::Entry;
 use std::alloc::{AllocError, Global};
@@ -127,7 +129,7 @@ impl Draws {
 
     /// A frame of this identifier, of a draw for the number of its bytes and one for each of them.
     fn frame(&mut self, id: u16) -> Frame
-        requires identifier { id ≤ 0x7EF }
+        requires identifier { id ≤ greatest_identifier }
         ensures value { result ≡ record {
           identifier = id;
           bytes = each_below (draw self.old.state 1 % 9) (λ place. draw self.old.state (2 + place) % 256);
@@ -147,7 +149,7 @@ impl Draws {
 
     /// The request behind one that arrives at this time, of three draws and one for each byte.
     fn request(&mut self, last: u64) -> Request
-        requires early { last < 2 ^ 40 }
+        requires early { last < arrivals_end }
         ensures early { result.at < last + 1000 }
         ensures at { result.at ≡ last + gap_made self.old.state 0 }
         ensures identifier { result.frame.identifier ≡ identifier_made self.old.state 0 }

@@ -1,6 +1,7 @@
 //! What a standby is told of a run.
 
-ghost use Rattle.std.specs.Prelude.{◌≡◌, ℕ, ◌^◌, ◌<◌, ◌≤◌, ◌∷◌, ◌++◌, [], false, List, IfErr, IfSome, OnOk, is_ok};
+ghost use Rattle.std.specs.Prelude.{◌≡◌, ℕ, ◌<◌, ◌≤◌, ◌∷◌, ◌++◌, [], false, List, IfErr, IfSome, OnOk, is_ok};
+ghost use Rattle.profile.specs.Limits.{openings_end};
 ghost use Rattle.admission_rules.specs.declared.Rules.{Rules};
 ghost use Rattle.master_core.specs.declared.event.Event.{Event as EventOf};
 ghost use Rattle.master_core.specs.declared.event.Event.TheVariants.{Open};
@@ -42,7 +43,7 @@ fn hear_opening(
 ) -> Result<(), AllocError>
     requires slots { slots ≡ standby.old.rules.slots }
     requires due { HearsDue standby.old frames.now }
-    requires next { next_of standby.old.history < 2 ^ 41 }
+    requires next { next_of standby.old.history < openings_end }
     ensures rules { standby.new.rules ≡ standby.old.rules }
     ensures opened { OnOk result (IsOpened standby.old (due_frames standby.old) standby.new.history) }
 {
@@ -108,7 +109,7 @@ pub fn follow_opening(
 ) -> Result<(), AllocError>
     requires slots { IfSome standby.old (λ one. slots ≡ one.rules.slots) }
     requires due { IfSome standby.old (λ one. HearsDue one frames.now) }
-    requires next { IfSome standby.old (λ one. next_of one.history < 2 ^ 41) }
+    requires next { IfSome standby.old (λ one. next_of one.history < openings_end) }
     ensures followed { (rules : Rules) (whole : List EventOf) (cycle mask : ℕ) → Follows rules whole standby.old
         → IsRight rules whole (Open cycle mask)
         → OnOk result (Follows rules (whole ++ Open cycle mask ∷ []) standby.new) }

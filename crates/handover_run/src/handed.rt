@@ -1,6 +1,7 @@
 //! A run whose first master has a standby: the bus, and the standby up to the handover.
 
 ghost use Rattle.std.specs.Prelude.{◌≡◌, ◌+◌, ◌<◌, ◌≤◌, ◌∷◌, [], IfOk, OnOk};
+ghost use Rattle.profile.specs.Limits.{most_cycles};
 ghost use Rattle.system_file.specs.SystemFile.{IsSystem};
 ghost use Rattle.requests_file.specs.RequestsFile.{AreLegal};
 ghost use Rattle.master_core.specs.Calls.{asked, opens};
@@ -80,7 +81,7 @@ impl Handed {
     /// Only where memory runs out.
     pub fn run_next(&mut self, alloc: Global) -> Result<(), AllocError>
         requires can { CanHand self.old }
-        requires few { next_of self.old.bus.master.history < 20000 }
+        requires few { next_of self.old.bus.master.history < most_cycles }
         ensures on { OnOk result (HandsOn self.old self.new self.new.bus.segment (opens ∷ [])) }
         ensures last { OnOk result (CanTellLast self.new.bus.master.history self.new.bus.segment) }
         ensures next { OnOk result
@@ -102,7 +103,7 @@ impl Handed {
     pub fn answer(&mut self, alloc: Global, caller: u8, act: &Act) -> Result<(), AllocError>
         requires can { CanHand self.old }
         requires caller { (1 ≤ caller) × (caller ≤ 8) }
-        requires few { next_of self.old.bus.master.history ≤ 20000 }
+        requires few { next_of self.old.bus.master.history ≤ most_cycles }
         ensures on { OnOk result (HandsOn self.old self.new [] (asked caller act.now ∷ [])) }
         ensures last { OnOk result (CanTellLast self.new.bus.master.history []) }
         ensures next { OnOk result

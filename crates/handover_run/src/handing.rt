@@ -2,6 +2,7 @@
 
 ghost use Rattle.std.specs.Prelude.{◌≡◌, ◌+◌, ◌<◌, ◌≤◌, ◌∷◌, [], OnErr, OnOk, IfErr, IfOk, IsErrOf};
 ghost use Rattle.std.specs.List.{flat_map};
+ghost use Rattle.profile.specs.Limits.{most_cycles};
 ghost use Rattle.ftt_io.specs.Counts.{Rose};
 ghost use Rattle.system_file.specs.SystemFile.{IsSystem};
 ghost use Rattle.requests_file.specs.RequestsFile.{AreLegal};
@@ -35,7 +36,7 @@ struct Logged<'a, L> {
 /// Opens the next cycle, runs it on the bus, and tells its rows. Where so many cycles were opened, the standby goes on.
 fn open_next<L: Listener>(handed: &mut Handed, listener: &mut L, alloc: Global) -> Result<(), Cut>
     requires ready { CanLog L.heard handed.old listener.old }
-    requires few { next_of handed.old.bus.master.history < 20000 }
+    requires few { next_of handed.old.bus.master.history < most_cycles }
     ensures goes_on { OnOk result (GoesOn L.heard handed.old listener.old (opens ∷ []) handed.new listener.new) }
     ensures next { OnOk result
         (next_of handed.new.bus.master.history ≡ next_of handed.old.bus.master.history + 1) }
@@ -62,7 +63,7 @@ fn answer_act<L: Listener>(
     act: &Act,
 ) -> Result<(), Cut>
     requires ready { CanLog L.heard handed.old listener.old }
-    requires few { next_of handed.old.bus.master.history ≤ 20000 }
+    requires few { next_of handed.old.bus.master.history ≤ most_cycles }
     requires caller { (1 ≤ caller) × (caller ≤ 8) }
     ensures goes_on { OnOk result
         (GoesOn L.heard handed.old listener.old (asked caller act.now ∷ []) handed.new listener.new) }

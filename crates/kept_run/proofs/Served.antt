@@ -4,6 +4,7 @@ use Rattle.std.specs.Prelude.{nat_eq, option_map, IfSome}
 use Rattle.std.proofs.lemmas.Bool.{cases_eq, eq-eqb, ne_eqb, le-leb, leb-true, and_from, and_left, and_right, and_parts, false_from_ne_true, cond-false}
 use Rattle.std.proofs.lemmas.List.Elements.{All-cons, All-contains, All-nil, Contains-append_cases, Contains-get_or, filter-append}
 use Rattle.std.proofs.Math.Nat.{div-lt_iff_lt-mul, div-eq_of_lt-le}
+use Rattle.profile.specs.Limits.{first_identifier}
 use Rattle.can_frame.specs.DataFrame.{DataFrame}
 use Rattle.can_frame.specs.declared.data_frame.TimedFrame.{TimedFrame}
 use Rattle.cycle_layout.specs.Layout.{CycleLayout}
@@ -19,7 +20,6 @@ use Rattle.planner_policies.specs.Plan.{Planning, flags_of, mask_at}
 use Rattle.admission_rules.specs.declared.Rules.{Rules}
 use Rattle.master_core.specs.History.{plan_of}
 use Rattle.trigger_codec.specs.Bytes.{second_frame, trigger_frame}
-use Rattle.node_model.specs.Opening.{first_identifier}
 use Rattle.cycle_engine.specs.Cycle.{IsRequestFrame, IsSentOnceWith, IsSlotFrame, RunsCycleWith, RunsCyclesWith, cycle_of, frames_in, of_slot}
 use Rattle.kept_run.specs.Served.{AllGuarded, AllServedWith, ForgetsEnds, IsInWindow, NoStrangers, frames_of}
 use Rattle.kept_run.proofs.Lists.{Contains-cases, Contains-filter, Contains-nil, filter-filter, filter-none, filter-same, place-of}

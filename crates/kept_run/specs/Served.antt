@@ -2,6 +2,7 @@
 -- else was sent in its slot; and no frame of a request touches a trigger part or a synchronous window. Times are bit
 -- times.
 use Rattle.std.specs.Prelude.{◌≡◌, ℕ, ◌+◌, ◌<◌, ◌≤◌, ◌&&◌, ◌==◌, nat_le, List, [], ◌∷◌, filter, All, Contains}
+use Rattle.profile.specs.Limits.{first_identifier, least_asynchronous}
 use Rattle.can_frame.specs.declared.data_frame.TimedFrame.{TimedFrame}
 use Rattle.cycle_layout.specs.Layout.{CycleLayout, async_open}
 use Rattle.requirement_table.specs.declared.entries.Placed.{Placed}
@@ -10,7 +11,7 @@ use Rattle.requirement_table.specs.Opening.{Opening}
 use Rattle.requirement_table.specs.Slots.{most_slots}
 use Rattle.change_protocol.specs.Applied.{without_end}
 use Rattle.bus_line.specs.Trace.{end_of}
-use Rattle.node_model.specs.Opening.{end_of_cycle, first_identifier, window_start}
+use Rattle.node_model.specs.Opening.{end_of_cycle, window_start}
 use Rattle.cycle_engine.specs.Cycle.{cycle_of}
 
 -- the frames with this identifier that start in the cycles from `first` to `last`
@@ -78,4 +79,5 @@ pub record IsGuarded (layout : CycleLayout) (openings : List Opening) (sent : Ti
 -- *Guarded*: no frame of a request touches a trigger part or a synchronous window; identifiers from 0x200 on are
 -- those of requests
 abbrev pub AllGuarded : CycleLayout → List Opening → List TimedFrame → Type 0
-AllGuarded layout openings trace = All (λ sent. 0x200 ≤ sent.frame.identifier → IsGuarded layout openings sent) trace
+AllGuarded layout openings trace =
+    All (λ sent. least_asynchronous ≤ sent.frame.identifier → IsGuarded layout openings sent) trace

@@ -1,6 +1,7 @@
 //! Runs of one node, with no requests and one operator.
 
-ghost use Rattle.std.specs.Prelude.{◌≤◌, ◌<◌, ◌^◌, length};
+ghost use Rattle.std.specs.Prelude.{◌≤◌, ◌<◌, length};
+ghost use Rattle.profile.specs.Limits.{openings_end};
 
 use crate::masters::{change, rules};
 use case_tables::{Held, HoldingGate};
@@ -23,7 +24,7 @@ fn run<T: Threads + Wait + Sync, G: Gate>(
     script: Script,
     gate: &G,
 ) -> Result<Master, AllocError>
-    requires cycles { cycles < 2 ^ 41 }
+    requires cycles { cycles < openings_end }
 {
     let Ok(layout) = Layout::new(1_000, 0, 135, 40) else {
         return Err(AllocError);

@@ -9,6 +9,7 @@ use change_protocol::{Change, Op, Ops};
 use live_master::{DispatcherPass, LiveMaster, OperatorPass};
 use master_core::Event;
 use planner_policies::{Fill, Policy};
+use profile::OPENINGS_END;
 use requirement_table::Entry;
 use std::alloc::{AllocError, Global};
 
@@ -85,7 +86,7 @@ fn open(
     ensures of { IsOf shared.now dispatcher.new }
     ensures out { dispatcher.new.view.out ≡ dispatcher.old.view.out }
 {
-    if dispatcher.cycles() >= 1 << 41 {
+    if dispatcher.cycles() >= OPENINGS_END {
         return Ok(String::new(alloc));
     }
     match shared.try_open(alloc, dispatcher) {

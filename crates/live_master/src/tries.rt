@@ -1,6 +1,7 @@
 //! The calls that try once for the turn. They wait for nobody.
 
-ghost use Rattle.std.specs.Prelude.{◌≡◌, ◌<◌, ◌^◌, IfOk, IfErr};
+ghost use Rattle.std.specs.Prelude.{◌≡◌, ◌<◌, IfOk, IfErr};
+ghost use Rattle.profile.specs.Limits.{openings_end};
 ghost use Rattle.turn_lock.specs.Passes.{IsOf};
 ghost use Rattle.master_core.specs.History.{next_of};
 ghost use Rattle.live_master.specs.Calls.{AtOnce, Faulted, IsPlannedIn, LookedAt, Opened, SettleFaulted, Settled};
@@ -117,7 +118,7 @@ impl LiveMaster {
     /// left no event then, and may be made again.
     pub fn try_open(&self, alloc: Global, pass: &mut DispatcherPass) -> Result<Order, TryFault>
         requires of { IsOf self.now pass.old }
-        requires cycles { next_of pass.old.view.mine < 2 ^ 41 }
+        requires cycles { next_of pass.old.view.mine < openings_end }
         ensures opened { IfOk result (λ order. Opened self.now.fixed pass.old pass.new order) }
         ensures fault { IfErr result (λ fault. Faulted pass.old pass.new fault) }
         ensures standing { IsPassOf self.now pass.new }

@@ -1,6 +1,7 @@
 //! One call under one turn.
 
-ghost use Rattle.std.specs.Prelude.{◌≡◌, ◌<◌, ◌≤◌, ◌^◌, IfOk, IfErr};
+ghost use Rattle.std.specs.Prelude.{◌≡◌, ◌<◌, ◌≤◌, IfOk, IfErr};
+ghost use Rattle.profile.specs.Limits.{openings_end};
 ghost use Rattle.turn_lock.specs.Passes.{Facts, IsReady};
 ghost use Rattle.master_core.specs.History.{IsLegal, next_of};
 ghost use Rattle.live_master.specs.Callers.{number_of};
@@ -119,7 +120,7 @@ pub fn settle_once(
 pub fn open_once(turn: &Turn<Desk>, alloc: Global, pass: &mut Pass<Desk>) -> Result<Order, TryFault>
     requires standing { IsPassOf turn.now pass.old }
     requires dispatcher { pass.old.view.number ≡ 0 }
-    requires cycles { next_of pass.old.view.mine < 2 ^ 41 }
+    requires cycles { next_of pass.old.view.mine < openings_end }
     ensures opened { IfOk result (λ order. Opened turn.now.fixed pass.old pass.new order) }
     ensures fault { IfErr result (λ fault. Faulted pass.old pass.new fault) }
     ensures ready { IsReady turn.now pass.new }

@@ -1,6 +1,7 @@
 //! The calls that try again until they get the turn.
 
-ghost use Rattle.std.specs.Prelude.{◌≡◌, ◌⊎◌, ◌<◌, ◌^◌, IfOk, OnErr};
+ghost use Rattle.std.specs.Prelude.{◌≡◌, ◌⊎◌, ◌<◌, IfOk, OnErr};
+ghost use Rattle.profile.specs.Limits.{openings_end};
 ghost use Rattle.turn_lock.specs.Passes.{IsOf};
 ghost use Rattle.master_core.specs.History.{next_of};
 ghost use Rattle.live_master.specs.Calls.{AfterWaiting, GaveBack, InTurn, IsPlannedIn, LookedAt, Opened, Settled};
@@ -148,7 +149,7 @@ impl LiveMaster {
         pass: &mut DispatcherPass,
     ) -> Result<Order, AllocError>
         requires of { IsOf self.now pass.old }
-        requires cycles { next_of pass.old.view.mine < 2 ^ 41 }
+        requires cycles { next_of pass.old.view.mine < openings_end }
         ensures opened { IfOk result (λ order.
             AfterWaiting (λ old new. Opened self.now.fixed old new order) pass.old pass.new) }
         ensures memory { OnErr result (AfterWaiting GaveBack pass.old pass.new) }

@@ -1,6 +1,7 @@
 //! The call that opens a cycle only where there is room for what the nodes learn with it.
 
-ghost use Rattle.std.specs.Prelude.{◌≡◌, ◌<◌, ◌^◌, IfOk, IfErr, OnErr};
+ghost use Rattle.std.specs.Prelude.{◌≡◌, ◌<◌, IfOk, IfErr, OnErr};
+ghost use Rattle.profile.specs.Limits.{openings_end};
 ghost use Rattle.turn_lock.specs.Passes.{Facts, IsOf, IsReady};
 ghost use Rattle.master_core.specs.History.{IsLegal, next_of};
 ghost use Rattle.live_master.specs.Callers.{number_of};
@@ -37,7 +38,7 @@ fn open_within_once(
 ) -> Result<Opening, TryFault>
     requires standing { IsPassOf turn.now pass.old }
     requires dispatcher { pass.old.view.number ≡ 0 }
-    requires cycles { next_of pass.old.view.mine < 2 ^ 41 }
+    requires cycles { next_of pass.old.view.mine < openings_end }
     ensures within { IfOk result (λ opening. OpenedWithin turn.now.fixed entries pass.old pass.new opening) }
     ensures fault { IfErr result (λ fault. Faulted pass.old pass.new fault) }
     ensures ready { IsReady turn.now pass.new }
@@ -83,7 +84,7 @@ impl LiveMaster {
         entries: usize,
     ) -> Result<Opening, TryFault>
         requires of { IsOf self.now pass.old }
-        requires cycles { next_of pass.old.view.mine < 2 ^ 41 }
+        requires cycles { next_of pass.old.view.mine < openings_end }
         ensures within { IfOk result (λ opening. OpenedWithin self.now.fixed entries pass.old pass.new opening) }
         ensures fault { IfErr result (λ fault. Faulted pass.old pass.new fault) }
         ensures standing { IsPassOf self.now pass.new }
@@ -111,7 +112,7 @@ impl LiveMaster {
         entries: usize,
     ) -> Result<Opening, AllocError>
         requires of { IsOf self.now pass.old }
-        requires cycles { next_of pass.old.view.mine < 2 ^ 41 }
+        requires cycles { next_of pass.old.view.mine < openings_end }
         ensures within { IfOk result (λ opening.
             AfterWaiting (λ old new. OpenedWithin self.now.fixed entries old new opening) pass.old pass.new) }
         ensures memory { OnErr result (AfterWaiting GaveBack pass.old pass.new) }

@@ -1,5 +1,5 @@
 -- A change that was planned from a snapshot.
-use Rattle.std.proofs.Common.{List, [], subst}
+use Rattle.std.proofs.Common.{[], subst}
 use Rattle.std.proofs.lemmas.List.{append-nil}
 use Rattle.change_protocol.specs.declared.operations.Change.{Change}
 use Rattle.admission_rules.specs.declared.Rules.{Rules}

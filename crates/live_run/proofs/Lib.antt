@@ -4,3 +4,4 @@ mod Cycles
 mod Openings
 mod Runs
 mod Whole
+mod Lefts

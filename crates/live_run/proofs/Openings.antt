@@ -6,7 +6,6 @@ use Rattle.admission_rules.specs.declared.Rules.{Rules}
 use Rattle.turn_lock.specs.declared.view.View.{View}
 use Rattle.turn_lock.specs.Passes.{Facts, Known, Lock}
 use Rattle.requirement_table.specs.declared.entries.Order.{Order}
-use Rattle.cycle_engine.specs.Nodes.{states_of}
 use Rattle.master_core.specs.declared.event.Event.{Event}
 use Rattle.master_core.specs.declared.event.Event.TheVariants.{Open}
 use Rattle.master_core.specs.History.{IsLegal, is_open, next_of}
@@ -16,7 +15,6 @@ use Rattle.kept_run.specs.Progress.{IsOnTheWay, Setting}
 use Rattle.live_master.specs.Callers.{number_of}
 use Rattle.live_master.specs.Calls.{AfterWaiting, GaveBack}
 use Rattle.live_master.specs.Within.{OpenedWithin}
-use Rattle.live_master.specs.declared.within.Opening.{Opening}
 use Rattle.live_master.specs.declared.within.Opening.TheVariants as opening
 use Rattle.live_run.specs.declared.dispatching.Bus.{Bus}
 use Rattle.live_run.specs.Running.{CanRun, HasOpened, HasSeen, IsRunning, IsSameBus, Stays}

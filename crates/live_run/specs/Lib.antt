@@ -4,3 +4,4 @@ pub mod Live
 pub mod Retiring
 pub mod Running
 pub mod Whole
+pub mod Left

@@ -1,5 +1,6 @@
 -- The dispatcher and its bus between two cycles.
 use Rattle.std.specs.Prelude.{◌≡◌, ◌+◌, ◌/◌, ◌≤◌, ◌++◌, ◌∷◌, [], false, List, All, vec_capacity, vec_len}
+use Rattle.profile.specs.Limits.{shortest_frame}
 use Rattle.requirement_table.specs.declared.entries.Order.{Order}
 use Rattle.admission_rules.specs.declared.Rules.{Rules}
 use Rattle.turn_lock.specs.declared.view.View.{View}
@@ -44,7 +45,7 @@ pub record HasSeen (rules : Rules) (old new : List Event) : Type 0 where
 
 -- a bus has room for the frames of one cycle behind those that it has
 abbrev pub HasFrameRoom : Bus → Type 0
-HasFrameRoom bus = vec_len bus.trace + (bus.nodes.layout.cycle / 47 + 1) ≤ vec_capacity bus.trace
+HasFrameRoom bus = vec_len bus.trace + (bus.nodes.layout.cycle / shortest_frame + 1) ≤ vec_capacity bus.trace
 
 -- two buses with the same frames and layout, whose nodes know the same
 pub record IsSameBus (old new : Bus) : Type 0 where

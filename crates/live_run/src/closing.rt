@@ -1,9 +1,11 @@
 //! A whole run: the shared master is made, run and closed.
 
-ghost use Rattle.std.specs.Prelude.{◌≡◌, ◌≢◌, ◌<◌, ◌≤◌, ◌^◌, All, AllPairs, Any, IfOk, length};
+ghost use Rattle.std.specs.Prelude.{◌≡◌, ◌≢◌, ◌<◌, ◌≤◌, All, AllPairs, Any, IfOk, length};
+ghost use Rattle.profile.specs.Limits.{arrivals_end, openings_end};
 ghost use Rattle.admission.specs.Verdict.{IsRules};
 ghost use Rattle.async_window.specs.Owners.{AreOwners};
 ghost use Rattle.kept_run.specs.Progress.{Setting};
+ghost use Rattle.live_run.specs.Left.{left_of};
 ghost use Rattle.live_run.specs.Whole.{IsWholeRun};
 
 use crate::frames::Run;
@@ -61,10 +63,11 @@ pub fn run_whole<T: Threads + Wait + Sync, G: Gate>(
     requires numbers { All (λ owner. owner.node < rules.nodes) owners.now }
     requires owned { All (λ request. Any (λ owner. owner.id ≡ request.frame.identifier) owners.now) requests.now }
     requires arrivals { AllPairs (λ one other. one.at ≤ other.at) requests.now }
-    requires early { All (λ request. request.at < 2 ^ 40) requests.now }
-    requires cycles { cycles < 2 ^ 41 }
+    requires early { All (λ request. request.at < arrivals_end) requests.now }
+    requires cycles { cycles < openings_end }
     requires scripts { length scripts.items ≤ 8 }
     ensures run { IfOk result (λ ended. IsWholeRun setting cycles scripts.items ended) }
+    ensures left { IfOk result (λ ended. ended.run.left ≡ left_of owners.now requests.now ended.run.trace) }
 {
     requests_of_owners();
     layout.is_in_range();

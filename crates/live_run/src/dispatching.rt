@@ -1,6 +1,7 @@
 //! The dispatcher's part of a run.
 
-ghost use Rattle.std.specs.Prelude.{◌≡◌, ℕ, ◌+◌, ◌<◌, ◌^◌, ◌++◌, ◌∷◌, [], List, IfOk, OnErr, OnOk};
+ghost use Rattle.std.specs.Prelude.{◌≡◌, ℕ, ◌+◌, ◌<◌, ◌++◌, ◌∷◌, [], List, IfOk, OnErr, OnOk};
+ghost use Rattle.profile.specs.Limits.{openings_end};
 ghost use Rattle.turn_lock.specs.Passes.{IsOf};
 ghost use Rattle.master_core.specs.declared.event.Event.{Event};
 ghost use Rattle.master_core.specs.declared.event.Event.TheVariants.{Open};
@@ -11,6 +12,7 @@ ghost use Rattle.live_master.specs.Passes.{IsPassOf};
 ghost use Rattle.cycle_engine.specs.Nodes.{CanLearn, HaveSpare, KeepSpare, states_of};
 ghost use Rattle.live_run.specs.Running.{CanRun, HasFrameRoom, HasOpened, HasSeen, IsBeforeOrder, IsRunning, IsSameBus};
 ghost use Rattle.live_run.specs.Running.{Stays};
+ghost use Rattle.live_run.specs.Left.{numbers_of};
 
 use crate::points::{Gate, Point};
 use can_frame::TimedFrame;
@@ -18,6 +20,7 @@ use cycle_engine::{Nodes, Segment, run_cycle_in};
 use kept_run::laws::{calls_between, cycles_run, one_call_more, orders};
 use live_master::laws::openings_of_dispatchers;
 use live_master::{DispatcherPass, LiveMaster, Opening};
+use profile::SHORTEST_FRAME;
 use requirement_table::Order;
 use std::alloc::{AllocError, Global};
 use std::sync::Wait;
@@ -39,9 +42,6 @@ pub struct Room {
     /// The nodes can learn a list of so many entries without memory.
     pub entries: usize,
 }
-
-/// The length of the shortest frame, in bit times.
-const SHORTEST_FRAME: u32 = 47;
 
 /// Makes room for the frames of one cycle behind those of the bus.
 fn reserve_frames(bus: &mut Bus) -> Result<(), AllocError>
@@ -65,10 +65,10 @@ fn open_next<R: Wait>(
 ) -> Result<Order, AllocError>
     requires of { IsPassOf shared.now pass.old }
     requires dispatcher { pass.old.view.number ≡ 0 }
-    requires cycles { next_of pass.old.view.mine < 2 ^ 41 }
+    requires cycles { next_of pass.old.view.mine < openings_end }
     requires spare { HaveSpare entries.old nodes.old.nodes }
     ensures opened { IfOk result (λ order. HasOpened shared.now.fixed pass.old.view.seen pass.new.view.seen order) }
-    ensures early { IfOk result (λ order. order.cycle < 2 ^ 41) }
+    ensures early { IfOk result (λ order. order.cycle < openings_end) }
     ensures next { OnOk result (next_of pass.new.view.mine ≡ next_of pass.old.view.mine + 1) }
     ensures memory { OnErr result (HasSeen shared.now.fixed pass.old.view.seen pass.new.view.seen) }
     ensures can_learn { IfOk result (λ order. CanLearn order.learned nodes.new.nodes) }
@@ -93,14 +93,16 @@ fn open_next<R: Wait>(
 }
 
 /// Runs the cycle of an order on the bus, without memory.
+#[tactic(auto, using(crate::proofs::Lefts::numbers_run))]
 fn run_order(order: &Order, bus: &mut Bus, segment: &mut Segment)
-    requires early { order.now.cycle < 2 ^ 41 }
+    requires early { order.now.cycle < openings_end }
     requires before { (setting : Setting) × (history : List Event) × IsBeforeOrder setting history order.now bus.old }
     requires can_learn { CanLearn order.now.learned bus.old.nodes.nodes }
     requires room { HasFrameRoom bus.old }
     ensures ran { (setting : Setting) (history : List Event)
         → IsBeforeOrder setting history order.now bus.old
         → IsOnTheWay setting (history ++ Open order.now.cycle order.now.mask ∷ []) bus.new.trace.items bus.new.nodes }
+    ensures numbers { numbers_of (states_of bus.new.nodes.nodes) ≡ numbers_of (states_of bus.old.nodes.nodes) }
     ensures spare { KeepSpare bus.old.nodes.nodes bus.new.nodes.nodes }
 {
     orders();
@@ -121,11 +123,12 @@ fn open_cycle<R: Wait, G: Gate>(
 ) -> Result<(), AllocError>
     requires of { IsPassOf shared.now pass.old }
     requires dispatcher { pass.old.view.number ≡ 0 }
-    requires cycles { next_of pass.old.view.mine < 2 ^ 41 }
+    requires cycles { next_of pass.old.view.mine < openings_end }
     requires running { CanRun shared.now pass.old.view.seen bus.old }
     requires spare { HaveSpare room.old.entries bus.old.nodes.nodes }
     ensures running { (setting : Setting) → IsRunning setting shared.now pass.old.view.seen bus.old
         → IsRunning setting shared.now pass.new.view.seen bus.new }
+    ensures numbers { numbers_of (states_of bus.new.nodes.nodes) ≡ numbers_of (states_of bus.old.nodes.nodes) }
     ensures next { OnOk result (next_of pass.new.view.mine ≡ next_of pass.old.view.mine + 1) }
     ensures spare { HaveSpare room.new.entries bus.new.nodes.nodes }
     ensures stays { Stays pass.old.view pass.new.view }
@@ -158,10 +161,11 @@ pub fn dispatch<R: Wait, G: Gate>(
     requires of { IsPassOf shared.now pass.old }
     requires dispatcher { pass.old.view.number ≡ 0 }
     requires none { next_of pass.old.view.mine ≡ 0 }
-    requires cycles { cycles < 2 ^ 41 }
+    requires cycles { cycles < openings_end }
     requires running { CanRun shared.now pass.old.view.seen bus.old }
     ensures running { (setting : Setting) → IsRunning setting shared.now pass.old.view.seen bus.old
         → IsRunning setting shared.now pass.new.view.seen bus.new }
+    ensures numbers { numbers_of (states_of bus.new.nodes.nodes) ≡ numbers_of (states_of bus.old.nodes.nodes) }
     ensures cycles { OnOk result (next_of pass.new.view.mine ≡ cycles) }
     ensures stays { Stays pass.old.view pass.new.view }
     ensures standing { IsPassOf shared.now pass.new }

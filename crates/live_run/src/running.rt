@@ -1,9 +1,12 @@
 //! The run of a shared master.
 
-ghost use Rattle.std.specs.Prelude.{◌≡◌, ◌<◌, ◌≤◌, ◌^◌, IfOk, length};
+ghost use Rattle.std.specs.Prelude.{◌≡◌, ◌<◌, ◌≤◌, IfOk, length};
+ghost use Rattle.profile.specs.Limits.{openings_end};
 ghost use Rattle.kept_run.specs.Progress.{IsSetting, Setting};
 ghost use Rattle.live_master.specs.Passes.{IsPassOf};
 ghost use Rattle.live_run.specs.Live.{AreFresh, IsFirst, IsLiveRun};
+ghost use Rattle.live_run.specs.Left.{left_at, numbers_of};
+ghost use Rattle.cycle_engine.specs.Nodes.{states_of};
 
 use crate::crew::{hire, retire_all};
 use crate::dispatching::Bus;
@@ -49,9 +52,11 @@ pub fn run_live<T: Threads + Wait + Sync, G: Gate>(
     requires rules { shared.now.fixed ≡ setting.rules }
     requires pass { IsFirst shared.now pass.old }
     requires nodes { AreFresh setting nodes }
-    requires cycles { cycles < 2 ^ 41 }
+    requires cycles { cycles < openings_end }
     requires scripts { length scripts.items ≤ 8 }
     ensures run { IfOk result (λ run. IsLiveRun setting cycles scripts.items pass.new.view run) }
+    ensures left { IfOk result (λ run. run.left
+        ≡ left_at setting.owners setting.requests run.trace (numbers_of (states_of nodes.nodes))) }
     ensures out { pass.new.view.out ≡ 0 }
     ensures standing { IsPassOf shared.now pass.new }
 {

@@ -1,11 +1,14 @@
 //! The threads of a run.
 
-ghost use Rattle.std.specs.Prelude.{◌≡◌, ◌+◌, ◌<◌, ◌^◌, length, OnOk};
+ghost use Rattle.std.specs.Prelude.{◌≡◌, ◌+◌, ◌<◌, length, OnOk};
+ghost use Rattle.profile.specs.Limits.{openings_end};
 ghost use Rattle.master_core.specs.History.{next_of};
 ghost use Rattle.kept_run.specs.Progress.{Setting};
 ghost use Rattle.live_master.specs.Passes.{IsPassOf};
 ghost use Rattle.live_run.specs.Crew.{AreDone, AreHired, IsHired};
 ghost use Rattle.live_run.specs.Running.{CanRun, IsRunning, Stays};
+ghost use Rattle.live_run.specs.Left.{numbers_of};
+ghost use Rattle.cycle_engine.specs.Nodes.{states_of};
 
 use crate::crew::{Operator, take_part};
 use crate::dispatching::{Bus, dispatch};
@@ -59,12 +62,13 @@ pub fn share<T: Threads + Wait + Sync, G: Gate>(
     requires of { IsPassOf shared.now pass.old }
     requires dispatcher { pass.old.view.number ≡ 0 }
     requires none { next_of pass.old.view.mine ≡ 0 }
-    requires cycles { cycles < 2 ^ 41 }
+    requires cycles { cycles < openings_end }
     requires running { CanRun shared.now pass.old.view.seen bus.old }
     requires hired { AreHired shared.now operators.old }
     requires scripts { length scripts.now ≡ length operators.old }
     ensures running { (setting : Setting) → IsRunning setting shared.now pass.old.view.seen bus.old
         → IsRunning setting shared.now pass.new.view.seen bus.new }
+    ensures numbers { numbers_of (states_of bus.new.nodes.nodes) ≡ numbers_of (states_of bus.old.nodes.nodes) }
     ensures cycles { OnOk result (next_of pass.new.view.mine ≡ cycles) }
     ensures stays { Stays pass.old.view pass.new.view }
     ensures standing { IsPassOf shared.now pass.new }
@@ -75,7 +79,7 @@ pub fn share<T: Threads + Wait + Sync, G: Gate>(
         rt,
         &mut || -> Result<(), AllocError>
             requires { IsPassOf shared.now pass.now × (pass.now.view.number ≡ 0)
-                × (next_of pass.now.view.mine ≡ 0) × (cycles < 2 ^ 41)
+                × (next_of pass.now.view.mine ≡ 0) × (cycles < openings_end)
                 × CanRun shared.now pass.now.view.seen bus.now }
         { dispatch(rt, alloc, shared, pass, bus, cycles, gate) },
         &mut || -> ()

@@ -4,6 +4,7 @@ ghost use Rattle.std.specs.Prelude.{◌≡◌, IfOk};
 ghost use Rattle.requests_file.specs.RequestsFile.{AreLegal};
 ghost use Rattle.steps_file.specs.StepsFile.{AreLegalSteps};
 ghost use Rattle.system_file.specs.SystemFile.{IsSystem};
+ghost use Rattle.live_run.specs.Left.{left_of};
 ghost use Rattle.live_steps.specs.Live.{IsLive};
 
 use crate::parting::part;
@@ -36,6 +37,8 @@ pub fn live<T: Threads + Wait + Sync, G: Gate>(
     ensures run { IfOk result
         (λ ended. IsLive system.now steps.items requests.now ended.master.history ended.run.trace) }
     ensures rules { IfOk result (λ ended. ended.master.rules ≡ system.now.rules) }
+    ensures left { IfOk result
+        (λ ended. ended.run.left ≡ left_of system.now.owners requests.now ended.run.trace) }
 {
     events_in_histories();
     let parts = part(alloc, steps)?;

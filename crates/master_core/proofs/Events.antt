@@ -108,7 +108,7 @@ module _ (rules : Rules) (history : List Event) (list : List Placed) (since : �
     }
 
     kept-taken : (made : Made) → IsMadeOf rules history answer made
-        → IsKept rules (history ++ event ∷ []) made.table.placed.items made.table.since made.table.ranked cycle pending (Some made.learned)
+        → IsKept rules (history ++ event ∷ []) made.table.placed.items made.table.since made.table.planner.ranking cycle pending (Some made.learned)
     kept-taken made is =
         let same = same-of_legal rules history event kept.legal right in
         let next = kept.next in
@@ -139,8 +139,8 @@ module _ (rules : Rules) (history : List Event) (list : List Placed) (since : �
         }
 
     pub kept-put : (made : Option Made) (old new : Table) (old_learned new_learned : Option (List Placed)) → IsMade rules history answer made
-        → IsTakenOver made old new old_learned new_learned → list ≡ old.placed.items → since ≡ old.since → ranked ≡ old.ranked → learned ≡ old_learned
-        → IsKept rules (history ++ event ∷ []) new.placed.items new.since new.ranked cycle pending new_learned
+        → IsTakenOver made old new old_learned new_learned → list ≡ old.placed.items → since ≡ old.since → ranked ≡ old.planner.ranking → learned ≡ old_learned
+        → IsKept rules (history ++ event ∷ []) new.placed.items new.since new.planner.ranking cycle pending new_learned
     kept-put None old new old_learned new_learned refused same list_is since_is ranked_is learned_is =
         rw (same.0, same.1, ← list_is, ← since_is, ← ranked_is, ← learned_is) (kept-refused refused)
     kept-put (Some made) old new old_learned new_learned is taken list_is since_is ranked_is learned_is = rw (taken.0, taken.1) (kept-taken made is)

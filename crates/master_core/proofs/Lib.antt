@@ -12,4 +12,5 @@ mod Passing
 mod Recurring
 mod Repeating
 mod Settling
+pub mod Shared
 mod Unfelt

@@ -23,7 +23,7 @@ pub record IsMadeOf (rules : Rules) (history : List Event) (answer : Answer) (ma
   pub accepted : is_accepted answer.verdict ≡ true
   pub placed : made.table.placed.items ≡ applied (placed_of history) answer.change
   pub since : made.table.since ≡ answer.from
-  pub ranked : made.table.ranked ≡ ranking_by rules (not_over made.table.since made.table.placed.items)
+  pub ranked : made.table.planner.ranking ≡ ranking_by rules (not_over made.table.since made.table.placed.items)
   pub learned : made.learned ≡ made.table.placed.items
 
 -- an accepted change makes a list, and another one makes nothing
@@ -40,7 +40,7 @@ pub record IsAnswer (rules : Rules) (history : List Event) (answer : Answer) : T
 pub record IsTableOf (rules : Rules) (from : ℕ) (made : Made) : Type 0 where
   pub placed : made.table.placed.items ≡ made.learned
   pub since : made.table.since ≡ from
-  pub ranked : made.table.ranked ≡ ranking_by rules (not_over from made.learned)
+  pub ranked : made.table.planner.ranking ≡ ranking_by rules (not_over from made.learned)
 
 abbrev pub AreTablesOf : Rules → ℕ → Option Made → Type 0
 AreTablesOf rules from None = Unit {0}

@@ -1,5 +1,6 @@
 -- Changes that are planned apart from a master, and settled later.
-use Rattle.std.specs.Prelude.{◌≡◌, ◌==◌, ℕ, ◌^◌, ◌≤◌, if◌then◌else◌, List}
+use Rattle.std.specs.Prelude.{◌≡◌, ◌==◌, ℕ, ◌≤◌, if◌then◌else◌, List}
+use Rattle.profile.specs.Limits.{openings_end}
 use mathlib.Core.List.{IsPrefix}
 use Rattle.requirement_table.specs.Table.{IsWellPlaced}
 use Rattle.change_protocol.specs.declared.operations.Change.{Change}
@@ -28,7 +29,7 @@ pub record IsPlannable (snapshot : Snapshot) : Type 0 where
   pub rules : IsRules snapshot.rules
   pub well_placed : IsWellPlaced snapshot.placed
   pub valid : IsValid snapshot.placed snapshot.state.cycle snapshot.state.pending
-  pub next : snapshot.state.cycle ≤ 2 ^ 41
+  pub next : snapshot.state.cycle ≤ openings_end
 
 -- what contracts see of a change that was planned apart: the rules, the number of changes that had been accepted, the
 -- change, the cycle from which it was planned, and what was decided of it

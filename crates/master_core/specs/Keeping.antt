@@ -1,5 +1,6 @@
 -- What holds of the fields of every master.
 use Rattle.std.specs.Prelude.{◌≡◌, ℕ, ◌+◌, ◌^◌, ◌<◌, ◌≤◌, List, Option}
+use Rattle.profile.specs.Limits.{openings_end}
 use Rattle.requirement_table.specs.declared.entries.Placed.{Placed}
 use Rattle.requirement_table.specs.Table.{not_over}
 use Rattle.planner_policies.specs.Plan.{Ranking, pending_at}
@@ -22,7 +23,7 @@ pub record IsKept (rules : Rules) (history : List Event) (list : List Placed) (s
   pub legal : IsLegal rules history
   pub placed : list ≡ placed_of history
   pub next : cycle ≡ next_of history
-  pub near : cycle ≤ 2 ^ 41
+  pub near : cycle ≤ openings_end
   pub waiting : pending ≡ pending_at (plan_of rules list) cycle
   pub passed : since ≤ cycle
   pub left : ranked ≡ ranking_by rules (not_over since list)

@@ -1,6 +1,7 @@
 //! An answer that is not in the history yet.
 
-ghost use Rattle.std.specs.Prelude.{◌≡◌, ◌^◌, ◌≤◌, IfOk};
+ghost use Rattle.std.specs.Prelude.{◌≡◌, ◌≤◌, IfOk};
+ghost use Rattle.profile.specs.Limits.{openings_end};
 ghost use Rattle.requirement_table.specs.Table.{IsWellPlaced};
 ghost use Rattle.change_protocol.specs.Applied.{applied};
 ghost use Rattle.planner_policies.specs.Plan.{IsValid};
@@ -88,7 +89,7 @@ pub fn answer_of(
     requires rules { IsRules rules.now }
     requires well_placed { IsWellPlaced placed.now }
     requires valid { IsValid placed.now state.now.cycle state.now.pending }
-    requires next { state.now.cycle ≤ 2 ^ 41 }
+    requires next { state.now.cycle ≤ openings_end }
     ensures planned { IfOk result (IsPlannedFrom rules.now placed.now state.now) }
     ensures change { IfOk result (λ answer. answer.change ≡ change.now) }
     ensures complete { let plan = plan_from rules.now (applied placed.now change.now)
@@ -118,7 +119,8 @@ pub fn answer_of(
 
 /// The table of a list that is planned by these rules from cycle `from` on, and the same list to be learned.
 fn made_of(alloc: Global, list: PlacedList, from: u64, rules: &Rules) -> Result<Made, AllocError>
-    requires { IsWellPlaced list }
+    requires well_placed { IsWellPlaced list }
+    requires from { from ≤ openings_end }
     ensures table { IfOk result (IsTableOf rules.now from) }
     ensures learned { IfOk result (λ made. made.learned ≡ list) }
 {

@@ -2,6 +2,7 @@
 
 ghost use Rattle.std.specs.Prelude.{◌≡◌, ◌+◌, ◌-◌, ◌^◌, ◌<◌, ◌≤◌, ◌++◌, ◌∷◌, [], List, ℕ};
 ghost use Rattle.std.specs.Prelude.{IfOk, OnErr, OnOk, length};
+ghost use Rattle.profile.specs.Limits.{cycles_end, openings_end};
 ghost use Rattle.change_protocol.specs.Applied.{applied};
 ghost use Rattle.planner_policies.specs.Plan.{mask_at, pending_at};
 ghost use Rattle.plan_check.specs.PlanKept.{IsTaken};
@@ -56,7 +57,7 @@ impl Model for Master {
 
     ghost view = { λ m. record { rules = m.rules; history = m.history.items; spare = m.spare } };
 
-    ghost invariant = { λ m. IsKept m.rules m.history.items m.table.placed.items m.table.since m.table.ranked m.state.cycle m.state.pending m.learned
+    ghost invariant = { λ m. IsKept m.rules m.history.items m.table.placed.items m.table.since m.table.planner.ranking m.state.cycle m.state.pending m.learned
         × HasRoom (length m.history.items) (vec_capacity m.history) m.spare
         × (m.accepted ≡ accepted_of m.history.items) };
 }
@@ -334,7 +335,7 @@ impl Master {
     /// memory, and one of the room.
     pub fn open(&mut self) -> Order
         requires spare { 1 ≤ self.old.spare }
-        requires next { next_of self.old.history < 2 ^ 41 }
+        requires next { next_of self.old.history < openings_end }
         ensures rules { self.new.rules ≡ self.old.rules }
         ensures order { IsOrder self.old.rules self.old.history result }
         ensures event { self.new.history ≡ self.old.history ++ Open result.cycle result.mask ∷ [] }
@@ -344,17 +345,21 @@ impl Master {
             → IsPlainlyLegal self.new.rules self.new.history }
         ensures few { length self.new.history + self.new.spare < 2 ^ 61 }
     {
-        let upcoming = self.upcoming();
-        self.open_upcoming(upcoming)
+        let planned = self.table.plan_next(self.rules.window, &self.state);
+        self.open_upcoming(Upcoming {
+            mask: planned.mask,
+            l: planned.width,
+            next: planned.next,
+        })
     }
 
     /// What `open` would open now; the next cycle is below 2^41. It takes no memory.
     pub fn upcoming(&self) -> Upcoming
-        requires next { next_of self.now.history < 2 ^ 41 }
+        requires next { next_of self.now.history < openings_end }
         ensures upcoming { IsUpcoming self.now.rules self.now.history result }
     {
         let planner_policies::Planned { mask, width, next } = plan_next(
-            &self.table.ranked,
+            self.table.planner.ranked(),
             self.rules.window,
             &self.state,
         );
@@ -369,7 +374,7 @@ impl Master {
     /// takes no memory, and one of the room. Entries that are over by the cycle behind it are planned no more.
     pub fn open_upcoming(&mut self, upcoming: Upcoming) -> Order
         requires spare { 1 ≤ self.old.spare }
-        requires next { next_of self.old.history < 2 ^ 41 }
+        requires next { next_of self.old.history < openings_end }
         requires upcoming { IsUpcoming self.old.rules self.old.history upcoming }
         ensures rules { self.new.rules ≡ self.old.rules }
         ensures order { IsOrder self.old.rules self.old.history result }
@@ -382,7 +387,7 @@ impl Master {
     {
         let cycle = self.state.cycle;
         let Upcoming { mask, l, next } = upcoming;
-        self.table.pass(next.cycle);
+        self.table.pass(&next);
         self.state = next;
         put(&mut self.history, Event::Open { cycle, mask });
         self.spare -= 1;
@@ -396,11 +401,11 @@ impl Master {
 
     /// The slots that `open` would flag now; the next cycle is below 2^41.
     pub fn planned(&self) -> Mask
-        requires next { next_of self.now.history < 2 ^ 41 }
+        requires next { next_of self.now.history < openings_end }
         ensures mask { result
             ≡ mask_at (plan_of self.now.rules (placed_of self.now.history)) (next_of self.now.history) }
     {
-        cycle_mask(&self.table.ranked, self.rules.window, &self.state)
+        cycle_mask(self.table.planner.ranked(), self.rules.window, &self.state)
     }
 
     /// The next cycle, and the slots that are pending before it: what `open` plans from.
@@ -425,7 +430,7 @@ impl Master {
     pub fn certificate(&self, alloc: Global) -> Result<Certificate, AllocError>
         ensures certificate { IfOk result (IsCertificateOfPlan self.now.rules self.now.history) }
         ensures taken { IfOk result (IsTaken (placed_of self.now.history) self.now.rules.window) }
-        ensures cycles { IfOk result (λ certificate. end_of certificate ≤ 2 ^ 42) }
+        ensures cycles { IfOk result (λ certificate. end_of certificate ≤ cycles_end) }
     {
         loops();
         let placed = self.table.placed.as_slice();

@@ -1,6 +1,7 @@
 //! The plan of the next cycle.
 
-ghost use Rattle.std.specs.Prelude.{◌≡◌, ◌+◌, ◌^◌, ◌<◌};
+ghost use Rattle.std.specs.Prelude.{◌≡◌, ◌+◌, ◌<◌};
+ghost use Rattle.profile.specs.Limits.{cycles_end};
 ghost use Rattle.requirement_table.specs.Slots.{contains_slot, set_of, most_slots};
 ghost use Rattle.requirement_table.specs.Table.{width_in};
 ghost use Rattle.planner_policies.specs.Plan.{HasNoMissIn, IsValid, left_after, planned_in, planning_of};
@@ -9,7 +10,7 @@ use planner_policies::{PlanState, Planned, Ranked, plan_with_width};
 
 /// Plans the cycle of the state, in which no deadline is missed, within a window of `window` bit times.
 pub fn plan_next(ranked: &Ranked, window: u32, state: &PlanState) -> Planned
-    requires cycle { state.now.cycle < 2 ^ 42 }
+    requires cycle { state.now.cycle < cycles_end }
     requires valid { IsValid ranked.now.placed state.now.cycle state.now.pending }
     requires in_time { let plan = planning_of ranked.now window state.now.cycle state.now.pending in
         HasNoMissIn plan state.now.cycle (contains_slot state.now.pending) }

@@ -5,6 +5,7 @@ use Rattle.std.proofs.lemmas.Bool.{cases_Bool, cases_order, eqb-true, and_parts,
 use Rattle.std.proofs.lemmas.Option.{none-some, same_Some}
 use Rattle.std.proofs.lemmas.List.{get_or_default}
 use Rattle.std.proofs.lemmas.List.Elements.{All-contains, All-map}
+use Rattle.profile.specs.Limits.{first_identifier}
 use Rattle.can_frame.specs.declared.data_frame.TimedFrame.{TimedFrame}
 use Rattle.cycle_layout.specs.Layout.{CycleLayout, sync_start}
 use Rattle.requirement_table.specs.declared.entries.Placed.{Placed}
@@ -14,7 +15,6 @@ use Rattle.requirement_table.specs.Table.{IsWellPlaced, instance_in}
 use Rattle.async_window.specs.declared.request.Owner.{Owner}
 use Rattle.async_window.specs.declared.request.Request.{Request}
 use Rattle.async_window.specs.Mailbox.{IsLeastWith, IsMail, Mail, Offers, mail_offer, without_first}
-use Rattle.node_model.specs.Opening.{first_identifier}
 use Rattle.node_model.specs.Node.{NodeState, Opened, after_hearing, entries_of, identifiers_of, is_due, learnt, least_where, node_offer, offer_in}
 use Rattle.async_window.specs.Owners.{AreOwners}
 use Rattle.node_model.specs.Own.{AreApart, Stands}

@@ -3,12 +3,12 @@
 use Rattle.std.proofs.Common.{◌≡◌, ℕ, suc, ◌+◌, ◌≤◌, ◌||◌, false, eqb, List, [], ◌∷◌, get_or, map, All, Contains, IsSome, slice_get, inl, inr, refl, ap, ◌∙◌, subst, arith}
 use Rattle.std.proofs.lemmas.Bool.{cases_eq, cond-false, false≢true, ne_eqb}
 use Rattle.std.proofs.lemmas.List.Elements.{All-head, All-map, All-tail}
+use Rattle.profile.specs.Limits.{first_identifier}
 use Rattle.can_frame.specs.declared.data_frame.TimedFrame.{TimedFrame}
 use Rattle.requirement_table.specs.declared.entries.Placed.{Placed}
 use Rattle.requirement_table.specs.Table.{IsInRange}
 use Rattle.async_window.specs.Mailbox.{Mail, unsent_of, without_first}
 use Rattle.async_window.proofs.Shared.{unsent_of-later}
-use Rattle.node_model.specs.Opening.{first_identifier}
 use Rattle.node_model.specs.Node.{IsNode, NodeState, after_hearing, after_request, is_own_slot}
 use Rattle.node_model.specs.Own.{AreApart, HasRequest, counting}
 use Rattle.node_model.proofs.OtherFrames.{other-frame}

@@ -4,12 +4,12 @@ use Rattle.std.specs.Prelude.{fold}
 use Rattle.std.specs.List.{list_any}
 use Rattle.std.proofs.lemmas.Bool.{eq-eqb, ne_eqb, eqb-true, lt-ltb, cases_eq, false≢true}
 use Rattle.std.proofs.lemmas.List.Elements.{All-head, All-tail}
+use Rattle.profile.specs.Limits.{first_identifier}
 use Rattle.can_frame.specs.declared.data_frame.TimedFrame.{TimedFrame}
 use Rattle.requirement_table.specs.declared.entries.Placed.{Placed}
 use Rattle.requirement_table.specs.Slots.{contains_slot, set_of, most_slots}
 use Rattle.requirement_table.proofs.Shared.{contains_slot-set_of, set_of-below, set_of-same, set_of-from_slots}
 use Rattle.async_window.specs.Mailbox.{without_first}
-use Rattle.node_model.specs.Opening.{first_identifier}
 use Rattle.node_model.specs.Node.{NodeState, Opened, after_hearing, counted, is_own_slot, with_heard}
 use Rattle.node_model.specs.Kept.{AreSlotsOf}
 use Rattle.node_model.specs.Window.{AreOfSlots, with_all_heard}

@@ -7,6 +7,7 @@ use Rattle.std.proofs.lemmas.Bool.Decides.{eqb_tells}
 use Rattle.std.proofs.lemmas.List.{append-nil, append_assoc}
 use Rattle.std.proofs.lemmas.List.Elements.{All-append, All-contains, All-filter, All-head, All-map, All-tail}
 use Rattle.std.proofs.lemmas.List.Folds.{list_any-append, list_any_none, list_any-from_Any, Any-from_list_any, map_fixed}
+use Rattle.profile.specs.Limits.{first_identifier}
 use Rattle.can_frame.specs.declared.data_frame.TimedFrame.{TimedFrame}
 use Rattle.cycle_layout.specs.Layout.{CycleLayout, IsLayout}
 use Rattle.requirement_table.specs.declared.entries.Placed.{Placed}
@@ -20,7 +21,7 @@ use Rattle.async_window.specs.declared.request.Request.{Request}
 use Rattle.async_window.specs.Mailbox.{Mail, mail_after, taken_from, without_first}
 use Rattle.async_window.specs.Waiting.{unsent_after}
 use Rattle.requirement_table.specs.Opening.{Opening, width_of}
-use Rattle.node_model.specs.Opening.{first_identifier, start_of}
+use Rattle.node_model.specs.Opening.{start_of}
 use Rattle.node_model.specs.Node.{NodeState, after_hearing, counted, entries_of, identifiers_of, is_own_slot}
 use Rattle.async_window.specs.Owners.{AreOwners}
 use Rattle.node_model.specs.Own.{Stands, StandsIn, was_sent}

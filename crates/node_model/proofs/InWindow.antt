@@ -6,6 +6,7 @@ use Rattle.std.specs.List.{cons_option, filter_map, list_any}
 use Rattle.std.proofs.Math.Nat.{div-eq_of_lt-le}
 use Rattle.std.proofs.lemmas.Bool.{eqb-true, eq-eqb, le-leb, lt-leb, lt-ltb, cond-false, false≢true}
 use Rattle.std.proofs.lemmas.Option.{none-some, same_Some}
+use Rattle.profile.specs.Limits.{first_identifier}
 use Rattle.can_frame.specs.declared.data_frame.TimedFrame.{TimedFrame}
 use Rattle.cycle_layout.specs.Layout.{sync_start}
 use Rattle.requirement_table.specs.declared.entries.Placed.{Placed}
@@ -13,7 +14,6 @@ use Rattle.requirement_table.specs.Slots.{contains_slot, most_slots}
 use Rattle.requirement_table.specs.Instance.{bytes_of, instance_of}
 use Rattle.requirement_table.specs.Table.{instance_in, sendable}
 use Rattle.requirement_table.proofs.Shared.{contains_slot-set_of}
-use Rattle.node_model.specs.Opening.{first_identifier}
 use Rattle.node_model.specs.Node.{IsNode, NodeState, Opened, after_hearing, is_due, is_own_slot, least_where, node_frame, node_offer, offer_in, with_heard}
 use Rattle.node_model.specs.Window.{IsInWindow, due_frame, is_due_slot}
 use Rattle.node_model.proofs.OtherFrames.{other-frame}

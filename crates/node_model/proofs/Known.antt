@@ -6,12 +6,12 @@ use Rattle.std.proofs.lemmas.Bool.Decides.{nat_tests}
 use Rattle.std.proofs.lemmas.List.{get_or-map, length-map}
 use Rattle.std.proofs.lemmas.List.Elements.{All-filter, All-map}
 use Rattle.std.proofs.lemmas.List.Kept.{AllPairs-filter}
+use Rattle.profile.specs.Limits.{first_identifier}
 use Rattle.requirement_table.specs.declared.entries.Placed.{Placed}
 use Rattle.requirement_table.specs.Slots.{contains_slot, most_slots}
 use Rattle.requirement_table.proofs.Shared.{contains_slot-above}
 use Rattle.requirement_table.specs.Table.{IsInRange, GoesBefore, IsWellPlaced}
 use Rattle.async_window.specs.declared.request.Owner.{Owner}
-use Rattle.node_model.specs.Opening.{first_identifier}
 use Rattle.node_model.specs.Node.{entries_of, identifiers_of, is_own_slot}
 use Rattle.node_model.specs.Kept.{AreSlotsOf}
 

@@ -7,6 +7,8 @@ mod Hearing
 mod Apart
 mod StaysNode
 mod Least
+mod LeastBit
+mod Ready
 mod Sendable
 pub mod Shared
 mod Known

@@ -5,6 +5,7 @@ use Rattle.std.proofs.lemmas.Bool.{eq-eqb, eqb-true, leb-true, le-leb, cases_Boo
 use Rattle.std.proofs.lemmas.Bool.Decides.{nat_tests}
 use Rattle.std.proofs.lemmas.Option.{none-some, same_Some}
 use Rattle.std.proofs.Math.Nat.{div-eq_of_lt-le, div-lt_iff_lt-mul, le-div_iff_mul-le}
+use Rattle.profile.specs.Limits.{first_identifier}
 use Rattle.stuff_bound.specs.Stuffing.{worst}
 use Rattle.cycle_layout.specs.Layout.{sync_start, trigger_part, trigger_part_of}
 use Rattle.requirement_table.specs.Slots.{contains_slot, most_slots}
@@ -14,7 +15,6 @@ use Rattle.can_frame.specs.DataFrame.{DataFrame}
 use Rattle.async_window.specs.declared.request.Request.{Request}
 use Rattle.async_window.specs.Mailbox.{IsMail, IsNextInCycle, mail_offer, unsent_of}
 use Rattle.async_window.proofs.Shared.{IsLeastWith-same}
-use Rattle.node_model.specs.Opening.{first_identifier}
 use Rattle.node_model.specs.Node.{IsNextOffer, IsNode, NodeState, Opened, is_due, least_where, node_frame, node_offer, offer_in}
 use Rattle.node_model.specs.Kept.{IsOpenAt, opened_of, sends_from}
 use Rattle.node_model.specs.declared.cycle.Open.{Open}

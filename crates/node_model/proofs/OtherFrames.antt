@@ -1,8 +1,8 @@
 -- A frame that is none of the trigger frames, as a node hears it; and what holds after each kind of frame.
 use Rattle.std.proofs.Common.{◌≡◌, ℕ, ◌-◌, ◌<◌, ◌==◌, Bool, true, false, cond, eqb, refl, ◌∙◌, arith}
 use Rattle.std.proofs.lemmas.Bool.{cond-false, eqb-true, ne_eqb}
+use Rattle.profile.specs.Limits.{first_identifier}
 use Rattle.can_frame.specs.declared.data_frame.TimedFrame.{TimedFrame}
-use Rattle.node_model.specs.Opening.{first_identifier}
 use Rattle.node_model.specs.Node.{NodeState, after_hearing, after_noting, after_opening, after_request, after_slot, is_own_slot, opening_identifier}
 use Rattle.node_model.specs.Own.{counting}
 

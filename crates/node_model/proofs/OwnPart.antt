@@ -6,6 +6,7 @@ use Rattle.std.proofs.lemmas.Bool.{cases_lt, both_ways, eq-eqb, eqb-true, leb-tr
 use Rattle.std.proofs.lemmas.Option.{slice_get_within, get_or_from_slice_get}
 use Rattle.std.proofs.lemmas.List.Elements.{All-contains, All-drop, All-map, filter_passes}
 use Rattle.std.proofs.lemmas.List.Folds.{list_any_none, list_any_at, list_any-from_Any}
+use Rattle.profile.specs.Limits.{first_identifier}
 use Rattle.can_frame.specs.DataFrame.{DataFrame}
 use Rattle.can_frame.specs.declared.data_frame.TimedFrame.{TimedFrame}
 use Rattle.cycle_layout.specs.Layout.{CycleLayout, IsLayout}
@@ -19,7 +20,7 @@ use Rattle.async_window.specs.Waiting.{MayStart, frames_with, requests_of, unsen
 use Rattle.async_window.specs.Mailbox.{IsLeastWith, IsMail, Mail, Offers, mail_after, mail_offer, unsent_of}
 use Rattle.requirement_table.specs.Opening.{Opening, width_of}
 use Rattle.trigger_codec.specs.declared.message.Trigger.{Trigger}
-use Rattle.node_model.specs.Opening.{first_identifier, start_of, window_start}
+use Rattle.node_model.specs.Opening.{start_of, window_start}
 use Rattle.node_model.specs.Offered.{IsUnsent}
 use Rattle.node_model.specs.Node.{IsNode, NodeState, entries_of, identifiers_of, is_due, least_where, node_bytes, node_frame, node_offer}
 use Rattle.node_model.specs.Own.{OffersLeastOwn, OffersOwn, StandsIn, was_sent}

@@ -1,7 +1,8 @@
 -- The slots of which some entries have an instance that may be sent.
-use Rattle.std.proofs.Common.{◌≡◌, ℕ, ◌≤◌, ◌&&◌, ◌||◌, Bool, true, false, nat_eq, is_some, if◌then◌else◌, Option, Some, None, option_map, List, [], ◌∷◌, slice_get, length, take, refl, sym, ap, ◌∙◌}
+use Rattle.std.proofs.Common.{◌≡◌, ℕ, ◌≤◌, ◌&&◌, ◌||◌, Bool, true, false, nat_eq, is_some, if◌then◌else◌, Option, Some, None, option_map, List, [], ◌∷◌, ◌+◌, ◌<◌, get_or, slice_get, length, take, refl, sym, ap, ◌∙◌}
 use Rattle.std.specs.List.{list_any, filter_map, cons_option}
-use Rattle.std.proofs.lemmas.List.{take_all}
+use Rattle.std.proofs.lemmas.List.{take_all, take_more}
+use Rattle.std.proofs.lemmas.List.Folds.{list_any-append}
 use Rattle.requirement_table.specs.declared.entries.Placed.{Placed}
 use Rattle.requirement_table.specs.Instance.{Instance, instance_of}
 use Rattle.requirement_table.specs.Table.{sendable, instance_in}
@@ -29,3 +30,21 @@ pub is_some-instance_all : (mask : Bool) (placed : List Placed) (slot c count : 
     → mask ≡ list_any (sends_slot c slot) (take count placed) → mask ≡ is_some (instance_in placed slot c)
 is_some-instance_all mask placed slot c count all is =
     is ∙ ap (list_any (sends_slot c slot)) (take_all count placed all) ∙ sym (is_some-instance_in placed slot c)
+
+turned-or : (one other : Bool) → (one || other) ≡ (other || (one || false))
+turned-or true true = refl
+turned-or true false = refl
+turned-or false true = refl
+turned-or false false = refl
+
+-- one more entry
+pub more-sendable : (mask more : Bool) (placed : List Placed) (i slot c : ℕ) (d : Placed) → i < length placed
+    → mask ≡ list_any (sends_slot c slot) (take i placed) → more ≡ (sends_slot c slot (get_or placed i d) || mask)
+    → more ≡ list_any (sends_slot c slot) (take (i + 1) placed)
+more-sendable mask more placed i slot c d within so_far is =
+    let p = get_or placed i d in
+    is
+    ∙ turned-or (sends_slot c slot p) mask
+    ∙ ap (λ b. b || (sends_slot c slot p || false)) so_far
+    ∙ sym (list_any-append (sends_slot c slot) (take i placed) (p ∷ []))
+    ∙ ap (list_any (sends_slot c slot)) (sym (take_more placed i d within))

@@ -1,6 +1,7 @@
 -- What holds of every node still holds when it learns a list or hears a frame.
 use Rattle.std.proofs.Common.{◌≡◌, ◌≢◌, ℕ, ◌+◌, ◌-◌, ◌^◌, ◌%◌, ◌<◌, ◌≤◌, ◌&&◌, ◌==◌, Bool, true, false, cond, leb, Option, Some, None, IfSome, List, refl, ap, ◌∙◌, arith, option_map}
 use Rattle.std.proofs.lemmas.Bool.{and_parts, both_ways, eqb-true, leb-true}
+use Rattle.profile.specs.Limits.{first_identifier}
 use Rattle.can_frame.specs.DataFrame.{DataFrame}
 use Rattle.can_frame.specs.declared.data_frame.TimedFrame.{TimedFrame}
 use Rattle.cycle_layout.specs.Layout.{CycleLayout}
@@ -10,7 +11,6 @@ use Rattle.trigger_codec.specs.declared.message.Trigger.{Trigger}
 use Rattle.trigger_codec.specs.declared.message.Second.{Second}
 use Rattle.trigger_codec.specs.Bytes.{flags_of_both, second_of, trigger_of}
 use Rattle.async_window.specs.Mailbox.{IsMail, Mail, without_first}
-use Rattle.node_model.specs.Opening.{first_identifier}
 use Rattle.node_model.specs.Node.{IsAwaiting, IsNode, NodeState, Opened, after_hearing, counted, joined, learnt, next_trigger, opened_by, opening_identifier, opening_trigger, with_heard}
 use Rattle.node_model.specs.Own.{counting}
 use Rattle.node_model.proofs.OtherFrames.{after_hearing-keeps}

@@ -1,14 +1,17 @@
 -- What a node keeps besides what it knows, so that it answers without a look at its entries, or at those of them that
 -- are over.
-use Rattle.std.specs.Prelude.{◌≡◌, ℕ, ◌/◌, ◌<◌, ◌≤◌, ◌==◌, List, Option, Some, None, IfSome}
+use Rattle.std.specs.Prelude.{◌≡◌, ℕ, ◌+◌, ◌/◌, ◌<◌, ◌≤◌, ◌==◌, List, slice_get, Option, Some, None, IfSome, option_map}
 use Rattle.std.specs.Option.{option_map_or}
 use Rattle.std.specs.List.{list_any}
 use Rattle.requirement_table.specs.declared.entries.Placed.{Placed}
+use Rattle.requirement_table.specs.Instance.{bytes_of, payload}
 use Rattle.requirement_table.specs.Slots.{contains_slot, most_slots}
 use Rattle.requirement_table.specs.Table.{instance_in, IsWellPlaced}
 use Rattle.node_model.specs.Node.{IsNode, NodeState, Opened, is_due, node_offer}
 use Rattle.node_model.specs.declared.cycle.Open.{Open}
 use Rattle.node_model.specs.declared.ahead.Ahead.{Ahead}
+use Rattle.node_model.specs.declared.entries.Content.{Content}
+use Rattle.node_model.specs.declared.entries.Ready.{Ready}
 use Rattle.node_model.specs.Ahead.{IsAhead}
 
 -- what contracts see of a cycle that is open
@@ -33,13 +36,28 @@ sends_from opened next = option_map_or (λ o. o.cycle) opened next
 abbrev pub HaveInstances : List Placed → ℕ → List Placed → Type 0
 HaveInstances entries from left = (slot c : ℕ) → from ≤ c → instance_in left slot c ≡ instance_in entries slot c
 
+-- the bytes that a frame carries with this content: the low ones of the instance's number
+abbrev pub carried_by : Content → List ℕ
+carried_by content = payload content.length content.number
+
+-- what is known of the slot's instance is right, where something is: in that cycle one may be sent, and its frame
+-- carries this
+abbrev pub IsReady : List Placed → ℕ → Ready → Type 0
+IsReady entries slot ready = (c : ℕ) → ready.next ≡ c + 1
+    → (option_map bytes_of (instance_in entries slot c) ≡ Some (carried_by ready.content)) × (ready.content.length ≤ 8)
+
+-- the same of each slot
+abbrev pub AreReady : List Placed → List Ready → Type 0
+AreReady entries slots = (slot : ℕ) → IfSome (slice_get slots slot) (IsReady entries slot)
+
 -- what is true of the fields of every node: those that contracts see make a node, and the others follow from them
-pub record IsKept (state : NodeState) (own : ℕ) (left : List Placed) (current : Option Open) (look : Option Ahead)
-    : Type 0 where
+pub record IsKept (state : NodeState) (own : ℕ) (left : List Placed) (slots : List Ready) (current : Option Open)
+    (look : Option Ahead) : Type 0 where
   pub node : IsNode state
   pub own_slots : AreSlotsOf state.entries own
   pub placed : IsWellPlaced left
   pub instances : HaveInstances state.entries (sends_from state.opened state.next) left
+  pub ready : AreReady left slots
   pub due : IfSome current (KnowsDue state.entries)
   pub ahead : IfSome look (IsAhead state)
 

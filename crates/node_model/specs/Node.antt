@@ -4,6 +4,7 @@ use Rattle.std.specs.Prelude.{Bool, nat_le, nat_eq, if◌then◌else◌, List, [
 use Rattle.std.specs.Prelude.{Some, None, IfSome, IsSome, is_some, option_map, slice_get}
 use Rattle.std.specs.Option.{option_map_or}
 use Rattle.std.specs.List.{list_any}
+use Rattle.profile.specs.Limits.{cycles_end, first_identifier, least_asynchronous}
 use Rattle.can_frame.specs.DataFrame.{DataFrame}
 use Rattle.can_frame.specs.declared.data_frame.TimedFrame.{TimedFrame}
 use Rattle.cycle_layout.specs.Layout.{CycleLayout, IsLayout, sync_start}
@@ -17,7 +18,6 @@ use Rattle.trigger_codec.specs.Bytes.{flags_of_both, second_of, trigger_of}
 use Rattle.async_window.specs.declared.request.Owner.{Owner}
 use Rattle.async_window.specs.declared.request.Request.{Request}
 use Rattle.async_window.specs.Mailbox.{IsLeastWith, IsMail, Mail, mail_after, mail_offer, unsent_of, without_first}
-use Rattle.node_model.specs.Opening.{first_identifier}
 
 -- a cycle that is open for a node: its number, the length of its synchronous window, the slots that are flagged, and
 -- the node's slots of which it heard a frame in it, as sets of slots
@@ -58,7 +58,7 @@ pub record IsNode (node : NodeState) : Type 0 where
   pub entries : IsWellPlaced node.entries
   pub mail : IsMail node.mail
   pub opened : IfSome node.opened (λ o. (o.width ≤ node.layout.window) × (o.cycle < node.next))
-  pub next : node.next ≤ 2 ^ 42
+  pub next : node.next ≤ cycles_end
   pub frames : node.frames < 2 ^ 64
   pub noted : IfSome node.noted (IsAwaiting node.layout node.next)
 
@@ -207,7 +207,7 @@ IsNextOffer node at time = IsLeastWith (λ later. (at < later) × IsSome (node_o
 -- instance of the slot
 abbrev pub node_bytes : NodeState → ℕ → ℕ → List ℕ
 node_bytes node at id =
-    if nat_le 0x200 id
+    if nat_le least_asynchronous id
     then option_map_or (λ request. request.frame.bytes) (slice_get (unsent_of node.mail id) 0) []
     else option_map_or bytes_of (instance_in node.entries (id - first_identifier) (at / node.layout.cycle)) []
 

@@ -1,6 +1,7 @@
 -- What is offered on the bus in an opened cycle: its trigger frames, requests in its asynchronous window, and the frames of
 -- its flagged slots in its synchronous window. `past` are the frames that started before, on the whole bus.
 use Rattle.std.specs.Prelude.{◌≡◌, ℕ, ◌+◌, ◌<◌, ◌≤◌, true, List, All, Contains, Option, Some, option_map}
+use Rattle.profile.specs.Limits.{first_identifier}
 use Rattle.can_frame.specs.DataFrame.{DataFrame}
 use Rattle.can_frame.specs.declared.data_frame.TimedFrame.{TimedFrame}
 use Rattle.cycle_layout.specs.Layout.{CycleLayout, trigger_part}
@@ -11,7 +12,7 @@ use Rattle.trigger_codec.specs.Bytes.{triggers_with}
 use Rattle.async_window.specs.declared.request.Request.{Request}
 use Rattle.async_window.specs.Waiting.{unsent_after, MayStart}
 use Rattle.requirement_table.specs.Opening.{Opening, width_of}
-use Rattle.node_model.specs.Opening.{first_identifier, start_of, end_of_cycle, window_start}
+use Rattle.node_model.specs.Opening.{start_of, end_of_cycle, window_start}
 
 -- no frame of the identifier started in the cycle, among the frames before
 abbrev pub HasNotStarted : CycleLayout → Opening → ℕ → List TimedFrame → Type 0

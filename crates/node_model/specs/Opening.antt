@@ -1,11 +1,7 @@
--- The times of an opened cycle, in bit times, and the identifiers of its slots.
+-- The times of an opened cycle, in bit times.
 use Rattle.std.specs.Prelude.{ℕ, ◌+◌, ◌-◌, ◌*◌}
 use Rattle.cycle_layout.specs.Layout.{CycleLayout}
 use Rattle.requirement_table.specs.Opening.{Opening, width_of}
-
--- the identifier of slot 0; that of slot s is s more
-abbrev pub first_identifier : ℕ
-first_identifier = 0x100
 
 -- the times at which the cycle, the next cycle and the cycle's synchronous window start
 abbrev pub start_of : CycleLayout → Opening → ℕ

@@ -3,6 +3,7 @@
 use Rattle.std.specs.Prelude.{◌≡◌, ℕ, ◌+◌, ◌<◌, ◌≤◌, ◌⊎◌, ◌==◌, ◌&&◌}
 use Rattle.std.specs.Prelude.{nat_le, Bool, true, List, Contains, IsSome, map, slice_get, Some, MatchOption}
 use Rattle.std.specs.List.{list_any}
+use Rattle.profile.specs.Limits.{first_identifier}
 use Rattle.can_frame.specs.DataFrame.{DataFrame}
 use Rattle.can_frame.specs.declared.data_frame.TimedFrame.{TimedFrame}
 use Rattle.cycle_layout.specs.Layout.{CycleLayout}
@@ -14,7 +15,7 @@ use Rattle.async_window.specs.declared.request.Owner.{Owner}
 use Rattle.async_window.specs.declared.request.Request.{Request}
 use Rattle.async_window.specs.Mailbox.{mail_after, unsent_of}
 use Rattle.requirement_table.specs.Opening.{Opening, width_of}
-use Rattle.node_model.specs.Opening.{first_identifier, start_of}
+use Rattle.node_model.specs.Opening.{start_of}
 use Rattle.node_model.specs.Offered.{OffersRequest, OffersSlot}
 use Rattle.node_model.specs.Node.{NodeState, Opened, counted, entries_of, identifiers_of, node_offer, node_frame}
 

@@ -3,13 +3,13 @@ use Rattle.std.specs.Prelude.{◌≡◌, ℕ, ◌+◌, ◌*◌, ◌<◌, ◌≤�
 use Rattle.std.specs.Prelude.{Bool, false, List, [], All, Option, None, Some, if◌then◌else◌}
 use Rattle.std.specs.Option.{option_map_or}
 use Rattle.std.specs.List.{list_any}
+use Rattle.profile.specs.Limits.{first_identifier}
 use Rattle.can_frame.specs.DataFrame.{DataFrame}
 use Rattle.can_frame.specs.declared.data_frame.TimedFrame.{TimedFrame}
 use Rattle.cycle_layout.specs.Layout.{sync_start}
 use Rattle.requirement_table.specs.Slots.{contains_slot, set_of, most_slots}
 use Rattle.requirement_table.specs.Instance.{bytes_of}
 use Rattle.requirement_table.specs.Table.{instance_in}
-use Rattle.node_model.specs.Opening.{first_identifier}
 use Rattle.node_model.specs.Node.{NodeState, Opened, is_due}
 
 -- whether the node is to send the slot in the cycle that is open for it

@@ -3,20 +3,18 @@
 ghost use Rattle.std.specs.Prelude.{◌≡◌, ℕ, ◌+◌, ◌-◌, ◌*◌, ◌/◌, ◌^◌, ◌<◌, ◌&&◌, not, nat_eq};
 ghost use Rattle.std.specs.Prelude.{nat_lt, max, if◌then◌else◌, is_some, false, true, List};
 ghost use Rattle.std.specs.Prelude.{Some, None, IfSome, MatchOption, option_map};
+ghost use Rattle.profile.specs.Limits.{first_identifier, times_end};
 ghost use Rattle.requirement_table.specs.declared.entries.Placed.{Placed};
 ghost use Rattle.requirement_table.specs.Slots.{contains_slot, most_slots};
 ghost use Rattle.requirement_table.specs.Table.{IsWellPlaced};
-ghost use Rattle.node_model.specs.Opening.{first_identifier};
 ghost use Rattle.node_model.specs.Node.{least_where, opened_by, with_heard};
-ghost use Rattle.node_model.specs.Kept.{KnowsDue, opened_of, sends_from};
+ghost use Rattle.node_model.specs.Kept.{AreReady, KnowsDue, opened_of, sends_from};
 
-use crate::entries::sendable_slots;
+use crate::entries::{ReadySlots, sendable_slots};
 use async_window::Offer;
+use profile::FIRST_IDENTIFIER;
 use requirement_table::{MOST_SLOTS, Mask, Placed};
 use trigger_codec::Trigger;
-
-/// The identifier of slot 0. That of slot s is s more.
-pub const FIRST_IDENTIFIER: u16 = 0x100;
 
 /// A cycle that is open for a node.
 #[derive(Clone, Copy)]
@@ -43,17 +41,19 @@ pub fn is_in(at: u64, cycle: u64, length: u64) -> bool
     start <= at && at - start < length
 }
 
-/// The cycle as its trigger opens it for a node with these entries; without one it has nothing synchronous. The numbers
-/// of the instances that may be sent in it are noted by slot.
+/// The cycle as its trigger opens it for a node with these entries; without one it has nothing synchronous. What the
+/// frames of the instances carry that may be sent in it is noted by slot.
 pub fn opened_by(
     cycle: u64,
     trigger: Option<Trigger>,
     entries: &[Placed],
-    numbers: &mut [u64],
+    ready: &mut ReadySlots,
 ) -> Open
     requires well_placed { IsWellPlaced entries.now }
+    requires ready { AreReady entries.now ready.old }
     ensures opened { opened_of result ≡ opened_by cycle trigger }
     ensures due { KnowsDue entries.now result }
+    ensures ready { AreReady entries.now ready.new }
 {
     let (width, mask) = match trigger {
         Some(trigger) => (trigger.l, trigger.mask),
@@ -65,7 +65,7 @@ pub fn opened_by(
         width,
         mask,
         heard,
-        due: unheard(mask, sendable_slots(entries, cycle, numbers), heard),
+        due: unheard(mask, sendable_slots(entries, cycle, ready), heard),
     }
 }
 
@@ -79,19 +79,21 @@ pub fn sends_from(opened: &Option<Open>, next: u64) -> u64
     }
 }
 
-/// The open cycle, where there is one, of a node that learnt these entries. The numbers of the instances that may be
-/// sent in it are noted by slot.
+/// The open cycle, where there is one, of a node that learnt these entries. What the frames of the instances carry that
+/// may be sent in it is noted by slot.
 pub fn after_learning(
     before: &Option<Open>,
     entries: &[Placed],
-    numbers: &mut [u64],
+    ready: &mut ReadySlots,
 ) -> Option<Open>
     requires well_placed { IsWellPlaced entries.now }
+    requires ready { AreReady entries.now ready.old }
     ensures opened { option_map opened_of result ≡ option_map opened_of before.now }
     ensures due { IfSome result (KnowsDue entries.now) }
+    ensures ready { AreReady entries.now ready.new }
 {
     let before = before.as_ref()?;
-    let sendable = sendable_slots(entries, before.cycle, numbers);
+    let sendable = sendable_slots(entries, before.cycle, ready);
     Some(Open {
         due: unheard(before.mask, sendable, before.heard),
         ..*before
@@ -140,7 +142,7 @@ pub fn offer_due(open_cycle: &Open, end: u64) -> Option<Offer>
 /// The least time behind `at` in a cycle that ends at `end`, at which a slot of it can be sent in its synchronous
 /// window, which starts at `window`.
 pub fn next_due(open_cycle: &Open, at: u64, window: u64, end: u64) -> Option<u64>
-    requires time { at < 2 ^ 60 }
+    requires time { at < times_end }
     ensures next { result
         ≡ (if is_some (least_where most_slots (contains_slot open_cycle.now.due)) && nat_lt (max (at + 1) window) end
         then Some (max (at + 1) window) else None) }
@@ -178,4 +180,13 @@ pub fn least_slot(among: Mask) -> Option<u8>
 {
     let bits = among.bits();
     (bits != 0).then_some(bits.trailing_zeros() as u8)
+}
+
+/// A set of slots without the least one of them.
+pub fn without_least(among: Mask) -> Mask
+    ensures slots { (least : ℕ) → least_where most_slots (contains_slot among) ≡ Some least
+        → (slot : ℕ) → contains_slot result slot ≡ (not (nat_eq slot least) && contains_slot among slot) }
+{
+    let bits = among.bits();
+    Mask::from_bits(bits & bits.wrapping_sub(1))
 }

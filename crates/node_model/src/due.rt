@@ -7,9 +7,10 @@ ghost use Rattle.node_model.specs.Node.{after_hearing};
 ghost use Rattle.node_model.specs.Kept.{KnowsDue, opened_of};
 ghost use Rattle.node_model.specs.Window.{AreOfSlots, due_frame, is_due_slot, with_all_heard};
 
-use crate::cycle::{FIRST_IDENTIFIER, Open};
+use crate::cycle::Open;
 use crate::node::Node;
 use can_frame::{Frame, TimedFrame};
+use profile::FIRST_IDENTIFIER;
 use requirement_table::Mask;
 
 impl Node {
@@ -21,11 +22,8 @@ impl Node {
         ensures frame { result ≡ due_frame self.now.state slot }
     {
         let id = FIRST_IDENTIFIER + u16::from(slot);
-        match self.payload(slot, open_cycle.cycle) {
-            Some(payload) => match Frame::new(id, payload.as_slice()) {
-                Ok(frame) => frame,
-                Err(_) => unreachable!(),
-            },
+        match self.content(slot, open_cycle.cycle) {
+            Some(content) => Frame::of_number(id, content.length as u8, content.number),
             None => unreachable!(),
         }
     }
@@ -72,7 +70,7 @@ pub(crate) fn both(one: Mask, other: Mask) -> Mask
 }
 
 /// The slots of a set that do not stand in another one.
-fn without_all(one: Mask, other: Mask) -> Mask
+pub fn without_all(one: Mask, other: Mask) -> Mask
     ensures slots { (slot : ℕ) → slot < most_slots
         → contains_slot result slot ≡ (contains_slot one slot && not (contains_slot other slot)) }
 {

@@ -1,17 +1,16 @@
 //! The entries of a node: which of a list are its own, their slots, and the instances that may be sent in a cycle.
 
 ghost use Rattle.std.specs.Prelude.{◌≡◌, ◌<◌, ◌≤◌, ℕ, true, [], Some, ◌+◌};
-ghost use Rattle.std.specs.Prelude.{Bool, is_some, length, option_map, vec_capacity, IfSome, IfOk};
-ghost use Rattle.requirement_table.specs.Slots.{contains_slot};
-ghost use Rattle.requirement_table.specs.Instance.{MaySend, bytes_of, release_of};
-ghost use Rattle.requirement_table.specs.Table.{IsWellPlaced, instance_in, not_over};
+ghost use Rattle.std.specs.Prelude.{List, is_some, length, nat_eq, option_map, slice_get, vec_capacity, ◌&&◌, ◌||◌};
+ghost use Rattle.std.specs.Prelude.{IfOk, IfSome};
+ghost use Rattle.requirement_table.specs.Slots.{contains_slot, most_slots};
+ghost use Rattle.requirement_table.specs.Instance.{bytes_of, exists, instance_of};
+ghost use Rattle.requirement_table.specs.Table.{IsInRange, IsWellPlaced, instance_in, not_over};
 ghost use Rattle.node_model.specs.Node.{entries_of, identifiers_of};
-ghost use Rattle.node_model.specs.Kept.{AreSlotsOf, HaveInstances};
+ghost use Rattle.node_model.specs.Kept.{AreReady, AreSlotsOf, HaveInstances, IsReady, carried_by};
 
 use async_window::Owner;
-use requirement_table::{
-    MOST_SLOTS, Mask, Payload, Placed, current, drop_over, first_over, is_over,
-};
+use requirement_table::{MOST_SLOTS, Mask, Placed, drop_over, exists, first_over, is_over};
 use std::alloc::{AllocError, Global};
 
 /// The identifiers that `owners` gives to a node.
@@ -44,6 +43,36 @@ pub fn keep_own(number: u8, placed: &[Placed], entries: &mut Vec<Placed>)
     }
 }
 
+/// What the frame of an instance carries: the low `length` bytes of the instance's number.
+#[derive(Clone, Copy)]
+pub struct Content {
+    /// The number of the instance.
+    pub number: u64,
+    /// The number of bytes, at most 8.
+    pub length: usize,
+}
+
+/// What is known of the instance of a slot that may be sent in one cycle.
+#[derive(Clone, Copy)]
+pub struct Ready {
+    /// The cycle after that one, and 0 where nothing is known.
+    pub next: u64,
+    /// What its frame carries.
+    pub content: Content,
+}
+
+/// Nothing is known.
+const UNKNOWN: Ready = Ready {
+    next: 0,
+    content: Content {
+        number: 0,
+        length: 0,
+    },
+};
+
+/// For each slot what is known of its instance.
+pub type ReadySlots = [Ready; MOST_SLOTS as usize];
+
 /// The entries of a node that are not over.
 #[derive(Drop)]
 pub struct Remaining {
@@ -51,22 +80,20 @@ pub struct Remaining {
     pub entries: Vec<Placed>,
     /// A cycle before which none of them is over.
     pub until: u64,
-    /// For each slot the place of its first entry among them. A slot's instance is looked for there first.
-    pub first: [Option<usize>; MOST_SLOTS as usize],
-    /// For each slot the number of its instance in the cycle that was looked at last: a guess, which is tested.
-    pub numbers: [u64; MOST_SLOTS as usize],
+    /// For each slot what is known of its instance in the cycle that was looked at last.
+    pub ready: ReadySlots,
 }
 
 impl Remaining {
     /// Nothing.
     pub fn new(alloc: Global) -> Remaining
         ensures none { result.entries.items ≡ [] }
+        ensures ready { AreReady result.entries.items result.ready }
     {
         Remaining {
             entries: Vec::new(alloc),
             until: u64::MAX,
-            first: [None; MOST_SLOTS as usize],
-            numbers: [0; MOST_SLOTS as usize],
+            ready: [UNKNOWN; MOST_SLOTS as usize],
         }
     }
 
@@ -76,117 +103,61 @@ impl Remaining {
         requires room { length entries.now ≤ vec_capacity self.old.entries }
         ensures well_placed { IsWellPlaced self.new.entries.items }
         ensures instances { HaveInstances entries.now cycle self.new.entries.items }
+        ensures ready { AreReady self.new.entries.items self.new.ready }
         ensures capacity { vec_capacity self.old.entries ≤ vec_capacity self.new.entries }
     {
         keep_not_over(entries, cycle, &mut self.entries);
         self.until = first_over(self.entries.as_slice());
-        note_first_places(self.entries.as_slice(), &mut self.first);
+        self.ready = [UNKNOWN; MOST_SLOTS as usize];
     }
 
     /// Drops those that are over by a cycle, in place, where one of them is.
     pub fn pass(&mut self, cycle: u64)
         requires well_placed { IsWellPlaced self.old.entries.items }
+        requires ready { AreReady self.old.entries.items self.old.ready }
         ensures well_placed { IsWellPlaced self.new.entries.items }
         ensures instances { HaveInstances self.old.entries.items cycle self.new.entries.items }
+        ensures ready { AreReady self.new.entries.items self.new.ready }
         ensures capacity { vec_capacity self.new.entries ≡ vec_capacity self.old.entries }
     {
         if self.until <= cycle {
             drop_over(&mut self.entries, cycle);
             self.until = first_over(self.entries.as_slice());
-            note_first_places(self.entries.as_slice(), &mut self.first);
+            self.ready = [UNKNOWN; MOST_SLOTS as usize];
         }
     }
 
-    /// The bytes of the instance of a slot that may be sent in a cycle: that of the slot's first entry, or else of a
-    /// later one.
-    pub fn payload(&self, slot: u8, cycle: u64) -> Option<Payload>
+    /// What the frame of the instance of a slot carries that may be sent in a cycle. The entries are gone through only
+    /// where nothing is known of it.
+    pub fn content(&self, slot: u8, cycle: u64) -> Option<Content>
+        requires slot { slot < most_slots }
         requires well_placed { IsWellPlaced self.now.entries.items }
-        ensures bytes { result ≡ option_map bytes_of (instance_in self.now.entries.items slot cycle) }
-        ensures few { IfSome result (λ bytes. length bytes ≤ 8) }
+        requires ready { AreReady self.now.entries.items self.now.ready }
+        ensures bytes { option_map carried_by result
+            ≡ option_map bytes_of (instance_in self.now.entries.items slot cycle) }
+        ensures few { IfSome result (λ content. content.length ≤ 8) }
     {
-        match self.first_payload(slot, cycle) {
-            Some(payload) => Some(payload),
-            None => payload_in(self.entries.as_slice(), slot, cycle),
+        match ready_in(&self.ready, slot, cycle) {
+            Some(content) => Some(content),
+            None => content_in(self.entries.as_slice(), slot, cycle),
         }
     }
-
-    /// The bytes of the instance of a slot that may be sent in a cycle, where it is that of the slot's first entry.
-    fn first_payload(&self, slot: u8, cycle: u64) -> Option<Payload>
-        requires well_placed { IsWellPlaced self.now.entries.items }
-        ensures bytes { IfSome result
-            (λ bytes. option_map bytes_of (instance_in self.now.entries.items slot cycle) ≡ Some bytes) }
-        ensures few { IfSome result (λ bytes. length bytes ≤ 8) }
-    {
-        let place = *self.first.get(usize::from(slot))?;
-        let guess = *self.numbers.get(usize::from(slot))?;
-        payload_at(self.entries.as_slice(), place?, slot, guess, cycle)
-    }
 }
 
-/// The bytes of the instance of a slot that may be sent in a cycle, where it is that of the entry at a place. Its
-/// number may be guessed.
-fn payload_at(entries: &[Placed], place: usize, slot: u8, guess: u64, cycle: u64) -> Option<Payload>
-    requires well_placed { IsWellPlaced entries.now }
-    ensures bytes { IfSome result (λ bytes. option_map bytes_of (instance_in entries.now slot cycle) ≡ Some bytes) }
-    ensures few { IfSome result (λ bytes. length bytes ≤ 8) }
+/// What the frame of the instance of a slot carries that may be sent in a cycle, where it is known.
+fn ready_in(ready: &ReadySlots, slot: u8, cycle: u64) -> Option<Content>
+    requires slot { slot < most_slots }
+    ensures bytes { IfSome result (λ content. (entries : List Placed) → AreReady entries ready.now
+        → option_map bytes_of (instance_in entries slot cycle) ≡ Some (carried_by content)) }
+    ensures few { IfSome result
+        (λ content. (entries : List Placed) → AreReady entries ready.now → content.length ≤ 8) }
 {
-    let p = entries.get(place)?;
-    if p.entry.slot != slot {
-        return None;
-    }
-    let number = number_in(p, guess, cycle)?;
-    Some(Payload::of(p.entry.length, number))
-}
-
-/// The number of the instance of an entry that may be sent in a cycle. Where the guess is right, no division is made.
-fn number_in(p: &Placed, guess: u64, cycle: u64) -> Option<u64>
-    requires deadline { 1 ≤ p.now.entry.deadline }
-    requires period { p.now.entry.deadline ≤ p.now.entry.period }
-    ensures sendable { IfSome result (λ k. MaySend p.now k cycle) }
-{
-    if may_send(p, guess, cycle) {
-        Some(guess)
+    let found = ready[usize::from(slot)];
+    let next = cycle.wrapping_add(1);
+    if next != 0 && found.next == next {
+        Some(found.content)
     } else {
-        current(p, cycle)
-    }
-}
-
-/// Whether an instance of an entry may be sent in a cycle.
-fn may_send(p: &Placed, number: u64, cycle: u64) -> bool
-    ensures sendable { result ≡ true → MaySend p.now number cycle }
-{
-    match release(p, number) {
-        Some(release) => {
-            release <= cycle && cycle - release < u64::from(p.entry.deadline) && exists(p, release)
-        }
-        None => false,
-    }
-}
-
-/// The cycle in which an instance of an entry is released, where that fits.
-fn release(p: &Placed, number: u64) -> Option<u64>
-    ensures release { IfSome result (λ cycle. cycle ≡ release_of p.now number) }
-{
-    let first = p.origin.checked_add(u64::from(p.entry.phase))?;
-    first.checked_add(number.checked_mul(u64::from(p.entry.period))?)
-}
-
-/// Whether an instance of an entry with this release exists.
-fn exists(p: &Placed, release: u64) -> bool
-    ensures exists { result ≡ true → IfSome p.now.end (λ end. release < end) }
-{
-    match p.end {
-        Some(end) => release < end,
-        None => true,
-    }
-}
-
-/// Notes for each slot of these entries the place of its first one. What is noted for other slots stays.
-fn note_first_places(entries: &[Placed], first: &mut [Option<usize>]) {
-    for (place, p) in entries.iter().enumerate().rev() {
-        if let Some(noted) = first.get_mut(usize::from(p.entry.slot)) {
-            *noted = Some(place);
-        }
+        None
     }
 }
 
@@ -216,38 +187,80 @@ pub fn slots_of(entries: &[Placed]) -> Mask
     slots
 }
 
-/// The slots of which an instance may be sent in a cycle. The instances' numbers are noted by slot.
-pub fn sendable_slots(entries: &[Placed], cycle: u64, numbers: &mut [u64]) -> Mask
+/// The slots of which an instance may be sent in a cycle. What these instances' frames carry is noted by slot.
+pub fn sendable_slots(entries: &[Placed], cycle: u64, ready: &mut ReadySlots) -> Mask
     requires well_placed { IsWellPlaced entries.now }
+    requires ready { AreReady entries.now ready.old }
     ensures slots { (slot : ℕ) → contains_slot result slot ≡ is_some (instance_in entries.now slot cycle) }
+    ensures ready { AreReady entries.now ready.new }
 {
     let mut slots = Mask::empty();
     for p in entries {
-        if let Some(number) = current(p, cycle) {
-            note(numbers, p.entry.slot, number);
-            slots = slots.with(p.entry.slot);
-        }
+        slots = with_sendable(slots, p, cycle, ready);
     }
     slots
 }
 
-/// Notes a number at the place of a slot.
-fn note(numbers: &mut [u64], slot: u8, number: u64) {
-    if let Some(noted) = numbers.get_mut(usize::from(slot)) {
-        *noted = number;
+/// A set of slots, with that of an entry where an instance of it may be sent in a cycle. What the instance's frame
+/// carries is noted.
+fn with_sendable(slots: Mask, p: &Placed, cycle: u64, ready: &mut ReadySlots) -> Mask
+    requires in_range { IsInRange p.now }
+    ensures slots { (slot : ℕ) → contains_slot result slot
+        ≡ ((nat_eq p.now.entry.slot slot && is_some (instance_of p.now cycle)) || contains_slot slots slot) }
+    ensures ready { (entries : List Placed) (place : ℕ) → IsWellPlaced entries → slice_get entries place ≡ Some p.now
+        → AreReady entries ready.old → AreReady entries ready.new }
+{
+    match number_in(p, cycle) {
+        Some(number) => {
+            let length = usize::from(p.entry.length);
+            note(ready, p.entry.slot, cycle, Content { number, length });
+            slots.with(p.entry.slot)
+        }
+        None => slots,
     }
 }
 
-/// The bytes of the instance of a slot that may be sent in a cycle.
-pub fn payload_in(entries: &[Placed], slot: u8, cycle: u64) -> Option<Payload>
+/// The number of the instance of an entry that may be sent in a cycle.
+fn number_in(p: &Placed, cycle: u64) -> Option<u64>
+    requires in_range { IsInRange p.now }
+    ensures number { result ≡ instance_of p.now cycle }
+{
+    let first = p.origin + u64::from(p.entry.phase);
+    if cycle < first {
+        return None;
+    }
+    let since = cycle - first;
+    let period = u64::from(p.entry.period);
+    let age = since % period;
+    if age < u64::from(p.entry.deadline) && exists(p, cycle - age) {
+        Some(since / period)
+    } else {
+        None
+    }
+}
+
+/// Notes what the frame of the instance of a slot carries that may be sent in a cycle.
+fn note(ready: &mut ReadySlots, slot: u8, cycle: u64, content: Content)
+    requires slot { slot < most_slots }
+    ensures noted { (entries : List Placed)
+        → IsReady entries slot (record { next = cycle + 1; content = content })
+        → AreReady entries ready.old → AreReady entries ready.new }
+{
+    let next = cycle.wrapping_add(1);
+    ready[usize::from(slot)] = Ready { next, content };
+}
+
+/// What the frame of the instance of a slot carries that may be sent in a cycle.
+fn content_in(entries: &[Placed], slot: u8, cycle: u64) -> Option<Content>
     requires well_placed { IsWellPlaced entries.now }
-    ensures bytes { result ≡ option_map bytes_of (instance_in entries.now slot cycle) }
-    ensures few { IfSome result (λ bytes. length bytes ≤ 8) }
+    ensures bytes { option_map carried_by result ≡ option_map bytes_of (instance_in entries.now slot cycle) }
+    ensures few { IfSome result (λ content. content.length ≤ 8) }
 {
     for p in entries {
         if p.entry.slot == slot {
-            if let Some(number) = current(p, cycle) {
-                return Some(Payload::of(p.entry.length, number));
+            if let Some(number) = number_in(p, cycle) {
+                let length = usize::from(p.entry.length);
+                return Some(Content { number, length });
             }
         }
     }

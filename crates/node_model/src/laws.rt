@@ -3,6 +3,7 @@
 
 ghost use Rattle.std.specs.Prelude.{◌≡◌, ◌≢◌, ℕ, ◌+◌, ◌/◌, ◌^◌, ◌<◌, ◌≤◌, ◌==◌, ◌&&◌, ◌⊎◌};
 ghost use Rattle.std.specs.Prelude.{not, List, [], ◌∷◌, ◌++◌, fold, map, All, MatchOption, None, Some, false, true};
+ghost use Rattle.profile.specs.Limits.{cycles_end, first_identifier, greatest_identifier};
 ghost use Rattle.can_frame.specs.declared.data_frame.TimedFrame.{TimedFrame};
 ghost use Rattle.cycle_layout.specs.Layout.{CycleLayout, IsLayout};
 ghost use Rattle.requirement_table.specs.declared.entries.Placed.{Placed};
@@ -13,7 +14,6 @@ ghost use Rattle.async_window.specs.declared.request.Owner.{Owner};
 ghost use Rattle.async_window.specs.declared.request.Request.{Request};
 ghost use Rattle.requirement_table.specs.Opening.{Opening, width_of};
 ghost use Rattle.node_model.specs.Opening.{start_of};
-ghost use Rattle.node_model.specs.Opening.{first_identifier};
 ghost use Rattle.node_model.specs.Node.{IsNode, NodeState, after_hearing, after_request, learnt, node_frame};
 ghost use Rattle.node_model.specs.Node.{node_offer, opening_identifier};
 ghost use Rattle.node_model.specs.Offered.{trigger_frames};
@@ -101,7 +101,7 @@ pub fn stays_a_node()
     ensures learning { (placed : List Placed) (node : NodeState)
         → IsWellPlaced placed → IsNode node → IsNode (learnt placed node) }
     ensures hearing { (node : NodeState) (sent : TimedFrame)
-        → (sent.frame.identifier ≡ opening_identifier node.layout.slots → node.next < 2 ^ 42) → IsNode node
+        → (sent.frame.identifier ≡ opening_identifier node.layout.slots → node.next < cycles_end) → IsNode node
         → IsNode (after_hearing node sent) }
 {
     taking_laws();
@@ -136,7 +136,7 @@ pub fn sends_its_slots()
 /// What a node offers is the identifier of a slot or an asynchronous one.
 pub fn offers_in_range()
     ensures in_range { (node : NodeState) (at id : ℕ) → IsNode node → node_offer node at ≡ Some id
-        → (0x100 ≤ id) × (id ≤ 0x7EF) }
+        → (first_identifier ≤ id) × (id ≤ greatest_identifier) }
 {
     offer_laws();
 }

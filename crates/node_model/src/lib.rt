@@ -11,5 +11,6 @@ pub mod laws;
 mod node;
 mod slots_due;
 
-pub use cycle::{FIRST_IDENTIFIER, least_slot};
+pub use cycle::{least_slot, without_least};
+pub use due::without_all;
 pub use node::Node;

@@ -1,7 +1,8 @@
 //! A node, which offers what follows from what it learnt and heard.
 
-ghost use Rattle.std.specs.Prelude.{◌≡◌, ◌≢◌, ◌↔◌, ℕ, ◌+◌, ◌*◌, ◌/◌, ◌%◌, ◌^◌, ◌<◌, ◌≤◌, not, nat_eq, [], All, AllPairs, IfOk, IfSome};
+ghost use Rattle.std.specs.Prelude.{◌≡◌, ◌≢◌, ◌↔◌, ℕ, ◌+◌, ◌*◌, ◌/◌, ◌%◌, ◌<◌, ◌≤◌, not, nat_eq, [], All, AllPairs, IfOk, IfSome};
 ghost use Rattle.std.specs.Prelude.{IsSome, MatchOption, OnErr, OnOk, Some, None, false, true, length, option_map};
+ghost use Rattle.profile.specs.Limits.{arrivals_end, cycles_end, first_identifier, least_asynchronous, times_end};
 ghost use Rattle.can_frame.specs.DataFrame.{DataFrame};
 ghost use Rattle.trigger_codec.specs.Bytes.{second_of, trigger_of};
 ghost use Rattle.requirement_table.specs.Slots.{most_slots};
@@ -9,29 +10,26 @@ ghost use Rattle.requirement_table.specs.Instance.{bytes_of};
 ghost use Rattle.requirement_table.specs.Table.{IsWellPlaced, instance_in};
 ghost use Rattle.async_window.specs.Mailbox.{IsNextInCycle, left};
 ghost use Rattle.async_window.specs.Owners.{AreOwners};
-ghost use Rattle.node_model.specs.Opening.{first_identifier};
 ghost use Rattle.node_model.specs.Node.{IsNextOffer, IsNode, after_hearing, after_request, after_slot, fresh_node};
 ghost use Rattle.node_model.specs.Node.{is_own_slot, joined, learnt, next_trigger, node_frame, node_offer};
 ghost use Rattle.node_model.specs.Node.{opened_by, opening_identifier};
 ghost use Rattle.node_model.specs.Ahead.{IsAhead, Stays, next_time};
-ghost use Rattle.node_model.specs.Kept.{IsClosedAt, IsOpenAt, sends_from};
+ghost use Rattle.node_model.specs.Kept.{IsClosedAt, IsOpenAt, carried_by, sends_from};
 ghost use Rattle.node_model.specs.Own.{HasRequest, counting};
 
 use crate::ahead::{Ahead, Next};
-use crate::cycle::{self, FIRST_IDENTIFIER, Open};
-use crate::entries::{self, Remaining};
-use async_window::{LEAST_ASYNCHRONOUS, Mailboxes, Offer, Owner, Request};
+use crate::cycle::{self, Open};
+use crate::entries::{self, Content, Remaining};
+use async_window::{Mailboxes, Offer, Owner, Request};
 use can_frame::{Frame, TimedFrame};
 use cycle_layout::Layout;
-use requirement_table::{Mask, Payload, Placed};
+use profile::{FIRST_IDENTIFIER, LEAST_ASYNCHRONOUS, TIMES_END};
+use requirement_table::{Mask, Placed};
 use std::alloc::{AllocError, Global};
 use std::marker::Model;
 use trigger_codec::{
     SECOND_IDENTIFIER, Second, TRIGGER_IDENTIFIER, Trigger, decode, decode_second, flags_of_both,
 };
-
-/// All times are below this one, in bit times.
-const TIMES: u64 = 1 << 60;
 
 /// The number of slots of a table whose cycles have one trigger frame. With more slots they have two.
 const SLOTS_OF_ONE: u8 = 40;
@@ -88,7 +86,7 @@ impl Model for Node {
       next = n.next;
       frames = n.frames;
       noted = n.noted;
-    }) n.own n.remaining.entries.items n.opened n.ahead };
+    }) n.own n.remaining.entries.items n.remaining.ready n.opened n.ahead };
 }
 
 impl Node {
@@ -105,7 +103,7 @@ impl Node {
     ) -> Result<Node, AllocError>
         requires owners { AreOwners owners.now }
         requires arrivals { AllPairs (λ one other. one.at ≤ other.at) requests.now }
-        requires early { All (λ request. request.at < 2 ^ 40) requests.now }
+        requires early { All (λ request. request.at < arrivals_end) requests.now }
         ensures fresh { IfOk result (λ node. node.state ≡ fresh_node layout owners.now requests.now number) }
         ensures known { IfOk result (λ node. IsNode node.state) }
     {
@@ -166,14 +164,14 @@ impl Node {
         self.opened = cycle::after_learning(
             &self.opened,
             self.remaining.entries.as_slice(),
-            &mut self.remaining.numbers,
+            &mut self.remaining.ready,
         );
     }
 
     /// Hears a frame of the bus.
     pub fn hear(&mut self, heard: &TimedFrame)
         requires cycle { heard.now.frame.identifier ≡ opening_identifier self.old.state.layout.slots
-            → self.old.state.next < 2 ^ 42 }
+            → self.old.state.next < cycles_end }
         ensures heard { self.new.state ≡ after_hearing self.old.state heard.now }
         ensures spare { self.new.spare ≡ self.old.spare }
     {
@@ -199,7 +197,7 @@ impl Node {
     pub fn hear_trigger(&mut self, heard: &TimedFrame, trigger: &Option<Trigger>)
         requires identifier { heard.now.frame.identifier ≡ 0 }
         requires reading { trigger.now ≡ trigger_of heard.now.frame }
-        requires cycle { self.old.state.layout.slots ≡ 40 → self.old.state.next < 2 ^ 42 }
+        requires cycle { self.old.state.layout.slots ≡ 40 → self.old.state.next < cycles_end }
         ensures heard { self.new.state ≡ after_hearing self.old.state heard.now }
         ensures spare { self.new.spare ≡ self.old.spare }
     {
@@ -219,7 +217,7 @@ impl Node {
         requires identifier { heard.now.frame.identifier ≡ 1 }
         requires two { self.old.state.layout.slots ≢ 40 }
         requires reading { second.now ≡ second_of heard.now.frame }
-        requires cycle { self.old.state.next < 2 ^ 42 }
+        requires cycle { self.old.state.next < cycles_end }
         ensures heard { self.new.state ≡ after_hearing self.old.state heard.now }
         ensures spare { self.new.spare ≡ self.old.spare }
     {
@@ -283,7 +281,7 @@ impl Node {
     fn find_ahead(&self, at: u64) -> Option<Ahead>
         ensures ahead { IfSome result (IsAhead self.now.state) }
     {
-        if TIMES - 1 <= at {
+        if TIMES_END - 1 <= at {
             return None;
         }
         if let Some(offer) = self.find_offer(at + 1) {
@@ -300,7 +298,7 @@ impl Node {
     fn search_ahead(&self, at: u64) -> Option<Ahead>
         ensures ahead { IfSome result (IsAhead self.now.state) }
     {
-        if TIMES <= at {
+        if TIMES_END <= at {
             return None;
         }
         match self.find_next_offer(at) {
@@ -317,7 +315,7 @@ impl Node {
         requires next { IsNextOffer self.now.state since (Some from) }
         ensures ahead { IfSome result (IsAhead self.now.state) }
     {
-        if TIMES <= from {
+        if TIMES_END <= from {
             return None;
         }
         match self.find_offer(from) {
@@ -331,7 +329,7 @@ impl Node {
 
     /// Opens the next cycle as its trigger frames say; without such a trigger it has nothing synchronous.
     fn open_next(&mut self, trigger: Option<Trigger>)
-        requires cycle { self.old.state.next < 2 ^ 42 }
+        requires cycle { self.old.state.next < cycles_end }
         requires fits { IfSome trigger (λ said. said.l ≤ self.old.state.layout.window) }
         ensures opened { self.new.state ≡ record self.old.state {
           opened = Some (opened_by self.old.state.next trigger);
@@ -347,7 +345,7 @@ impl Node {
             self.next,
             trigger,
             self.remaining.entries.as_slice(),
-            &mut self.remaining.numbers,
+            &mut self.remaining.ready,
         ));
         self.next += 1;
     }
@@ -414,7 +412,7 @@ impl Node {
 
     /// The identifier that the node offers at a time.
     pub fn offer(&self, at: u64) -> Option<u16>
-        requires time { at < 2 ^ 60 }
+        requires time { at < times_end }
         ensures offer { result ≡ node_offer self.now.state at }
         ensures known { IsNode self.now.state }
     {
@@ -440,7 +438,7 @@ impl Node {
 
     /// What the node offers at a time, and how long, with no use of a look ahead.
     fn find_offer(&self, at: u64) -> Option<Offer>
-        requires time { at < 2 ^ 60 }
+        requires time { at < times_end }
         ensures offer { option_map (λ offer. offer.id) result ≡ node_offer self.now.state at }
         ensures stays { IfSome result (Stays self.now.state at) }
         ensures known { IsNode self.now.state }
@@ -459,7 +457,7 @@ impl Node {
 
     /// The open cycle, where the time lies in it.
     fn open_at(&self, at: u64) -> Option<Open>
-        requires time { at < 2 ^ 60 }
+        requires time { at < times_end }
         ensures open_cycle { MatchOption result (IsClosedAt self.now.state at) (IsOpenAt self.now.state at) }
         ensures known { IsNode self.now.state }
     {
@@ -470,7 +468,7 @@ impl Node {
 
     /// The least time behind `at`, in the cycle of `at`, at which `offer` is something while nothing is heard.
     pub fn wake(&self, at: u64) -> Option<u64>
-        requires time { at < 2 ^ 60 }
+        requires time { at < times_end }
         ensures next { IsNextInCycle self.now.state.layout.cycle at
             (λ later. IsSome (node_offer self.now.state later)) result }
     {
@@ -493,7 +491,7 @@ impl Node {
     /// The least time behind `at`, in whatever cycle, at which `offer` is something while nothing is heard; `None`
     /// exactly where there is none.
     pub fn next_offer(&self, at: u64) -> Option<u64>
-        requires time { at < 2 ^ 60 }
+        requires time { at < times_end }
         ensures next { IsNextOffer self.now.state at result }
     {
         match self.told_behind(at) {
@@ -504,7 +502,7 @@ impl Node {
 
     /// The same, where something may be offered at the time itself. What stays behind it needs no search.
     fn next_behind(&self, at: u64) -> Option<u64>
-        requires time { at < 2 ^ 60 }
+        requires time { at < times_end }
         ensures next { IsNextOffer self.now.state at result }
     {
         if self.stays_at(at + 1) {
@@ -543,7 +541,7 @@ impl Node {
 
     /// The same, with no use of a look ahead.
     fn find_next_offer(&self, at: u64) -> Option<u64>
-        requires time { at < 2 ^ 60 }
+        requires time { at < times_end }
         ensures next { IsNextOffer self.now.state at result }
     {
         let open_cycle = self.opened?;
@@ -553,7 +551,7 @@ impl Node {
 
     /// The frame that the node offers at a time under an identifier.
     pub fn frame(&self, at: u64, id: u16) -> Frame
-        requires time { at < 2 ^ 60 }
+        requires time { at < times_end }
         requires offered { node_offer self.now.state at ≡ Some id }
         ensures frame { result ≡ node_frame self.now.state at id }
         ensures identifier { result.identifier ≡ id }
@@ -567,7 +565,7 @@ impl Node {
 
     /// The frame that the node offers at a time under an identifier, where it offers that one.
     pub fn offered_frame(&self, at: u64, id: u16) -> Option<Frame>
-        requires time { at < 2 ^ 60 }
+        requires time { at < times_end }
         ensures frame { MatchOption result (node_offer self.now.state at ≡ Some id → ⊥)
             (λ frame. (node_offer self.now.state at ≡ Some id)
             × (frame ≡ node_frame self.now.state at id) × (frame.identifier ≡ id)) }
@@ -581,7 +579,7 @@ impl Node {
 
     /// Whether the node offers an identifier at a time.
     fn offers(&self, at: u64, id: u16) -> bool
-        requires time { at < 2 ^ 60 }
+        requires time { at < times_end }
         ensures yes { result ≡ true → node_offer self.now.state at ≡ Some id }
         ensures no { result ≡ false → node_offer self.now.state at ≡ Some id → ⊥ }
     {
@@ -607,9 +605,9 @@ impl Node {
 
     /// The frame of the first unsent request of an offered identifier.
     fn request_frame(&self, at: u64, id: u16) -> Frame
-        requires time { at < 2 ^ 60 }
+        requires time { at < times_end }
         requires offered { node_offer self.now.state at ≡ Some id }
-        requires asynchronous { 0x200 ≤ id }
+        requires asynchronous { least_asynchronous ≤ id }
         ensures frame { result ≡ node_frame self.now.state at id }
     {
         match self.mailboxes.head(id) {
@@ -620,29 +618,28 @@ impl Node {
 
     /// The frame of the instance of an offered slot.
     fn slot_frame(&self, at: u64, id: u16) -> Frame
-        requires time { at < 2 ^ 60 }
+        requires time { at < times_end }
         requires offered { node_offer self.now.state at ≡ Some id }
-        requires synchronous { id < 0x200 }
+        requires synchronous { id < least_asynchronous }
         ensures frame { result ≡ node_frame self.now.state at id }
     {
         let cycle = at / u64::from(self.layout.cycle());
         let slot = (id - FIRST_IDENTIFIER) as u8;
-        match self.payload(slot, cycle) {
-            Some(payload) => match Frame::new(id, payload.as_slice()) {
-                Ok(frame) => frame,
-                Err(_) => unreachable!(),
-            },
+        match self.content(slot, cycle) {
+            Some(content) => Frame::of_number(id, content.length as u8, content.number),
             None => unreachable!(),
         }
     }
 
-    /// The bytes of the instance of a slot that may be sent in a cycle, from the open one on.
-    pub(crate) fn payload(&self, slot: u8, cycle: u64) -> Option<Payload>
+    /// What the frame of the instance of a slot carries that may be sent in a cycle, from the open one on.
+    pub(crate) fn content(&self, slot: u8, cycle: u64) -> Option<Content>
+        requires slot { slot < most_slots }
         requires from { sends_from self.now.state.opened self.now.state.next ≤ cycle }
-        ensures bytes { result ≡ option_map bytes_of (instance_in self.now.state.entries slot cycle) }
-        ensures few { IfSome result (λ bytes. length bytes ≤ 8) }
+        ensures bytes { option_map carried_by result
+            ≡ option_map bytes_of (instance_in self.now.state.entries slot cycle) }
+        ensures few { IfSome result (λ content. content.length ≤ 8) }
     {
-        self.remaining.payload(slot, cycle)
+        self.remaining.content(slot, cycle)
     }
 
     /// The number of frames that the node heard; it stands still at the greatest u64.

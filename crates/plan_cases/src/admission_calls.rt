@@ -6,6 +6,7 @@ ghost use Rattle.admission.specs.Verdict.{IsRules};
 use crate::master_calls;
 use admission::{Rules, certify};
 use planner_policies::{Fill, PlanState, Policy};
+use profile::{GREATEST_HORIZON, LONGEST_WINDOW, MOST_NODES, SHORTEST_WINDOW};
 use requirement_table::{MOST_SLOTS, Mask, Placed, well_placed};
 use std::alloc::{AllocError, Global};
 
@@ -58,10 +59,10 @@ fn rules_of(slots: u64, fill: Fill, window: u64, horizon: u64) -> Rules {
 pub fn known(rules: &Rules) -> bool
     ensures { IsTrue result ↔ IsRules rules.now }
 {
-    (1..=30).contains(&rules.nodes)
+    (1..=MOST_NODES).contains(&rules.nodes)
         && rules.slots <= MOST_SLOTS
-        && (55..=16_383).contains(&rules.window)
-        && (1..=100_000).contains(&rules.horizon)
+        && (SHORTEST_WINDOW..=LONGEST_WINDOW).contains(&rules.window)
+        && (1..=GREATEST_HORIZON).contains(&rules.horizon)
 }
 
 /// The first cycle and the length of what the certificate of the table repeats, or why it has none. No cycle was

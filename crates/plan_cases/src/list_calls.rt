@@ -2,6 +2,7 @@
 
 use crate::numbers;
 use planner_policies::{Fill, PlanState, Policy, rank, valid};
+use profile::CYCLES_END;
 use requirement_table::{
     Placed, PlacedList, drop_over, first_over, is_over, not_over, released_in, well_placed,
 };
@@ -65,7 +66,7 @@ fn validity(
     cycle: u64,
     slots: &[u64],
 ) -> Result<String, AllocError> {
-    if !well_placed(placed) || cycle >= 1 << 42 {
+    if !well_placed(placed) || cycle >= CYCLES_END {
         return Ok(String::new(alloc));
     }
     let state = PlanState {

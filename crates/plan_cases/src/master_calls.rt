@@ -7,6 +7,7 @@ use crate::numbers;
 use admission::Rules;
 use change_protocol::{Change, Op, Ops};
 use master_core::{Event, Master, plan_apart};
+use profile::OPENINGS_END;
 use requirement_table::{Entry, MOST_SLOTS, Mask, Placed};
 use std::alloc::{AllocError, Global};
 
@@ -20,7 +21,7 @@ pub fn shown(alloc: Global, rules: Rules, placed: &[Placed]) -> Result<String, A
     master.submit(alloc, 1, &change)?;
     master.reserve(alloc, 1)?;
     let before = state(alloc, &master)?;
-    if master.next() < 1 << 41 {
+    if master.next() < OPENINGS_END {
         master.open();
     }
     let after = state(alloc, &master)?;
@@ -90,7 +91,7 @@ fn open(alloc: Global, master: &mut Master) -> Result<(), AllocError>
     ensures rules { master.new.rules ≡ master.old.rules }
 {
     master.reserve(alloc, 1)?;
-    if master.next() < 1 << 41 {
+    if master.next() < OPENINGS_END {
         master.open();
     }
     Ok(())
@@ -142,7 +143,7 @@ fn last_trail(master: &Master) -> &[Mask] {
 /// The next cycle, the number of the set of slots that are pending before it, and that of those to be flagged in it.
 fn state(alloc: Global, master: &Master) -> Result<String, AllocError> {
     let state = master.state();
-    if master.next() >= 1 << 41 {
+    if master.next() >= OPENINGS_END {
         return Ok(String::new(alloc));
     }
     let planned = master.planned();

@@ -2,6 +2,7 @@
 
 ghost use Rattle.std.specs.Prelude.{◌≡◌, ◌+◌, ◌<◌, ◌≤◌, Some, None, nat_lt, nat_eq, if◌then◌else◌};
 
+use profile::GREATEST_HORIZON;
 use recurrence_check::{Keyed, Repeat, Walk, WalkEnd, lasso, lasso_keyed};
 use std::alloc::{AllocError, Global};
 
@@ -40,6 +41,8 @@ impl Values {
 impl Walk for Values {
     type State = Place;
 
+    type Here = Place;
+
     ghost use Rattle.std.specs.Prelude.{Option};
     ghost use Rattle.std.specs.Option.{option_map};
     ghost use Rattle.std.proofs.Common.{refl, subst, sym, ◌∙◌, ℕ};
@@ -59,16 +62,25 @@ impl Walk for Values {
 
     ghost number = { λ walk place. place.steps };
 
-    fn first(&self) -> Place {
-        Place { value: 0, steps: 0 }
+    ghost state_of = { λ here. here };
+
+    ghost is_on = { λ walk here. Unit {0} };
+
+    fn begin(&self, _alloc: Global) -> Result<Place, AllocError> {
+        Ok(Place { value: 0, steps: 0 })
     }
 
-    fn step(&self, state: &Place) -> Option<Place> {
-        let value = self.behind(state.value)?;
-        Some(Place {
+    fn state(&self, here: &Place) -> Place {
+        *here
+    }
+
+    fn step(&self, here: &mut Place) -> Option<Place> {
+        let value = self.behind(here.value)?;
+        *here = Place {
             value,
-            steps: state.steps + 1,
-        })
+            steps: here.steps + 1,
+        };
+        Some(*here)
     }
 
     fn same(&self, one: &Place, other: &Place) -> bool {
@@ -114,7 +126,7 @@ pub fn answer(alloc: Global, numbers: &[u64]) -> Result<String, AllocError> {
     let [back, top, stop, horizon] = *numbers else {
         return Ok(String::new(alloc));
     };
-    if horizon > 100_000 {
+    if horizon > GREATEST_HORIZON {
         return Ok(String::new(alloc));
     }
     let walk = Values { back, top, stop };

@@ -1,16 +1,13 @@
 -- The current entries of slots: what they send is what their slots send.
 use Rattle.std.proofs.Common.{◌≡◌, ◌≢◌, ℕ, ◌+◌, ◌-◌, ◌<◌, ◌≤◌, true, false, Option, Some, None, IfSome, IsSomeAnd, option_map, List, Contains, slice_get, length, get_or, set, refl, sym, ap, ◌∙◌, subst, ⊎_elim, nat_le, arith, get_or-set_other, get_or-set_same}
-use Rattle.std.proofs.Math.ListN.{length-set}
 use Rattle.std.specs.Option.{option_and_then, option_map_or}
 use Rattle.std.proofs.lemmas.Bool.{cases_eq, cases_lt, cases_order, le-leb, leb-true}
 use Rattle.std.proofs.lemmas.Option.{get_or_from_slice_get, none-some, same_Some, slice_get-get_or, slice_get_within}
 use Rattle.requirement_table.specs.declared.entries.Placed.{Placed}
 use Rattle.requirement_table.specs.Instance.{Instance, MaySend, instance_of, release_of}
-use Rattle.requirement_table.specs.Slots.{most_slots}
 use Rattle.requirement_table.specs.Table.{GoesBefore, IsFreeAt, IsWellPlaced, free_from, instance_in, is_over}
 use Rattle.requirement_table.proofs.Shared.{IsFound, MaySend-from_instance, found-in, instance_in-found}
-use Rattle.plan_check.specs.declared.rows.Due.{Due}
-use Rattle.plan_check.specs.Rows.{AreAbsent, AreCurrent, ArePassed, AreSlotsBelow, IsCurrent, IsPassed, IsRow, due_by, due_of}
+use Rattle.plan_check.specs.Places.{AreCurrent, ArePassed, AreSlotsBelow, IsCurrent, IsPassed, release_by, released_at}
 
 over-sends : (end : Option ℕ) (deadline release c : ℕ) → option_map_or (λ from. nat_le from c) (option_map (λ e. e + deadline - 1) end) false ≡ true
     → IfSome end (λ e. release < e) → release ≤ c → c < release + deadline → ⊥
@@ -49,7 +46,7 @@ module _ (placed : List Placed) (c slot place : ℕ) (well : IsWellPlaced placed
   not-before i found before =
       over-none i.placed i.number c (current.passed found.stands.0 i.placed before (place-of placed i.placed found.stands) found.of_slot) found.sends
 
-  current-end : length placed ≤ place → instance_in placed slot c ≡ None
+  pub current-end : length placed ≤ place → instance_in placed slot c ≡ None
   current-end behind =
       none-of (instance_in placed slot c) (λ i is.
       let found = found-in placed slot c i well is in
@@ -83,28 +80,63 @@ module _ (placed : List Placed) (c slot place : ℕ) (well : IsWellPlaced placed
       ∙ instance_in-found placed well place k c p at (MaySend-from_instance p k c number)
 
   by-number : (p : Placed) (o : Option ℕ) → slice_get placed place ≡ Some p → instance_of p c ≡ o
-      → option_map (λ k. due_of (record { placed = p; number = k })) o ≡ option_map due_of (instance_in placed slot c)
-  by-number p (Some k) at number = ap (option_map due_of) (sym (current-some p k at number))
-  by-number p None at number = ap (option_map due_of) (sym (current-none p at number))
+      → instance_in placed slot c ≡ option_map (λ k. record { placed = p; number = k }) o
+  by-number p (Some k) at number = current-some p k at number
+  by-number p None at number = current-none p at number
 
-  by-entry : (o : Option Placed) → slice_get placed place ≡ o → option_and_then (due_by c) o ≡ option_map due_of (instance_in placed slot c)
-  by-entry (Some p) at = by-number p (instance_of p c) at refl
-  by-entry None at =
-      ap (option_map due_of)
-      (sym (current-end (⊎_elim
+  -- what the entry at the place sends is what the slot sends
+  pub current-instance : (p : Placed) → slice_get placed place ≡ Some p
+      → instance_in placed slot c ≡ option_map (λ k. record { placed = p; number = k }) (instance_of p c)
+  current-instance p at = by-number p (instance_of p c) at refl
+
+  -- without an entry at the place nothing is sent
+  pub current-nothing : slice_get placed place ≡ None → instance_in placed slot c ≡ None
+  current-nothing at =
+      current-end (⊎_elim
       (λ (within : place < length placed).
       absurd (none-within placed place within at))
       (λ (behind : length placed ≤ place). behind)
-      (cases_lt place (length placed)))))
+      (cases_lt place (length placed)))
     where
       none-within : (xs : List Placed) (i : ℕ) → i < length xs → slice_get xs i ≡ None → ⊥
       none-within xs i within none =
           let d : Placed = record { entry = record { slot = 0; node = 0; length = 0; phase = 0; period = 0; deadline = 0; priority = 0 }; origin = 0; end = None } in
           none-some (get_or xs i d) (sym none ∙ slice_get-get_or xs i d within)
 
-  -- what the current entry of a slot sends is what the slot sends
-  pub current-due : option_and_then (due_by c) (slice_get placed place) ≡ option_map due_of (instance_in placed slot c)
-  current-due = by-entry (slice_get placed place) refl
+  release-with : (o : Option Placed) → slice_get placed place ≡ o → option_and_then (release_by c) o ≡ option_map released_at (instance_in placed slot c)
+  release-with (Some p) at = sym (ap (option_map released_at) (current-instance p at) ∙ mapped (instance_of p c))
+    where
+      mapped : (o : Option ℕ) → option_map released_at (option_map (λ k. record { placed = p; number = k }) o)
+          ≡ option_map (λ k. released_at (record { placed = p; number = k })) o
+      mapped (Some k) = refl
+      mapped None = refl
+  release-with None at = sym (ap (option_map released_at) (current-nothing at))
+
+  -- the release of what the entry at the place sends
+  pub current-release : option_and_then (release_by c) (slice_get placed place) ≡ option_map released_at (instance_in placed slot c)
+  current-release = release-with (slice_get placed place) refl
+
+over-after : (p : Placed) (c d : ℕ) → c ≤ d → is_over c p ≡ true → is_over d p ≡ true
+over-after p c d later over = after-free (free_from p) over
+  where
+    after-free : (free : Option ℕ) → option_map_or (λ from. nat_le from c) free false ≡ true → option_map_or (λ from. nat_le from d) free false ≡ true
+    after-free None over = absurd (cc)
+    after-free (Some f) over = let free = leb-true f c over in le-leb f d (omega arith)
+
+-- the current entries stay the current ones while they are not over
+pub current-on : (placed : List Placed) (c d slots : ℕ) (places : List ℕ) → c ≤ d → AreCurrent placed c slots places
+    → ((s : ℕ) → s < slots → IfSome (slice_get placed (get_or places s 0)) (λ p. is_over d p ≡ false)) → AreCurrent placed d slots places
+current-on placed c d slots places later current open' = record {
+  count = current.count;
+  each = λ slot known.
+      let here = current.each slot known in
+      record {
+        within = here.within;
+        passed = λ j p before at of_slot. over-after p c d later (here.passed j p before at of_slot);
+        of_slot = here.of_slot;
+        not_over = λ p at. rw at at (open' slot known);
+      };
+}
 
 -- what is over by a cycle is over by the next one
 pub passed-later : (placed : List Placed) (c slots : ℕ) (places : List ℕ) → AreCurrent placed c slots places → ArePassed placed (c + 1) slots places
@@ -143,28 +175,8 @@ pub places-later : (placed : List Placed) (c slots : ℕ) (places : List ℕ) (k
 places-later placed c slots places k i x same before =
     rw same (kept-behind (λ s place. IsPassed placed c s place) places k slots x 0 before)
 
--- a row is filled one slot further
-pub row-next : (placed : List Placed) (c slots : ℕ) (places : List ℕ) (row : List (Option Due)) (k i : ℕ) (x : Option Due) → IsWellPlaced placed
-    → AreCurrent placed c slots places → i ≡ k → k < slots → slots ≤ most_slots → length row ≡ most_slots
-    → ((s : ℕ) → s < k → get_or row s None ≡ option_map due_of (instance_in placed s c))
-    → x ≡ option_and_then (due_by c) (slice_get placed (get_or places i 0))
-    → (s : ℕ) → s < k + 1 → get_or (set row i x) s None ≡ option_map due_of (instance_in placed s c)
-row-next placed c slots places row k i x well current same below known count before is =
-    let at : x ≡ option_and_then (due_by c) (slice_get placed (get_or places k 0)) = rw same at is in
-    rw same
-    (filled-next (λ s due. due ≡ option_map due_of (instance_in placed s c)) row k x None (omega arith) before
-    (at ∙ current-due placed c k (get_or places k 0) well (current.each k below)))
-
-pub absent-next : (slots k i : ℕ) (row : List (Option Due)) (x : Option Due) → AreAbsent slots row → i ≡ k → k < slots → AreAbsent slots (set row i x)
-absent-next slots k i row x absent same below = record {
-  count = length-set row i x ∙ absent.count;
-  none = λ slot above.
-      let other : slot ≢ i = λ is. omega arith in
-      get_or-set_other row i slot x None other ∙ absent.none slot above;
-}
-
 -- no instance is of a slot above those of the entries
-absent-instance : (placed : List Placed) (c slots slot : ℕ) → IsWellPlaced placed → AreSlotsBelow slots placed → slots ≤ slot → instance_in placed slot c ≡ None
+pub absent-instance : (placed : List Placed) (c slots slot : ℕ) → IsWellPlaced placed → AreSlotsBelow slots placed → slots ≤ slot → instance_in placed slot c ≡ None
 absent-instance placed c slots slot well below above =
     none-of (instance_in placed slot c) (λ i is.
     let found = found-in placed slot c i well is in
@@ -172,14 +184,3 @@ absent-instance placed c slots slot well below above =
     let entry = ap (λ (p : Placed). p.entry.slot) found.stands.2 in
     let of_slot = found.of_slot in
     omega arith)
-
-pub row-whole : (placed : List Placed) (c slots n : ℕ) (row : List (Option Due)) → IsWellPlaced placed → AreSlotsBelow slots placed → AreAbsent slots row → slots ≤ n
-    → ((s : ℕ) → s < n → get_or row s None ≡ option_map due_of (instance_in placed s c)) → IsRow placed c row
-row-whole placed c slots n row well below absent all each = record {
-  count = absent.count;
-  each = λ slot known.
-      ⊎_elim
-      (λ (low : slot < slots). each slot (omega arith))
-      (λ (high : slots ≤ slot). absent.none slot high ∙ ap (option_map due_of) (sym (absent-instance placed c slots slot well below high)))
-      (cases_lt slot slots);
-}

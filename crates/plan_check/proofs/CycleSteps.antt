@@ -1,24 +1,29 @@
--- One listed cycle of a certificate: what the checker finds in the row of the cycle is what the certificate's words
--- say.
-use Rattle.std.proofs.Common.{◌≡◌, ℕ, zero, suc, ◌+◌, ◌-◌, ◌<◌, ◌≤◌, nat_le, Bool, true, false, not, ◌&&◌, ◌||◌, nat_eq, Option, Some, None, IfSome, option_map, List, [], ◌∷◌, length, get_or, if◌then◌else◌, refl, sym, ap, ◌∙◌, ⊎_elim, arith}
-use Rattle.std.specs.Option.{is_none, option_map_or}
+-- One listed cycle of a certificate: what the checker finds by its sets of slots is what the certificate's words say.
+use Rattle.std.proofs.Common.{◌≡◌, ℕ, zero, suc, ◌+◌, ◌-◌, ◌<◌, ◌≤◌, nat_le, Bool, true, false, not, ◌&&◌, ◌||◌, nat_eq, Option, Some, None, IfSome, IsSome, option_map, List, [], ◌∷◌, length, get_or, slice_get, if◌then◌else◌, refl, sym, ap, ◌∙◌, ⊎_elim, arith}
+use Rattle.std.specs.Option.{option_and_then, option_map_or}
 use Rattle.std.specs.List.{list_all}
-use Rattle.std.proofs.lemmas.Bool.{and_parts, cases_lt, cond-false, cond-true, eq-eqb, eqb-true, le-leb}
+use Rattle.std.proofs.lemmas.Bool.{and_parts, cases_lt, cond-false, cond-true, eqb-true, le-leb}
+use Rattle.std.proofs.lemmas.List.{get_or_default}
+use Rattle.std.proofs.lemmas.Option.{same_Some}
 use Rattle.std.proofs.lemmas.Bool.Decides.{nat_tests}
 use Rattle.requirement_table.specs.declared.entries.Placed.{Placed}
-use Rattle.requirement_table.specs.Instance.{Instance, deadline_of, release_of, worst_of}
-use Rattle.requirement_table.specs.Slots.{contains_slot, most_slots}
+use Rattle.requirement_table.specs.Instance.{Instance, deadline_of, release_of}
+use Rattle.requirement_table.specs.Slots.{contains_slot, most_slots, sum_where}
 use Rattle.requirement_table.specs.Table.{IsWellPlaced, instance_in, is_last_in, releases_in, worst_in}
-use Rattle.requirement_table.proofs.Shared.{found-in, sum_where-same}
+use Rattle.requirement_table.proofs.Shared.{found-of, sum_where-same}
+use Rattle.plan_check.specs.declared.blocks.Block.{Block}
 use Rattle.plan_check.specs.declared.breach.Breach.{Breach}
 use Rattle.plan_check.specs.declared.breach.Breach.TheVariants.{BadLoop, NotReleased, TooWide, Missed, NotClosed}
-use Rattle.plan_check.specs.declared.rows.Due.{Due}
-use Rattle.plan_check.specs.Certificate.{CertificateView, IsCertificate, flags_of}
-use Rattle.plan_check.specs.PlanKept.{NoSlot, is_bad, is_held}
+use Rattle.plan_check.specs.Blocks.{IsFilled}
 use Rattle.plan_check.specs.Breaches.{IsBreach, IsGoodAt, IsLeastSlot, is_flagged, is_missed, is_unreleased, is_waiting, width_at}
-use Rattle.plan_check.specs.Rows.{AreAbsent, ArePassed, IsGoodRow, IsRow, IsRowBreach, cost_of, due_of, ends_in, is_last, is_released, missed_in, unreleased_in, waits_in, width_of_row}
-use Rattle.plan_check.proofs.Held.{before-suc, before-zero, releases-own, released-one}
-use Rattle.plan_check.proofs.Repeated.{flags-listed, sum_where-costs}
+use Rattle.plan_check.specs.Certificate.{CertificateView, IsCertificate, flags_of}
+use Rattle.plan_check.specs.Cycles.{AreCosts, IsBreachIn, IsGoodIn, missed_in, unreleased_in, waits_in, width_of}
+use Rattle.plan_check.specs.Places.{ArePassed, IsCurrent, release_by, released_at}
+use Rattle.plan_check.specs.PlanKept.{HasPending, NoSlot, is_bad, is_held}
+use Rattle.plan_check.proofs.Current.{current-release}
+use Rattle.plan_check.proofs.Held.{before-suc, before-zero, holder-of}
+use Rattle.plan_check.proofs.Repeated.{flags-listed, good_cycle-of}
+use Rattle.plan_check.proofs.SlotSets.{sum_where-next, sum_where-zero}
 
 -- Tests that agree on the slots
 
@@ -34,127 +39,122 @@ least-same p q slot same least =
       least = λ other before. sym (same other (omega arith)) ∙ least.least other before;
     }
 
--- A row
+-- A cycle of a block
 
-same-test : (b c : Bool) → (b ≡ true → c ≡ true) → (c ≡ true → b ≡ true) → b ≡ c
-same-test true c there back = sym (there refl)
-same-test false true there back = back refl
-same-test false false there back = refl
+-- what the sets of a cycle say, and what the slots cost that have an instance in it
+pub record IsCycle (placed : List Placed) (c released ends : ℕ) (costs : List ℕ) : Type 0 where
+  pub releases : (s : ℕ) → s < most_slots → contains_slot released s ≡ releases_in placed c s
+  pub last : (s : ℕ) → s < most_slots → contains_slot ends s ≡ is_last_in placed c s
+  pub cost : (s : ℕ) → s < most_slots → IsSome (instance_in placed s c) → get_or costs s 0 ≡ worst_in placed c s
 
-released-of : Instance → ℕ → Bool
-released-of i c = nat_eq (release_of i.placed i.number) c
+pub cycle-of : (placed : List Placed) (from count i released ends : ℕ) (block : Block) → IsFilled placed from count block → i < count
+    → released ≡ get_or block.released i 0 → ends ≡ get_or block.ends i 0 → IsCycle placed (from + i) released ends block.costs
+cycle-of placed from count i released ends block filled below same_released same_ends = record {
+  releases = λ s known. ap (λ m. contains_slot m s) same_released ∙ (filled s known).released i below;
+  last = λ s known. ap (λ m. contains_slot m s) same_ends ∙ (filled s known).ends i below;
+  cost = λ s known some. (filled s known).cost i below some;
+}
 
-released-some : (o : Option Instance) (c : ℕ) → is_released c (option_map due_of o) ≡ true
-    → (i : Instance) × (o ≡ Some i) × (release_of i.placed i.number ≡ c)
-released-some (Some i) c test = (i, refl, eqb-true (release_of i.placed i.number) c test)
-released-some None c test = absurd (cc)
+-- a sum is the same where its members are
+sum_where-members : (n : ℕ) (p : ℕ → Bool) (f g : ℕ → ℕ) → ((s : ℕ) → s < n → p s ≡ true → f s ≡ g s) → sum_where n p f ≡ sum_where n p g
+sum_where-members zero p f g same = sum_where-zero p f ∙ sym (sum_where-zero p g)
+sum_where-members (suc n) p f g same =
+    let rest = sum_where-members n p f g (λ s below has. same s (omega arith) has) in
+    sum_where-next n p f ∙ ap (λ k. k + (if p n then f n else 0)) rest
+    ∙ ap (λ k. sum_where n p g + k) (here (p n) (λ has. same n (omega arith) has)) ∙ sym (sum_where-next n p g)
+  where
+    here : (b : Bool) → (b ≡ true → f n ≡ g n) → (if b then f n else 0) ≡ (if b then g n else 0)
+    here true same = same refl
+    here false same = refl
 
-released-test : (placed : List Placed) (c slot : ℕ) → IsWellPlaced placed
-    → is_released c (option_map due_of (instance_in placed slot c)) ≡ releases_in placed c slot
-released-test placed c slot well =
-    same-test (is_released c (option_map due_of (instance_in placed slot c))) (releases_in placed c slot)
-    (λ test.
-    let some = released-some (instance_in placed slot c) c test in
-    let i = some.0 in
-    let found = found-in placed slot c i well some.1 in
-    sym (ap (λ x. releases_in placed x slot) some.2)
-    ∙ sym (ap (releases_in placed (release_of i.placed i.number)) found.of_slot)
-    ∙ releases-own placed i.placed i.number well found.stands found.sends.exists)
-    (λ test.
-    let one = released-one placed slot c well test in
-    ap (λ o. is_released c (option_map due_of o)) one.1 ∙ eq-eqb (release_of one.0.placed one.0.number) c one.2)
+waits-from : (flagged waits : Bool) → (flagged && not waits) ≡ false → flagged ≡ true → waits ≡ true
+waits-from flagged true none has = refl
+waits-from true false none has = absurd (cc)
+waits-from false false none has = absurd (cc)
 
-last-test : (o : Option Instance) (c : ℕ) → is_last c (option_map due_of o) ≡ option_map_or (λ i. nat_eq (deadline_of i.placed i.number) (c + 1)) o false
-last-test (Some i) c = refl
-last-test None c = refl
-
-cost-test : (o : Option Instance) → cost_of (option_map due_of o) ≡ option_map_or worst_of o 0
-cost-test (Some i) = refl
-cost-test None = refl
-
-row-some : (o : Option Instance) (due : Due) → option_map due_of o ≡ Some due → (i : Instance) × (o ≡ Some i) × (due.release ≡ release_of i.placed i.number)
-row-some (Some i) due is = let same : due_of i ≡ due = cc in (i, refl, sym (ap (λ d. d.release) same))
-row-some None due is = absurd (cc)
-
-module _ (placed : List Placed) (window : ℕ) (certificate : CertificateView) (n c held mask : ℕ) (row : List (Option Due)) (well : IsWellPlaced placed)
-    (at : c ≡ certificate.from + n) (is : IsRow placed c row)
-    (holds : (s : ℕ) → s < most_slots → contains_slot held s ≡ is_held placed certificate n s)
-    (flags : (s : ℕ) → s < most_slots → contains_slot mask s ≡ is_flagged certificate n s) where
-  released-is : (s : ℕ) → s < most_slots → is_released c (get_or row s None) ≡ releases_in placed (certificate.from + n) s
-  released-is s known = ap (is_released c) (is.each s known) ∙ released-test placed c s well ∙ ap (λ x. releases_in placed x s) at
-
-  last-is : (s : ℕ) → s < most_slots → is_last c (get_or row s None) ≡ is_last_in placed (certificate.from + n) s
-  last-is s known = ap (is_last c) (is.each s known) ∙ last-test (instance_in placed s c) c ∙ ap (λ x. is_last_in placed x s) at
-
-  waits-is : (s : ℕ) → s < most_slots → waits_in row c held s ≡ is_waiting placed certificate n s
+module _ (placed : List Placed) (window : ℕ) (certificate : CertificateView) (n c released ends held mask : ℕ) (costs : List ℕ)
+    (well : IsWellPlaced placed) (valid : HasPending placed certificate.from (contains_slot certificate.pending)) (at : c ≡ certificate.from + n)
+    (is : IsCycle placed c released ends costs) (holds : (s : ℕ) → s < most_slots → contains_slot held s ≡ is_held placed certificate n s)
+    (flags : (s : ℕ) → s < most_slots → contains_slot mask s ≡ is_flagged certificate n s)
+    (good : (m : ℕ) → m < n → IsGoodAt placed window certificate m) where
+  waits-is : (s : ℕ) → s < most_slots → waits_in released held s ≡ is_waiting placed certificate n s
   waits-is s known =
-      ap (λ b. b || is_released c (get_or row s None)) (holds s known) ∙ ap (λ b. is_held placed certificate n s || b) (released-is s known)
+      ap (λ b. b || contains_slot released s) (holds s known)
+      ∙ ap (λ b. is_held placed certificate n s || b) (is.releases s known ∙ ap (λ x. releases_in placed x s) at)
 
-  unreleased-is : (s : ℕ) → s < most_slots → unreleased_in row c held mask s ≡ is_unreleased placed certificate n s
+  unreleased-is : (s : ℕ) → s < most_slots → unreleased_in released held mask s ≡ is_unreleased placed certificate n s
   unreleased-is s known =
-      ap (λ b. b && not (waits_in row c held s)) (flags s known) ∙ ap (λ b. is_flagged certificate n s && not b) (waits-is s known)
+      ap (λ b. b && not (waits_in released held s)) (flags s known) ∙ ap (λ b. is_flagged certificate n s && not b) (waits-is s known)
 
-  missed-is : (s : ℕ) → s < most_slots → missed_in row c held mask s ≡ is_missed placed certificate n s
+  missed-is : (s : ℕ) → s < most_slots → missed_in released ends held mask s ≡ is_missed placed certificate n s
   missed-is s known =
-      ap (λ b. b && is_last c (get_or row s None) && not (contains_slot mask s)) (waits-is s known)
-      ∙ ap (λ b. is_waiting placed certificate n s && b && not (contains_slot mask s)) (last-is s known)
+      ap (λ b. b && contains_slot ends s && not (contains_slot mask s)) (waits-is s known)
+      ∙ ap (λ b. is_waiting placed certificate n s && b && not (contains_slot mask s)) (is.last s known ∙ ap (λ x. is_last_in placed x s) at)
       ∙ ap (λ b. is_waiting placed certificate n s && is_last_in placed (certificate.from + n) s && not b) (flags s known)
 
-  width-is : width_of_row row mask ≡ width_at placed certificate n
-  width-is =
-      sum_where-same most_slots (contains_slot mask) (is_flagged certificate n) (λ s. cost_of (get_or row s None)) flags
-      ∙ sum_where-costs most_slots (is_flagged certificate n) (λ s. cost_of (get_or row s None)) (worst_in placed (certificate.from + n))
-      (λ s known. ap cost_of (is.each s known) ∙ cost-test (instance_in placed s c) ∙ ap (λ x. worst_in placed x s) at)
+  -- after good cycles a slot that waits has an instance
+  waiting-some : (s : ℕ) → s < most_slots → is_waiting placed certificate n s ≡ true → IsSome (instance_in placed s c)
+  waiting-some s known waiting =
+      let holder = holder-of placed (flags_of certificate) certificate.from (contains_slot certificate.pending) well n s known valid
+      (λ m below. good_cycle-of placed window certificate m (good m below)) waiting in
+      let p = holder.owing.entry in
+      let k = holder.owing.number in
+      let found : instance_in placed s c ≡ Some (record { placed = p; number = k })
+      = ap (λ t. instance_in placed t c) (sym holder.owing.of_slot) ∙ found-of placed p k c well holder.owing.owed.stands (rw at holder.owing.sends) in
+      rw found refl
 
-  -- a good row is one of a good cycle
-  pub step-good : IsGoodRow row window c held mask → IsGoodAt placed window certificate n
-  step-good good = record {
-    released = none-same (unreleased_in row c held mask) (is_unreleased placed certificate n) unreleased-is good.released;
-    fits = rw width-is at good.fits;
-    in_time = none-same (missed_in row c held mask) (is_missed placed certificate n) missed-is good.in_time;
+  width-is : NoSlot (unreleased_in released held mask) → width_of costs mask ≡ width_at placed certificate n
+  width-is holding =
+      sum_where-members most_slots (contains_slot mask) (λ s. get_or costs s 0) (worst_in placed (certificate.from + n))
+      (λ s known flagged.
+      let waits = waits-from (contains_slot mask s) (waits_in released held s) (holding s known) flagged in
+      is.cost s known (waiting-some s known (sym (waits-is s known) ∙ waits)) ∙ ap (λ x. worst_in placed x s) at)
+      ∙ sum_where-same most_slots (contains_slot mask) (is_flagged certificate n) (worst_in placed (certificate.from + n)) flags
+
+  -- a cycle that is good by its sets is a good one
+  pub step-good : IsGoodIn costs window released ends held mask → IsGoodAt placed window certificate n
+  step-good fine = record {
+    released = none-same (unreleased_in released held mask) (is_unreleased placed certificate n) unreleased-is fine.holding;
+    fits = rw (width-is fine.holding) at fine.fits;
+    in_time = none-same (missed_in released ends held mask) (is_missed placed certificate n) missed-is fine.in_time;
   }
 
   -- what is left of the slots that wait is held in the next cycle
-  pub step-held : (left : ℕ) → ((s : ℕ) → s < most_slots → contains_slot left s ≡ (waits_in row c held s && not (contains_slot mask s)))
-      → (s : ℕ) → s < most_slots → contains_slot left s ≡ is_held placed certificate (n + 1) s
+  pub step-held : (left : ℕ) → ((s : ℕ) → s < most_slots → contains_slot left s ≡ (waits_in released held s && not (contains_slot mask s)))
+      → (s : ℕ) → s < most_slots → contains_slot left s ≡ is_held placed certificate (suc n) s
   step-held left made s known =
-      let next : n + 1 ≡ suc n = omega arith in
-      rw next
-      (made s known
+      made s known
       ∙ ap (λ b. b && not (contains_slot mask s)) (waits-is s known)
       ∙ ap (λ b. is_waiting placed certificate n s && not b) (flags s known)
-      ∙ sym (before-suc placed (flags_of certificate) certificate.from (contains_slot certificate.pending) n s))
+      ∙ sym (before-suc placed (flags_of certificate) certificate.from (contains_slot certificate.pending) n s)
 
-  -- a breach in a row is the first one of the certificate
+  -- a breach that its sets show is the first one of the certificate
   pub step-breach : (breach : Breach) → NoSlot (is_bad placed certificate) → n < length certificate.masks
-      → ((m : ℕ) → m < n → IsGoodAt placed window certificate m) → IsRowBreach row window c held mask breach → IsBreach placed window certificate breach
-  step-breach (BadLoop slot) rounds listed good wrong = absurd wrong
-  step-breach (NotReleased cycle slot) rounds listed good found = record {
+      → IsBreachIn placed costs window c released ends held mask breach → IsBreach placed window certificate breach
+  step-breach (BadLoop slot) rounds listed wrong = absurd wrong
+  step-breach (NotReleased cycle slot) rounds listed found = record {
     number = n;
     reached = record { rounds = rounds; listed = listed; at = found.0 ∙ at; good = good };
-    slot_is = least-same (unreleased_in row c held mask) (is_unreleased placed certificate n) slot unreleased-is found.1;
+    slot_is = least-same (unreleased_in released held mask) (is_unreleased placed certificate n) slot unreleased-is found.1;
   }
-  step-breach (TooWide cycle sum) rounds listed good found = record {
+  step-breach (TooWide cycle sum) rounds listed found = record {
     number = n;
     reached = record { rounds = rounds; listed = listed; at = found.at ∙ at; good = good };
-    released = none-same (unreleased_in row c held mask) (is_unreleased placed certificate n) unreleased-is found.released;
-    sum_is = found.sum_is ∙ width-is;
+    released = none-same (unreleased_in released held mask) (is_unreleased placed certificate n) unreleased-is found.holding;
+    sum_is = found.sum_is ∙ width-is found.holding;
     wide = found.wide;
   }
-  step-breach (Missed slot release cycle) rounds listed good found =
-      let known = found.slot_is.known in
-      let some = row-some (instance_in placed slot c) found.due (sym (is.each slot known) ∙ found.found) in
-      record {
-        number = n;
-        reached = record { rounds = rounds; listed = listed; at = found.at ∙ at; good = good };
-        released = none-same (unreleased_in row c held mask) (is_unreleased placed certificate n) unreleased-is found.released;
-        fits = rw width-is at found.fits;
-        slot_is = least-same (missed_in row c held mask) (is_missed placed certificate n) slot missed-is found.slot_is;
-        instance = some.0;
-        found = ap (instance_in placed slot) found.at ∙ some.1;
-        release_is = found.release_is ∙ some.2;
-      }
-  step-breach (NotClosed slot) rounds listed good wrong = absurd wrong
+  step-breach (Missed slot release cycle) rounds listed found = record {
+    number = n;
+    reached = record { rounds = rounds; listed = listed; at = found.at ∙ at; good = good };
+    released = none-same (unreleased_in released held mask) (is_unreleased placed certificate n) unreleased-is found.holding;
+    fits = rw (width-is found.holding) at found.fits;
+    slot_is = least-same (missed_in released ends held mask) (is_missed placed certificate n) slot missed-is found.slot_is;
+    instance = found.instance;
+    found = ap (instance_in placed slot) found.at ∙ found.found;
+    release_is = found.release_is;
+  }
+  step-breach (NotClosed slot) rounds listed wrong = absurd wrong
 
 -- the mask of a listed cycle flags what the cycle flags
 pub mask-flags : (certificate : CertificateView) (n mask : ℕ) → IsCertificate certificate.from certificate.first certificate.masks
@@ -169,39 +169,65 @@ swapped true false false = refl
 swapped false flagged last = refl
 
 -- what ends of the slots that are left is missed
-ends-missed : (row : List (Option Due)) (c held mask waiting left : ℕ) → ((s : ℕ) → s < most_slots → contains_slot waiting s ≡ waits_in row c held s)
+pub ends-missed : (released ends held mask waiting left both : ℕ) → ((s : ℕ) → contains_slot waiting s ≡ waits_in released held s)
     → ((s : ℕ) → s < most_slots → contains_slot left s ≡ (contains_slot waiting s && not (contains_slot mask s)))
-    → (s : ℕ) → s < most_slots → ends_in row c left s ≡ missed_in row c held mask s
-ends-missed row c held mask waiting left waits lefts s known =
-    ap (λ b. b && is_last c (get_or row s None)) (lefts s known)
-    ∙ ap (λ b. (b && not (contains_slot mask s)) && is_last c (get_or row s None)) (waits s known)
-    ∙ swapped (waits_in row c held s) (contains_slot mask s) (is_last c (get_or row s None))
+    → ((s : ℕ) → contains_slot both s ≡ (contains_slot left s && contains_slot ends s))
+    → (s : ℕ) → s < most_slots → contains_slot both s ≡ missed_in released ends held mask s
+ends-missed released ends held mask waiting left both waits lefts boths s known =
+    boths s
+    ∙ ap (λ b. b && contains_slot ends s) (lefts s known)
+    ∙ ap (λ b. (b && not (contains_slot mask s)) && contains_slot ends s) (waits s)
+    ∙ swapped (waits_in released held s) (contains_slot mask s) (contains_slot ends s)
 
-pub none-missed : (row : List (Option Due)) (c held mask waiting left : ℕ) → ((s : ℕ) → s < most_slots → contains_slot waiting s ≡ waits_in row c held s)
-    → ((s : ℕ) → s < most_slots → contains_slot left s ≡ (contains_slot waiting s && not (contains_slot mask s)))
-    → NoSlot (ends_in row c left) → NoSlot (missed_in row c held mask)
-none-missed row c held mask waiting left waits lefts none =
-    none-same (ends_in row c left) (missed_in row c held mask) (ends-missed row c held mask waiting left waits lefts) none
+some-instance : (o : Option Instance) (c : ℕ) → option_map_or (λ i. nat_eq (deadline_of i.placed i.number) (c + 1)) o false ≡ true
+    → (i : Instance) × (o ≡ Some i)
+some-instance (Some i) c test = (i, refl)
+some-instance None c test = absurd (cc)
+
+-- a slot with an instance that has its last cycle has an instance
+pub last-some : (placed : List Placed) (c slot : ℕ) → is_last_in placed c slot ≡ true → (i : Instance) × (instance_in placed slot c ≡ Some i)
+last-some placed c slot last = some-instance (instance_in placed slot c) c last
+
+missed-some : (placed : List Placed) (c slot place : ℕ) (release : Option ℕ) → IsWellPlaced placed → IsCurrent placed c slot place
+    → is_last_in placed c slot ≡ true → release ≡ option_and_then (release_by c) (slice_get placed place)
+    → (i : Instance) × (instance_in placed slot c ≡ Some i) × (release ≡ Some (release_of i.placed i.number))
+missed-some placed c slot place release well current last is =
+    let some = last-some placed c slot last in
+    (some.0, some.1, is ∙ current-release placed c slot place well current ∙ ap (option_map released_at) some.1)
+
+pub missed-none : (placed : List Placed) (c slot place : ℕ) (release : Option ℕ) → IsWellPlaced placed → IsCurrent placed c slot place
+    → is_last_in placed c slot ≡ true → release ≡ option_and_then (release_by c) (slice_get placed place) → release ≡ None → ⊥
+missed-none placed c slot place release well current last is none =
+    let some = missed-some placed c slot place release well current last is in
+    let wrong : None ≡ Some (release_of some.0.placed some.0.number) = sym none ∙ some.2 in
+    absurd (cc)
+
+pub missed-release : (placed : List Placed) (c slot place release : ℕ) (found : Option ℕ) → IsWellPlaced placed → IsCurrent placed c slot place
+    → is_last_in placed c slot ≡ true → found ≡ option_and_then (release_by c) (slice_get placed place) → found ≡ Some release
+    → IfSome (instance_in placed slot c) (λ i. Missed slot release c ≡ Missed slot (release_of i.placed i.number) c)
+missed-release placed c slot place release found well current last is some =
+    let one = missed-some placed c slot place found well current last is in
+    let same : release ≡ release_of one.0.placed one.0.number = same_Some release (release_of one.0.placed one.0.number) (sym some ∙ one.2) in
+    rw one.1 (ap (λ r. Missed slot r c) same)
 
 -- the breach of an instance that is left in its last cycle
-pub row-missed : (row : List (Option Due)) (window c held mask waiting left slot : ℕ) (breach : Breach)
-    → ((s : ℕ) → s < most_slots → contains_slot waiting s ≡ waits_in row c held s)
-    → ((s : ℕ) → s < most_slots → contains_slot left s ≡ (contains_slot waiting s && not (contains_slot mask s)))
-    → NoSlot (unreleased_in row c held mask) → width_of_row row mask ≤ window → IsLeastSlot (ends_in row c left) slot
-    → (due : Option Due) → get_or row slot None ≡ due → IfSome due (λ d. breach ≡ Missed slot d.release c)
-    → IsRowBreach row window c held mask breach
-row-missed row window c held mask waiting left slot breach waits lefts released fits least None found is =
-    let parts = and_parts (contains_slot left slot) (is_last c (get_or row slot None)) least.passes in
-    let wrong : is_last c None ≡ true = sym (ap (is_last c) found) ∙ parts.1 in
-    absurd (cc)
-row-missed row window c held mask waiting left slot breach waits lefts released fits least (Some due) found is =
-    rw is (record {
+pub cycle-missed : (placed : List Placed) (costs : List ℕ) (window c released ends held mask slot : ℕ) (breach : Breach)
+    → ((s : ℕ) → s < most_slots → contains_slot ends s ≡ is_last_in placed c s) → NoSlot (unreleased_in released held mask) → width_of costs mask ≤ window
+    → IsLeastSlot (missed_in released ends held mask) slot
+    → IfSome (instance_in placed slot c) (λ i. breach ≡ Missed slot (release_of i.placed i.number) c)
+    → IsBreachIn placed costs window c released ends held mask breach
+cycle-missed placed costs window c released ends held mask slot breach last holding fits least is =
+    let parts = and_parts (waits_in released held slot && contains_slot ends slot) (not (contains_slot mask slot)) least.passes in
+    let front = and_parts (waits_in released held slot) (contains_slot ends slot) parts.0 in
+    let some = last-some placed c slot (sym (last slot least.known) ∙ front.1) in
+    let made : breach ≡ Missed slot (release_of some.0.placed some.0.number) c = rw some.1 at is in
+    rw made (record {
       at = refl;
-      released = released;
+      holding = holding;
       fits = fits;
-      slot_is = least-same (ends_in row c left) (missed_in row c held mask) slot (ends-missed row c held mask waiting left waits lefts) least;
-      due = due;
-      found = found;
+      slot_is = least;
+      instance = some.0;
+      found = some.1;
       release_is = refl;
     })
 
@@ -225,40 +251,38 @@ pub held-start : (placed : List Placed) (certificate : CertificateView) (pending
 held-start placed certificate pending same s =
     ap (λ m. contains_slot m s) same ∙ sym (before-zero placed (flags_of certificate) certificate.from (contains_slot certificate.pending) s)
 
--- what is kept of the slots that are pending before the first repeated cycle
-pub before-step : (placed : List Placed) (certificate : CertificateView) (n c first held before chosen : ℕ) → c ≡ certificate.from + n
+-- what is kept of the slots that are pending before the first repeated cycle, where a block begins
+pub before-step : (placed : List Placed) (certificate : CertificateView) (c first held before chosen : ℕ) → certificate.from ≤ c
     → first ≡ certificate.first → certificate.from ≤ certificate.first → chosen ≡ (if nat_le c first then held else before)
-    → ((s : ℕ) → s < most_slots → contains_slot held s ≡ is_held placed certificate n s)
-    → (certificate.first - certificate.from < n → (s : ℕ) → s < most_slots
+    → ((s : ℕ) → s < most_slots → contains_slot held s ≡ is_held placed certificate (c - certificate.from) s)
+    → (certificate.first < c → (s : ℕ) → s < most_slots
     → contains_slot before s ≡ is_held placed certificate (certificate.first - certificate.from) s)
-    → certificate.first - certificate.from < n + 1 → (s : ℕ) → s < most_slots
+    → certificate.first ≤ c → (s : ℕ) → s < most_slots
     → contains_slot chosen s ≡ is_held placed certificate (certificate.first - certificate.from) s
-before-step placed certificate n c first held before chosen at same after is holds earlier near s known =
+before-step placed certificate c first held before chosen behind same after is holds earlier near s known =
     ⊎_elim
     (λ (late : first < c).
     let test : nat_le c first ≡ false = grind (arith, nat_tests) in
     ap (λ m. contains_slot m s) (is ∙ cond-false (nat_le c first) held before test) ∙ earlier (omega arith) s known)
     (λ (early : c ≤ first).
-    let here : n ≡ certificate.first - certificate.from = omega arith in
+    let here : c - certificate.from ≡ certificate.first - certificate.from = omega arith in
     ap (λ m. contains_slot m s) (is ∙ cond-true (nat_le c first) held before (le-leb c first early)) ∙ holds s known
     ∙ ap (λ k. is_held placed certificate k s) here)
     (cases_lt first c)
 
 pub good-more : (placed : List Placed) (window : ℕ) (certificate : CertificateView) (n : ℕ)
     → ((m : ℕ) → m < n → IsGoodAt placed window certificate m) → IsGoodAt placed window certificate n
-    → (m : ℕ) → m < n + 1 → IsGoodAt placed window certificate m
+    → (m : ℕ) → m < suc n → IsGoodAt placed window certificate m
 good-more placed window certificate n before here m low =
     ⊎_elim
     (λ (early : m < n). before m early)
     (λ (late : n ≤ m). let same : m ≡ n = omega arith in rw same here)
     (cases_lt m n)
 
-nothing : (row : List (Option Due)) → list_all (λ due. is_none due) row ≡ true → (s : ℕ) → get_or row s None ≡ None
-nothing [] all s = refl
-nothing (None ∷ row) all zero = refl
-nothing (None ∷ row) all (suc s) = nothing row all s
-nothing (Some due ∷ row) all s = absurd (cc)
+pub mask-at : (items masks : List ℕ) (k n d : ℕ) → items ≡ masks → k ≡ n → n < length masks → get_or items k d ≡ get_or masks n 0
+mask-at items masks k n d same at within =
+    ap (λ xs. get_or xs k d) same ∙ ap (λ i. get_or masks i d) at ∙ get_or_default masks n d 0 within
 
--- a row with nothing in it
-pub absent-start : (slots : ℕ) (row : List (Option Due)) → length row ≡ most_slots → list_all (λ due. is_none due) row ≡ true → AreAbsent slots row
-absent-start slots row count all = record { count = count; none = λ slot above. nothing row all slot }
+-- before the first block no slot costs anything
+pub no-costs : (xs : List ℕ) → length xs ≡ 128 → list_all (λ x. nat_eq x 0) xs ≡ true → AreCosts xs
+no-costs xs count all = record { count = count; small = λ slot. let none = zeros xs all slot in omega arith }

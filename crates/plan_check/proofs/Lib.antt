@@ -1,10 +1,14 @@
 mod BodyReads
 mod Current
 mod CycleSteps
+mod Entries
+mod Filled
 mod FirstBreach
 mod HeadReads
 mod Held
+mod Lasting
 mod LineReads
+mod Marks
 mod PlanReads
 mod Repeated
 mod Rounds
@@ -14,3 +18,4 @@ mod SlotSets
 mod Spaces
 mod Taken
 mod TextLines
+mod WordSums

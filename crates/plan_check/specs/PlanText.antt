@@ -3,6 +3,7 @@
 use Rattle.std.specs.Prelude.{◌≡◌, ◌≢◌, ℕ, ◌+◌, ◌-◌, ◌^◌, ◌<◌, ◌≤◌, if◌then◌else◌, nat_eq, Bool, true, not}
 use Rattle.std.specs.Prelude.{List, [], ◌∷◌, ◌++◌, All, Option, Some, None, IfSome, codes, get_or, length, map, replicate, take}
 use Rattle.std.specs.Fmt.{decimal}
+use Rattle.profile.specs.Limits.{cycles_end}
 use Rattle.requirement_table.specs.Slots.{most_slots}
 use Rattle.text_fields.specs.MaskText.{mask_digits}
 use Rattle.plan_check.specs.declared.text_fault.PlanTextFault.{PlanTextFault}
@@ -107,9 +108,9 @@ plan_text certificate = text_in Two certificate
 
 -- the certificate is in the ranges of the reader of a version
 pub record IsReadable (version : Version) (certificate : CertificateView) : Type 0 where
-  pub from : certificate.from < 2 ^ 42
+  pub from : certificate.from < cycles_end
   pub pending : certificate.pending < mask_bound version
-  pub first : certificate.first < 2 ^ 42
+  pub first : certificate.first < cycles_end
   pub after : certificate.from ≤ certificate.first
   pub near : certificate.first ≤ certificate.from + 200000
   pub some : 1 ≤ length_of certificate
@@ -149,9 +150,9 @@ IsTextFault bytes Memory = Unit {0}
 
 -- the four numbers of a head are in the ranges of the reader
 pub record IsReadableHead (version : Version) (from pending first length : ℕ) : Type 0 where
-  pub from_below : from < 2 ^ 42
+  pub from_below : from < cycles_end
   pub pending_below : pending < mask_bound version
-  pub first_below : first < 2 ^ 42
+  pub first_below : first < cycles_end
   pub after : from ≤ first
   pub near : first ≤ from + 200000
   pub some : 1 ≤ length
@@ -205,10 +206,14 @@ abbrev pub IsCountOf : Version → Run → Type 0
 IsCountOf One run = run.count ≡ 1
 IsCountOf Two run = Unit {0}
 
+-- the end of the numbers of a plan text: each number of a line is below it
+abbrev pub numbers_end : ℕ
+numbers_end = 2 ^ 42
+
 -- a line of the version can give this run
 pub record IsOfVersion (version : Version) (run : Run) : Type 0 where
   pub below : run.mask < mask_bound version
-  pub small : run.count < 2 ^ 42
+  pub small : run.count < numbers_end
   pub one : IsCountOf version run
 
 -- whether the version lists a run with this mask behind one with the mask `last`

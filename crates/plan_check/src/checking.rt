@@ -1,19 +1,24 @@
 //! The checker.
 
-ghost use Rattle.std.specs.Prelude.{◌≡◌, ℕ, ◌+◌, ◌-◌, ◌^◌, ◌<◌, ◌≤◌, ◌↔◌, ◌&&◌, not, if◌then◌else◌, nat_eq};
-ghost use Rattle.std.specs.Prelude.{None, IsOk, IfErr, IfOk, IsSome, IfSome, length, slice_index_or};
+ghost use Rattle.std.specs.Prelude.{◌≡◌, ℕ, ◌+◌, ◌-◌, ◌<◌, ◌≤◌, ◌↔◌, ◌&&◌, not, true, if◌then◌else◌, nat_eq};
+ghost use Rattle.std.specs.Prelude.{IsOk, IfErr, IfOk, IfSome, length};
 ghost use Rattle.std.specs.List.{list_any};
+ghost use Rattle.profile.specs.Limits.{cycles_end};
+ghost use Rattle.requirement_table.specs.Instance.{release_of};
 ghost use Rattle.requirement_table.specs.Slots.{contains_slot, most_slots};
-ghost use Rattle.requirement_table.specs.Table.{IsInRange, IsWellPlaced};
+ghost use Rattle.requirement_table.specs.Table.{IsInRange, IsWellPlaced, instance_in, is_last_in};
+ghost use Rattle.plan_check.specs.Blocks.{IsFilled};
 ghost use Rattle.plan_check.specs.Breaches.{IsBreach, IsGoodAt};
-ghost use Rattle.plan_check.specs.Certificate.{length_of};
+ghost use Rattle.plan_check.specs.Certificate.{IsCertificate, length_of};
+ghost use Rattle.plan_check.specs.Cycles.{IsBreachIn, IsGoodIn, waits_in};
 ghost use Rattle.plan_check.specs.PlanKept.{HasPending, IsTaken, NoSlot, goes_round, is_bad, is_held};
-ghost use Rattle.plan_check.specs.Rows.{AreAbsent, IsGoodRow, IsRowBreach, waits_in};
 
+use crate::blocks::{Block, LastBlock, block_of, cycles_of_blocks, renew};
 use crate::breach::Breach;
 use crate::certificate::Certificate;
-use crate::rows::{Row, fill_row, first_ending, move_places, slots_of, waiting, width};
-use crate::sets::{difference, least, symmetric_difference};
+use crate::places::{goes_round, move_places, place_at, release_at, slots_of};
+use crate::sets::{common, difference, least, symmetric_difference, union};
+use crate::widths::{Costs, width};
 use requirement_table::{MOST_SLOTS, Mask, Placed};
 
 /// Checks that a certificate keeps the placed entries for ever within a window of `w` bit times.
@@ -28,7 +33,7 @@ use requirement_table::{MOST_SLOTS, Mask, Placed};
 pub fn check(placed: &[Placed], w: u32, certificate: &Certificate) -> Result<(), Breach>
     requires well_placed { IsWellPlaced placed.now }
     requires pending { HasPending placed.now certificate.now.from (contains_slot certificate.now.pending) }
-    requires cycles { certificate.now.from + length certificate.now.masks ≤ 2 ^ 42 }
+    requires cycles { certificate.now.from + length certificate.now.masks ≤ cycles_end }
     ensures ok { IsOk result ↔ IsTaken placed.now w certificate.now }
     ensures breach { IfErr result (λ breach. IsBreach placed.now w certificate.now breach) }
 {
@@ -57,22 +62,10 @@ fn bad_slots(placed: &[Placed], first: u64, length: u64) -> Mask
     bad
 }
 
-/// Whether an entry goes round with the cycles from `first` on, `length` at a time: a live one has had its first
-/// release by `first` and its period divides `length`; one with an end is over by `first`.
-fn goes_round(p: &Placed, first: u64, length: u64) -> bool
-    requires in_range { IsInRange p.now }
-    ensures round { result ≡ goes_round first length p.now }
-{
-    match p.end {
-        Some(end) => end + u64::from(p.entry.deadline) - 1 <= first,
-        None => {
-            p.origin + u64::from(p.entry.phase) <= first && length % u64::from(p.entry.period) == 0
-        }
-    }
-}
-
 /// Walks the listed cycles of a certificate, whose loop has no bad slot: the slots that are pending before its first
 /// repeated cycle, and those that are pending behind its last one.
+///
+/// It goes from block to block. A new block begins at the first repeated cycle, and where an entry is over.
 fn check_cycles(
     placed: &[Placed],
     w: u32,
@@ -80,7 +73,7 @@ fn check_cycles(
 ) -> Result<(Mask, Mask), Breach>
     requires well_placed { IsWellPlaced placed.now }
     requires pending { HasPending placed.now certificate.now.from (contains_slot certificate.now.pending) }
-    requires cycles { certificate.now.from + length certificate.now.masks ≤ 2 ^ 42 }
+    requires cycles { certificate.now.from + length certificate.now.masks ≤ cycles_end }
     requires rounds { NoSlot (is_bad placed.now certificate.now) }
     ensures before { IfOk result (λ r. (slot : ℕ) → slot < most_slots
         → contains_slot r.0 slot
@@ -96,16 +89,25 @@ fn check_cycles(
     let first = certificate.first();
     let slots = slots_of(placed);
     let mut places = [0; MOST_SLOTS as usize];
-    let mut row = [None; MOST_SLOTS as usize];
+    let most = cycles_of_blocks(placed);
+    let mut last = LastBlock::none();
     let mut cycle = certificate.from();
+    let end = cycle + certificate.masks().len() as u64;
     let mut held = certificate.pending();
     let mut before = held;
-    for mask in certificate.masks() {
+    while cycle < end {
         before = chosen(cycle <= first, held, before);
         move_places(placed, cycle, slots, &mut places);
-        fill_row(placed, cycle, slots, &places, &mut row);
-        held = check_cycle(&row, slots, w, cycle, held, *mask)?;
-        cycle += 1;
+        let count = block_of(
+            placed,
+            cycle,
+            slots,
+            &places,
+            most.min(up_to(cycle, first, end)),
+        );
+        renew(placed, cycle, count, slots, &places, &mut last);
+        held = check_block(placed, w, certificate, cycle, count, &last.block, held)?;
+        cycle += count;
     }
     Ok((before, held))
 }
@@ -117,49 +119,118 @@ fn chosen(first: bool, one: Mask, other: Mask) -> Mask
     if first { one } else { other }
 }
 
-/// Checks a cycle in which the slots in `held` have an instance that was released before it and is not planned, and
-/// which flags those in `mask`: the slots that have such an instance behind it.
+/// How many cycles there are from `cycle` to `first`, where that comes after it, and to `end` otherwise.
+fn up_to(cycle: u64, first: u64, end: u64) -> u64
+    requires more { cycle < end }
+    requires first { first ≤ end }
+    ensures some { 1 ≤ result }
+    ensures first { cycle < first → cycle + result ≤ first }
+    ensures end { cycle + result ≤ end }
+{
+    if cycle < first {
+        first - cycle
+    } else {
+        end - cycle
+    }
+}
+
+/// Walks the listed cycles of a block, in which the slots do what it says and before which those in `held` have an
+/// instance that is not planned: the slots that have one behind it.
+fn check_block(
+    placed: &[Placed],
+    w: u32,
+    certificate: &Certificate,
+    cycle: u64,
+    count: u64,
+    block: &Block,
+    held: Mask,
+) -> Result<Mask, Breach>
+    requires well_placed { IsWellPlaced placed.now }
+    requires pending { HasPending placed.now certificate.now.from (contains_slot certificate.now.pending) }
+    requires cycles { certificate.now.from + length certificate.now.masks ≤ cycles_end }
+    requires rounds { NoSlot (is_bad placed.now certificate.now) }
+    requires certificate { IsCertificate certificate.now.from certificate.now.first certificate.now.masks }
+    requires few { count ≤ 256 }
+    requires after { certificate.now.from ≤ cycle }
+    requires within { cycle + count ≤ certificate.now.from + length certificate.now.masks }
+    requires filled { IsFilled placed.now cycle count block.now }
+    requires held { (slot : ℕ) → slot < most_slots
+        → contains_slot held slot ≡ is_held placed.now certificate.now (cycle - certificate.now.from) slot }
+    requires good { (n : ℕ) → n < cycle - certificate.now.from → IsGoodAt placed.now w certificate.now n }
+    ensures held { IfOk result (λ left. (slot : ℕ) → slot < most_slots
+        → contains_slot left slot ≡ is_held placed.now certificate.now (cycle + count - certificate.now.from) slot) }
+    ensures good { IfOk result (λ _. (n : ℕ) → n < cycle + count - certificate.now.from
+        → IsGoodAt placed.now w certificate.now n) }
+    ensures breach { IfErr result (λ breach. IsBreach placed.now w certificate.now breach) }
+{
+    let from = certificate.from();
+    let masks = certificate.masks();
+    let mut left = held;
+    for i in 0..count {
+        let index = i as usize;
+        let mask = masks[(cycle + i - from) as usize];
+        left = check_cycle(
+            placed,
+            w,
+            cycle + i,
+            block.released[index],
+            block.ends[index],
+            &block.costs,
+            left,
+            mask,
+        )?;
+    }
+    Ok(left)
+}
+
+/// Checks a cycle in which the slots in `held` have an instance that was released before it and is not planned, those
+/// in `released` release one, those in `ends` have one whose last cycle it is, and those in `mask` are flagged: the
+/// slots that have an instance behind it which is not planned.
 fn check_cycle(
-    row: &Row,
-    slots: u8,
+    placed: &[Placed],
     w: u32,
     cycle: u64,
+    released: Mask,
+    ends: Mask,
+    costs: &Costs,
     held: Mask,
     mask: Mask,
 ) -> Result<Mask, Breach>
-    requires cycle { cycle < 2 ^ 42 }
-    requires known { slots ≤ most_slots }
-    requires absent { AreAbsent slots row.now }
-    ensures good { IfOk result (λ _. IsGoodRow row.now w cycle held mask) }
+    requires well_placed { IsWellPlaced placed.now }
+    requires ends { (slot : ℕ) → slot < most_slots → contains_slot ends slot ≡ is_last_in placed.now cycle slot }
+    ensures good { IfOk result (λ _. IsGoodIn costs.now w released ends held mask) }
     ensures held { IfOk result (λ left. (slot : ℕ) → slot < most_slots
-        → contains_slot left slot ≡ (waits_in row.now cycle held slot && not (contains_slot mask slot))) }
-    ensures breach { IfErr result (λ breach. IsRowBreach row.now w cycle held mask breach) }
+        → contains_slot left slot ≡ (waits_in released held slot && not (contains_slot mask slot))) }
+    ensures breach { IfErr result (λ breach.
+        IsBreachIn placed.now costs.now w cycle released ends held mask breach) }
 {
-    let waiting = waiting(row, slots, cycle, held);
+    let waiting = union(held, released);
     if let Some(slot) = least(difference(mask, waiting)) {
         return Err(Breach::NotReleased { cycle, slot });
     }
-    let sum = width(row, slots, mask);
+    let sum = width(costs, mask);
     if sum > w {
         return Err(Breach::TooWide { cycle, sum });
     }
     let left = difference(waiting, mask);
-    match first_ending(row, slots, cycle, left) {
-        Some(slot) => Err(missed(row, cycle, slot)),
+    match least(common(left, ends)) {
+        Some(slot) => Err(missed(placed, cycle, slot)),
         None => Ok(left),
     }
 }
 
 /// The breach of an instance that is not planned by its last cycle.
-fn missed(row: &Row, cycle: u64, slot: u8) -> Breach
-    requires known { slot < most_slots }
-    requires some { IsSome (slice_index_or row.now slot None) }
-    ensures breach { IfSome (slice_index_or row.now slot None) (λ due. result ≡ Breach.Missed slot due.release cycle) }
+fn missed(placed: &[Placed], cycle: u64, slot: u8) -> Breach
+    requires well_placed { IsWellPlaced placed.now }
+    requires last { is_last_in placed.now cycle slot ≡ true }
+    ensures breach { IfSome (instance_in placed.now slot cycle)
+        (λ i. result ≡ Breach.Missed slot (release_of i.placed i.number) cycle) }
 {
-    match row[usize::from(slot)] {
-        Some(due) => Breach::Missed {
+    let place = place_at(placed, cycle, slot, 0);
+    match release_at(placed, cycle, place) {
+        Some(release) => Breach::Missed {
             slot,
-            release: due.release,
+            release,
             cycle,
         },
         None => unreachable!(),

@@ -5,16 +5,18 @@
 //! checker knows no policy and no planner. Time is counted in elementary cycles from 0, and lengths in bit times.
 #![tactic(auto)]
 
+mod blocks;
 mod breach;
 mod certificate;
 mod checking;
 pub mod laws;
+mod places;
 mod plan_reading;
 mod plan_runs;
 mod plan_text;
-mod rows;
 mod sets;
 mod text_fault;
+mod widths;
 
 pub use breach::Breach;
 pub use certificate::Certificate;

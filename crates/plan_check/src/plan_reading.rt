@@ -1,19 +1,19 @@
 //! The lines of a plan text, read one by one.
 
-ghost use Rattle.std.specs.Prelude.{◌≡◌, ◌≢◌, ℕ, ◌^◌, ◌<◌, ◌≤◌, ◌++◌, ◌∷◌, List, IfSome, IfNone, get_or, length, true, false};
+ghost use Rattle.std.specs.Prelude.{◌≡◌, ◌≢◌, ℕ, ◌<◌, ◌≤◌, ◌++◌, ◌∷◌, List, IfSome, IfNone, get_or, length, true, false};
 ghost use Rattle.std.specs.Fmt.{decimal};
 ghost use Rattle.text_fields.specs.Lines.{HasNoFeed};
 ghost use Rattle.text_fields.specs.MaskText.{mask_digits};
 ghost use Rattle.plan_check.specs.declared.plan_runs.Run.{Run};
 ghost use Rattle.plan_check.specs.declared.plan_runs.Version.{Version};
-ghost use Rattle.plan_check.specs.PlanText.{HasNoSpace, IsOfVersion, MayFollow, first_line, is_other, mask_bound, run_line};
+ghost use Rattle.plan_check.specs.PlanText.{HasNoSpace, IsOfVersion, MayFollow, first_line, is_other, mask_bound, numbers_end, run_line};
 
 use crate::plan_runs::{Run, Version};
 use requirement_table::Mask;
 use text_fields::{read_decimal, read_mask, split_line};
 
 /// Numbers of a plan text are below this.
-const NUMBERS: u64 = 1 << 42;
+const NUMBERS_END: u64 = 1 << 42;
 
 /// What follows the first line of a text, where that is the word.
 pub fn word_line<'a>(text: &'a [u8], word: &[u8]) -> Option<&'a [u8]>
@@ -56,8 +56,8 @@ fn line_behind<'a>(text: &'a [u8], word: &[u8]) -> Option<(&'a [u8], &'a [u8])>
 pub fn number_line<'a>(text: &'a [u8], word: &[u8]) -> Option<(u64, &'a [u8])>
     requires word { HasNoFeed word.now }
     ensures found { IfSome result (λ r. text.now ≡ (word.now ++ decimal r.0) ++ 10 ∷ r.1.now) }
-    ensures below { IfSome result (λ r. r.0 < 2 ^ 42) }
-    ensures none { IfNone result ((n : ℕ) (after : List ℕ) → n < 2 ^ 42
+    ensures below { IfSome result (λ r. r.0 < numbers_end) }
+    ensures none { IfNone result ((n : ℕ) (after : List ℕ) → n < numbers_end
         → text.now ≡ (word.now ++ decimal n) ++ 10 ∷ after → ⊥) }
 {
     let (digits, after) = line_behind(text, word)?;
@@ -79,7 +79,8 @@ pub fn mask_line<'a>(text: &'a [u8], word: &[u8], version: Version) -> Option<(M
 }
 
 /// The run in the first line of a text, where it may follow one with the mask `last` and has at most `most` cycles, and
-/// what follows the line.
+/// what follows the line. It is not inlined, since its loops want the registers for themselves.
+#[inline(never)]
 pub fn next_run(
     text: &[u8],
     version: Version,
@@ -90,7 +91,7 @@ pub fn next_run(
     ensures follows { IfSome result (λ r. MayFollow version last r.0) }
     ensures most { IfSome result (λ r. r.0.count ≤ most) }
     ensures none { IfNone result ((run : Run) (after : List ℕ) → MayFollow version last run → run.count ≤ most
-        → run.count < 2 ^ 42 → text.now ≡ run_line version run ++ 10 ∷ after → ⊥) }
+        → run.count < numbers_end → text.now ≡ run_line version run ++ 10 ∷ after → ⊥) }
 {
     let (line, after) = split_line(text)?;
     let run = run_of(line, version)?;
@@ -147,15 +148,16 @@ fn counted_of(line: &[u8]) -> Option<Run>
     Some(Run { mask, count })
 }
 
-/// What stands before the first space of a line, and what stands behind it; nothing where there is no space.
+/// What stands before the last space of a line, and what stands behind it; nothing where there is no space. It looks
+/// from the end, since a count has fewer digits than a mask.
 fn split_space(line: &[u8]) -> Option<(&[u8], &[u8])>
     ensures split { IfSome result (λ r. line.now ≡ r.0.now ++ 32 ∷ r.1.now) }
-    ensures front { IfSome result (λ r. HasNoSpace r.0.now) }
+    ensures behind { IfSome result (λ r. HasNoSpace r.1.now) }
     ensures none { IfNone result (HasNoSpace line.now) }
 {
-    for (end, byte) in line.iter().enumerate() {
-        if *byte == b' ' {
-            return Some((&line[..end], &line[end + 1..]));
+    for place in (0..line.len()).rev() {
+        if line[place] == b' ' {
+            return Some((&line[..place], &line[place + 1..]));
         }
     }
     None
@@ -164,11 +166,15 @@ fn split_space(line: &[u8]) -> Option<(&[u8], &[u8])>
 /// The number of decimal digits without leading zeros, below 2^42.
 fn read_number(digits: &[u8]) -> Option<u64>
     ensures found { IfSome result (λ n. digits.now ≡ decimal n) }
-    ensures below { IfSome result (λ n. n < 2 ^ 42) }
-    ensures none { IfNone result ((n : ℕ) → n < 2 ^ 42 → digits.now ≡ decimal n → ⊥) }
+    ensures below { IfSome result (λ n. n < numbers_end) }
+    ensures none { IfNone result ((n : ℕ) → n < numbers_end → digits.now ≡ decimal n → ⊥) }
 {
     let number = read_decimal(digits)?;
-    if number < NUMBERS { Some(number) } else { None }
+    if number < NUMBERS_END {
+        Some(number)
+    } else {
+        None
+    }
 }
 
 /// The mask of its hexadecimal digits, where the version names its slots.

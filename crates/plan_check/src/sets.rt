@@ -1,6 +1,6 @@
 //! Sets of slots, taken together.
 
-ghost use Rattle.std.specs.Prelude.{◌≡◌, ℕ, ◌<◌, ◌&&◌, not, MatchOption};
+ghost use Rattle.std.specs.Prelude.{◌≡◌, ℕ, ◌<◌, ◌&&◌, ◌||◌, not, MatchOption};
 ghost use Rattle.requirement_table.specs.Slots.{contains_slot, most_slots};
 ghost use Rattle.plan_check.specs.Breaches.{IsLeastSlot};
 ghost use Rattle.plan_check.specs.PlanKept.{NoSlot, differ};
@@ -33,4 +33,18 @@ pub fn least(set: Mask) -> Option<u8>
     } else {
         Some(bits.trailing_zeros() as u8)
     }
+}
+
+/// The slots of two sets.
+pub fn union(one: Mask, other: Mask) -> Mask
+    ensures slots { (slot : ℕ) → contains_slot result slot ≡ (contains_slot one slot || contains_slot other slot) }
+{
+    Mask::from_bits(one.bits() | other.bits())
+}
+
+/// The slots that stand in both of two sets.
+pub fn common(one: Mask, other: Mask) -> Mask
+    ensures slots { (slot : ℕ) → contains_slot result slot ≡ (contains_slot one slot && contains_slot other slot) }
+{
+    Mask::from_bits(one.bits() & other.bits())
 }

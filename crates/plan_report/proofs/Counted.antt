@@ -9,13 +9,13 @@ use Rattle.std.proofs.lemmas.List.Sums.{fold-append}
 use Rattle.std.proofs.lemmas.Nat.{le-div}
 use Rattle.std.proofs.Math.Nat.{div-mul-le_self}
 use Rattle.std.proofs.lemmas.Option.{slice_get_within, get_or_from_slice_get, slice_get-get_or}
+use Rattle.profile.specs.Limits.{first_identifier}
 use Rattle.can_frame.specs.declared.data_frame.TimedFrame.{TimedFrame}
 use Rattle.requirement_table.specs.declared.entries.Placed.{Placed}
 use Rattle.requirement_table.specs.Instance.{latest, instance_of, release_of}
 use Rattle.requirement_table.specs.Slots.{most_slots}
 use Rattle.requirement_table.specs.Table.{IsInRange, IsWellPlaced}
 use Rattle.requirement_table.proofs.Shared.{MaySend-from_instance, latest-of_sent}
-use Rattle.node_model.specs.Opening.{first_identifier}
 use Rattle.bus_trace.specs.Log.{triggers_in, triggers_with}
 use Rattle.bus_trace.proofs.Shared.{triggers_with-le}
 use Rattle.plan_report.specs.Report.{Sending, delay_of, first_sendings, greatest_of, is_sent, least_of, sendings, sending_at, sent_by, sent_of}

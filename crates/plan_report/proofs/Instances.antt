@@ -6,11 +6,11 @@ use Rattle.std.proofs.lemmas.List.{append-nil}
 use Rattle.std.proofs.lemmas.List.Elements.{All-append, All-cons, All-head, All-tail}
 use Rattle.std.proofs.lemmas.List.Folds.{Any-from_list_any, list_any-append}
 use Rattle.std.proofs.lemmas.List.Kept.{AllPairs-cons}
+use Rattle.profile.specs.Limits.{first_identifier}
 use Rattle.can_frame.specs.declared.data_frame.TimedFrame.{TimedFrame}
 use Rattle.requirement_table.specs.declared.entries.Placed.{Placed}
 use Rattle.requirement_table.specs.Instance.{MaySend, instance_of}
 use Rattle.requirement_table.proofs.Shared.{MaySend-from_instance, instance_of-sent}
-use Rattle.node_model.specs.Opening.{first_identifier}
 use Rattle.bus_trace.specs.Log.{started_in, triggers_with}
 use Rattle.plan_report.specs.Report.{Sending, first_sendings, is_sent, sending_at, sendings, sent_by, sent_of}
 use Rattle.plan_report.specs.Sent.{WasSentIn}

@@ -5,6 +5,7 @@ use Rattle.std.specs.Prelude.{ℕ, zero, suc, ◌+◌, ◌-◌, ◌==◌, Bool, 
 use Rattle.std.specs.Prelude.{length, map, min, max, Option, Some, None, codes}
 use Rattle.std.specs.List.{flat_map, list_any, reduce, sum}
 use Rattle.std.specs.Fmt.{decimal}
+use Rattle.profile.specs.Limits.{first_identifier}
 use Rattle.can_frame.specs.declared.data_frame.TimedFrame.{TimedFrame}
 use Rattle.requirement_table.specs.declared.entries.Placed.{Placed}
 use Rattle.requirement_table.specs.Instance.{instance_of, release_of}
@@ -12,7 +13,6 @@ use Rattle.requirement_table.specs.Opening.{width_of}
 use Rattle.async_window.specs.declared.request.Owner.{Owner}
 use Rattle.async_window.specs.declared.request.Request.{Request}
 use Rattle.async_window.specs.Waiting.{frames_with, unsent_after}
-use Rattle.node_model.specs.Opening.{first_identifier}
 use Rattle.master_core.specs.declared.event.Event.{Event}
 use Rattle.master_core.specs.History.{placed_of}
 use Rattle.master_core.specs.Openings.{openings_of}

@@ -2,11 +2,11 @@
 
 ghost use Rattle.std.specs.Prelude.{◌≡◌, ℕ, ◌+◌, ◌-◌, ◌^◌, ◌<◌, ◌≤◌, ◌++◌, ◌∷◌, []};
 ghost use Rattle.std.specs.Prelude.{List, All, IfOk, MatchOption, length};
+ghost use Rattle.profile.specs.Limits.{first_identifier};
 ghost use Rattle.can_frame.specs.declared.data_frame.TimedFrame.{TimedFrame};
 ghost use Rattle.requirement_table.specs.Slots.{most_slots};
 ghost use Rattle.requirement_table.specs.Table.{IsWellPlaced};
 ghost use Rattle.requirement_table.specs.Instance.{release_of};
-ghost use Rattle.node_model.specs.Opening.{first_identifier};
 ghost use Rattle.bus_trace.specs.Log.{triggers_in, triggers_with};
 ghost use Rattle.plan_report.specs.Current.{ArePassed};
 ghost use Rattle.plan_report.specs.Tally.{AreTallies};
@@ -14,7 +14,7 @@ ghost use Rattle.plan_report.specs.Tally.{AreTallies};
 use crate::current::Places;
 use crate::tally::{NOTHING, Tally};
 use can_frame::TimedFrame;
-use node_model::FIRST_IDENTIFIER;
+use profile::FIRST_IDENTIFIER;
 use requirement_table::{MOST_SLOTS, Placed};
 use std::alloc::{AllocError, Global};
 

@@ -106,7 +106,7 @@ put-somewhere (x ∷ xs) due lined =
     (cases_Bool (is_due_by x due))
 
 -- what one instance more adds, wherever it is put
-cost-between : (front : List Due) (due : Due) (back : List Due) → cost_of (front ++ (due ∷ back)) ≡ due.cost + cost_of (front ++ back)
+pub cost-between : (front : List Due) (due : Due) (back : List Due) → cost_of (front ++ (due ∷ back)) ≡ due.cost + cost_of (front ++ back)
 cost-between [] due back = sum_by-cons (λ (d : Due). d.cost) due back
 cost-between (x ∷ front) due back =
     let rest = cost-between front due back in
@@ -114,7 +114,7 @@ cost-between (x ∷ front) due back =
     let other = sum_by-cons (λ (d : Due). d.cost) x (front ++ back) in
     omega arith
 
-any-between : (p : Due → Bool) (front : List Due) (due : Due) (back : List Due)
+pub any-between : (p : Due → Bool) (front : List Due) (due : Due) (back : List Due)
     → list_any p (front ++ (due ∷ back)) ≡ (p due || list_any p (front ++ back))
 any-between p [] due back = refl
 any-between p (x ∷ front) due back =
@@ -125,7 +125,7 @@ any-between p (x ∷ front) due back =
     turned true false r = refl
     turned false b r = refl
 
-turned-eq : (one other : ℕ) → nat_eq one other ≡ nat_eq other one
+pub turned-eq : (one other : ℕ) → nat_eq one other ≡ nat_eq other one
 turned-eq one other =
     same-test (nat_eq one other) (nat_eq other one) (λ same. eq-eqb other one (sym (eqb-true one other same)))
     (λ same. eq-eqb one other (sym (eqb-true other one same)))

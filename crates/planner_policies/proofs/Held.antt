@@ -14,7 +14,7 @@ use Rattle.planner_policies.specs.Due.{holds_of, is_held_in}
 use Rattle.planner_policies.specs.Plan.{IsValid}
 use Rattle.planner_policies.proofs.Sums.{sum_where-none}
 
-held-parts : (o : Option ℕ) (p : Placed) (c : ℕ) → option_map_or (λ k. nat_lt (release_of p k) c) o false ≡ true
+pub held-parts : (o : Option ℕ) (p : Placed) (c : ℕ) → option_map_or (λ k. nat_lt (release_of p k) c) o false ≡ true
     → (k : ℕ) × (o ≡ Some k) × (release_of p k < c)
 held-parts (Some k) p c test = (k, refl, ltb-true (release_of p k) c test)
 held-parts None p c test = absurd (cc)

@@ -17,6 +17,16 @@ mod Longest
 mod Loops
 mod Pairs
 mod Rows
+mod Releasing
+mod RankOrder
+mod RowCycles
+mod RowDues
+mod RowFilling
+mod RowLines
+mod RowRoom
+mod RowSets
+mod RowSums
+mod RowTaking
 mod Steps
 mod Sums
 mod TakenEach

@@ -1,5 +1,5 @@
 -- What holds of each two elements of a list, one before the other.
-use Rattle.std.proofs.Common.{◌≡◌, ◌≢◌, ℕ, zero, suc, ◌<◌, ◌≤◌, List, [], ◌∷◌, ◌++◌, All, AllPairs, length, map, take, length-take, eqb, arith}
+use Rattle.std.proofs.Common.{◌≡◌, ◌≢◌, ℕ, zero, suc, ◌<◌, ◌≤◌, List, [], ◌∷◌, ◌++◌, Bool, true, false, cond, filter, All, AllPairs, length, map, take, length-take, eqb, arith}
 use Rattle.std.proofs.lemmas.List.{get_or-take}
 use Rattle.std.proofs.lemmas.List.Elements.{All-cons, All-contains, All-head, All-map, All-nil, All-tail}
 use Rattle.std.proofs.lemmas.List.Folds.{Any-from_list_any}
@@ -78,3 +78,20 @@ count-distinct xs n below distinct =
     let same : q ≡ any.1 = eqb-true q any.1 any.4 in
     let under : any.1 < n = All-contains (λ x. x < n) xs any.1 below (any.0, any.2, any.3) in
     omega arith)
+
+-- what a test keeps of a list
+pub all-filter : {X : Type 0} (P : X → Type 0) (test : X → Bool) (xs : List X) → All P xs → All P (filter test xs)
+all-filter P test [] all = All-nil P
+all-filter P test (x ∷ xs) all = pick (test x) (all-filter P test xs (All-tail P x xs all))
+  where
+    pick : (b : Bool) → All P (filter test xs) → All P (cond b (x ∷ filter test xs) (filter test xs))
+    pick true rest = All-cons P x (filter test xs) (All-head P x xs all) rest
+    pick false rest = rest
+
+pub pairs-filter : {X : Type 0} (R : X → X → Type 0) (test : X → Bool) (xs : List X) → AllPairs R xs → AllPairs R (filter test xs)
+pairs-filter R test [] pairs = λ i j d before within. absurd (omega arith)
+pairs-filter R test (x ∷ xs) pairs = pick (test x) (pairs-filter R test xs (pairs-tail R x xs pairs))
+  where
+    pick : (b : Bool) → AllPairs R (filter test xs) → AllPairs R (cond b (x ∷ filter test xs) (filter test xs))
+    pick true rest = pairs-cons R x (filter test xs) (all-filter (R x) test xs (pairs-head R x xs pairs)) rest
+    pick false rest = rest

@@ -1,4 +1,6 @@
 pub mod Plan
+pub mod Ranked
 pub mod Order
 pub mod Loop
 pub mod Due
+pub mod Wheel

@@ -17,7 +17,7 @@ use Rattle.planner_policies.specs.declared.Policy.TheVariants.{Rm, Dm, Edf}
 
 -- what is planned: the placed entries, by which policy and with which filling, the length of the largest synchronous
 -- window, the first cycle that is planned, and the set of the slots with an instance that was released before it and is
--- not sent yet
+-- not planned yet
 pub record Planning : Type 0 where
   pub placed : List Placed
   pub policy : Policy
@@ -42,6 +42,17 @@ planning_of ranking window from pending = record {
   from = from;
   pending = pending;
 }
+
+-- where a planning stands: the ranking that is planned, the cycle that is planned next, and the set of the slots with
+-- an instance that was released before it and is not planned yet
+pub record Standing : Type 0 where
+  pub ranking : Ranking
+  pub cycle : ℕ
+  pub pending : ℕ
+
+-- the planning that goes on from there within a window
+abbrev pub going_from : Standing → ℕ → Planning
+going_from standing window = planning_of standing.ranking window standing.cycle standing.pending
 
 -- Key order
 

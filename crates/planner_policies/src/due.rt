@@ -1,6 +1,7 @@
 //! What a placed entry has to send in a cycle.
 
-ghost use Rattle.std.specs.Prelude.{◌≡◌, ◌^◌, ◌<◌, ℕ, IfSome, None, false, nat_le};
+ghost use Rattle.std.specs.Prelude.{◌≡◌, ◌<◌, ℕ, IfSome, None, false, nat_le};
+ghost use Rattle.profile.specs.Limits.{cycles_end};
 ghost use Rattle.requirement_table.specs.Instance.{MaySend};
 ghost use Rattle.requirement_table.specs.Slots.{contains_slot};
 ghost use Rattle.requirement_table.specs.Table.{IsInRange};
@@ -59,7 +60,7 @@ impl Due {
 #[inline(always)]
 pub fn due_of(policy: Policy, placed: &Placed, state: &PlanState) -> Option<Due>
     requires in_range { IsInRange placed.now }
-    requires cycle { state.now.cycle < 2 ^ 42 }
+    requires cycle { state.now.cycle < cycles_end }
     ensures pending { IsDueOf policy (contains_slot state.now.pending) state.now.cycle placed.now result }
 {
     let release = release_waiting(placed, state)?;
@@ -81,7 +82,7 @@ pub fn due_of(policy: Policy, placed: &Placed, state: &PlanState) -> Option<Due>
 /// in the cycle. So an entry costs one division.
 fn release_waiting(placed: &Placed, state: &PlanState) -> Option<u64>
     requires in_range { IsInRange placed.now }
-    requires cycle { state.now.cycle < 2 ^ 42 }
+    requires cycle { state.now.cycle < cycles_end }
     ensures waiting { IfSome result
         (λ release. IsReleaseWaiting (contains_slot state.now.pending) state.now.cycle placed.now release) }
     ensures none { result ≡ None → (k : ℕ) → MaySend placed.now k state.now.cycle
@@ -98,7 +99,7 @@ fn release_waiting(placed: &Placed, state: &PlanState) -> Option<u64>
 
 /// The number that the policy looks at first; the least goes first. The deadline is that of an instance, the cycle
 /// behind its last one.
-fn key(policy: Policy, placed: &Placed, deadline: u64) -> u64
+pub(crate) fn key(policy: Policy, placed: &Placed, deadline: u64) -> u64
     ensures key { result ≡ key_with policy placed.now deadline }
 {
     match policy {

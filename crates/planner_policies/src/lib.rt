@@ -8,10 +8,14 @@
 mod due;
 pub mod laws;
 mod line;
+mod planner;
 mod planning;
 mod ranking;
+mod row_set;
 mod state;
+mod wheel;
 
+pub use planner::{CyclePlan, Planner};
 pub use planning::{Planned, cycle_mask, plan_cycle, plan_with_width, valid};
 pub use ranking::{Ranked, rank};
 pub use state::{Miss, PlanState};

@@ -4,6 +4,7 @@ ghost use Rattle.std.specs.Prelude.{◌≡◌, ℕ, ◌+◌, ◌^◌, ◌<◌, �
 ghost use Rattle.std.specs.Prelude.{sum_by, take, All, IsTrue, IfOk, IfErr, IfSome, length, None, Some};
 ghost use Rattle.planner_policies.specs.declared.Fill.TheVariants.{Prefix, Skip};
 ghost use Rattle.std.specs.List.{list_any};
+ghost use Rattle.profile.specs.Limits.{cycles_end};
 ghost use Rattle.requirement_table.specs.Slots.{contains_slot, set_of, most_slots};
 ghost use Rattle.requirement_table.specs.Table.{IsInRange, IsWellPlaced, width_in};
 ghost use Rattle.planner_policies.specs.Due.{IsAllFitting, IsLeastMissed, IsLongestFit, IsSetOf, IsWholeLine, is_held_in, left_of, lesser_miss};
@@ -13,20 +14,21 @@ ghost use Rattle.planner_policies.specs.Plan.{HasNoMissIn, IsMissIn, IsValid, le
 use crate::Fill;
 use crate::due::{Due, due_of};
 use crate::line::Line;
+use crate::planner::CyclePlan;
 use crate::ranking::Ranked;
 use crate::state::{Miss, PlanState};
 use requirement_table::{MOST_SLOTS, Mask, Placed, current_instance};
 
 /// A table of at most so many entries has a shorter line, which is made in less time.
-const FEW: usize = 40;
+pub(crate) const FEW: usize = 40;
 
 /// A line of this room holds what is pending in any table: one instance a slot.
-const ALL: usize = MOST_SLOTS as usize;
+pub(crate) const ALL: usize = MOST_SLOTS as usize;
 
 /// Whether a state can be planned from: each pending slot has an instance that was released before the cycle and whose
 /// last cycle is not below it.
 pub fn valid(ranked: &Ranked, state: &PlanState) -> bool
-    requires cycle { state.now.cycle < 2 ^ 42 }
+    requires cycle { state.now.cycle < cycles_end }
     ensures valid { IsTrue result ↔ IsValid ranked.now.placed state.now.cycle state.now.pending }
 {
     let mut rest = state.pending;
@@ -41,9 +43,9 @@ pub fn valid(ranked: &Ranked, state: &PlanState) -> bool
 }
 
 /// Whether the entry has an instance that was released before the cycle and may be sent in it.
-fn is_held(placed: &Placed, cycle: u64) -> bool
+pub(crate) fn is_held(placed: &Placed, cycle: u64) -> bool
     requires in_range { IsInRange placed.now }
-    requires cycle { cycle < 2 ^ 42 }
+    requires cycle { cycle ≤ cycles_end }
     ensures held { result ≡ is_held_in cycle placed.now }
 {
     match current_instance(placed, cycle) {
@@ -61,7 +63,7 @@ fn is_held(placed: &Placed, cycle: u64) -> bool
 ///
 /// An instance is left whose last cycle this is. Of several such instances it is that of the least slot.
 pub fn plan_cycle(ranked: &Ranked, w: u32, state: &PlanState) -> Result<(Mask, PlanState), Miss>
-    requires cycle { state.now.cycle < 2 ^ 42 }
+    requires cycle { state.now.cycle < cycles_end }
     requires valid { IsValid ranked.now.placed state.now.cycle state.now.pending }
     ensures planned { let plan = planning_of ranked.now w state.now.cycle state.now.pending in
         IfOk result (λ r. r.0 ≡ set_of most_slots (planned_in plan state.now.cycle (contains_slot state.now.pending))) }
@@ -100,7 +102,7 @@ pub struct Planned {
 ///
 /// Those of `plan_cycle`.
 pub fn plan_with_width(ranked: &Ranked, w: u32, state: &PlanState) -> Result<Planned, Miss>
-    requires cycle { state.now.cycle < 2 ^ 42 }
+    requires cycle { state.now.cycle < cycles_end }
     requires valid { IsValid ranked.now.placed state.now.cycle state.now.pending }
     ensures planned { let plan = planning_of ranked.now w state.now.cycle state.now.pending in
         IfOk result (λ r. r.mask ≡ set_of most_slots (planned_in plan state.now.cycle (contains_slot state.now.pending))) }
@@ -138,7 +140,7 @@ pub fn plan_with_width(ranked: &Ranked, w: u32, state: &PlanState) -> Result<Pla
 
 /// Plans the cycle of the state as `plan_with_width` does, by a line with room for all that is pending.
 fn plan_rows<const ROOM: usize>(ranked: &Ranked, w: u32, state: &PlanState) -> Result<Planned, Miss>
-    requires cycle { state.now.cycle < 2 ^ 42 }
+    requires cycle { state.now.cycle < cycles_end }
     requires valid { IsValid ranked.now.placed state.now.cycle state.now.pending }
     requires most { ROOM ≤ most_slots }
     requires room { ROOM < most_slots → length ranked.now.placed ≤ ROOM }
@@ -168,7 +170,7 @@ fn plan_rows<const ROOM: usize>(ranked: &Ranked, w: u32, state: &PlanState) -> R
 ///
 /// The state is valid.
 pub fn cycle_mask(ranked: &Ranked, w: u32, state: &PlanState) -> Mask
-    requires cycle { state.now.cycle < 2 ^ 42 }
+    requires cycle { state.now.cycle < cycles_end }
     requires valid { IsValid ranked.now.placed state.now.cycle state.now.pending }
     ensures planned { let plan = planning_of ranked.now w state.now.cycle state.now.pending in
         result ≡ set_of most_slots (planned_in plan state.now.cycle (contains_slot state.now.pending)) }
@@ -182,7 +184,7 @@ pub fn cycle_mask(ranked: &Ranked, w: u32, state: &PlanState) -> Mask
 
 /// The slots that `cycle_mask` gives, by a line with room for all that is pending.
 fn mask_of_rows<const ROOM: usize>(ranked: &Ranked, w: u32, state: &PlanState) -> Mask
-    requires cycle { state.now.cycle < 2 ^ 42 }
+    requires cycle { state.now.cycle < cycles_end }
     requires valid { IsValid ranked.now.placed state.now.cycle state.now.pending }
     requires most { ROOM ≤ most_slots }
     requires room { ROOM < most_slots → length ranked.now.placed ≤ ROOM }
@@ -190,7 +192,7 @@ fn mask_of_rows<const ROOM: usize>(ranked: &Ranked, w: u32, state: &PlanState) -
         result ≡ set_of most_slots (planned_in plan state.now.cycle (contains_slot state.now.pending)) }
 {
     let line = line_of::<ROOM>(ranked, w, state);
-    mask_of_line(line.as_slice(), ranked.fill(), w)
+    plan_of_line(line.as_slice(), ranked.fill(), w).mask
 }
 
 /// All that is pending in a cycle.
@@ -206,7 +208,7 @@ struct Fitting {
 /// and need not be ordered. `None` where it does not fit. `None` too where something was left before the cycle: then most
 /// often it does not fit, and no row is looked at twice.
 fn all_fitting(ranked: &Ranked, w: u32, state: &PlanState) -> Option<Fitting>
-    requires cycle { state.now.cycle < 2 ^ 42 }
+    requires cycle { state.now.cycle < cycles_end }
     requires valid { IsValid ranked.now.placed state.now.cycle state.now.pending }
     ensures fitting { let plan = planning_of ranked.now w state.now.cycle state.now.pending in
         IfSome result
@@ -234,7 +236,7 @@ fn all_fitting(ranked: &Ranked, w: u32, state: &PlanState) -> Option<Fitting>
 
 /// The instances that are pending in the cycle of the state, in key order.
 fn line_of<const ROOM: usize>(ranked: &Ranked, w: u32, state: &PlanState) -> Line<ROOM>
-    requires cycle { state.now.cycle < 2 ^ 42 }
+    requires cycle { state.now.cycle < cycles_end }
     requires valid { IsValid ranked.now.placed state.now.cycle state.now.pending }
     requires room { ROOM < most_slots → length ranked.now.placed ≤ ROOM }
     ensures line { IsWholeLine (planning_of ranked.now w state.now.cycle state.now.pending) state.now.cycle
@@ -254,7 +256,7 @@ fn line_of<const ROOM: usize>(ranked: &Ranked, w: u32, state: &PlanState) -> Lin
 /// Plans a line of instances in a cycle, within a window of `w` bit times.
 fn plan_line(line: &[Due], fill: Fill, w: u32, cycle: u64) -> Result<Planned, Miss>
     requires known { All (λ due. due.slot < most_slots) line.now }
-    requires cycle { cycle < 2 ^ 42 }
+    requires cycle { cycle < cycles_end }
     ensures planned { IfOk result (λ r. IsSetOf r.mask (taken_of fill w line.now)) }
     ensures width { IfOk result (λ r. r.width ≡ sum_by (λ due. due.cost) (taken_of fill w line.now)) }
     ensures fits { IfOk result (λ r. r.width ≤ w) }
@@ -269,21 +271,51 @@ fn plan_line(line: &[Due], fill: Fill, w: u32, cycle: u64) -> Result<Planned, Mi
     }
 }
 
-/// The slots of what a filling takes of a line, within a window of `w` bit times.
-fn mask_of_line(line: &[Due], fill: Fill, w: u32) -> Mask
+/// What a filling takes of a line, within a window of `w` bit times: the slots, and what they cost together.
+pub(crate) fn plan_of_line(line: &[Due], fill: Fill, w: u32) -> CyclePlan
     requires known { All (λ due. due.slot < most_slots) line.now }
-    ensures planned { IsSetOf result (taken_of fill w line.now) }
+    ensures planned { IsSetOf result.mask (taken_of fill w line.now) }
+    ensures width { result.width ≡ sum_by (λ due. due.cost) (taken_of fill w line.now) }
+    ensures fits { result.width ≤ w }
 {
     match fill {
-        Fill::Prefix => front_of(line, w).mask,
-        Fill::Skip => each_of(line, w, 0).mask,
+        Fill::Prefix => plan_of_front(line, w),
+        Fill::Skip => plan_of_each(line, w),
+    }
+}
+
+/// What the filling `Prefix` takes of a line.
+fn plan_of_front(line: &[Due], w: u32) -> CyclePlan
+    requires known { All (λ due. due.slot < most_slots) line.now }
+    ensures planned { IsSetOf result.mask (taken_of Prefix w line.now) }
+    ensures width { result.width ≡ sum_by (λ due. due.cost) (taken_of Prefix w line.now) }
+    ensures fits { result.width ≤ w }
+{
+    let front = front_of(line, w);
+    CyclePlan {
+        mask: front.mask,
+        width: front.width,
+    }
+}
+
+/// What the filling `Skip` takes of a line.
+fn plan_of_each(line: &[Due], w: u32) -> CyclePlan
+    requires known { All (λ due. due.slot < most_slots) line.now }
+    ensures planned { IsSetOf result.mask (taken_of Skip w line.now) }
+    ensures width { result.width ≡ sum_by (λ due. due.cost) (taken_of Skip w line.now) }
+    ensures fits { result.width ≤ w }
+{
+    let each = each_of(line, w, 0);
+    CyclePlan {
+        mask: each.mask,
+        width: each.width,
     }
 }
 
 /// Plans a line of instances with the filling `Prefix`: its first ones, as many as fit the window together.
 fn plan_front(line: &[Due], w: u32, cycle: u64) -> Result<Planned, Miss>
     requires known { All (λ due. due.slot < most_slots) line.now }
-    requires cycle { cycle < 2 ^ 42 }
+    requires cycle { cycle < cycles_end }
     ensures planned { IfOk result (λ r. IsSetOf r.mask (taken_of Prefix w line.now)) }
     ensures width { IfOk result (λ r. r.width ≡ sum_by (λ due. due.cost) (taken_of Prefix w line.now)) }
     ensures fits { IfOk result (λ r. r.width ≤ w) }
@@ -310,7 +342,7 @@ fn plan_front(line: &[Due], w: u32, cycle: u64) -> Result<Planned, Miss>
 /// Plans a line of instances with the filling `Skip`: each one that still fits.
 fn plan_each(line: &[Due], w: u32, cycle: u64) -> Result<Planned, Miss>
     requires known { All (λ due. due.slot < most_slots) line.now }
-    requires cycle { cycle < 2 ^ 42 }
+    requires cycle { cycle < cycles_end }
     ensures planned { IfOk result (λ r. IsSetOf r.mask (taken_of Skip w line.now)) }
     ensures width { IfOk result (λ r. r.width ≡ sum_by (λ due. due.cost) (taken_of Skip w line.now)) }
     ensures fits { IfOk result (λ r. r.width ≤ w) }

@@ -2,6 +2,7 @@
 
 ghost use Rattle.std.specs.Prelude.{◌≡◌, All, IfOk, IsPermutation};
 ghost use Rattle.requirement_table.specs.Table.{IsInRange, IsWellPlaced, not_over};
+ghost use Rattle.planner_policies.specs.Ranked.{AreRanked};
 
 use crate::{Fill, Policy};
 use requirement_table::{Placed, drop_over};
@@ -22,12 +23,14 @@ impl Model for Ranked {
     ghost use Rattle.std.specs.Prelude.{IsPermutation};
     ghost use Rattle.requirement_table.specs.Table.{IsWellPlaced};
     ghost use Rattle.planner_policies.specs.Plan.{Ranking};
+    ghost use Rattle.planner_policies.specs.Ranked.{AreRanked};
 
     ghost Value = { Ranking };
 
     ghost view = { λ r. record { placed = r.placed.items; policy = r.policy; fill = r.fill } };
 
-    ghost invariant = { λ r. IsWellPlaced r.placed.items × IsPermutation r.placed.items r.rows.items };
+    ghost invariant = { λ r. IsWellPlaced r.placed.items × IsPermutation r.placed.items r.rows.items
+        × AreRanked r.policy r.rows.items };
 }
 
 /// The entries, in their order, with the policy by which they are planned and the filling. The list is well placed.
@@ -42,7 +45,7 @@ pub fn rank(
 {
     let list = placed.to_vec(alloc)?;
     let mut rows = placed.to_vec(alloc)?;
-    rows.sort_unstable_by_key(|p| (own_key(policy, p), p.entry.priority, p.entry.slot));
+    put_in_order(&mut rows, policy);
     Ok(Ranked {
         placed: list,
         rows,
@@ -51,12 +54,21 @@ pub fn rank(
     })
 }
 
-/// The number that the policy looks at first, where it is one of the entry and not of an instance.
-fn own_key(policy: Policy, placed: &Placed) -> u16 {
+/// Puts entries in the order of the policy, by their own numbers: for `Edf` in the order that breaks ties.
+fn put_in_order(rows: &mut Vec<Placed>, policy: Policy)
+    ensures same { IsPermutation rows.old.items rows.new.items }
+    ensures order { AreRanked policy rows.new.items }
+{
     match policy {
-        Policy::Rm => placed.entry.period,
-        Policy::Dm => placed.entry.deadline,
-        Policy::Edf => 0,
+        Policy::Rm => {
+            rows.sort_unstable_by_key(|p| (p.entry.period, p.entry.priority, p.entry.slot));
+        }
+        Policy::Dm => {
+            rows.sort_unstable_by_key(|p| (p.entry.deadline, p.entry.priority, p.entry.slot));
+        }
+        Policy::Edf => {
+            rows.sort_unstable_by_key(|p| (p.entry.priority, p.entry.slot));
+        }
     }
 }
 
@@ -94,6 +106,7 @@ impl Ranked {
     /// The placed entries in key order.
     pub(crate) fn rows(&self) -> &[Placed]
         ensures same { IsPermutation self.now.placed result.now }
+        ensures order { AreRanked self.now.policy result.now }
         ensures in_range { All IsInRange result.now }
         ensures well_placed { IsWellPlaced self.now.placed }
     {

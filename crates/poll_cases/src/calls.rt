@@ -3,6 +3,7 @@
 ghost use Rattle.std.specs.Prelude.{◌≤◌};
 
 use crate::runs::run;
+use profile::CYCLES_END;
 use requirement_table::Entry;
 use sporadic_poll::{PolledBytes, Queues, Stream, read_streams};
 use std::alloc::{AllocError, Global};
@@ -118,7 +119,7 @@ fn frame(
 ) -> Result<String, AllocError>
     requires few { length ≤ 8 }
 {
-    if usize::from(slot) >= queues.slots() || release >= 1 << 42 {
+    if usize::from(slot) >= queues.slots() || release >= CYCLES_END {
         return Ok(String::new(alloc));
     }
     let taken = queues.take(slot, release * CYCLE, length);

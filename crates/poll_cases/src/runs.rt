@@ -6,6 +6,7 @@ ghost use Rattle.sporadic_poll.specs.PolledNodes.{AreNext};
 
 use can_frame::TimedFrame;
 use cycle_layout::Layout;
+use profile::FIRST_IDENTIFIER;
 use requirement_table::{Entry, Mask, Order, Placed, PlacedList, released_in, well_placed};
 use sporadic_poll::{PolledNodes, Stream, run_polled};
 use std::alloc::{AllocError, Global};
@@ -21,9 +22,6 @@ const SLOTS: u8 = 40;
 
 /// The most cycles of a run.
 const MOST_CYCLES: u64 = 10;
-
-/// The identifier of the frames of slot 0.
-const FIRST_IDENTIFIER: u16 = 0x100;
 
 /// Whether the slots of a set are slots of the bus.
 fn fits(mask: Mask) -> bool

@@ -20,6 +20,7 @@ use Rattle.master_core.specs.Openings.{openings_after, openings_of}
 use Rattle.kept_run.specs.Progress.{IsSetting, IsUnderWayWith, Setting}
 use Rattle.kept_run.proofs.Shared.{number-below}
 use Rattle.replay_run.specs.Progress.{setting_of}
+use Rattle.replay_run.proofs.Shared.{distinct, openings_of-append}
 use Rattle.sporadic_poll.specs.declared.stream.Stream.{Stream}
 use Rattle.sporadic_poll.specs.Polled.{AreRides, is_polled, lengths_of, payload_at, polled_bytes}
 use Rattle.sporadic_poll.specs.Ride.{IsRide, IsTakenBefore, Takes, bytes_with}
@@ -27,7 +28,7 @@ use Rattle.sporadic_poll.specs.Rides.{AreRidesAt}
 use Rattle.poll_run.specs.PolledRun.{IsPolledBegun, IsPolledRun, IsPolledTrace}
 use Rattle.poll_run.proofs.Bytes.{polled-whole}
 use Rattle.poll_run.proofs.OneRun.{same-trace}
-use Rattle.poll_run.proofs.Openings.{distinct, opening-at, openings-append}
+use Rattle.poll_run.proofs.Openings.{opening-at}
 
 -- What instances take by *Ride* below a cycle, where the lengths of the releases are the same below it
 
@@ -132,7 +133,7 @@ module _ (laws : BegunLaws) (system : System) (steps : List Step) (streams : Lis
       let more : List Opening = openings_of (history ++ rest) in
       let found = opening-at openings (next_of history) cycle in_order early in
       let among : Contains more found.0 =
-      subst (λ (l : List Opening). Contains l found.0) (sym (openings-append history rest))
+      subst (λ (l : List Opening). Contains l found.0) (sym (openings_of-append history rest))
       (Contains-append_left openings (openings_after history rest) found.0 found.1) in
       let apart = distinct openings (next_of history) in_order in
       let apart_too = distinct more (next_of (history ++ rest)) (laws.cycles system.rules (history ++ rest) all.plain.legal) in

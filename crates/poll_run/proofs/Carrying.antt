@@ -27,6 +27,7 @@ use Rattle.bus_trace.specs.Log.{events_rows, triggers_in}
 use Rattle.replay_run.specs.Accepted.{all_accepted, refuses_nothing}
 use Rattle.replay_run.specs.declared.bus.Bus.{Bus}
 use Rattle.replay_run.specs.Progress.{BringsOn, CanTellLast, GoesStill, IsBroughtOn, IsGoing, IsRunNext, RunsNext}
+use Rattle.replay_run.proofs.Shared.{distinct}
 use Rattle.sporadic_poll.specs.declared.stream.Stream.{Stream}
 use Rattle.sporadic_poll.specs.Polled.{AreRides, lengths_of, polled_bytes}
 use Rattle.sporadic_poll.specs.Ride.{IsRide}
@@ -36,7 +37,7 @@ use Rattle.poll_run.specs.declared.polled.Polled.{Polled}
 use Rattle.poll_run.specs.Polling.{CanPoll, IsPolled, IsPolledOn, SoFar}
 use Rattle.poll_run.proofs.Bytes.{polled-whole}
 use Rattle.poll_run.proofs.Calls.{closed-by, quiet-opened, quiet-push}
-use Rattle.poll_run.proofs.Openings.{all-front, all-last, distinct, openings-closed, openings-push, placed-push, right-last}
+use Rattle.poll_run.proofs.Openings.{all-front, all-last, openings-closed, openings-push, placed-push, right-last}
 
 -- what laws of the crates below say of *Ride*
 pub record RideLaws : Type 0 where

@@ -1,33 +1,20 @@
 -- The openings of a history with more events, and what holds of all of them.
-use Rattle.std.proofs.Common.{◌≡◌, ℕ, ◌<◌, false, List, [], ◌∷◌, ◌++◌, get_or, length, map, All, Contains, refl, sym, ap, ◌∙◌, arith, append_assoc, zero-add}
+use Rattle.std.proofs.Common.{◌≡◌, ℕ, ◌<◌, false, List, [], ◌∷◌, ◌++◌, get_or, length, map, All, Contains, refl, ap, ◌∙◌, arith}
 use Rattle.std.specs.List.{range_with_len}
-use Rattle.std.proofs.lemmas.List.{append-nil, get_or-map, length-map}
+use Rattle.std.proofs.lemmas.List.{append-nil}
 use Rattle.std.proofs.lemmas.List.Elements.{All-cons, All-head, All-nil, All-tail, Contains-get_or}
-use Rattle.std.proofs.lemmas.List.FromFn.{get_or-range_with_len, length-range_with_len}
 use Rattle.std.proofs.lemmas.List.Sums.{fold-append}
 use Rattle.requirement_table.specs.Opening.{Opening}
 use Rattle.admission_rules.specs.declared.Rules.{Rules}
-use Rattle.cycle_engine.specs.Offered.{AreOfDistinctCycles}
 use Rattle.master_core.specs.declared.event.Event.{Event}
 use Rattle.master_core.specs.declared.event.Event.TheVariants.{Submit, Look, Open}
 use Rattle.master_core.specs.History.{IsLegal, IsRight, is_open, placed_after, placed_of}
-use Rattle.master_core.specs.Openings.{opening_of, openings_after, openings_of}
+use Rattle.master_core.specs.Openings.{opening_of, openings_of}
 use Rattle.kept_run.proofs.Shared.{AllAfter-parts}
-
-openings_after-append : (before events later : List Event)
-    → openings_after before (events ++ later) ≡ openings_after before events ++ openings_after (before ++ events) later
-openings_after-append before [] later = ap (λ h. openings_after h later) (sym (append-nil before))
-openings_after-append before (event ∷ events) later =
-    ap (λ l. opening_of before event ++ l)
-    (openings_after-append (before ++ event ∷ []) events later
-    ∙ ap (λ h. openings_after (before ++ event ∷ []) events ++ openings_after h later) (append_assoc before (event ∷ []) events))
-    ∙ sym (append_assoc (opening_of before event) (openings_after (before ++ event ∷ []) events) (openings_after (before ++ event ∷ events) later))
-
-pub openings-append : (history later : List Event) → openings_of (history ++ later) ≡ openings_of history ++ openings_after history later
-openings-append history later = openings_after-append [] history later
+use Rattle.replay_run.proofs.Shared.{cycle-at, openings_of-append, so-many}
 
 pub openings-push : (history : List Event) (event : Event) → openings_of (history ++ event ∷ []) ≡ openings_of history ++ opening_of history event
-openings-push history event = openings-append history (event ∷ []) ∙ ap (λ l. openings_of history ++ l) (append-nil (opening_of history event))
+openings-push history event = openings_of-append history (event ∷ []) ∙ ap (λ l. openings_of history ++ l) (append-nil (opening_of history event))
 
 opens-nothing : (history : List Event) (event : Event) → is_open event ≡ false → opening_of history event ≡ []
 opens-nothing history (Submit caller change from verdict trail) none = refl
@@ -54,25 +41,7 @@ pub all-last : {X : Type 0} (P : X → Type 0) (xs : List X) (y : X) → All P (
 all-last P [] y all = All-head P y [] all
 all-last P (x ∷ xs) y all = all-last P xs y (All-tail P x (xs ++ y ∷ []) all)
 
--- openings of the cycles from 0 on stand at the places of their cycles
-module _ (openings : List Opening) (n : ℕ) (in_order : map (λ o. o.cycle) openings ≡ range_with_len 0 n) where
-  so-many : length openings ≡ n
-  so-many = sym (length-map openings (λ o. o.cycle)) ∙ ap length in_order ∙ length-range_with_len 0 n
-
-  cycle-at : (k : ℕ) (d : Opening) → k < length openings → (get_or openings k d).cycle ≡ k
-  cycle-at k d here =
-      let all = so-many in
-      sym (get_or-map (λ o. o.cycle) openings k d d.cycle here) ∙ ap (λ l. get_or l k d.cycle) in_order
-      ∙ get_or-range_with_len 0 n k d.cycle (omega (arith, here, all)) ∙ zero-add k
-
-  -- so they are of distinct cycles
-  pub distinct : AreOfDistinctCycles openings
-  distinct i j d before within same =
-      let one = cycle-at i d (omega (arith, before, within)) in
-      let other = cycle-at j d within in
-      omega (arith, one, other, same, before)
-
--- and there is one of each cycle
+-- of openings of the cycles from 0 on there is one of each cycle
 pub opening-at : (openings : List Opening) (n cycle : ℕ) → map (λ o. o.cycle) openings ≡ range_with_len 0 n → cycle < n
     → (o : Opening) × Contains openings o × (o.cycle ≡ cycle)
 opening-at [] n cycle in_order early = absurd (let all = so-many [] n in_order in omega (arith, all, early))

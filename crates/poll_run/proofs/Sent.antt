@@ -4,6 +4,7 @@ use Rattle.std.specs.List.{slice_get}
 use Rattle.std.proofs.lemmas.Bool.{and_parts, cond-true, eq-eqb, leb-true, lt-ltb}
 use Rattle.std.proofs.lemmas.List.Elements.{All-contains, All-head, filter_passes}
 use Rattle.std.proofs.lemmas.Map.Keys.{any_passes_from_place}
+use Rattle.profile.specs.Limits.{first_identifier}
 use Rattle.can_frame.specs.declared.data_frame.TimedFrame.{TimedFrame}
 use Rattle.requirement_table.specs.declared.entries.Placed.{Placed}
 use Rattle.requirement_table.specs.Instance.{Instance, release_of}
@@ -12,13 +13,13 @@ use Rattle.requirement_table.specs.Slots.{most_slots}
 use Rattle.requirement_table.specs.Table.{IsInRange, IsWellPlaced, instance_in}
 use Rattle.change_protocol.specs.Applied.{without_end}
 use Rattle.admission_rules.specs.declared.Rules.{Rules}
-use Rattle.node_model.specs.Opening.{first_identifier}
 use Rattle.cycle_engine.specs.Cycle.{cycle_of}
 use Rattle.kept_run.specs.Served.{IsServedWith}
 use Rattle.system_file.specs.declared.system.System.{System}
 use Rattle.master_core.specs.declared.event.Event.{Event}
 use Rattle.master_core.specs.History.{IsLegal, next_of, placed_of}
 use Rattle.master_core.specs.Openings.{openings_of}
+use Rattle.replay_run.proofs.Shared.{distinct}
 use Rattle.sporadic_poll.specs.declared.stream.Stream.{Stream}
 use Rattle.sporadic_poll.specs.Polled.{is_polled, lengths_of, payload_of, payload_taken, polled_bytes}
 use Rattle.sporadic_poll.specs.Ride.{bytes_with, length_at, length_released}
@@ -26,7 +27,7 @@ use Rattle.poll_run.specs.Delay.{IsSentInTime, MayRide}
 use Rattle.poll_run.specs.PolledRun.{IsPolledTrace}
 use Rattle.poll_run.proofs.Carrying.{RideLaws}
 use Rattle.poll_run.proofs.OnTime.{IsCarrier, TimeLaws, carrier}
-use Rattle.poll_run.proofs.Openings.{distinct, opening-at}
+use Rattle.poll_run.proofs.Openings.{opening-at}
 
 -- The lengths of a slot's releases are those of the final list
 

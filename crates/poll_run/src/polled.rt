@@ -1,6 +1,7 @@
 //! A bus whose polled slots carry requests, call by call.
 
 ghost use Rattle.std.specs.Prelude.{◌≡◌, ◌+◌, ◌<◌, ◌≤◌, ◌∷◌, [], IfOk, OnOk};
+ghost use Rattle.profile.specs.Limits.{most_cycles};
 ghost use Rattle.system_file.specs.SystemFile.{IsSystem};
 ghost use Rattle.master_core.specs.Calls.{asked, opens};
 ghost use Rattle.master_core.specs.History.{next_of};
@@ -14,15 +15,13 @@ use cycle_engine::laws::numbers_are_whole;
 use cycle_layout::Layout;
 use kept_run::laws::{beginning, calls_between, cycles_run};
 use master_core::laws::{legal_histories, opened_cycles};
+use profile::MOST_FRAMES;
 use replay_run::laws::{opened_frames, rows_appended};
 use replay_run::{Bus, refuses_nothing};
 use sporadic_poll::laws::{one_ride, rides_of_openings};
 use sporadic_poll::{Rides, Stream};
 use std::alloc::{AllocError, Global};
 use system_file::System;
-
-/// The most frames that start in one cycle: the longest cycle has 100,000 bit times, and the shortest frame 47.
-const MOST_FRAMES: usize = 100_000 / 47 + 1;
 
 /// A master and the nodes of its bus, behind some calls, and the requests that the instances of polled slots carry.
 #[derive(Drop)]
@@ -67,7 +66,7 @@ impl Polled {
     /// Only where memory runs out. Then no cycle was opened.
     pub fn run_next(&mut self, alloc: Global) -> Result<(), AllocError>
         requires can { CanPoll self.old }
-        requires few { next_of self.old.bus.master.history < 20000 }
+        requires few { next_of self.old.bus.master.history < most_cycles }
         ensures on { OnOk result (PollsOn self.old self.new self.new.frames.items (opens ∷ [])) }
         ensures last { OnOk result (CanTellLast self.new.bus.master.history self.new.frames.items) }
         ensures next { OnOk result
@@ -102,7 +101,7 @@ impl Polled {
     pub fn answer(&mut self, alloc: Global, caller: u8, act: &Act) -> Result<(), AllocError>
         requires can { CanPoll self.old }
         requires caller { (1 ≤ caller) × (caller ≤ 8) }
-        requires few { next_of self.old.bus.master.history ≤ 20000 }
+        requires few { next_of self.old.bus.master.history ≤ most_cycles }
         ensures on { OnOk result (PollsOn self.old self.new [] (asked caller act.now ∷ [])) }
         ensures last { OnOk result (CanTellLast self.new.bus.master.history []) }
         ensures next { OnOk result

@@ -2,6 +2,7 @@
 
 ghost use Rattle.std.specs.Prelude.{◌≡◌, ◌+◌, ◌<◌, ◌≤◌, ◌∷◌, [], length, OnErr, OnOk, IfErr, IfOk, IsErrOf};
 ghost use Rattle.std.specs.List.{flat_map};
+ghost use Rattle.profile.specs.Limits.{most_cycles};
 ghost use Rattle.ftt_io.specs.Counts.{Rose};
 ghost use Rattle.ftt_io.specs.Puts.{Puts, PutsPrefix};
 ghost use Rattle.system_file.specs.SystemFile.{IsSystem};
@@ -39,7 +40,7 @@ struct Logged<'a, L> {
 /// Opens the next cycle, runs it on the bus, and tells its rows.
 fn open_next<L: Listener>(polled: &mut Polled, listener: &mut L, alloc: Global) -> Result<(), Cut>
     requires ready { CanLog L.heard polled.old listener.old }
-    requires few { next_of polled.old.bus.master.history < 20000 }
+    requires few { next_of polled.old.bus.master.history < most_cycles }
     ensures goes_on { OnOk result (GoesOn L.heard polled.old listener.old (opens ∷ []) polled.new listener.new) }
     ensures next { OnOk result
         (next_of polled.new.bus.master.history ≡ next_of polled.old.bus.master.history + 1) }
@@ -65,7 +66,7 @@ fn answer_act<L: Listener>(
     act: &Act,
 ) -> Result<(), Cut>
     requires ready { CanLog L.heard polled.old listener.old }
-    requires few { next_of polled.old.bus.master.history ≤ 20000 }
+    requires few { next_of polled.old.bus.master.history ≤ most_cycles }
     requires caller { (1 ≤ caller) × (caller ≤ 8) }
     ensures goes_on { OnOk result
         (GoesOn L.heard polled.old listener.old (asked caller act.now ∷ []) polled.new listener.new) }
@@ -207,7 +208,7 @@ fn put_end<O: Sink>(polled: &Polled, out: &mut O) -> Result<bool, Cut>
 
 /// Answers the steps of a file, in their order, on the bus of a system without asynchronous requests. Each slot of which
 /// there are requests is polled: its frames carry requests in place of instance numbers. The log of this run is put
-/// meanwhile, each row by a call of its own. Behind it, in the order of the file, stands a row for each request:
+/// meanwhile, the rows of a cycle together. Behind it, in the order of the file, stands a row for each request:
 /// `ride,SLOT,NUMBER,RELEASE,CYCLE` where its instance was sent, else `waits,SLOT,NUMBER`. NUMBER is its place in the
 /// file, from 1. CYCLE is the cycle in which the instance was sent that was released in RELEASE. Answers whether each
 /// change was accepted.

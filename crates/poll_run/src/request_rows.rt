@@ -1,45 +1,13 @@
 //! The rows that tell of each request whether its instance was sent.
 
-ghost use Rattle.std.specs.Prelude.{◌≡◌, ◌+◌, ◌≤◌, ◌++◌, codes, drop, length, OnOk, OnErr};
-ghost use Rattle.std.specs.Fmt.{decimal};
+ghost use Rattle.std.specs.Prelude.{◌≡◌, ◌≤◌, length, OnOk, OnErr};
 ghost use Rattle.ftt_io.specs.Counts.{Rose};
 ghost use Rattle.ftt_io.specs.Puts.{Puts, PutsPrefix};
 ghost use Rattle.poll_run.specs.RequestRows.{request_row, request_rows, ride_row, waits_row};
 
 use ftt_io::{Failed, Sink, write_all};
 use sporadic_poll::{Fate, Stream};
-use text_fields::{ROOM, put_byte, put_decimal, put_word, row_from};
-
-/// Puts the line feed that ends a row.
-fn put_line_feed(row: &mut [u8; ROOM]) -> usize
-    ensures start { result ≡ 127 }
-    ensures row { drop result row.new ≡ codes "\n" }
-{
-    put_byte(row, ROOM, b'\n')
-}
-
-/// Puts a number with a comma before it.
-fn put_field(row: &mut [u8; ROOM], end: usize, number: u64) -> usize
-    requires room { 21 ≤ end }
-    requires within { end ≤ 128 }
-    ensures start { result ≤ end }
-    ensures few { end ≤ result + 21 }
-    ensures row { drop result row.new ≡ codes "," ++ (decimal number ++ drop end row.old) }
-{
-    let start = put_decimal(row, end, number);
-    put_byte(row, start, b',')
-}
-
-/// Puts a word and the slot behind it.
-fn put_first(row: &mut [u8; ROOM], end: usize, word: &[u8], slot: u8) -> usize
-    requires room { 20 + length word.now ≤ end }
-    requires within { end ≤ 128 }
-    ensures start { result ≤ end }
-    ensures row { drop result row.new ≡ word.now ++ (decimal slot ++ drop end row.old) }
-{
-    let start = put_decimal(row, end, u64::from(slot));
-    put_word(row, start, word)
-}
+use text_fields::{ROOM, put_field, put_first, put_line_feed, row_from};
 
 /// Makes the row of a request of a slot whose instance was not sent. The number is that of its row in the file.
 fn waits_row<'a>(row: &'a mut [u8; ROOM], slot: u8, number: u64) -> &'a [u8]
@@ -47,7 +15,7 @@ fn waits_row<'a>(row: &'a mut [u8; ROOM], slot: u8, number: u64) -> &'a [u8]
 {
     let start = put_line_feed(row);
     let start = put_field(row, start, number);
-    let start = put_first(row, start, b"waits,", slot);
+    let start = put_first(row, start, b"waits,", u64::from(slot));
     row_from(row, start)
 }
 
@@ -65,7 +33,7 @@ fn ride_row<'a>(
     let start = put_field(row, start, cycle);
     let start = put_field(row, start, release);
     let start = put_field(row, start, number);
-    let start = put_first(row, start, b"ride,", slot);
+    let start = put_first(row, start, b"ride,", u64::from(slot));
     row_from(row, start)
 }
 

@@ -1,9 +1,11 @@
 -- The states that a walk has come to, in a table by their keys.
-use Rattle.std.proofs.Common.{◌≡◌, ◌≢◌, ℕ, ◌+◌, ◌-◌, ◌<◌, ◌≤◌, Some, None, refl, sym, ◌∙◌, ap, arith, subst, inl, inr, ◌↔◌, ◌⊎◌}
+use Rattle.std.proofs.Common.{◌≡◌, ◌≢◌, ℕ, ◌+◌, ◌-◌, ◌<◌, ◌≤◌, Some, None, refl, sym, ◌∙◌, ap, arith, subst, inl, inr, ◌↔◌, ◌⊎◌, false}
 use Rattle.std.specs.Prelude.{Option}
-use Rattle.std.specs.Ordering.{nat_cmp, ordering_then}
+use Rattle.std.specs.Ordering.{is_eq, nat_cmp, ordering_then}
 use Rattle.std.specs.declared.cmp.Ordering.{Ordering}
+use Rattle.std.specs.declared.cmp.Ordering.TheVariants.{Less, Equal, Greater}
 use Rattle.std.proofs.lemmas.Bool.{cases_eq, cases_lt}
+use Rattle.std.proofs.lemmas.Map.Lookups.{exact_pairs, exact_unsigned}
 use Rattle.recurrence_check.specs.Course.{Course, state_after, IsRepeat}
 use Rattle.recurrence_check.specs.Ends.{IsFirstRepeat}
 use Rattle.recurrence_check.specs.Keys.{Meets}
@@ -29,6 +31,16 @@ key_cases one other = elim (cases_eq one.0 other.0) [
   ]
   | inr apart ↦ inr (λ same. apart (ap (λ (key : ℕ × ℕ). key.0) same))
 ]
+
+-- keys that differ do not compare as equal
+not-equal : (order : Ordering) → order ≢ Equal → is_eq order ≡ false
+not-equal Less apart = refl
+not-equal Equal apart = absurd (apart refl)
+not-equal Greater apart = refl
+
+pub key-apart : (key other : ℕ × ℕ) → key ≢ other → is_eq (key_cmp key other) ≡ false
+key-apart key other apart =
+    not-equal (key_cmp key other) (λ same. apart (exact_pairs nat_cmp nat_cmp exact_unsigned exact_unsigned key other same))
 
 -- nothing was found in an empty table
 pub Meets-empty : (old new : ℕ × ℕ → Option ℕ) (key : Option (ℕ × ℕ)) (steps : ℕ) (before : Option ℕ)

@@ -18,8 +18,11 @@ at_place (Some first) mark elsewhere = if nat_eq first.0 mark then Some first.1 
 abbrev pub table : List (Option (ℕ × ℕ)) → (ℕ × ℕ → Option ℕ) → ℕ × ℕ → Option ℕ
 table row others key = at_place (slice_index_or row key.1 None) key.0 (others key)
 
--- no key stands in the other table before the row has a first mark at its place; the row has room for places below
--- 100,000
+-- how many places the row has room for
+abbrev pub row_places : ℕ
+row_places = 100000
+
+-- no key stands in the other table before the row has a first mark at its place; the row has no more than its places
 pub record IsSparse (row : List (Option (ℕ × ℕ))) (others : ℕ × ℕ → Option ℕ) : Type 0 where
-  pub short : length row ≤ 100000
-  pub first : (key : ℕ × ℕ) → key.1 < 100000 → slice_index_or row key.1 None ≡ None → others key ≡ None
+  pub short : length row ≤ row_places
+  pub first : (key : ℕ × ℕ) → key.1 < row_places → slice_index_or row key.1 None ≡ None → others key ≡ None

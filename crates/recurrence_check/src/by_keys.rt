@@ -4,25 +4,27 @@
 ghost use Rattle.std.specs.Prelude.{◌≡◌, ◌≢◌, ◌+◌, ◌<◌, ◌≤◌, ℕ, IfOk, IfErr, Result, length};
 ghost use Rattle.std.specs.BTreeMap.{get};
 ghost use Rattle.std.specs.Prelude.{None, OnOk, Some, slice_index_or};
+ghost use Rattle.profile.specs.Limits.{greatest_horizon};
 ghost use Rattle.recurrence_check.specs.Course.{IsLeastRepeat};
 ghost use Rattle.recurrence_check.specs.Ends.{IsAnswer, IsEnd};
-ghost use Rattle.recurrence_check.specs.Keys.{IsSparse, Meets, table};
+ghost use Rattle.recurrence_check.specs.Keys.{IsSparse, Meets, row_places, table};
 ghost use Rattle.recurrence_check.specs.declared.walk_end.Repeat.{Repeat};
 ghost use Rattle.recurrence_check.specs.declared.walk_end.WalkEnd.{WalkEnd};
 
 use crate::walk::Keyed;
 use crate::walk_end::{Repeat, WalkEnd};
-use std::alloc::{AllocError, AllocFailed, Global};
+use std::alloc::{AllocError, Global};
 use std::collections::BTreeMap;
 
 /// The key of a state. Its second number is called its place.
 type Key = (u128, u64);
 
-/// The places that the row has room for.
+/// The places that the row has room for: as many as the longest period has cycles.
 const PLACES: u64 = 100_000;
 
 /// Does what `lasso` does, for a walk whose states have keys, and takes time for at most about
-/// `horizon` look-ups in an ordered map. Where no place below 100,000 comes twice it asks no map.
+/// `horizon` look-ups in an ordered map. Where all places are below 100,000 and none
+/// comes twice, it asks no map.
 ///
 /// The answer is the least repeat at or below `horizon`. `horizon` is at most 100,000.
 ///
@@ -32,7 +34,7 @@ const PLACES: u64 = 100_000;
 /// comes before. `NoRepeat` exactly where `horizon` steps were taken and no two states are the
 /// same. `Memory` where there is no memory for the keys.
 pub fn lasso_keyed<W: Keyed>(alloc: Global, walk: &W, horizon: u64) -> Result<Repeat, WalkEnd>
-    requires horizon { horizon ≤ 100000 }
+    requires horizon { horizon ≤ greatest_horizon }
     ensures repeat { IfOk result (λ again.
         IsLeastRepeat (W.course walk.now) again.first (again.first + again.length)) }
     ensures within { IfOk result (λ again. again.first + again.length ≤ horizon) }
@@ -42,10 +44,11 @@ pub fn lasso_keyed<W: Keyed>(alloc: Global, walk: &W, horizon: u64) -> Result<Re
 {
     let mut row = Vec::new(alloc);
     let mut others = BTreeMap::new(alloc);
-    let mut here = walk.first();
-    meet(&mut row, &mut others, walk.key(&here), 0)?;
+    let mut here = walk.begin(alloc)?;
+    let first = walk.state(&here);
+    meet(&mut row, &mut others, walk.key(&first), 0)?;
     for walked in 0..horizon {
-        let Some(next) = walk.step(&here) else {
+        let Some(next) = walk.step(&mut here) else {
             return Err(WalkEnd::Broken { at: walked });
         };
         if let Some(first) = meet(&mut row, &mut others, walk.key(&next), walked + 1)? {
@@ -54,13 +57,13 @@ pub fn lasso_keyed<W: Keyed>(alloc: Global, walk: &W, horizon: u64) -> Result<Re
                 length: walked + 1 - first,
             });
         }
-        here = next;
     }
     Err(WalkEnd::NoRepeat { walked: horizon })
 }
 
 /// The steps to the earlier state with this key, which is put down with these steps where there is no earlier one. At
 /// each place the first key stands in the row, with its steps, and the others stand in the map.
+#[inline(always)]
 fn meet(
     row: &mut Vec<Option<(u128, u64)>>,
     others: &mut BTreeMap<Key, u64>,
@@ -79,7 +82,7 @@ fn meet(
         return Ok(None);
     };
     if place >= PLACES {
-        return Ok(note(others, key, steps)?);
+        return note(others, mark, place, steps);
     }
     reach(row, place)?;
     match row[place as usize] {
@@ -91,7 +94,7 @@ fn meet(
             if first == mark {
                 Ok(Some(before))
             } else {
-                Ok(note(others, key, steps)?)
+                note(others, mark, place, steps)
             }
         }
     }
@@ -99,8 +102,8 @@ fn meet(
 
 /// Makes the row reach to the place, and changes nothing that stands in it.
 fn reach(row: &mut Vec<Option<(u128, u64)>>, place: u64) -> Result<(), AllocError>
-    requires place { place < 100000 }
-    ensures short { OnOk result (length row.old.items ≤ 100000 → length row.new.items ≤ 100000) }
+    requires place { place < row_places }
+    ensures short { OnOk result (length row.old.items ≤ row_places → length row.new.items ≤ row_places) }
     ensures reached { OnOk result (place < length row.new.items) }
     ensures same { OnOk result ((other : ℕ)
         → slice_index_or row.new.items other None ≡ slice_index_or row.old.items other None) }
@@ -111,18 +114,18 @@ fn reach(row: &mut Vec<Option<(u128, u64)>>, place: u64) -> Result<(), AllocErro
     Ok(())
 }
 
-/// The steps that stood under this key in the map, where there were any. These steps now stand there.
+/// The steps that stood under this mark and place in the map, where there were any. These steps now stand there.
 fn note(
     others: &mut BTreeMap<Key, u64>,
-    key: Option<Key>,
+    mark: u128,
+    place: u64,
     steps: u64,
-) -> Result<Option<u64>, AllocFailed<(Key, u64)>>
-    ensures met { IfOk result (λ before. Meets
-        (get ⟦<Key as Ord>⟧.cmp others.old) (get ⟦<Key as Ord>⟧.cmp others.new) key steps before) }
+) -> Result<Option<u64>, WalkEnd>
+    ensures met { IfOk result (λ before. Meets (get ⟦<Key as Ord>⟧.cmp others.old)
+        (get ⟦<Key as Ord>⟧.cmp others.new) (Some (mark, place)) steps before) }
+    ensures memory { IfErr result (λ end. end ≡ WalkEnd.Memory) }
 {
-    let Some(key) = key else {
-        return Ok(None);
-    };
+    let key = (mark, place);
     let earlier = others.insert(key, steps)?;
     Ok(earlier)
 }

@@ -2,6 +2,7 @@
 
 ghost use Rattle.std.specs.Prelude.{◌≡◌, ◌≢◌, ◌+◌, ◌<◌, ◌≤◌, ℕ, MatchOption, IfOk, IfErr, Result, Some, length};
 ghost use Rattle.std.specs.List.{slice_get};
+ghost use Rattle.profile.specs.Limits.{greatest_horizon};
 ghost use Rattle.recurrence_check.specs.Course.{IsFirstSame, IsLeastRepeat, NoneSame};
 ghost use Rattle.recurrence_check.specs.Ends.{IsAnswer, IsEnd};
 ghost use Rattle.recurrence_check.specs.declared.walk_end.Repeat.{Repeat};
@@ -22,7 +23,7 @@ use std::alloc::Global;
 /// comes before. `NoRepeat` exactly where `horizon` steps were taken and no two states are the
 /// same. `Memory` where there is no memory for the states.
 pub fn lasso<W: Walk>(alloc: Global, walk: &W, horizon: u64) -> Result<Repeat, WalkEnd>
-    requires horizon { horizon ≤ 100000 }
+    requires horizon { horizon ≤ greatest_horizon }
     ensures repeat { IfOk result (λ again.
         IsLeastRepeat (W.course walk.now) again.first (again.first + again.length)) }
     ensures within { IfOk result (λ again. again.first + again.length ≤ horizon) }
@@ -31,10 +32,10 @@ pub fn lasso<W: Walk>(alloc: Global, walk: &W, horizon: u64) -> Result<Repeat, W
         → result ≢ Err WalkEnd.Memory → other ≢ Err WalkEnd.Memory → result ≡ other }
 {
     let mut earlier = Vec::new(alloc);
-    let mut here = walk.first();
+    let mut here = walk.begin(alloc)?;
     for walked in 0..horizon {
-        earlier.push(here)?;
-        let Some(next) = walk.step(&here) else {
+        earlier.push(walk.state(&here))?;
+        let Some(next) = walk.step(&mut here) else {
             return Err(WalkEnd::Broken { at: walked });
         };
         if let Some(first) = first_same(walk, &earlier, &next) {
@@ -43,7 +44,6 @@ pub fn lasso<W: Walk>(alloc: Global, walk: &W, horizon: u64) -> Result<Repeat, W
                 length: walked + 1 - first,
             });
         }
-        here = next;
     }
     Err(WalkEnd::NoRepeat { walked: horizon })
 }
@@ -51,9 +51,9 @@ pub fn lasso<W: Walk>(alloc: Global, walk: &W, horizon: u64) -> Result<Repeat, W
 /// The place of the first of these states that is the same as `state`.
 fn first_same<W: Walk>(walk: &W, states: &[W::State], state: &W::State) -> Option<u64>
     requires good { (k : ℕ) (one : W.State) → slice_get states.now k ≡ Some one
-        → W.is_good walk.now one × (W.number walk.now one ≤ 100000) }
+        → W.is_good walk.now one × (W.number walk.now one ≤ greatest_horizon) }
     requires state_good { W.is_good walk.now state.now }
-    requires state_number { W.number walk.now state.now ≤ 100000 }
+    requires state_number { W.number walk.now state.now ≤ greatest_horizon }
     ensures first { MatchOption result
         (NoneSame (W.course walk.now) states.now (length states.now) state.now)
         (IsFirstSame (W.course walk.now) states.now state.now) }

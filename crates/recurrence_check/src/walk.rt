@@ -1,7 +1,10 @@
 //! Walks from state to state.
 
-ghost use Rattle.std.specs.Prelude.{◌≡◌, ◌+◌, ◌*◌, ◌<◌, ◌≤◌, ◌↔◌, ℕ, IfSome, IsTrue, Option, Some};
+ghost use Rattle.std.specs.Prelude.{◌≡◌, ◌+◌, ◌*◌, ◌<◌, ◌≤◌, ◌↔◌, ℕ, IfOk, IfSome, IsTrue, Option, Some};
+ghost use Rattle.profile.specs.Limits.{greatest_horizon};
 ghost use Rattle.recurrence_check.specs.Course.{Course, GoOnAlike};
+
+use std::alloc::{AllocError, Global};
 
 /// A walk from state to state.
 ///
@@ -9,9 +12,15 @@ ghost use Rattle.recurrence_check.specs.Course.{Course, GoOnAlike};
 /// same. Each state has a number, and some are good. The first one is good and has the number 0,
 /// and a step from a good state with a number below 100,000 leads to a good one with the next
 /// number, or nowhere.
+///
+/// Who walks is in a place. A place has a state, and may keep more that makes the next step quick.
+/// A step changes the place.
 pub trait Walk {
     /// A state of the walk.
     type State: Copy;
+
+    /// A place on a walk.
+    type Here: Drop;
 
     ghost course: { Self → Course Self.State };
 
@@ -19,27 +28,44 @@ pub trait Walk {
 
     ghost number: { Self → Self.State → ℕ };
 
-    /// The state in which the walk begins.
-    fn first(&self) -> Self::State
-        ensures start { result ≡ (course self.now).start }
-        ensures good { is_good self.now result }
-        ensures number { number self.now result ≡ 0 };
+    ghost state_of: { Self.Here → Self.State };
 
-    /// The state behind a state; `None` where the walk does not go on.
-    fn step(&self, state: &Self::State) -> Option<Self::State>
-        requires good { is_good self.now state.now }
-        requires number { number self.now state.now < 100000 }
-        ensures next { result ≡ (course self.now).next state.now }
+    ghost is_on: { Self → Self.Here → Type 0 };
+
+    /// A place in the state in which the walk begins. All memory that the walk takes is taken here.
+    ///
+    /// # Errors
+    ///
+    /// Only where memory runs out.
+    fn begin(&self, alloc: Global) -> Result<Self::Here, AllocError>
+        ensures on { IfOk result (λ here. is_on self.now here) }
+        ensures start { IfOk result (λ here. state_of here ≡ (course self.now).start) }
+        ensures good { IfOk result (λ here. is_good self.now (state_of here)) }
+        ensures number { IfOk result (λ here. number self.now (state_of here) ≡ 0) };
+
+    /// The state of a place.
+    fn state(&self, here: &Self::Here) -> Self::State
+        ensures state { result ≡ state_of here.now };
+
+    /// The state behind that of a place, which is then the state of the place; `None` where the walk does not go on, and
+    /// then the place is not used any more. `is_on` says that a place is one of this walk.
+    fn step(&self, here: &mut Self::Here) -> Option<Self::State>
+        requires on { is_on self.now here.old }
+        requires good { is_good self.now (state_of here.old) }
+        requires number { number self.now (state_of here.old) < greatest_horizon }
+        ensures next { result ≡ (course self.now).next (state_of here.old) }
+        ensures on { IfSome result (λ next. is_on self.now here.new) }
+        ensures here { IfSome result (λ next. next ≡ state_of here.new) }
         ensures good { IfSome result (λ next. is_good self.now next) }
         ensures number { IfSome result
-            (λ next. number self.now next ≡ number self.now state.now + 1) };
+            (λ next. number self.now next ≡ number self.now (state_of here.old) + 1) };
 
     /// Whether two states are the same.
     fn same(&self, one: &Self::State, other: &Self::State) -> bool
         requires one_good { is_good self.now one.now }
         requires other_good { is_good self.now other.now }
-        requires one_number { number self.now one.now ≤ 100000 }
-        requires other_number { number self.now other.now ≤ 100000 }
+        requires one_number { number self.now one.now ≤ greatest_horizon }
+        requires other_number { number self.now other.now ≤ greatest_horizon }
         ensures same { IsTrue result ↔ (course self.now).alike one.now other.now };
 
     ghost symmetric: { (walk : Self) (one other : Self.State)
@@ -51,7 +77,7 @@ pub trait Walk {
 
     ghost kept: { (walk : Self) (one other : Self.State)
         → is_good walk one → is_good walk other
-        → number walk one < 100000 → number walk other < 100000
+        → number walk one < greatest_horizon → number walk other < greatest_horizon
         → (course walk).alike one other
         → GoOnAlike (course walk).alike ((course walk).next one) ((course walk).next other) };
 }
@@ -66,7 +92,7 @@ pub trait Keyed: Walk {
 
     ghost keyed: { (walk : Self) (one other : Self.State)
         → Self.is_good walk one → Self.is_good walk other
-        → Self.number walk one ≤ 100000 → Self.number walk other ≤ 100000
+        → Self.number walk one ≤ greatest_horizon → Self.number walk other ≤ greatest_horizon
         → (Self.course walk).alike one other
         ↔ ((key : ℕ × ℕ) × (key_of walk one ≡ Some key) × (key_of walk other ≡ Some key)) };
 }

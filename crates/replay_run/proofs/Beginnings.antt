@@ -1,10 +1,7 @@
 -- What begins a legal history is legal, and what is opened behind it are cycles from the next one on. So a run of the
 -- first calls of steps begins the run of all calls.
-use Rattle.std.proofs.Common.{◌≡◌, ℕ, ◌+◌, ◌*◌, ◌<◌, ◌≤◌, List, [], ◌∷◌, ◌++◌, get_or, length, map, All, cond, sym, ap, ◌∙◌, subst, arith, append_assoc, append-nil, zero-add}
-use Rattle.std.specs.List.{range_with_len}
-use Rattle.std.proofs.lemmas.List.{get_or-map, length-map}
+use Rattle.std.proofs.Common.{◌≡◌, ℕ, ◌+◌, ◌*◌, ◌<◌, ◌≤◌, List, [], ◌∷◌, ◌++◌, All, cond, sym, ap, ◌∙◌, subst, arith, append_assoc}
 use Rattle.std.proofs.lemmas.List.Elements.{All-append, All-cons, All-nil, All-weaker}
-use Rattle.std.proofs.lemmas.List.FromFn.{get_or-range_with_len, length-range_with_len}
 use Rattle.std.proofs.lemmas.List.Sums.{sum_by-append, sum_by-cons}
 use Rattle.can_frame.specs.declared.data_frame.TimedFrame.{TimedFrame}
 use Rattle.cycle_layout.specs.Layout.{CycleLayout, IsLayout}
@@ -17,7 +14,7 @@ use Rattle.master_core.specs.History.{AllAfter, IsLegal, IsRight, is_open, next_
 use Rattle.master_core.specs.Openings.{opening_of, openings_after, openings_of}
 use Rattle.async_window.specs.declared.request.Request.{Request}
 use Rattle.bus_line.specs.Trace.{started_before}
-use Rattle.cycle_engine.specs.Offered.{AreOfDistinctCycles, IsCanTrace, IsCanTraceWith}
+use Rattle.cycle_engine.specs.Offered.{IsCanTrace, IsCanTraceWith}
 use Rattle.kept_run.proofs.Shared.{AllAfter-parts}
 use Rattle.system_file.specs.SystemFile.{IsSystem}
 use Rattle.steps_file.specs.declared.steps.Step.{Step}
@@ -25,7 +22,8 @@ use Rattle.system_file.specs.declared.system.System.{System}
 use Rattle.replay_run.specs.Begun.{IsBegun}
 use Rattle.replay_run.specs.Run.{IsRun}
 use Rattle.replay_run.proofs.Fronts.{cut-at, front-can_trace}
-use Rattle.replay_run.proofs.Histories.{OneVerdict, first-history}
+use Rattle.replay_run.proofs.Openings.{openings_of-append}
+use Rattle.master_core.proofs.Shared.{OneVerdict, first-history}
 
 pub next_of-append : (events later : List Event) → next_of (events ++ later) ≡ next_of events + next_of later
 next_of-append events later = sum_by-append (λ e. cond (is_open e) 1 0) events later
@@ -33,19 +31,6 @@ next_of-append events later = sum_by-append (λ e. cond (is_open e) 1 0) events 
 pub next_of-cons : (event : Event) (later : List Event)
     → next_of (event ∷ later) ≡ cond (is_open event) 1 0 + next_of later
 next_of-cons event later = sum_by-cons (λ e. cond (is_open e) 1 0) event later
-
-openings_after-append : (before events later : List Event)
-    → openings_after before (events ++ later) ≡ openings_after before events ++ openings_after (before ++ events) later
-openings_after-append before [] later = ap (λ h. openings_after h later) (sym (append-nil before))
-openings_after-append before (event ∷ events) later =
-    ap (λ l. opening_of before event ++ l)
-    (openings_after-append (before ++ event ∷ []) events later
-    ∙ ap (λ h. openings_after (before ++ event ∷ []) events ++ openings_after h later) (append_assoc before (event ∷ []) events))
-    ∙ sym (append_assoc (opening_of before event) (openings_after (before ++ event ∷ []) events) (openings_after (before ++ event ∷ events) later))
-
-pub openings_of-append : (history later : List Event)
-    → openings_of (history ++ later) ≡ openings_of history ++ openings_after history later
-openings_of-append history later = openings_after-append [] history later
 
 -- the number of the opening lies between these
 abbrev IsBetween : ℕ → ℕ → Opening → Type 0
@@ -75,16 +60,6 @@ cycles-between rules before (event ∷ events) right =
     All-append (IsBetween low high) (opening_of before event) (openings_after (before ++ event ∷ []) events)
     (opening-between rules before event high right.0 (omega arith))
     (All-weaker (IsBetween (next_of (before ++ event ∷ [])) high) (IsBetween low high) (λ o is. (omega (arith, is.0), is.1)) (openings_after (before ++ event ∷ []) events) rest)
-
--- openings of the cycles from 0 on are of distinct cycles
-pub distinct : (openings : List Opening) (n : ℕ) → map (λ o. o.cycle) openings ≡ range_with_len 0 n → AreOfDistinctCycles openings
-distinct openings n in_order i j d before within same =
-    let all : length openings ≡ n = sym (length-map openings (λ o. o.cycle)) ∙ ap length in_order ∙ length-range_with_len 0 n in
-    let at : (k : ℕ) → k < length openings → (get_or openings k d).cycle ≡ k = λ k here.
-    sym (get_or-map (λ o. o.cycle) openings k d d.cycle here) ∙ ap (λ l. get_or l k d.cycle) in_order ∙ get_or-range_with_len 0 n k d.cycle (omega (arith, here, all)) ∙ zero-add k in
-    let one = at i (omega (arith, before, within)) in
-    let other = at j within in
-    omega (arith, one, other, same, before)
 
 -- The trace
 

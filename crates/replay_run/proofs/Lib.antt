@@ -3,7 +3,7 @@ mod Cutting
 mod EventRows
 mod Fronts
 mod Going
-mod Histories
+mod Openings
 mod RowsSoFar
 mod RunNext
 pub mod Shared

@@ -12,6 +12,7 @@ use Rattle.system_file.specs.declared.system.System.{System}
 use Rattle.bus_trace.specs.LastRows.{HasLast, rows_in}
 use Rattle.bus_trace.specs.Recent.{LastRows}
 pub use Rattle.replay_run.proofs.Fronts.{cut-at, started-all, started-early, started-within}
+pub use Rattle.replay_run.proofs.Openings.{cycle-at, distinct, openings_of-append, so-many}
 
 few_slots : (slots : ℕ) → IsSlots slots → slots ≤ most_slots
 few_slots slots (inl few) = omega (arith, few)

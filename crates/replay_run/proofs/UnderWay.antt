@@ -17,8 +17,9 @@ use Rattle.master_core.specs.Openings.{openings_of}
 use Rattle.cycle_engine.specs.Offered.{IsCanTraceWith, offered_in_with, offered_with}
 use Rattle.kept_run.specs.Progress.{IsSetting, IsUnderWayWith, Setting}
 use Rattle.kept_run.proofs.Shared.{AllAfter-parts}
-use Rattle.replay_run.proofs.Beginnings.{cycles-between, front-trace, next_of-append, openings_of-append}
+use Rattle.replay_run.proofs.Beginnings.{cycles-between, front-trace, next_of-append}
 use Rattle.replay_run.proofs.Fronts.{cut-at, in_cycle, started-all, started-none, started-within}
+use Rattle.replay_run.proofs.Openings.{openings_of-append}
 
 -- the laws of runs and of traces on which this stands
 pub record RunLaws (sends : Instance → List ℕ) : Type 0 where

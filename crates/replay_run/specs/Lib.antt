@@ -3,6 +3,7 @@ pub mod Answered
 pub mod Asked
 pub mod AskedTable
 pub mod Begun
+pub mod CutText
 pub mod Heard
 pub mod Logging
 pub mod Progress

@@ -3,6 +3,7 @@
 
 ghost use Rattle.std.specs.Prelude.{◌≡◌, ◌+◌, ◌<◌, ◌≤◌, ◌++◌, ◌∷◌, []};
 ghost use Rattle.std.specs.Prelude.{List, OnOk, OnErr, IfOk, is_some, length, map};
+ghost use Rattle.profile.specs.Limits.{most_cycles};
 ghost use Rattle.can_frame.specs.declared.data_frame.TimedFrame.{TimedFrame};
 ghost use Rattle.change_protocol.specs.declared.operations.Act.TheVariants as act_of;
 ghost use Rattle.system_file.specs.SystemFile.{IsSystem};
@@ -23,11 +24,9 @@ use cycle_engine::{Nodes, Segment, run_cycle_in};
 use kept_run::laws::{beginning, calls_between, cycles_run, orders, requests_of_owners};
 use master_core::Master;
 use master_core::laws::opened_cycles;
+use profile::MOST_FRAMES;
 use std::alloc::{AllocError, Global};
 use system_file::System;
-
-/// The most frames that start in one cycle: the longest cycle has 100,000 bit times, and the shortest frame 47.
-const MOST_FRAMES: usize = 100_000 / 47 + 1;
 
 /// A master and the nodes of its bus, behind some calls.
 #[derive(Drop)]
@@ -172,7 +171,7 @@ impl Bus {
     pub fn run_next(&mut self)
         requires going { CanGo self.old }
         requires ready { IsReady self.old }
-        requires few { next_of self.old.master.history < 20000 }
+        requires few { next_of self.old.master.history < most_cycles }
         ensures on { BringsOn self.old self.new self.new.segment }
         ensures follows { RunsNext self.old self.new self.new.segment }
         ensures few { length self.new.segment ≤ 2128 }
@@ -195,7 +194,7 @@ impl Bus {
     /// Answers a change.
     fn ask(&mut self, alloc: Global, caller: u8, change: &Change) -> Result<(), AllocError>
         requires caller { (1 ≤ caller) × (caller ≤ 8) }
-        requires few { next_of self.old.master.history ≤ 20000 }
+        requires few { next_of self.old.master.history ≤ most_cycles }
         ensures on { OnOk result (BringsOn self.old self.new []) }
         ensures last { OnOk result (CanTellLast self.new.master.history []) }
         ensures calls { OnOk result (map call_of self.new.master.history
@@ -233,7 +232,7 @@ impl Bus {
     /// Only where memory runs out. Then the act is not answered.
     pub fn answer(&mut self, alloc: Global, caller: u8, act: &Act) -> Result<(), AllocError>
         requires caller { (1 ≤ caller) × (caller ≤ 8) }
-        requires few { next_of self.old.master.history ≤ 20000 }
+        requires few { next_of self.old.master.history ≤ most_cycles }
         ensures on { OnOk result (BringsOn self.old self.new []) }
         ensures last { OnOk result (CanTellLast self.new.master.history []) }
         ensures calls { OnOk result (map call_of self.new.master.history

@@ -2,6 +2,7 @@
 
 ghost use Rattle.std.specs.Prelude.{◌≡◌, ℕ, ◌+◌, ◌<◌, ◌≤◌, ◌++◌, ◌∷◌, [], List, OnOk, IfErr, replicate};
 ghost use Rattle.std.specs.List.{flat_map};
+ghost use Rattle.profile.specs.Limits.{most_cycles};
 ghost use Rattle.steps_file.specs.StepsFile.{AreLegalSteps, IsStep, count_of};
 ghost use Rattle.master_core.specs.Calls.{Call, asked, opens};
 ghost use Rattle.replay_run.specs.Run.{calls_of};
@@ -29,7 +30,7 @@ pub trait Driven {
     /// Opens the next cycle. At most 20,000 cycles are opened.
     fn open_cycle(&mut self, alloc: Global) -> Result<(), Self::Stop>
         requires ready { is_ready self.old }
-        requires few { cycles self.old < 20000 }
+        requires few { cycles self.old < most_cycles }
         ensures goes_on { OnOk result (goes_on self.old (opens ∷ []) self.new) }
         ensures cycles { OnOk result (cycles self.new ≡ cycles self.old + 1) }
         ensures stops { IfErr result (stops self.old (opens ∷ []) self.new) };
@@ -37,7 +38,7 @@ pub trait Driven {
     /// Answers an act of operator `caller`, 1 to 8.
     fn answer(&mut self, alloc: Global, caller: u8, act: &Act) -> Result<(), Self::Stop>
         requires ready { is_ready self.old }
-        requires few { cycles self.old ≤ 20000 }
+        requires few { cycles self.old ≤ most_cycles }
         requires caller { (1 ≤ caller) × (caller ≤ 8) }
         ensures goes_on { OnOk result (goes_on self.old (asked caller act.now ∷ []) self.new) }
         ensures cycles { OnOk result (cycles self.new ≡ cycles self.old) }
@@ -64,7 +65,7 @@ pub trait Driven {
 /// Opens so many cycles.
 fn open_cycles<D: Driven>(driven: &mut D, alloc: Global, count: u64) -> Result<(), D::Stop>
     requires ready { D.is_ready driven.old }
-    requires few { D.cycles driven.old + count ≤ 20000 }
+    requires few { D.cycles driven.old + count ≤ most_cycles }
     ensures goes_on { OnOk result (D.goes_on driven.old (replicate count opens) driven.new) }
     ensures cycles { OnOk result (D.cycles driven.new ≡ D.cycles driven.old + count) }
     ensures stops { IfErr result (D.stops driven.old (replicate count opens) driven.new) }
@@ -86,7 +87,7 @@ fn answer_shown<D: Driven>(
     act: &Act,
 ) -> Result<(), D::Stop>
     requires ready { D.is_ready driven.old }
-    requires few { D.cycles driven.old ≤ 20000 }
+    requires few { D.cycles driven.old ≤ most_cycles }
     requires caller { (1 ≤ caller) × (caller ≤ 8) }
     ensures goes_on { OnOk result (D.goes_on driven.old (asked caller act.now ∷ []) driven.new) }
     ensures cycles { OnOk result (D.cycles driven.new ≡ D.cycles driven.old) }
@@ -102,7 +103,7 @@ fn answer_shown<D: Driven>(
 fn take_step<D: Driven>(driven: &mut D, alloc: Global, step: &Step) -> Result<(), D::Stop>
     requires ready { D.is_ready driven.old }
     requires step { IsStep step.now }
-    requires few { D.cycles driven.old + count_of step.now ≤ 20000 }
+    requires few { D.cycles driven.old + count_of step.now ≤ most_cycles }
     ensures goes_on { OnOk result (D.goes_on driven.old (calls_of step.now) driven.new) }
     ensures cycles { OnOk result (D.cycles driven.new ≡ D.cycles driven.old + count_of step.now) }
     ensures stops { IfErr result (D.stops driven.old (calls_of step.now) driven.new) }

@@ -85,7 +85,7 @@ impl Listener for Silence {
     ghost broke_later = { λ one other third rows later first second. tt };
 }
 
-/// A sink to which each row is put by a call of its own.
+/// A sink to which the rows are put, those of a cycle together.
 #[derive(Drop)]
 pub struct ToSink<'a, O> {
     pub out: &'a mut O,

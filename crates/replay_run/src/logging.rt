@@ -2,6 +2,7 @@
 
 ghost use Rattle.std.specs.Prelude.{◌≡◌, ◌+◌, ◌∷◌, ◌≤◌, ◌<◌, [], List, ℕ, OnOk, OnErr, IfOk, IfErr, is_some};
 ghost use Rattle.std.specs.List.{flat_map};
+ghost use Rattle.profile.specs.Limits.{most_cycles};
 ghost use Rattle.can_frame.specs.declared.data_frame.TimedFrame.{TimedFrame};
 ghost use Rattle.system_file.specs.SystemFile.{IsSystem};
 ghost use Rattle.requests_file.specs.RequestsFile.{AreLegal};
@@ -55,7 +56,7 @@ pub fn tell_last<L: Listener>(
 /// Opens the next cycle, runs it on the bus, and tells its rows. All memory is taken first.
 fn open_next<L: Listener>(bus: &mut Bus, listener: &mut L, alloc: Global) -> Result<(), Cut>
     requires ready { CanLog L.heard bus.old listener.old }
-    requires few { next_of bus.old.master.history < 20000 }
+    requires few { next_of bus.old.master.history < most_cycles }
     ensures goes_on { OnOk result (GoesOn L.heard bus.old listener.old (opens ∷ []) bus.new listener.new) }
     ensures next { OnOk result (next_of bus.new.master.history ≡ next_of bus.old.master.history + 1) }
     ensures stops { IfErr result (IsCutBehind L.heard L.broke bus.old listener.old (opens ∷ []) listener.new) }
@@ -75,7 +76,7 @@ fn answer_act<L: Listener>(
     act: &Act,
 ) -> Result<(), Cut>
     requires ready { CanLog L.heard bus.old listener.old }
-    requires few { next_of bus.old.master.history ≤ 20000 }
+    requires few { next_of bus.old.master.history ≤ most_cycles }
     requires caller { (1 ≤ caller) × (caller ≤ 8) }
     ensures goes_on { OnOk result
         (GoesOn L.heard bus.old listener.old (asked caller act.now ∷ []) bus.new listener.new) }

@@ -75,7 +75,7 @@ pub fn replay(
 }
 
 /// Answers the steps of a file, in their order, on the bus of a system with these requests, and puts the log meanwhile:
-/// the rows of each event when it was answered and its cycle was run, each row by a call of its own, and then the last
+/// the rows of each event when it was answered and its cycle was run, those of a cycle together, and then the last
 /// row. The frames are kept where `keeps` says so. Else it takes memory for the master, the nodes and one cycle alone.
 ///
 /// # Errors

@@ -1,11 +1,12 @@
 -- What one row `AT,ID,DATA` of a requests file means, below the requests of the rows above it.
-use Rattle.std.specs.Prelude.{◌≡◌, ℕ, ◌-◌, ◌^◌, ◌<◌, ◌≤◌, ◌==◌, ◌&&◌, Bool, true}
+use Rattle.std.specs.Prelude.{◌≡◌, ℕ, ◌-◌, ◌<◌, ◌≤◌, ◌==◌, ◌&&◌, Bool, true}
 use Rattle.std.specs.Prelude.{if◌then◌else◌, nat_eq, nat_lt, nat_le, List, length, take, drop}
 use Rattle.std.specs.Prelude.{codes, Option, Some, None, option_map, option_and_then, ok_or, unwrap_or, Result}
 use Rattle.std.specs.Char.{is_ascii_hexdigit}
 use Rattle.std.specs.List.{list_all, list_any, slice_get}
 use Rattle.std.specs.Str.{bytes_eq}
 use Rattle.std.specs.Str.Parse.{digits_value}
+use Rattle.profile.specs.Limits.{arrivals_end, greatest_identifier, least_asynchronous}
 use Rattle.csv.specs.Records.{field_at}
 use Rattle.can_frame.specs.DataFrame.{DataFrame, IsFrame}
 use Rattle.async_window.specs.declared.request.Request.{Request}
@@ -32,7 +33,7 @@ identifier_of field =
 
 -- AT: a number below 2 ^ 40
 abbrev pub arrival_in : List (List ℕ) → Option ℕ
-arrival_in row = number_at row 0 0 (2 ^ 40 - 1)
+arrival_in row = number_at row 0 0 (arrivals_end - 1)
 
 -- ID
 abbrev pub identifier_in : List (List ℕ) → Option ℕ
@@ -45,7 +46,8 @@ bytes_in row = option_and_then bytes_of (field_at row 2)
 -- whether the number is an asynchronous identifier, 0x200 to 0x7EF, that one of these owners has
 abbrev pub is_owned : List Owner → ℕ → Bool
 is_owned owners identifier =
-    nat_le 0x200 identifier && nat_le identifier 0x7EF && list_any (λ owner. nat_eq owner.id identifier) owners
+    nat_le least_asynchronous identifier && nat_le identifier greatest_identifier
+    && list_any (λ owner. nat_eq owner.id identifier) owners
 
 -- AT of the row above, and 0 where there is none
 abbrev pub arrival_above : List Request → ℕ
@@ -69,7 +71,7 @@ meaning owners above row = do
 
 -- a request with each number in its range, of an identifier that one of these owners has
 pub record IsRequest (owners : List Owner) (request : Request) : Type 0 where
-  pub early : request.at < 2 ^ 40
-  pub asynchronous : 0x200 ≤ request.frame.identifier
+  pub early : request.at < arrivals_end
+  pub asynchronous : least_asynchronous ≤ request.frame.identifier
   pub legal : IsFrame request.frame
   pub owned : list_any (λ owner. nat_eq owner.id request.frame.identifier) owners ≡ true

@@ -8,6 +8,7 @@ ghost use Rattle.std.specs.Prelude.{◌≡◌, ◌≢◌, ◌⊎◌, ℕ, ◌<�
 ghost use Rattle.std.specs.Prelude.{Err, Ok, Some, None, map, nat_eq, nat_le, length, get_or, false, true};
 ghost use Rattle.std.specs.Prelude.{List, option_and_then, option_map, MatchResult};
 ghost use Rattle.std.specs.List.{list_any};
+ghost use Rattle.profile.specs.Limits.{greatest_identifier};
 ghost use Rattle.csv.specs.Records.{fields_of};
 ghost use Rattle.can_frame.specs.DataFrame.{IsFrame};
 ghost use Rattle.text_fields.specs.CsvRows.{rows_of, trimmed};
@@ -20,16 +21,17 @@ ghost use Rattle.requests_file.specs.declared.request_fault.RequestFault.TheVari
 ghost use Rattle.requests_file.specs.RequestsFile.{AreRequests, Faults, AreLegal, requests_of};
 
 use super::request_fault::{RequestFault, RequestWhy};
-use async_window::{LEAST_ASYNCHRONOUS, Owner, Request};
-use can_frame::{Frame, MAX_IDENTIFIER};
+use async_window::{Owner, Request};
+use can_frame::Frame;
 use csv::ByteRecord;
+use profile::{ARRIVALS_END, GREATEST_IDENTIFIER, LEAST_ASYNCHRONOUS};
 use std::alloc::{AllocError, Global};
 use text_fields::{
     field_of, number, read_bytes, read_hexadecimal, read_next, read_number, records_in,
 };
 
 /// The greatest arrival, in bit times.
-const MAX_ARRIVAL: u64 = (1 << 40) - 1;
+const MAX_ARRIVAL: u64 = ARRIVALS_END - 1;
 
 /// The most rows.
 const MAX_REQUESTS: usize = 50_000;
@@ -84,7 +86,7 @@ fn identifier(row: &ByteRecord) -> Option<u16>
 
 /// The frame of an identifier and of the bytes in the third field of a row.
 fn read_frame(row: &ByteRecord, id: u16) -> Option<Frame>
-    requires identifier { id ≤ 0x7EF }
+    requires identifier { id ≤ greatest_identifier }
     ensures value { result ≡ option_map (frame_with id) (bytes_in (map trimmed (fields_of row.now))) }
     ensures legal { IfSome result IsFrame }
 {
@@ -120,9 +122,9 @@ fn owned_numbers(alloc: Global, owners: &[Owner]) -> Result<Vec<bool>, RequestFa
 fn is_owned(owned: &[bool], id: u16) -> bool
     requires whole { length owned.now ≡ 65536 }
     ensures value { (owners : List Owner) → IsOwnedTable owners owned.now → result ≡ is_owned owners id }
-    ensures legal { result ≡ true → id ≤ 0x7EF }
+    ensures legal { result ≡ true → id ≤ greatest_identifier }
 {
-    LEAST_ASYNCHRONOUS <= id && id <= MAX_IDENTIFIER && owned[usize::from(id)]
+    LEAST_ASYNCHRONOUS <= id && id <= GREATEST_IDENTIFIER && owned[usize::from(id)]
 }
 
 /// The arrival in the last row, and 0 where there is none.

@@ -1,19 +1,14 @@
 -- An opened cycle, and the frames of its flagged slots. Lengths are bit times.
-use Rattle.std.specs.Prelude.{ℕ, List, Option, option_map}
+use Rattle.std.specs.Prelude.{ℕ, List}
 use Rattle.requirement_table.specs.declared.entries.Placed.{Placed}
 use Rattle.requirement_table.specs.Slots.{contains_slot}
-use Rattle.requirement_table.specs.Instance.{bytes_of}
-use Rattle.requirement_table.specs.Table.{instance_in, width_in}
+use Rattle.requirement_table.specs.Table.{width_in}
 
 -- an opened cycle: its number, the slots that its trigger flags, and the entries that were placed when it was opened
 pub record Opening : Type 0 where
   pub cycle : ℕ
   pub mask : ℕ
   pub placed : List Placed
-
--- the bytes that the slot sends in the cycle: those of the instance that may be sent in it
-abbrev pub bytes_in : Opening → ℕ → Option (List ℕ)
-bytes_in opening slot = option_map bytes_of (instance_in opening.placed slot opening.cycle)
 
 -- the length of the cycle's synchronous window: the worst lengths of its flagged slots together
 abbrev pub width_of : Opening → ℕ

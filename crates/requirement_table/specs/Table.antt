@@ -4,6 +4,7 @@ use Rattle.std.specs.Prelude.{◌||◌, nat_eq, nat_le, if◌then◌else◌, Opt
 use Rattle.std.specs.Prelude.{is_some, List, filter, All, AllPairs, slice_get, option_map}
 use Rattle.std.specs.Option.{option_map_or}
 use Rattle.std.specs.List.{list_any, filter_map}
+use Rattle.profile.specs.Limits.{cycles_end}
 use Rattle.requirement_table.specs.declared.entries.Placed.{Placed}
 use Rattle.requirement_table.specs.declared.entries.Entry.{Entry}
 use Rattle.requirement_table.specs.Instance.{Instance, deadline_of, instance_of, release_of, released_by, worst_of}
@@ -22,8 +23,8 @@ pub record IsEntry (entry : Entry) : Type 0 where
 -- the fields of a placed entry are in range
 pub record IsInRange (p : Placed) : Type 0 where
   pub entry : IsEntry p.entry
-  pub origin : p.origin < 2 ^ 42
-  pub end : IfSome p.end (λ end. (p.origin ≤ end) × (end < 2 ^ 42))
+  pub origin : p.origin < cycles_end
+  pub end : IfSome p.end (λ end. (p.origin ≤ end) × (end < cycles_end))
 
 -- the cycle from which the slot of a placed entry is free again: end + deadline - 1
 abbrev pub free_from : Placed → Option ℕ

@@ -1,9 +1,7 @@
 //! Entries of the table, placed entries, and the order of one cycle.
 
-ghost use Rattle.std.specs.Prelude.{◌≡◌};
-
 use crate::slots::Mask;
-use std::marker::Model;
+use items::Items;
 
 /// A synchronous requirement: one frame of a slot in each period.
 ///
@@ -38,43 +36,7 @@ pub struct Placed {
 }
 
 /// A list of placed entries that a value holds. Contracts see the list.
-#[derive(Drop, Debug)]
-pub struct PlacedList {
-    entries: Vec<Placed>,
-}
-
-impl Model for PlacedList {
-    ghost use Rattle.std.specs.Prelude.{List};
-    ghost use Rattle.requirement_table.specs.declared.entries.Placed.{Placed};
-
-    ghost Value = { List Placed };
-
-    ghost view = { λ l. l.entries.items };
-}
-
-impl PlacedList {
-    /// The list of the vector's items.
-    pub fn of(entries: Vec<Placed>) -> PlacedList
-        ensures list { result ≡ entries.items }
-    {
-        PlacedList { entries }
-    }
-
-    /// The list as a vector, without memory.
-    pub fn into_vec(self) -> Vec<Placed>
-        ensures list { result.items ≡ self }
-    {
-        let PlacedList { entries } = self;
-        entries
-    }
-
-    /// The list as a slice.
-    pub fn as_slice(&self) -> &[Placed]
-        ensures list { result.now ≡ self.now }
-    {
-        self.entries.as_slice()
-    }
-}
+pub type PlacedList = Items<Placed>;
 
 /// What the master orders for one elementary cycle.
 #[derive(Drop, Debug)]

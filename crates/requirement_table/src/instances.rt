@@ -1,6 +1,7 @@
 //! The instances that a placed entry releases, by arithmetic, and the bytes that they carry.
 
-ghost use Rattle.std.specs.Prelude.{◌≡◌, ℕ, ◌+◌, ◌*◌, ◌^◌, ◌<◌, ◌≤◌, Some, IfSome, MatchOption, option_map, length};
+ghost use Rattle.std.specs.Prelude.{◌≡◌, ℕ, ◌+◌, ◌*◌, ◌<◌, ◌≤◌, Some, IfSome, MatchOption, option_map, length};
+ghost use Rattle.profile.specs.Limits.{cycles_end};
 ghost use Rattle.requirement_table.specs.Instance.{worst, release_of, exists, payload, IsLastCycle};
 ghost use Rattle.requirement_table.specs.Instance.{IsReleasedIn, MaySend, released_by, instance_of};
 
@@ -26,9 +27,10 @@ fn since_first_release(placed: &Placed, cycle: u64) -> Option<u64>
         .checked_sub(u64::from(placed.entry.phase))
 }
 
-/// Whether an instance with this release exists.
-fn exists(placed: &Placed, release: u64) -> bool
-    ensures { result ≡ exists placed.now release }
+/// Whether an instance of an entry with this release exists: the entry has no end, or one after the release.
+#[inline(always)]
+pub fn exists(placed: &Placed, release: u64) -> bool
+    ensures exists { result ≡ exists placed.now release }
 {
     placed.end.is_none_or(|end| release < end)
 }
@@ -50,7 +52,7 @@ pub fn releases(placed: &Placed, cycle: u64) -> Option<u64>
 pub fn due(placed: &Placed, k: u64) -> (u64, u64)
     requires deadline { 1 ≤ placed.now.entry.deadline }
     requires period { placed.now.entry.deadline ≤ placed.now.entry.period }
-    requires release { release_of placed.now k < 2 ^ 42 }
+    requires release { release_of placed.now k < cycles_end }
     ensures release { result.0 ≡ release_of placed.now k }
     ensures last { IsLastCycle placed.now k result.1 }
 {

@@ -11,6 +11,6 @@ mod lists;
 mod slots;
 
 pub use entries::{Entry, Order, Placed, PlacedList};
-pub use instances::{Payload, Sendable, cost, current, current_instance, due, releases};
+pub use instances::{Payload, Sendable, cost, current, current_instance, due, exists, releases};
 pub use lists::{drop_over, first_over, is_over, not_over, released_in, well_placed};
 pub use slots::{MOST_SLOTS, Mask};

@@ -9,10 +9,8 @@ ghost use Rattle.requirement_table.specs.Table.{free_from, is_over, not_over, re
 use crate::entries::{Entry, Placed};
 use crate::instances::releases;
 use crate::slots::{MOST_SLOTS, Mask};
+use profile::CYCLES_END;
 use std::alloc::{AllocError, Global};
-
-/// Cycle numbers are below this.
-const CYCLES: u64 = 1 << 42;
 
 /// Whether the list is well placed: all fields are in range, no end is below its entry's origin, and
 /// in each slot the entries stand in order, each free before the next one's origin, with at most the
@@ -38,8 +36,8 @@ fn is_in_range(p: &Placed) -> bool
     ensures { IsTrue result ↔ IsInRange p.now }
 {
     is_entry(p.entry)
-        && p.origin < CYCLES
-        && p.end.is_none_or(|end| p.origin <= end && end < CYCLES)
+        && p.origin < CYCLES_END
+        && p.end.is_none_or(|end| p.origin <= end && end < CYCLES_END)
 }
 
 /// Whether all fields of an entry are in range: the slot, at most 8 bytes, and a deadline from 1 to the

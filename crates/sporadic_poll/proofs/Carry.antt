@@ -6,6 +6,7 @@ use Rattle.std.proofs.Math.Nat.{add-mul}
 use Rattle.std.proofs.lemmas.Bool.{and_from, and_parts, eqb-true, le-leb, leb-true, lt-ltb}
 use Rattle.std.proofs.lemmas.List.Elements.{All-append, All-contains, All-tail, Contains-append_cases, Contains-append_right}
 use Rattle.std.proofs.lemmas.Option.{none-some, same_Some}
+use Rattle.profile.specs.Limits.{first_identifier}
 use Rattle.can_frame.specs.DataFrame.{DataFrame}
 use Rattle.can_frame.specs.declared.data_frame.TimedFrame.{TimedFrame}
 use Rattle.cycle_layout.specs.Layout.{CycleLayout, IsLayout}
@@ -15,7 +16,7 @@ use Rattle.requirement_table.specs.Slots.{contains_slot, most_slots}
 use Rattle.requirement_table.specs.Table.{IsWellPlaced, instance_in}
 use Rattle.requirement_table.proofs.Shared.{found-in}
 use Rattle.bus_line.specs.Trace.{AgreeAlong, Follows, end_of}
-use Rattle.node_model.specs.Opening.{end_of_cycle, first_identifier, start_of}
+use Rattle.node_model.specs.Opening.{end_of_cycle, start_of}
 use Rattle.node_model.specs.Offered.{HasNotStarted, bytes_sent}
 use Rattle.cycle_engine.specs.Cycle.{FitsWindow, FollowsTraceWith, RunsCycle}
 use Rattle.cycle_engine.specs.Offered.{offered_in, offered_in_with}

@@ -8,6 +8,7 @@ use Rattle.std.proofs.lemmas.Bool.{cases_lt, le-ltb, lt-ltb}
 use Rattle.std.proofs.lemmas.List.Elements.{All-head, All-pop, All-push, All-tail}
 use Rattle.std.proofs.lemmas.Option.{none-some, slice_get_within}
 use Rattle.std.specs.List.{slice_get}
+use Rattle.profile.specs.Limits.{first_identifier}
 use Rattle.can_frame.specs.DataFrame.{DataFrame}
 use Rattle.can_frame.specs.Wire.{wire_length}
 use Rattle.can_frame.specs.declared.data_frame.TimedFrame.{TimedFrame}
@@ -19,7 +20,7 @@ use Rattle.requirement_table.specs.Table.{instance_in}
 use Rattle.trigger_codec.specs.Bytes.{second_frame, triggers_with}
 use Rattle.async_window.specs.Waiting.{frames_with, unsent_after}
 use Rattle.bus_line.specs.Trace.{Follows, IsLeastOffered, IsNext, NothingOffered, end_of}
-use Rattle.node_model.specs.Opening.{end_of_cycle, first_identifier, start_of, window_start}
+use Rattle.node_model.specs.Opening.{end_of_cycle, start_of, window_start}
 use Rattle.node_model.specs.Offered.{HasNotStarted, IsUnsent, OffersRequest, OffersSlotWith, OffersTrigger, bytes_sent}
 use Rattle.cycle_engine.specs.Cycle.{FitsWindow}
 use Rattle.cycle_engine.specs.Offered.{offered_in, offered_in_with}

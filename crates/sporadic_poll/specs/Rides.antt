@@ -4,6 +4,7 @@ use Rattle.std.specs.Prelude.{◌≡◌, ◌↔◌, ℕ, ◌+◌, ◌-◌, ◌<�
 use Rattle.std.specs.Prelude.{All, Contains, length, map, fold, set, take, get_or}
 use Rattle.std.specs.Prelude.{Option, Some, None, IfSome, IsSomeAnd, option_map, option_and_then, unwrap_or}
 use Rattle.std.specs.List.{slice_get}
+use Rattle.profile.specs.Limits.{first_identifier}
 use Rattle.can_frame.specs.DataFrame.{DataFrame}
 use Rattle.can_frame.specs.declared.data_frame.TimedFrame.{TimedFrame}
 use Rattle.cycle_layout.specs.Layout.{CycleLayout}
@@ -13,7 +14,7 @@ use Rattle.requirement_table.specs.Opening.{Opening}
 use Rattle.requirement_table.specs.Slots.{contains_slot, most_slots}
 use Rattle.requirement_table.specs.Table.{instance_in}
 use Rattle.bus_line.specs.Trace.{Follows}
-use Rattle.node_model.specs.Opening.{end_of_cycle, first_identifier, start_of}
+use Rattle.node_model.specs.Opening.{end_of_cycle, start_of}
 use Rattle.cycle_engine.specs.Cycle.{FitsWindow}
 use Rattle.cycle_engine.specs.Offered.{offered_in}
 use Rattle.cycle_engine.specs.SyncWindow.{back_to_back}

@@ -1,7 +1,8 @@
 -- What one row `AT,SLOT,DATA` of a streams file means, below the requests of the rows above it.
-use Rattle.std.specs.Prelude.{ℕ, ◌-◌, ◌^◌, ◌<◌, ◌≤◌, ◌==◌, if◌then◌else◌, nat_lt, nat_le, List, length}
+use Rattle.std.specs.Prelude.{ℕ, ◌-◌, ◌<◌, ◌≤◌, ◌==◌, if◌then◌else◌, nat_lt, nat_le, List, length}
 use Rattle.std.specs.Prelude.{Option, Some, None, option_map, option_and_then, ok_or, unwrap_or, Result}
 use Rattle.std.specs.List.{slice_get}
+use Rattle.profile.specs.Limits.{arrivals_end}
 use Rattle.csv.specs.Records.{field_at}
 use Rattle.text_fields.specs.ByteText.{bytes_of}
 use Rattle.text_fields.specs.CsvRows.{number_at}
@@ -12,7 +13,7 @@ use Rattle.sporadic_poll.specs.declared.stream_fault.StreamWhy.TheVariants.{Fiel
 
 -- AT: a number below 2 ^ 40
 abbrev pub arrival_in : List (List ℕ) → Option ℕ
-arrival_in row = number_at row 0 0 (2 ^ 40 - 1)
+arrival_in row = number_at row 0 0 (arrivals_end - 1)
 
 -- SLOT: a number of 0 to 255
 abbrev pub slot_in : List (List ℕ) → Option ℕ
@@ -44,6 +45,6 @@ meaning slots above row = do
 
 -- a request with each number in its range, where there are so many slots
 pub record IsStream (slots : ℕ) (stream : Stream) : Type 0 where
-  pub early : stream.at < 2 ^ 40
+  pub early : stream.at < arrivals_end
   pub known : stream.slot < slots
   pub short : length stream.payload ≤ 7

@@ -3,6 +3,7 @@
 ghost use Rattle.std.specs.Prelude.{◌≡◌, ℕ, ◌+◌, ◌*◌, ◌^◌, ◌<◌, ◌≤◌, [], ◌∷◌, ◌++◌, All, IfOk, IfSome, List, OnErr};
 ghost use Rattle.std.specs.Prelude.{OnOk, Option, Some, length, option_map};
 ghost use Rattle.std.specs.List.{slice_get};
+ghost use Rattle.profile.specs.Limits.{cycles_end, most_nodes};
 ghost use Rattle.can_frame.specs.declared.data_frame.TimedFrame.{TimedFrame};
 ghost use Rattle.requirement_table.specs.declared.entries.Placed.{Placed};
 ghost use Rattle.requirement_table.specs.Opening.{Opening};
@@ -21,12 +22,10 @@ use crate::stream::{Stream, StreamBytes};
 use can_frame::TimedFrame;
 use cycle_engine::{Nodes, Segment, run_cycle_in};
 use cycle_layout::Layout;
+use profile::MOST_FRAMES;
 use requirement_table::{Order, Placed, PlacedList};
 use std::alloc::{AllocError, Global};
 use std::marker::Model;
-
-/// The most frames that start in one cycle: the longest cycle has 100,000 bit times, and the shortest frame 47.
-const MOST_FRAMES: usize = 100_000 / 47 + 1;
 
 /// The nodes of a bus whose polled slots carry requests. Contracts see the nodes, what is known of the requests, and
 /// the placed entries that the nodes learnt last.
@@ -90,7 +89,7 @@ impl PolledNodes {
         streams: &[Stream],
     ) -> Result<PolledNodes, AllocError>
         requires some { 1 ≤ nodes }
-        requires few { nodes ≤ 30 }
+        requires few { nodes ≤ most_nodes }
         requires known { All (λ stream. stream.slot < layout.slots) streams.now }
         ensures layout { IfOk result (λ bus. bus.nodes.layout ≡ layout) }
         ensures count { IfOk result (λ bus. length (states_of bus.nodes.nodes) ≡ nodes) }
@@ -163,7 +162,7 @@ pub fn run_polled(
     order: &Order,
     nodes: &mut PolledNodes,
 ) -> Result<Vec<TimedFrame>, AllocError>
-    requires cycle { order.now.cycle < 2 ^ 42 }
+    requires cycle { order.now.cycle < cycles_end }
     requires next { AreNext order.now.cycle nodes.old }
     requires learned { IfSome order.now.learned IsWellPlaced }
     requires window { order.now.l ≤ nodes.old.nodes.layout.window }

@@ -3,8 +3,9 @@
 //! AT is the arrival in bit times, below 2^40, and never falls from row to row. SLOT is below the number of slots of
 //! the bus. DATA is two hexadecimal digits for each of 0 to 7 bytes. There are at most 10,000 rows.
 
-ghost use Rattle.std.specs.Prelude.{◌≡◌, ◌⊎◌, ℕ, ◌^◌, ◌<◌, ◌≤◌, IfOk, IfErr, IfSome, MatchResult};
+ghost use Rattle.std.specs.Prelude.{◌≡◌, ◌⊎◌, ℕ, ◌<◌, ◌≤◌, IfOk, IfErr, IfSome, MatchResult};
 ghost use Rattle.std.specs.Prelude.{Err, Ok, map, length, option_map};
+ghost use Rattle.profile.specs.Limits.{arrivals_end};
 ghost use Rattle.csv.specs.Records.{fields_of};
 ghost use Rattle.text_fields.specs.CsvRows.{rows_of, trimmed};
 ghost use Rattle.sporadic_poll.specs.StreamRow.{IsStream, arrival_above, meaning, payload_in};
@@ -14,11 +15,12 @@ ghost use Rattle.sporadic_poll.specs.declared.stream_fault.StreamFault.TheVarian
 use crate::stream::{Stream, StreamBytes};
 use crate::stream_fault::{StreamFault, StreamWhy};
 use csv::ByteRecord;
+use profile::ARRIVALS_END;
 use std::alloc::{AllocError, Global};
 use text_fields::{DataBytes, field_of, number, read_bytes, read_next, records_in};
 
 /// The greatest arrival, in bit times.
-const MAX_ARRIVAL: u64 = (1 << 40) - 1;
+const MAX_ARRIVAL: u64 = ARRIVALS_END - 1;
 
 /// The greatest number that a slot's field has.
 const MAX_SLOT: u64 = 255;
@@ -67,7 +69,7 @@ fn read_row(row: &ByteRecord, slots: u8, above: &[Stream]) -> Result<Fields, Str
         (λ read. meaning slots above.now (map trimmed (fields_of row.now))
         ≡ Ok (record { at = read.at; slot = read.slot; payload = read.bytes }))
         (λ why. meaning slots above.now (map trimmed (fields_of row.now)) ≡ Err why) }
-    ensures early { IfOk result (λ read. read.at < 2 ^ 40) }
+    ensures early { IfOk result (λ read. read.at < arrivals_end) }
     ensures known { IfOk result (λ read. read.slot < slots) }
     ensures short { IfOk result (λ read. length read.bytes ≤ 7) }
     ensures in_order { IfOk result (λ read. arrival_above above.now ≤ read.at) }

@@ -1,9 +1,10 @@
 //! The frames of a bus whose polled slots carry requests, cycle by cycle.
 
-ghost use Rattle.std.specs.Prelude.{◌≡◌, ◌≢◌, ◌↔◌, ℕ, ◌+◌, ◌*◌, ◌^◌, ◌<◌, ◌≤◌, List, [], ◌∷◌, ◌++◌, All, IfOk, IfSome};
+ghost use Rattle.std.specs.Prelude.{◌≡◌, ◌≢◌, ◌↔◌, ℕ, ◌+◌, ◌*◌, ◌<◌, ◌≤◌, List, [], ◌∷◌, ◌++◌, All, IfOk, IfSome};
 ghost use Rattle.std.specs.Prelude.{Option, None, Some, true, get_or, is_some, length, map, take};
 ghost use Rattle.std.specs.Prelude.{option_and_then, vec_capacity};
 ghost use Rattle.std.specs.List.{slice_get};
+ghost use Rattle.profile.specs.Limits.{cycles_end, times_end};
 ghost use Rattle.can_frame.specs.declared.data_frame.TimedFrame.{TimedFrame};
 ghost use Rattle.requirement_table.specs.Opening.{Opening};
 ghost use Rattle.requirement_table.specs.Slots.{contains_slot, most_slots};
@@ -27,7 +28,7 @@ use crate::queues::Queues;
 use crate::stream::Stream;
 use can_frame::{Frame, TimedFrame, wire_len};
 use cycle_layout::Layout;
-use node_model::FIRST_IDENTIFIER;
+use profile::FIRST_IDENTIFIER;
 use requirement_table::{MOST_SLOTS, Mask, Placed};
 use std::alloc::{AllocError, Global};
 use std::marker::Model;
@@ -229,7 +230,7 @@ impl Rides {
         frames: &[TimedFrame],
         out: &mut Vec<TimedFrame>,
     )
-        requires cycle { cycle < 2 ^ 42 }
+        requires cycle { cycle < cycles_end }
         requires well_placed { IsWellPlaced placed.now }
         requires room { length frames.now ≤ vec_capacity out.old }
         ensures streams { self.new.queued.streams ≡ self.old.queued.streams }
@@ -281,7 +282,7 @@ impl Rides {
         until: u64,
         out: &mut Vec<TimedFrame>,
     )
-        requires time { until < 2 ^ 60 }
+        requires time { until < times_end }
         requires well_placed { IsWellPlaced placed.now }
         requires room { length front.now + length window.now ≤ vec_capacity out.old }
         ensures put { (carried : ℕ → ℕ → Option ℕ) → HaveRidden carried (cycle + 1) self.now
@@ -298,7 +299,7 @@ impl Rides {
 
     /// Each instance that is released in the cycle takes its request. The time is the start of the cycle, in bit times.
     fn take_released(&mut self, time: u64, cycle: u64, placed: &[Placed])
-        requires cycle { cycle < 2 ^ 42 }
+        requires cycle { cycle < cycles_end }
         requires well_placed { IsWellPlaced placed.now }
         ensures streams { self.new.queued.streams ≡ self.old.queued.streams }
         ensures slots { length self.new.queued.next ≡ length self.old.queued.next }
@@ -426,7 +427,7 @@ impl Rides {
         until: u64,
         out: &mut Vec<TimedFrame>,
     )
-        requires time { until < 2 ^ 60 }
+        requires time { until < times_end }
         requires well_placed { IsWellPlaced placed.now }
         requires room { length out.old.items + length frames.now ≤ vec_capacity out.old }
         ensures sent { (carried : ℕ → ℕ → Option ℕ) → HaveRidden carried (cycle + 1) self.now

@@ -27,7 +27,8 @@ use Rattle.standby.specs.Hearing.{heard_of}
 use Rattle.standby.specs.declared.heard.Heard.{Heard}
 use Rattle.standby.proofs.Behind.{own-next}
 use Rattle.standby.proofs.Cores.{core_of-push, next-core, placed-core}
-use Rattle.standby.proofs.GoingOn.{OneVerdict, after-both, after-rest}
+use Rattle.master_core.proofs.Shared.{OneVerdict}
+use Rattle.standby.proofs.GoingOn.{after-both, after-rest}
 use Rattle.standby.proofs.Triggers.{heard-triggers}
 
 abbrev seen : Rules → List Event → StandbyView

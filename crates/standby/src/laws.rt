@@ -1,6 +1,7 @@
 //! Laws of a handover. Each function has an empty body but for calls of other laws, and its contract is the law.
 
 ghost use Rattle.std.specs.Prelude.{◌≡◌, ℕ, ◌^◌, ◌<◌, ◌≤◌, ◌++◌, ◌∷◌, [], true, List, Some, map};
+ghost use Rattle.profile.specs.Limits.{longest_window};
 ghost use Rattle.can_frame.specs.DataFrame.{DataFrame};
 ghost use Rattle.requirement_table.specs.declared.entries.Order.{Order};
 ghost use Rattle.requirement_table.specs.Slots.{contains_slot};
@@ -26,7 +27,7 @@ use admission::laws::one_verdict;
 
 /// The trigger frames of a cycle say what they were made of; a table has 40 slots or 96.
 pub fn trigger_frames()
-    ensures heard { (slots cycle l mask : ℕ) → IsSlots slots → l ≤ 16383 → mask < 2 ^ slots
+    ensures heard { (slots cycle l mask : ℕ) → IsSlots slots → l ≤ longest_window → mask < 2 ^ slots
         → heard_of slots cycle (triggers_with slots cycle l mask) ≡ Some (record { l = l; mask = mask }) }
 {}
 

@@ -1,6 +1,7 @@
 //! The standby, which follows the first master.
 
-ghost use Rattle.std.specs.Prelude.{◌≡◌, ℕ, ◌^◌, ◌<◌, ◌≤◌, [], List, All, IfErr, IfOk, OnErr, OnOk, true};
+ghost use Rattle.std.specs.Prelude.{◌≡◌, ℕ, ◌<◌, ◌≤◌, [], List, All, IfErr, IfOk, OnErr, OnOk, true};
+ghost use Rattle.profile.specs.Limits.{openings_end};
 ghost use Rattle.cycle_layout.specs.Layout.{IsSlots};
 ghost use Rattle.admission.specs.Verdict.{IsRules, is_accepted};
 ghost use Rattle.admission.specs.declared.verdict.Verdict.{Verdict as VerdictOf};
@@ -91,7 +92,7 @@ impl Standby {
     ///
     /// The first that holds of `Trigger`, `Differs` and `Window`; and `Memory`. Nothing is changed then.
     pub fn trigger(&mut self, alloc: Global, frames: &[Frame]) -> Result<(), FollowFault>
-        requires next { next_of self.old.history < 2 ^ 41 }
+        requires next { next_of self.old.history < openings_end }
         ensures rules { self.new.rules ≡ self.old.rules }
         ensures event { OnOk result (IsOpened self.old frames.now self.new.history) }
         ensures same { OnErr result (self.new.history ≡ self.old.history) }

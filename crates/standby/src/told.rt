@@ -1,6 +1,7 @@
 //! What a standby is told, one thing after the other.
 
-ghost use Rattle.std.specs.Prelude.{◌≡◌, ℕ, ◌+◌, ◌^◌, ◌≤◌, [], ◌∷◌, List, All, IfErr, OnErr, OnOk, length};
+ghost use Rattle.std.specs.Prelude.{◌≡◌, ◌+◌, ◌≤◌, ◌∷◌, List, All, IfErr, OnErr, OnOk, length};
+ghost use Rattle.profile.specs.Limits.{openings_end};
 ghost use Rattle.master_core.specs.declared.event.Event.{Event};
 ghost use Rattle.master_core.specs.History.{IsLegal, next_of};
 ghost use Rattle.standby.specs.Core.{core_of};
@@ -13,39 +14,11 @@ use crate::laws::told_whole;
 use crate::standby::Standby;
 use can_frame::Frame;
 use change_protocol::Change;
+use items::Items;
 use std::alloc::Global;
-use std::marker::Model;
 
 /// A list of frames that a value holds. Contracts see the list.
-#[derive(Drop, Debug)]
-pub struct Frames {
-    frames: Vec<Frame>,
-}
-
-impl Model for Frames {
-    ghost use Rattle.std.specs.Prelude.{List};
-    ghost use Rattle.can_frame.specs.DataFrame.{DataFrame};
-
-    ghost Value = { List DataFrame };
-
-    ghost view = { λ f. f.frames.items };
-}
-
-impl Frames {
-    /// The list of the vector's items.
-    pub fn of(frames: Vec<Frame>) -> Frames
-        ensures list { result ≡ frames.items }
-    {
-        Frames { frames }
-    }
-
-    /// The list as a slice.
-    pub fn as_slice(&self) -> &[Frame]
-        ensures list { result.now ≡ self.now }
-    {
-        self.frames.as_slice()
-    }
-}
+pub type Frames = Items<Frame>;
 
 /// What a standby is told.
 #[derive(Drop, Debug)]
@@ -59,7 +32,7 @@ pub enum Told {
 /// Tells a standby one thing.
 fn follow_one(standby: &mut Standby, alloc: Global, told: &Told) -> Result<(), FollowFault>
     requires caller { HasCaller told.now }
-    requires next { next_of standby.old.history + 1 ≤ 2 ^ 41 }
+    requires next { next_of standby.old.history + 1 ≤ openings_end }
     ensures rules { standby.new.rules ≡ standby.old.rules }
     ensures next { next_of standby.new.history ≤ next_of standby.old.history + 1 }
     ensures same { OnErr result (standby.new.history ≡ standby.old.history) }
@@ -86,7 +59,7 @@ fn follow_one(standby: &mut Standby, alloc: Global, told: &Told) -> Result<(), F
 /// The first fault. What was told before it is followed.
 pub fn follow(standby: &mut Standby, alloc: Global, told: &[Told]) -> Result<(), FollowFault>
     requires callers { All HasCaller told.now }
-    requires next { next_of standby.old.history + length told.now ≤ 2 ^ 41 }
+    requires next { next_of standby.old.history + length told.now ≤ openings_end }
     ensures rules { standby.new.rules ≡ standby.old.rules }
     ensures handover { (whole : List Event)
         → IsLegal standby.old.rules whole → IsBehind standby.old.rules whole standby.old.history told.now

@@ -7,6 +7,7 @@ use admission::Rules;
 use can_frame::Frame;
 use change_protocol::{Change, Op, Ops};
 use planner_policies::{Fill, Policy};
+use profile::{GREATEST_HORIZON, LONGEST_WINDOW, OPENINGS_END, SHORTEST_WINDOW};
 use requirement_table::{Entry, MOST_SLOTS, Mask};
 use standby::{FollowFault, Frames, Standby, Told, follow};
 use std::alloc::{AllocError, Global};
@@ -17,10 +18,11 @@ pub fn begun(alloc: Global, numbers: &[u64]) -> Result<Option<Standby>, AllocErr
     let [slots, window, horizon] = *numbers else {
         return Ok(None);
     };
-    if slots != 40 && slots != 96 || !(55..=16_383).contains(&window) {
+    let windows = u64::from(SHORTEST_WINDOW)..=u64::from(LONGEST_WINDOW);
+    if slots != 40 && slots != 96 || !windows.contains(&window) {
         return Ok(None);
     }
-    if !(1..=100_000).contains(&horizon) {
+    if !(1..=GREATEST_HORIZON).contains(&horizon) {
         return Ok(None);
     }
     let rules = Rules {
@@ -58,7 +60,7 @@ pub fn taken_over(alloc: Global, standby: Standby) -> Result<String, AllocError>
     let events = standby.history().len();
     let mut master = standby.take_over();
     master.reserve(alloc, 1)?;
-    if master.next() >= 1 << 41 {
+    if master.next() >= OPENINGS_END {
         return Ok(String::new(alloc));
     }
     let order = master.open();

@@ -1,5 +1,6 @@
 -- What the fields of a row of a steps file say, where each is a number in its range.
 use Rattle.std.specs.Prelude.{ℕ, ◌+◌, ◌-◌, ◌^◌, List, Option, Some, None, option_map, option_and_then}
+use Rattle.profile.specs.Limits.{most_cycles}
 use Rattle.requirement_table.specs.declared.entries.Entry.{Entry}
 use Rattle.change_protocol.specs.declared.operations.Op.{Op}
 use Rattle.change_protocol.specs.declared.operations.Op.TheVariants as operation
@@ -52,7 +53,7 @@ beginning verb row = do
 
 -- what a row of this form says
 unfoldable pub said_as : Form → List (List ℕ) → Option Line
-said_as form.Cycle row = option_map line.Cycle (number_at row 1 0 20000)
+said_as form.Cycle row = option_map line.Cycle (number_at row 1 0 most_cycles)
 said_as form.Look row = option_map line.Look (number_at row 1 0 255)
 said_as (form.Begins verb) row = beginning verb row
 said_as (form.Joins (Some verb)) row = option_map line.Joins (operation_at verb row 2)

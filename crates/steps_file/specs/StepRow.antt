@@ -2,6 +2,7 @@
 use Rattle.std.specs.Prelude.{ℕ, ◌+◌, ◌-◌, ◌&&◌, Bool, true, false, nat_lt, nat_le, List}
 use Rattle.std.specs.Prelude.{length, count_by, sum_by, option_map, ok_or, unwrap_or, Result}
 use Rattle.std.specs.List.{slice_get}
+use Rattle.profile.specs.Limits.{most_cycles}
 use Rattle.text_fields.specs.Whys.{◌>>=◌, where_holds}
 use Rattle.steps_file.specs.StepForm.{form_of, has_fields}
 use Rattle.steps_file.specs.StepFields.{said_as}
@@ -72,7 +73,8 @@ ends_in_change above = unwrap_or (option_map is_of_change (slice_get above (leng
 -- a line that may stand below these: one that adds to a change stands directly below a line of a change, and there are
 -- at most 1,000 changes, 1,000 looks and 20,000 cycles
 abbrev pub below : List Line → Line → Result Line StepWhy
-below above (line.Cycle count) = where_holds (nat_le (sum_by count_in above + count) 20000) (line.Cycle count) Cycles
+below above (line.Cycle count) =
+    where_holds (nat_le (sum_by count_in above + count) most_cycles) (line.Cycle count) Cycles
 below above (line.Look caller) = where_holds (nat_lt (count_by looks above) 1000) (line.Look caller) Looks
 below above (line.Begins caller start op) =
     where_holds (nat_lt (count_by begins above) 1000) (line.Begins caller start op) Changes

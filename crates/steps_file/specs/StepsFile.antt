@@ -2,6 +2,7 @@
 use Rattle.std.specs.Prelude.{◌≡◌, ℕ, ◌^◌, ◌<◌, ◌≤◌, Bool, true, false, List, [], ◌∷◌}
 use Rattle.std.specs.Prelude.{length, map, count_by, sum_by, Result, Ok, Err, All, ⊤}
 use Rattle.std.specs.List.{flat_map}
+use Rattle.profile.specs.Limits.{most_cycles}
 use Rattle.requirement_table.specs.declared.entries.Entry.{Entry}
 use Rattle.change_protocol.specs.declared.operations.Op.{Op}
 use Rattle.change_protocol.specs.declared.operations.Op.TheVariants.{Add, Remove, Change}
@@ -112,7 +113,7 @@ IsAct (act.Ask change) = IsAsked change.start change.ops
 
 -- a step with each number in its range
 abbrev pub IsStep : Step → Type 0
-IsStep (step.Cycle count) = count ≤ 20000
+IsStep (step.Cycle count) = count ≤ most_cycles
 IsStep (step.Act caller asked) = (1 ≤ caller) × (caller ≤ 8) × IsAct asked
 
 -- whether a step is a change
@@ -137,4 +138,4 @@ pub record AreLegalSteps (steps : List Step) : Type 0 where
   pub each : All IsStep steps
   pub changes : count_by is_change steps ≤ 1000
   pub looks : count_by is_look steps ≤ 1000
-  pub cycles : sum_by count_of steps ≤ 20000
+  pub cycles : sum_by count_of steps ≤ most_cycles

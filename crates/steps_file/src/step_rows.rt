@@ -21,6 +21,7 @@ ghost use Rattle.steps_file.specs.StepRow.{is_operator, has_operator, line_of};
 use super::step_fault::StepWhy;
 use change_protocol::Op;
 use csv::ByteRecord;
+use profile::MOST_CYCLES;
 use requirement_table::Entry;
 use text_fields::{field_of, number};
 
@@ -209,7 +210,7 @@ fn read_said(form: Form, row: &ByteRecord) -> Option<Line>
 {
     match form {
         Form::Cycle => {
-            let count = number(row, 1, 0..=20_000)?;
+            let count = number(row, 1, 0..=MOST_CYCLES)?;
             Some(Line::Cycle { count })
         }
         Form::Look => {

@@ -7,6 +7,7 @@
 
 ghost use Rattle.std.specs.Prelude.{◌≡◌, ◌⊎◌, ℕ, ◌+◌, List, [], ◌∷◌, ◌++◌, map, Option, is_some, is_ok, true};
 ghost use Rattle.std.specs.Prelude.{false, nat_lt, nat_le, IfOk, IfErr, Err, Ok, Some, None, MatchResult};
+ghost use Rattle.profile.specs.Limits.{most_cycles};
 ghost use Rattle.csv.specs.Records.{fields_of};
 ghost use Rattle.text_fields.specs.CsvRows.{trimmed, rows_of};
 ghost use Rattle.steps_file.specs.StepRow.{below, meaning, joins};
@@ -20,6 +21,7 @@ use super::step_fault::{StepFault, StepWhy};
 use super::step_rows::{Line, read_line};
 use change_protocol::{Act, Change, Op, Ops};
 use csv::ByteRecord;
+use profile::MOST_CYCLES;
 use std::alloc::Global;
 use text_fields::{read_next, records_in};
 
@@ -45,9 +47,6 @@ const MAX_CHANGES: u32 = 1_000;
 
 /// The most looks of a file.
 const MAX_LOOKS: u32 = 1_000;
-
-/// The most cycles that the rows of a file run together.
-const MAX_CYCLES: u64 = 20_000;
 
 /// What matters of the rows above a row.
 #[derive(Clone, Copy)]
@@ -94,11 +93,11 @@ impl Tally {
     fn with_cycles(self, count: u64) -> Result<Tally, StepWhy>
         ensures ok { IfOk result (λ tally. tally
             ≡ record { in_change = false; changes = self.changes; looks = self.looks; cycles = self.cycles + count }) }
-        ensures room { is_ok result ≡ nat_le (self.cycles + count) 20000 }
+        ensures room { is_ok result ≡ nat_le (self.cycles + count) most_cycles }
         ensures why { IfErr result (λ why. why ≡ Cycles) }
     {
         let cycles = self.cycles.saturating_add(count);
-        if cycles > MAX_CYCLES {
+        if cycles > MOST_CYCLES {
             return Err(StepWhy::Cycles);
         }
         Ok(Tally {

@@ -10,6 +10,8 @@ use Rattle.std.specs.List.{filter, flat_map, list_any}
 use Rattle.std.specs.Option.{option_or}
 use Rattle.std.specs.Ordering.{is_lt, nat_cmp}
 use Rattle.std.specs.Str.{bytes_eq, is_utf8}
+use Rattle.profile.specs.Limits.{greatest_horizon, greatest_identifier, least_asynchronous, longest_cycle}
+use Rattle.profile.specs.Limits.{longest_turnaround, longest_window, most_nodes, shortest_cycle, shortest_window}
 use Rattle.toml.specs.Data.{Data, string, integer, array, table, Items, no_items, item, Members}
 use Rattle.toml.specs.Data.{no_members, member, as_array, as_integer, as_str, as_table, get_member}
 use Rattle.toml.specs.Parse.{parse_document}
@@ -28,31 +30,9 @@ use Rattle.system_file.specs.declared.system_fault.SystemFault.TheVariants.{Toml
 abbrev pub document_of : List ℕ → Option Members
 document_of bytes = if is_utf8 bytes then parse_document bytes else None
 
--- the limits of numbers: of the cycle, the turnaround and the window in bit times, and of the horizon in cycles
-
-abbrev pub least_cycle : ℕ
-least_cycle = 400
-
-abbrev pub greatest_cycle : ℕ
-greatest_cycle = 100000
-
-abbrev pub greatest_turnaround : ℕ
-greatest_turnaround = 1000
-
-abbrev pub least_window : ℕ
-least_window = 55
-
-abbrev pub greatest_window : ℕ
-greatest_window = 16383
-
-abbrev pub greatest_nodes : ℕ
-greatest_nodes = 30
-
+-- the least horizon, in elementary cycles
 abbrev pub least_horizon : ℕ
 least_horizon = 1
-
-abbrev pub greatest_horizon : ℕ
-greatest_horizon = 100000
 
 -- the table of paths
 
@@ -75,20 +55,20 @@ abbrev pub bus_row : Row
 bus_row = record { key = codes "bus"; kind = section; default = None }
 
 abbrev pub cycle_row : Row
-cycle_row = record { key = codes "cycle"; kind = whole least_cycle greatest_cycle; default = None }
+cycle_row = record { key = codes "cycle"; kind = whole shortest_cycle longest_cycle; default = None }
 
 abbrev pub turnaround_row : Row
 turnaround_row = record {
   key = codes "turnaround";
-  kind = whole 0 greatest_turnaround;
+  kind = whole 0 longest_turnaround;
   default = Some (integer (pos 0));
 }
 
 abbrev pub window_row : Row
-window_row = record { key = codes "window"; kind = whole least_window greatest_window; default = None }
+window_row = record { key = codes "window"; kind = whole shortest_window longest_window; default = None }
 
 abbrev pub nodes_row : Row
-nodes_row = record { key = codes "nodes"; kind = whole 1 greatest_nodes; default = None }
+nodes_row = record { key = codes "nodes"; kind = whole 1 most_nodes; default = None }
 
 abbrev pub slots_row : Row
 slots_row = record { key = codes "slots"; kind = either (40 ∷ 96 ∷ []); default = Some (integer (pos 40)) }
@@ -128,7 +108,7 @@ async_row = record { key = codes "async"; kind = series; default = Some (array n
 
 -- identifiers are those of asynchronous frames, 0x200 to 0x7EF
 abbrev pub id_row : Row
-id_row = record { key = codes "id"; kind = whole 0x200 0x7EF; default = None }
+id_row = record { key = codes "id"; kind = whole least_asynchronous greatest_identifier; default = None }
 
 abbrev pub node_row : ℕ → Row
 node_row nodes = record { key = codes "node"; kind = whole 0 (nodes - 1); default = None }
@@ -426,7 +406,7 @@ pub record IsSystem (system : System) : Type 0 where
   pub same_window : system.rules.window ≡ system.layout.window
   pub same_slots : system.rules.slots ≡ system.layout.slots
   pub some_nodes : 1 ≤ system.rules.nodes
-  pub few_nodes : system.rules.nodes ≤ greatest_nodes
+  pub few_nodes : system.rules.nodes ≤ most_nodes
   pub some_horizon : least_horizon ≤ system.rules.horizon
   pub near_horizon : system.rules.horizon ≤ greatest_horizon
   pub are_owners : AreOwners system.owners

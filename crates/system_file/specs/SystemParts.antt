@@ -5,6 +5,7 @@ use Rattle.std.specs.Borrow.{Bor}
 use Rattle.std.specs.BTreeMap.{BTreeMap}
 use Rattle.std.specs.Prelude.{String}
 use Rattle.std.specs.declared.alloc.Global.{Global}
+use Rattle.profile.specs.Limits.{greatest_identifier, least_asynchronous, most_nodes}
 use Rattle.toml.specs.Data.{Data, integer, Members, no_members}
 use Rattle.toml.specs.View.{table_view}
 use Rattle.toml.specs.declared.value.Value.{Value}
@@ -13,7 +14,7 @@ use Rattle.cycle_layout.specs.Layout.{IsCycleLength, IsSlots, IsTurnaround, IsWi
 use Rattle.system_file.specs.declared.system.Bus.{Bus}
 use Rattle.system_file.specs.declared.system.Plan.{Plan}
 use Rattle.system_file.specs.SystemFile.{cycle_row, turnaround_row, window_row, nodes_row, slots_row, policy_row}
-use Rattle.system_file.specs.SystemFile.{fill_of, fill_row, greatest_nodes, horizon_row, number_of, policy_of}
+use Rattle.system_file.specs.SystemFile.{fill_of, fill_row, horizon_row, number_of, policy_of}
 use Rattle.system_file.specs.SystemFile.{text_in, value_of}
 use Rattle.system_file.specs.SystemFile.{in_element, is_integer, is_text, is_table, is_array}
 use Rattle.system_file.specs.declared.system_fault.SystemFault.{SystemFault}
@@ -75,7 +76,7 @@ pub record IsBus (bus : Bus) : Type 0 where
   pub turnaround : IsTurnaround bus.turnaround
   pub window : IsWindow bus.window
   pub some_nodes : 1 ≤ bus.nodes
-  pub few_nodes : bus.nodes ≤ greatest_nodes
+  pub few_nodes : bus.nodes ≤ most_nodes
   pub slots : IsSlots bus.slots
 
 -- the values of `plan` are those that the table sets
@@ -86,8 +87,8 @@ pub record IsPlanOf (table : Members) (plan : Plan) : Type 0 where
 
 -- the owner is one of so many nodes, and its identifier is an asynchronous one
 pub record IsOwner (nodes : ℕ) (owner : Owner) : Type 0 where
-  pub least : 0x200 ≤ owner.id
-  pub greatest : owner.id ≤ 0x7EF
+  pub least : least_asynchronous ≤ owner.id
+  pub greatest : owner.id ≤ greatest_identifier
   pub known_node : owner.node < nodes
 
 abbrev pub HaveOtherIds : Owner → Owner → Type 0

@@ -4,12 +4,13 @@
 ghost use Rattle.std.specs.Prelude.{◌≡◌, ◌≢◌, ◌≤◌, ◌++◌, [], ◌∷◌};
 ghost use Rattle.std.specs.Prelude.{IfErr, IfOk, OnOk, All, AllPairs, Some, None, Ok, Err, map, nat_eq, codes};
 ghost use Rattle.std.specs.List.{flat_map, list_any};
+ghost use Rattle.profile.specs.Limits.{greatest_horizon};
 ghost use Rattle.toml.specs.Data.{get_member};
 ghost use Rattle.toml.specs.View.{table_view, view};
 ghost use Rattle.cycle_layout.specs.Layout.{IsLayout, IsSlots, needed};
 ghost use Rattle.system_file.specs.SystemFile.{fill_named, fill_of, fill_row, number_in, slots_row};
 ghost use Rattle.system_file.specs.SystemFile.{IsSystem, bus_of, bus_rows, described_by, document_of, element_of};
-ghost use Rattle.system_file.specs.SystemFile.{elements_of, elements_in, faults_of, from_place, greatest_horizon, id_of};
+ghost use Rattle.system_file.specs.SystemFile.{elements_of, elements_in, faults_of, from_place, id_of};
 ghost use Rattle.system_file.specs.SystemFile.{kind_at, kind_faults, kinds_in_element, least_horizon, members_in};
 ghost use Rattle.system_file.specs.SystemFile.{narrow_at, owner_of, plan_of, plan_rows, policy_named, policy_of};
 ghost use Rattle.system_file.specs.SystemFile.{policy_row, range_at, range_faults, ranges_among, ranges_in_element};
@@ -24,10 +25,13 @@ use crate::owners::OwnerList;
 use crate::system_fault::{PathText, SystemFault};
 use crate::system_sections::{Kind, Place, Section};
 use admission_rules::Rules;
-use async_window::{LEAST_ASYNCHRONOUS, Owner};
-use can_frame::MAX_IDENTIFIER;
+use async_window::Owner;
 use cycle_layout::{Layout, LayoutFault};
 use planner_policies::{Fill, Policy};
+use profile::{
+    GREATEST_HORIZON, GREATEST_IDENTIFIER, LEAST_ASYNCHRONOUS, LONGEST_CYCLE, LONGEST_TURNAROUND,
+    LONGEST_WINDOW, MOST_NODES, SHORTEST_CYCLE, SHORTEST_WINDOW,
+};
 use std::alloc::Global;
 use toml::{Table, Value};
 
@@ -42,23 +46,8 @@ pub struct System {
     pub owners: OwnerList,
 }
 
-/// The least length of an elementary cycle, in bit times.
-const LEAST_CYCLE: u32 = 400;
-
-/// The greatest length of an elementary cycle, in bit times.
-const MAX_CYCLE: u32 = 100_000;
-
-/// The greatest turnaround, in bit times.
-const MAX_TURNAROUND: u32 = 1_000;
-
-/// The least length of the largest synchronous window, in bit times.
-const LEAST_WINDOW: u32 = 55;
-
-/// The greatest length of the largest synchronous window, in bit times.
-const MAX_WINDOW: u32 = 16_383;
-
 /// The most nodes.
-const MAX_NODES: u32 = 30;
+const MAX_NODES: u32 = MOST_NODES as u32;
 
 /// The numbers of slots that a bus may have; without another word it has the first one.
 const SLOTS: u8 = 40;
@@ -69,7 +58,7 @@ const MORE_SLOTS: u8 = 96;
 const LEAST_HORIZON: u32 = 1;
 
 /// The greatest horizon, in elementary cycles.
-const MAX_HORIZON: u32 = 100_000;
+const MAX_HORIZON: u32 = GREATEST_HORIZON as u32;
 
 /// The document that the bytes write.
 fn read_document(alloc: Global, bytes: &[u8]) -> Result<Table, SystemFault>
@@ -310,9 +299,9 @@ fn read_bus(alloc: Global, document: &Table) -> Result<Bus, SystemFault>
         (IsFirst (flat_map (range_at (codes "bus.") (bus_of (table_view document.now))) bus_rows)) }
 {
     let bus = bus_of(document);
-    let cycle = bus.number(alloc, "cycle", LEAST_CYCLE..=MAX_CYCLE)?;
-    let turnaround = bus.number_or(alloc, "turnaround", 0, 0..=MAX_TURNAROUND)?;
-    let window = bus.number(alloc, "window", LEAST_WINDOW..=MAX_WINDOW)?;
+    let cycle = bus.number(alloc, "cycle", SHORTEST_CYCLE..=LONGEST_CYCLE)?;
+    let turnaround = bus.number_or(alloc, "turnaround", 0, 0..=LONGEST_TURNAROUND)?;
+    let window = bus.number(alloc, "window", SHORTEST_WINDOW..=LONGEST_WINDOW)?;
     let nodes = bus.number(alloc, "nodes", 1..=MAX_NODES)?;
     let slots = read_slots(alloc, bus)?;
     Ok(Bus {
@@ -458,7 +447,7 @@ fn read_owner(
         (IsFirst (ranges_in_element nodes (map id_of_owner earlier.now) index (view element.now))) }
 {
     let section = element_of(index, element);
-    let ids = u32::from(LEAST_ASYNCHRONOUS)..=u32::from(MAX_IDENTIFIER);
+    let ids = u32::from(LEAST_ASYNCHRONOUS)..=u32::from(GREATEST_IDENTIFIER);
     let id = section.number(alloc, "id", ids)? as u16;
     check_new(alloc, section, id, earlier)?;
     let node = section.number(alloc, "node", 0..=u32::from(nodes - 1))? as u8;

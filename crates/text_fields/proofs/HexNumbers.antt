@@ -1,5 +1,5 @@
 -- The numbers that hexadecimal digits in lower case write, as the reader finds them and as the writer writes them.
-use Rattle.std.proofs.Common.{◌≡◌, ℕ, zero, suc, ◌+◌, ◌-◌, ◌*◌, ◌/◌, ◌%◌, ◌^◌, ◌<◌, ◌≤◌, ◌&&◌, true, false, ◌==◌, List, [], ◌∷◌, ◌++◌, length, Some, sym, ap, ◌∙◌, subst, arith, append_assoc}
+use Rattle.std.proofs.Common.{◌≡◌, ℕ, zero, suc, ◌+◌, ◌-◌, ◌*◌, ◌/◌, ◌%◌, ◌^◌, ◌<◌, ◌≤◌, ◌&&◌, true, false, if◌then◌else◌, ◌==◌, None, List, [], ◌∷◌, ◌++◌, length, Some, sym, ap, ◌∙◌, subst, arith, append_assoc}
 use Rattle.std.proofs.lemmas.Bool.{and_parts, eqb-true, eq-eqb}
 use Rattle.std.proofs.lemmas.Int.Digits.{digits_value-lt, digits_value_push}
 use Rattle.std.proofs.lemmas.List.{append-nil}
@@ -81,3 +81,22 @@ hex-read k field n size all is =
     let test : (length field == k) ≡ true = eq-eqb _ _ size in
     let read : hex_of k field ≡ Some n = rw (test, all) (ap (λ v. Some v) (sym is)) in
     (digits-of_hex k field n read).0
+
+-- a digit that is read is one, and has this value
+pub digit-read : (b v : ℕ) → (if is_hex_digit b then Some (digit_value b) else None) ≡ Some v → (is_hex_digit b ≡ true) × (digit_value b ≡ v)
+digit-read b v is = let parts = if-some (is_hex_digit b) (Some (digit_value b)) v is in (parts.0, same_Some (digit_value b) v parts.1)
+
+-- a word that is read is that of digits
+pub word-read : (field : List ℕ) (n : ℕ) → (if list_all is_hex_digit field then Some (digits_value 16 field) else None) ≡ Some n
+    → (list_all is_hex_digit field ≡ true) × (digits_value 16 field ≡ n)
+word-read field n is =
+    let parts = if-some (list_all is_hex_digit field) (Some (digits_value 16 field)) n is in
+    (parts.0, same_Some (digits_value 16 field) n parts.1)
+
+pub word-none : (field : List ℕ) → list_all is_hex_digit field ≡ true
+    → None ≡ (if list_all is_hex_digit field then Some (digits_value 16 field) else None) → ⊥
+word-none field all is =
+    let some : (if list_all is_hex_digit field then Some (digits_value 16 field) else None) ≡ Some (digits_value 16 field)
+    = ap (λ b. if b then Some (digits_value 16 field) else None) all in
+    let wrong : None ≡ Some (digits_value 16 field) = is ∙ some in
+    cc

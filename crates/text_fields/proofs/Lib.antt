@@ -1,11 +1,13 @@
 mod CsvFields
 mod CsvReading
 mod DecimalDigits
+mod DigitValues
 mod HexDigits
 mod HexNumbers
 mod HexText
 mod ByteDigits
 mod LineFeeds
+mod LowDigits
 mod MaskDigits
 mod PlainRecords
 mod Ranges

@@ -2,8 +2,10 @@ pub mod CsvReading
 pub mod CsvRows
 pub mod ByteText
 pub mod Decimal
+pub mod DecimalPairs
 pub mod Hexadecimal
 pub mod HexPairs
+pub mod KeptDigits
 pub mod Lines
 pub mod MaskText
 pub mod RowByRow

@@ -74,6 +74,53 @@ pub fn read_hexadecimal(digits: &[u8]) -> Option<u128>
     }
 }
 
+/// What the table says of a byte that is no digit.
+const NO_DIGIT: u8 = 16;
+
+/// The value of each byte that is a hexadecimal digit in lower case, and 16 of any other byte.
+static DIGIT_VALUES: [u8; 256] = *b"\
+    \x10\x10\x10\x10\x10\x10\x10\x10\x10\x10\x10\x10\x10\x10\x10\x10\
+    \x10\x10\x10\x10\x10\x10\x10\x10\x10\x10\x10\x10\x10\x10\x10\x10\
+    \x10\x10\x10\x10\x10\x10\x10\x10\x10\x10\x10\x10\x10\x10\x10\x10\
+    \x00\x01\x02\x03\x04\x05\x06\x07\x08\x09\x10\x10\x10\x10\x10\x10\
+    \x10\x10\x10\x10\x10\x10\x10\x10\x10\x10\x10\x10\x10\x10\x10\x10\
+    \x10\x10\x10\x10\x10\x10\x10\x10\x10\x10\x10\x10\x10\x10\x10\x10\
+    \x10\x0a\x0b\x0c\x0d\x0e\x0f\x10\x10\x10\x10\x10\x10\x10\x10\x10\
+    \x10\x10\x10\x10\x10\x10\x10\x10\x10\x10\x10\x10\x10\x10\x10\x10\
+    \x10\x10\x10\x10\x10\x10\x10\x10\x10\x10\x10\x10\x10\x10\x10\x10\
+    \x10\x10\x10\x10\x10\x10\x10\x10\x10\x10\x10\x10\x10\x10\x10\x10\
+    \x10\x10\x10\x10\x10\x10\x10\x10\x10\x10\x10\x10\x10\x10\x10\x10\
+    \x10\x10\x10\x10\x10\x10\x10\x10\x10\x10\x10\x10\x10\x10\x10\x10\
+    \x10\x10\x10\x10\x10\x10\x10\x10\x10\x10\x10\x10\x10\x10\x10\x10\
+    \x10\x10\x10\x10\x10\x10\x10\x10\x10\x10\x10\x10\x10\x10\x10\x10\
+    \x10\x10\x10\x10\x10\x10\x10\x10\x10\x10\x10\x10\x10\x10\x10\x10\
+    \x10\x10\x10\x10\x10\x10\x10\x10\x10\x10\x10\x10\x10\x10\x10\x10\
+";
+
+/// The value of a hexadecimal digit in lower case, by the table.
+#[inline(always)]
+fn lower_digit(byte: u8) -> Option<u8>
+    ensures value { result ≡ (if is_hex_digit byte then Some (digit_value byte) else None) }
+    ensures small { IfSome result (λ value. value < 16) }
+{
+    let value = DIGIT_VALUES[usize::from(byte)];
+    if value < NO_DIGIT { Some(value) } else { None }
+}
+
+/// The number that up to 16 hexadecimal digits in lower case write, where all are such digits. One word has room for it.
+fn read_word(digits: &[u8]) -> Option<u64>
+    requires few { length digits.now ≤ 16 }
+    ensures value { result
+        ≡ (if list_all is_hex_digit digits.now then Some (digits_value 16 digits.now) else None) }
+    ensures small { IfSome result (λ number. number < 16 ^ length digits.now) }
+{
+    let mut number = 0;
+    for byte in digits {
+        number = number * 16 + u64::from(lower_digit(*byte)?);
+    }
+    Some(number)
+}
+
 /// The number that a field of so many hexadecimal digits in lower case writes: the one form that a writer gives.
 pub fn read_hex(field: &[u8], count: usize) -> Option<u128>
     requires few { count ≤ 32 }
@@ -86,6 +133,21 @@ pub fn read_hex(field: &[u8], count: usize) -> Option<u128>
         return None;
     }
     Some(value_of(field))
+}
+
+/// The same for a number of one word, which costs less.
+pub fn read_short_hex(field: &[u8], count: usize) -> Option<u128>
+    requires few { count ≤ 16 }
+    ensures value { result ≡ hex_of count field.now }
+    ensures small { IfSome result (λ number. number < 16 ^ count) }
+    ensures found { IfSome result (λ number. field.now ≡ hex_digits count number) }
+    ensures none { IfNone result ((n : ℕ) → n < 16 ^ count → field.now ≡ hex_digits count n → ⊥) }
+{
+    if field.len() != count {
+        return None;
+    }
+    let number = read_word(field)?;
+    Some(u128::from(number))
 }
 
 /// Appends the ten hexadecimal digits of a number.

@@ -4,9 +4,11 @@
 
 mod csv_rows;
 mod data_bytes;
+mod decimal_pairs;
 mod decimals;
 mod hex_pairs;
 mod hexadecimal;
+mod high_digits;
 mod lines;
 mod masks;
 mod row_parts;
@@ -15,8 +17,10 @@ pub use csv_rows::{field_in, field_of, number, read_next, records_in};
 pub use data_bytes::{DataBytes, read_bytes, read_data};
 pub use decimals::{read_decimal, read_number};
 pub use hexadecimal::{read_hex, read_hexadecimal};
+pub use high_digits::HighDigits;
 pub use lines::split_line;
 pub use masks::{masks_are_read, push_mask, put_mask, read_mask};
 pub use row_parts::{
-    ROOM, put_byte, put_data_bytes, put_decimal, put_hex, put_identifier, put_word, row_from,
+    ROOM, put_byte, put_data_bytes, put_decimal, put_field, put_first, put_hex, put_identifier,
+    put_length, put_line_feed, put_word, row_from,
 };

@@ -8,8 +8,8 @@ ghost use Rattle.std.specs.String.{string_bytes};
 ghost use Rattle.text_fields.specs.Hexadecimal.{hex_digits};
 ghost use Rattle.text_fields.specs.MaskText.{mask_digits, mask_of, mask_width};
 
-use crate::hexadecimal::{push_hex, read_hex};
-use crate::row_parts::{ROOM, put_hex};
+use crate::hexadecimal::{push_hex, read_hex, read_short_hex};
+use crate::row_parts::put_hex;
 use std::alloc::AllocError;
 
 /// The number of digits of a set with slots below 40 alone.
@@ -39,9 +39,9 @@ fn mask_width(mask: u128) -> u8
 
 /// Puts the digits of a set before what stands in a row.
 #[inline(always)]
-pub fn put_mask(row: &mut [u8; ROOM], end: usize, mask: u128) -> usize
+pub fn put_mask<const N: usize>(row: &mut [u8; N], end: usize, mask: u128) -> usize
     requires room { 24 ≤ end }
-    requires within { end ≤ 128 }
+    requires within { end ≤ N }
     ensures start { result ≤ end }
     ensures few { end ≤ result + 24 }
     ensures row { drop result row.new ≡ mask_digits mask ++ drop end row.old }
@@ -93,7 +93,7 @@ pub fn read_mask(field: &[u8]) -> Option<u128>
     ensures none { IfNone result ((mask : ℕ) → mask < 2 ^ 96 → field.now ≡ mask_digits mask → ⊥) }
 {
     if field.len() == usize::from(FEW_DIGITS) {
-        return read_hex(field, usize::from(FEW_DIGITS));
+        return read_short_hex(field, usize::from(FEW_DIGITS));
     }
     let mask = read_hex(field, usize::from(ALL_DIGITS))?;
     if ABOVE_FEW <= mask { Some(mask) } else { None }

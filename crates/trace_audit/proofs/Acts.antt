@@ -20,7 +20,7 @@ use Rattle.trace_audit.specs.Audit.{BeginsActs}
 use Rattle.trace_audit.specs.Reading.{AreReadFrom, IsHistoryOf, IsNextAct, IsReadFrom, is_event_row}
 use Rattle.trace_audit.proofs.Readings.{drop-next}
 
-get-behind : {A : Type 0} (front later : List A) → slice_get (front ++ later) (length front) ≡ slice_get later 0
+pub get-behind : {A : Type 0} (front later : List A) → slice_get (front ++ later) (length front) ≡ slice_get later 0
 get-behind [] later = refl
 get-behind (x ∷ front) later = get-behind front later
 

@@ -3,18 +3,16 @@ use Rattle.std.proofs.Common.{◌≡◌, ◌+◌, ◌≤◌, ◌++◌, ℕ, true
 use Rattle.std.specs.Prelude.{count_by, slice_get, sum_by}
 use Rattle.std.proofs.lemmas.List.Elements.{All-cons, All-nil}
 use Rattle.can_frame.specs.declared.data_frame.TimedFrame.{TimedFrame}
-use Rattle.requirement_table.specs.declared.entries.Placed.{Placed}
-use Rattle.change_protocol.specs.Applied.{applied}
 use Rattle.change_protocol.specs.declared.operations.Act.{Act}
 use Rattle.change_protocol.specs.declared.operations.Act.TheVariants as act
 use Rattle.change_protocol.specs.declared.operations.Change.{Change}
-use Rattle.planner_policies.specs.Plan.{mask_at, pending_at}
+use Rattle.planner_policies.specs.Plan.{mask_at}
 use Rattle.admission_rules.specs.declared.Rules.{Rules}
-use Rattle.admission.specs.Verdict.{IsVerdict, plan_from, trail_of}
 use Rattle.admission.specs.declared.verdict.Verdict.{Verdict}
 use Rattle.master_core.specs.declared.event.Event.{Event}
 use Rattle.master_core.specs.declared.event.Event.TheVariants.{Submit, Look, Open}
 use Rattle.master_core.specs.History.{IsRight, IsRightAnswer, next_of, placed_of, plan_of}
+use Rattle.master_core.proofs.Shared.{OneVerdict, same-answer}
 use Rattle.steps_file.specs.StepsFile.{count_of}
 use Rattle.steps_file.specs.declared.steps.Step.{Step}
 use Rattle.kept_run.proofs.Shared.{next_of-push}
@@ -28,25 +26,6 @@ use Rattle.bus_trace.specs.declared.row.LogVerdict.{LogVerdict}
 use Rattle.trace_audit.specs.Again.{Asks}
 use Rattle.trace_audit.specs.Auditing.{is_inner}
 use Rattle.trace_audit.specs.Reading.{IsNextAct, IsReadFrom, is_event_row}
-
--- there is one verdict
-pub record OneVerdict : Type 0 where
-  pub same : (rules : Rules) (placed : List Placed) (pending from next : ℕ) (change : Change) (one other : Verdict)
-      → IsVerdict rules placed pending from next change one → IsVerdict rules placed pending from next change other → one ≡ other
-
-record SameAnswer (one other : Verdict) (trail second : List ℕ) : Type 0 where
-  verdict : one ≡ other
-  plan : trail ≡ second
-
-same-answer : OneVerdict → (rules : Rules) (before : List Event) (change : Change) (from : ℕ) (one other : Verdict) (trail second : List ℕ)
-    → IsRightAnswer rules before change from one trail → IsRightAnswer rules before change from other second → SameAnswer one other trail second
-same-answer verdicts rules before change from one other trail second right also =
-    let pending = pending_at (plan_of rules (placed_of before)) from in
-    let verdict = verdicts.same rules (placed_of before) pending from (next_of before) change one other right.answer also.answer in
-    record {
-      verdict = verdict;
-      plan = right.plan ∙ ap (trail_of (plan_from rules (applied (placed_of before) change) from pending)) verdict ∙ sym also.plan;
-    }
 
 same-change : (asked : Option Act) (change also : Change) → asked ≡ Some (act.Ask change) → asked ≡ Some (act.Ask also) → change ≡ also
 same-change asked change also one other = cc

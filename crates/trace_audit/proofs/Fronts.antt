@@ -32,7 +32,7 @@ use Rattle.trace_audit.proofs.Whole.{take-front, take-whole}
 
 -- Rows of events among the rows of events
 
-no-event_row : (rows : List LogRow) → AreInner rows → filter is_event_row rows ≡ []
+pub no-event_row : (rows : List LogRow) → AreInner rows → filter is_event_row rows ≡ []
 no-event_row [] inner = refl
 no-event_row (line ∷ rows) inner =
     cond-false (is_event_row line) (line ∷ filter is_event_row rows) (filter is_event_row rows)

@@ -3,6 +3,7 @@ mod Bringing
 mod Ending
 mod Events
 mod Fronts
+mod OneRun
 mod Readings
 mod Rows
 mod Settling

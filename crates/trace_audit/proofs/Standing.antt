@@ -28,7 +28,8 @@ use Rattle.trace_audit.specs.Auditing.{IsAuditing, is_inner, left_of}
 use Rattle.trace_audit.specs.Reading.{IsHistoryOf, IsReadFrom, is_event_row}
 use Rattle.trace_audit.specs.declared.auditor.Auditor.{Auditor}
 use Rattle.trace_audit.specs.declared.rerun.Rerun.{Rerun}
-use Rattle.trace_audit.proofs.Events.{OneVerdict, asked-read, inner-no_event, same-event, told-head}
+use Rattle.master_core.proofs.Shared.{OneVerdict}
+use Rattle.trace_audit.proofs.Events.{asked-read, inner-no_event, same-event, told-head}
 use Rattle.trace_audit.proofs.Readings.{drop-next, get-drop, history-parts, history-push, history-stays, history-stood, next-row}
 use Rattle.trace_audit.proofs.Rows.{TraceLaws, log-goes-on}
 

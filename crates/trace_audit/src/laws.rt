@@ -1,16 +1,24 @@
 //! Laws about audits. Each function has an empty body but for calls of other laws, and its contract is the law.
 
-ghost use Rattle.std.specs.Prelude.{List};
+ghost use Rattle.std.specs.Prelude.{◌≡◌, List, ℕ};
+ghost use Rattle.can_frame.specs.declared.data_frame.TimedFrame.{TimedFrame};
 ghost use Rattle.async_window.specs.declared.request.Request.{Request};
 ghost use Rattle.requests_file.specs.RequestsFile.{AreLegal};
 ghost use Rattle.steps_file.specs.declared.steps.Step.{Step};
 ghost use Rattle.system_file.specs.SystemFile.{IsSystem};
 ghost use Rattle.system_file.specs.declared.system.System.{System};
+ghost use Rattle.master_core.specs.declared.event.Event.{Event};
+ghost use Rattle.live_steps.specs.Live.{IsLive};
+ghost use Rattle.bus_trace.specs.LogRows.{log_rows};
+ghost use Rattle.bus_trace.specs.Row.{AreRowsOf};
 ghost use Rattle.bus_trace.specs.declared.row.LogRow.{LogRow};
-ghost use Rattle.trace_audit.specs.Audit.{AllStand, IsWholeLog};
+ghost use Rattle.trace_audit.specs.Audit.{AllStand, IsAuditFault, IsRunOf, IsWholeLog};
+ghost use Rattle.trace_audit.specs.declared.audit_fault.AuditFault.{AuditFault};
+ghost use Rattle.trace_audit.specs.declared.audit_fault.AuditFault.TheVariants.{Memory};
 
-use bus_trace::laws::frames_by_cycle;
-use kept_run::laws::{requests_of_owners, triggers_count_cycles};
+use admission::laws::one_verdict;
+use bus_trace::laws::{frames_by_cycle, one_log};
+use kept_run::laws::{promise, requests_of_owners, triggers_count_cycles};
 use replay_run::laws::legal_runs;
 
 /// All rows of a whole run can stand, and so can each number of the first of them. So the audit of such a log names no
@@ -24,4 +32,48 @@ pub fn whole_logs_stand()
     legal_runs();
     requests_of_owners();
     triggers_count_cycles();
+}
+
+/// The rows of a log and the steps have one run: two runs of the steps whose logs have the same rows have the same
+/// history and the same trace. So have two runs by threads, also where one text is the rows of both logs.
+pub fn one_run_of_a_log()
+    ensures runs { (system : System) (steps : List Step) (requests : List Request) (one other : List Event)
+        (trace second : List TimedFrame) → IsSystem system → AreLegal system.owners requests
+        → IsRunOf system steps requests one trace → IsRunOf system steps requests other second
+        → log_rows one trace ≡ log_rows other second → (one ≡ other) × (trace ≡ second) }
+    ensures live { (system : System) (steps : List Step) (requests : List Request) (one other : List Event)
+        (trace second : List TimedFrame)
+        → IsLive system steps requests one trace → IsLive system steps requests other second
+        → log_rows one trace ≡ log_rows other second → (one ≡ other) × (trace ≡ second) }
+    ensures text { (system : System) (steps : List Step) (requests : List Request) (one other : List Event)
+        (trace second : List TimedFrame) (bytes : List ℕ)
+        → IsLive system steps requests one trace → IsLive system steps requests other second
+        → AreRowsOf bytes (log_rows one trace) → AreRowsOf bytes (log_rows other second)
+        → (one ≡ other) × (trace ≡ second) }
+{
+    legal_runs();
+    one_log();
+    one_verdict();
+    promise();
+    requests_of_owners();
+}
+
+/// The rows of the log of a run by threads are all rows of a whole run. All that is said of a run by threads holds of the
+/// history and trace of a whole log. So an audit of the log of a run by threads has no fault but want of memory.
+pub fn live_logs_are_whole()
+    ensures whole { (system : System) (steps : List Step) (requests : List Request) (history : List Event)
+        (trace : List TimedFrame) → IsLive system steps requests history trace
+        → IsWholeLog system steps requests (log_rows history trace) }
+    ensures live { (system : System) (steps : List Step) (requests : List Request) (rows : List LogRow)
+        → IsSystem system → AreLegal system.owners requests → (log : IsWholeLog system steps requests rows)
+        → IsLive system steps requests log.history log.trace }
+    ensures no_fault { (system : System) (steps : List Step) (requests : List Request) (history : List Event)
+        (trace : List TimedFrame) (fault : AuditFault) → IsSystem system → AreLegal system.owners requests
+        → IsLive system steps requests history trace
+        → IsAuditFault system steps requests (log_rows history trace) fault → fault ≡ Memory }
+{
+    legal_runs();
+    promise();
+    requests_of_owners();
+    whole_logs_stand();
 }

@@ -2,6 +2,7 @@
 
 ghost use Rattle.std.specs.Prelude.{◌≡◌, ◌++◌, ◌∷◌, ◌≤◌, ◌<◌, [], IfOk, IfSome, IfNone, List, OnOk, false, true, ℕ};
 ghost use Rattle.std.specs.Prelude.{sum_by};
+ghost use Rattle.profile.specs.Limits.{most_cycles};
 ghost use Rattle.can_frame.specs.declared.data_frame.TimedFrame.{TimedFrame};
 ghost use Rattle.async_window.specs.declared.request.Request.{Request};
 ghost use Rattle.admission.specs.declared.verdict.Verdict.{Verdict};
@@ -107,7 +108,7 @@ impl Rerun {
     ) -> Result<bool, AllocError>
         requires caller { (1 ≤ caller) × (caller ≤ 8) }
         requires states { KeepsStates self.old.master.rules self.old.master.history self.old.states }
-        requires few { next_of self.old.master.history ≤ 20000 }
+        requires few { next_of self.old.master.history ≤ most_cycles }
         ensures rules { self.new.master.rules ≡ self.old.master.rules }
         ensures nodes { self.new.nodes ≡ self.old.nodes }
         ensures legal { IfOk result (λ asked. asked ≡ true → IsLegal self.new.master.rules self.new.master.history) }
@@ -159,7 +160,7 @@ impl Rerun {
     /// Only where memory runs out.
     fn open(&mut self, alloc: Global) -> Result<(u32, Segment), AllocError>
         requires going { CanGoOn self.old }
-        requires few { next_of self.old.master.history < 20000 }
+        requires few { next_of self.old.master.history < most_cycles }
         ensures opened { IfOk result (λ opened. (system : System) (requests : List Request) (trace : List TimedFrame)
             → IsAgain system requests trace self.old
             → IsOpenedWith system requests trace self.old self.new opened.0 opened.1) }
@@ -201,7 +202,7 @@ impl Rerun {
     ) -> Result<Option<Vec<LogRow>>, AllocError>
         requires caller { (1 ≤ caller) × (caller ≤ 8) }
         requires states { KeepsStates self.old.master.rules self.old.master.history self.old.states }
-        requires few { next_of self.old.master.history ≤ 20000 }
+        requires few { next_of self.old.master.history ≤ most_cycles }
         ensures answered { IfOk result (λ rows. IfSome rows (λ rows.
             IsAnsweredWith self.old self.new caller change.now from rows.items)) }
         ensures none { IfOk result (λ rows. IfNone rows ((verdict : Verdict) (trail : List ℕ)

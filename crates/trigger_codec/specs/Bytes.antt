@@ -3,6 +3,7 @@
 use Rattle.std.specs.Prelude.{ℕ, ◌+◌, ◌*◌, ◌/◌, ◌%◌, ◌^◌, List, [], ◌∷◌}
 use Rattle.std.specs.Prelude.{length, slice_index, nat_eq, nat_le, ◌&&◌, ◌||◌, if◌then◌else◌, Option, Some, None}
 use Rattle.std.specs.Int.{byte_at}
+use Rattle.profile.specs.Limits.{longest_window}
 use Rattle.can_frame.specs.DataFrame.{DataFrame}
 use Rattle.requirement_table.specs.Slots.{contains_slot, most_slots, set_of}
 use Rattle.trigger_codec.specs.declared.message.Trigger.{Trigger}
@@ -77,7 +78,7 @@ second_flags_in bytes =
 -- what a frame says as a first trigger frame, where it is one
 abbrev pub trigger_of : DataFrame → Option Trigger
 trigger_of frame =
-    if nat_eq frame.identifier 0 && nat_eq (length frame.bytes) 8 && nat_le (width_told frame.bytes) 16383
+    if nat_eq frame.identifier 0 && nat_eq (length frame.bytes) 8 && nat_le (width_told frame.bytes) longest_window
     then Some (record { low = slice_index frame.bytes 0; l = width_told frame.bytes; mask = flags_in frame.bytes })
     else None
 

@@ -1,5 +1,6 @@
 -- Why a frame is no first trigger frame, or no second one.
 use Rattle.std.specs.Prelude.{◌≡◌, ◌≢◌, ◌<◌, length}
+use Rattle.profile.specs.Limits.{longest_window}
 use Rattle.can_frame.specs.DataFrame.{DataFrame}
 use Rattle.trigger_codec.specs.declared.trigger_fault.TriggerFault.{TriggerFault}
 use Rattle.trigger_codec.specs.declared.trigger_fault.TriggerFault.TheVariants.{WrongId, WrongLength, Window}
@@ -12,7 +13,8 @@ Refuses frame (WrongId id) = (id ≡ frame.identifier) × (frame.identifier ≢ 
 Refuses frame (WrongLength dlc) =
     (dlc ≡ length frame.bytes) × (frame.identifier ≡ 0) × (length frame.bytes ≢ 8)
 Refuses frame (Window l) =
-    (l ≡ width_told frame.bytes) × (frame.identifier ≡ 0) × (length frame.bytes ≡ 8) × (16383 < width_told frame.bytes)
+    (l ≡ width_told frame.bytes) × (frame.identifier ≡ 0) × (length frame.bytes ≡ 8)
+    × (longest_window < width_told frame.bytes)
 
 -- the same for the second frame, whose identifier is 1 and which says no window
 abbrev pub RefusesSecond : DataFrame → TriggerFault → Type 0

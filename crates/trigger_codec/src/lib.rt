@@ -15,7 +15,7 @@ mod message;
 mod trigger_fault;
 
 pub use message::{
-    MAX_WINDOW, SECOND_IDENTIFIER, Second, TRIGGER_IDENTIFIER, Trigger, decode, decode_second,
-    encode, encode_second, flags_of_both,
+    SECOND_IDENTIFIER, Second, TRIGGER_IDENTIFIER, Trigger, decode, decode_second, encode,
+    encode_second, flags_of_both,
 };
 pub use trigger_fault::TriggerFault;

@@ -2,6 +2,7 @@
 
 ghost use Rattle.std.specs.Prelude.{◌≡◌, ℕ, ◌%◌, ◌^◌, ◌<◌, ◌≤◌, Ok, IfOk, IfErr, length};
 ghost use Rattle.std.specs.Result.{result_ok};
+ghost use Rattle.profile.specs.Limits.{longest_window};
 ghost use Rattle.requirement_table.specs.Slots.{most_slots};
 ghost use Rattle.trigger_codec.specs.Bytes.{first_slots, flags_of_both, low_slots, high_slots};
 ghost use Rattle.trigger_codec.specs.Bytes.{trigger_frame, trigger_of, flags_in};
@@ -10,6 +11,7 @@ ghost use Rattle.trigger_codec.specs.Refusal.{Refuses, RefusesSecond};
 
 use crate::trigger_fault::TriggerFault;
 use can_frame::Frame;
+use profile::LONGEST_WINDOW;
 use requirement_table::Mask;
 
 /// The identifier of the first trigger frame of a cycle: the least there is, so it wins every
@@ -18,9 +20,6 @@ pub const TRIGGER_IDENTIFIER: u16 = 0;
 
 /// The identifier of the second trigger frame of a cycle, which there is with 96 slots.
 pub const SECOND_IDENTIFIER: u16 = 1;
-
-/// The greatest length of a synchronous window that a trigger may say, in bit times.
-pub const MAX_WINDOW: u32 = 16_383;
 
 /// What a first trigger frame says.
 #[derive(Clone, Copy, Debug, PartialEq, Eq)]
@@ -45,7 +44,7 @@ pub struct Second {
 /// The first trigger frame of a cycle: `l` is the length of its synchronous window in bit times, and
 /// `mask` are its flagged slots, of which the frame carries those below 40.
 pub fn encode(cycle: u64, l: u32, mask: Mask) -> Frame
-    requires window { l ≤ 16383 }
+    requires window { l ≤ longest_window }
     ensures frame { result ≡ trigger_frame cycle l mask }
 {
     let [high, low] = (l as u16).to_be_bytes();
@@ -91,9 +90,9 @@ pub fn encode_second(cycle: u64, mask: Mask) -> Frame
 /// What a frame says as a first trigger frame. It does not compare the window with the flags.
 pub fn decode(frame: &Frame) -> Result<Trigger, TriggerFault>
     ensures trigger { IfOk result
-        (λ t. (t.l ≤ 16383) × (frame.now ≡ trigger_frame t.low t.l t.mask)) }
+        (λ t. (t.l ≤ longest_window) × (frame.now ≡ trigger_frame t.low t.l t.mask)) }
     ensures flags { IfOk result (λ t. t.mask < 2 ^ first_slots) }
-    ensures every { (cycle l mask : ℕ) → l ≤ 16383 → mask < 2 ^ most_slots
+    ensures every { (cycle l mask : ℕ) → l ≤ longest_window → mask < 2 ^ most_slots
         → frame.now ≡ trigger_frame cycle l mask
         → result ≡ Ok (record { low = cycle % 256; l = l; mask = low_slots mask }) }
     ensures fault { IfErr result (Refuses frame.now) }
@@ -108,7 +107,7 @@ pub fn decode(frame: &Frame) -> Result<Trigger, TriggerFault>
         return Err(TriggerFault::WrongLength { dlc });
     }
     let l = u32::from(u16::from_be_bytes([frame.byte(1), frame.byte(2)]));
-    if l > MAX_WINDOW {
+    if l > LONGEST_WINDOW {
         return Err(TriggerFault::Window { l });
     }
     let mask = flags(frame);

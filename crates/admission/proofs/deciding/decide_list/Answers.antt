@@ -31,7 +31,7 @@ returns-in-Err-Broken-clause-decision c =
     let ends = rw c.in-Err-Broken.field-0-is at c.in-Err-Broken.ensures.ends in
     let walk = c.in_ok-walk.walk in
     if_ok-weaker c.missed.result
-    (IsMissDecision (planning_of walk.ranked walk.window walk.first.cycle walk.first.pending) c.in-Err-Broken.at)
+    (IsMissDecision (planning_of walk.entries walk.window walk.first.cycle walk.first.pending) c.in-Err-Broken.at)
     (IsDecisionOnPlan c.args.rules.now.horizon (plan_from c.args.rules.now c.args.list.items c.args.state.now.cycle c.args.state.now.pending))
     c.missed.ensures.missed
     (λ decision miss.
@@ -41,7 +41,7 @@ pub returns-in-Err-Broken-clause-complete : goal.returns-in-Err-Broken-clause-co
 returns-in-Err-Broken-clause-complete c =
     let walk = c.in_ok-walk.walk in
     if_ok-weaker c.missed.result
-    (IsMissDecision (planning_of walk.ranked walk.window walk.first.cycle walk.first.pending) c.in-Err-Broken.at)
+    (IsMissDecision (planning_of walk.entries walk.window walk.first.cycle walk.first.pending) c.in-Err-Broken.at)
     (λ decision. IsTakenWhereDue c.args.rules.now (plan_from c.args.rules.now c.args.list.items c.args.state.now.cycle c.args.state.now.pending) decision.verdict)
     c.missed.ensures.missed
     (λ decision miss.

@@ -1,9 +1,12 @@
-use Rattle.std.proofs.Common.{◌≡◌, None, Ok, Err, sym, ap, ◌∙◌, subst, arith, option_map}
-use Rattle.ftt_io.specs.Counts.{Rose}
+use Rattle.std.proofs.Common.{◌≡◌, [], ◌∷◌, None, Ok, Err, refl, sym, ap, ◌∙◌, subst, arith, append-nil, option_map}
+use Rattle.ftt_io.specs.Counts.{Rose, next_count}
+use Rattle.asked_files.specs.declared.stopping.Source.{Source}
+use Rattle.asked_files.specs.Sources.{IsStoppedAt, count_behind, job_sources, requests_named}
 use Rattle.asked_files.specs.Asked.{IsAskedOf, IsAuditOf, IsLogIn, audit_of, job_in, requests_in}
 use Rattle.asked_files.specs.Loads.{Bars}
 use Rattle.command_words.specs.Words.{audit}
 use Rattle.asked_files.proofs.LoadLemmas.{audit-goes-on, barred-behind, handed-on, log-stops}
+use Rattle.asked_files.proofs.SourceLemmas.{stopped-at, stopped-before}
 use Rattle.asked_files.proofs.loading.load_audit.Goals as goal
 
 pub returns-in_err-text-clause-stop : goal.returns-in_err-text-clause-stop
@@ -56,3 +59,38 @@ returns-clause-ok g c = λ files tells.
     (c.in_ok-text.ensures.ok files told)
     (c.as_slice-owners.ensures.list ∙ ap (λ system. system.owners) c.system.ensures.system)
     (sym (c.in_ok-requests.ensures.ok files (c.load_log.ensures.fetched.files_stay ∙ told))))
+
+pub returns-in_err-job-clause-stopped : goal.returns-in_err-job-clause-stopped
+returns-in_err-job-clause-stopped g c =
+    let named = requests_named (option_map (λ word. word.now) c.args.requests_name) in
+    let sources = Source.System ∷ Source.Steps ∷ Source.Log ∷ named in
+    handed-on (IsStoppedAt sources (g.S.Shelf.fetches c.args.shelf.now) (g.S.Shelf.fetches c.load_job.new.shelf))
+    c.from_residual.result c.in_err-job.field-0.0 c.from_residual.ensures.1
+    (stopped-before (job_sources None) (Source.Log ∷ named) sources
+    (g.S.Shelf.fetches c.args.shelf.now) (g.S.Shelf.fetches c.load_job.new.shelf)
+    c.in_err-job.field-0.0 refl c.in_err-job.ensures.stopped)
+
+pub returns-in_err-text-clause-stopped : goal.returns-in_err-text-clause-stopped
+returns-in_err-text-clause-stopped g c =
+    let named = requests_named (option_map (λ word. word.now) c.args.requests_name) in
+    let sources = Source.System ∷ Source.Steps ∷ Source.Log ∷ named in
+    handed-on (IsStoppedAt sources (g.S.Shelf.fetches c.args.shelf.now) (g.S.Shelf.fetches c.load_log.new.shelf))
+    c.from_residual-in_err-text.result c.in_err-text.field-0.0 c.from_residual-in_err-text.ensures.1
+    (stopped-at Source.Log (Source.System ∷ Source.Steps ∷ []) (Source.System ∷ Source.Steps ∷ Source.Log ∷ []) named sources
+    (g.S.Shelf.fetches c.args.shelf.now) (g.S.Shelf.fetches c.load_log.new.shelf)
+    c.in_err-text.field-0.0 refl refl
+    (c.load_log.ensures.once ∙ ap next_count c.in_ok-job.ensures.all) c.in_err-text.ensures.at)
+
+pub returns-in_err-requests-clause-stopped : goal.returns-in_err-requests-clause-stopped
+returns-in_err-requests-clause-stopped g c =
+    let named = requests_named (option_map (λ word. word.now) c.args.requests_name) in
+    let sources = Source.System ∷ Source.Steps ∷ Source.Log ∷ named in
+    handed-on (IsStoppedAt sources (g.S.Shelf.fetches c.args.shelf.now) (g.S.Shelf.fetches c.load_named_requests.new.shelf))
+    c.from_residual-in_err-requests.result c.in_err-requests.field-0.0 c.from_residual-in_err-requests.ensures.1
+    (stopped-at Source.Requests (Source.System ∷ Source.Steps ∷ Source.Log ∷ []) sources [] sources
+    (g.S.Shelf.fetches c.args.shelf.now) (g.S.Shelf.fetches c.load_named_requests.new.shelf)
+    c.in_err-requests.field-0.0
+    (ap (λ files. Source.System ∷ Source.Steps ∷ Source.Log ∷ files) c.in_err-requests.ensures.at.1) (sym (append-nil sources))
+    (c.load_named_requests.ensures.once ∙ ap (λ count. count_behind count named)
+    (c.load_log.ensures.once ∙ ap next_count c.in_ok-job.ensures.all))
+    c.in_err-requests.ensures.at.0)

@@ -1,9 +1,12 @@
-use Rattle.std.proofs.Common.{None, Ok, refl, sym, ◌∙◌, subst, arith}
-use Rattle.ftt_io.specs.Counts.{Rose}
+use Rattle.std.proofs.Common.{[], ◌∷◌, None, Ok, refl, sym, ap, ◌∙◌, subst, arith}
+use Rattle.ftt_io.specs.Counts.{Rose, next_count}
+use Rattle.asked_files.specs.declared.stopping.Source.{Source}
+use Rattle.asked_files.specs.Sources.{IsStoppedAt, job_sources}
 use Rattle.asked_files.specs.Asked.{IsAskedOf, IsCheckOf, IsPlanIn, check_of, job_in}
 use Rattle.asked_files.specs.Loads.{Bars}
 use Rattle.command_words.specs.Words.{check}
 use Rattle.asked_files.proofs.LoadLemmas.{barred-behind, handed-on, plan-stops}
+use Rattle.asked_files.proofs.SourceLemmas.{stopped-at, stopped-before}
 use Rattle.asked_files.proofs.loading.load_check.Goals as goal
 
 pub returns-in_err-certificate-clause-stop : goal.returns-in_err-certificate-clause-stop
@@ -31,3 +34,22 @@ returns-clause-ok g c = λ files told.
       in_file = c.in_ok-certificate.ensures.ok files (c.load_job.ensures.fetched.files_stay ∙ told);
       is = refl;
     })
+
+pub returns-in_err-job-clause-stopped : goal.returns-in_err-job-clause-stopped
+returns-in_err-job-clause-stopped g c =
+    let sources = Source.System ∷ Source.Steps ∷ Source.Plan ∷ [] in
+    handed-on (IsStoppedAt sources (g.S.Shelf.fetches c.args.shelf.now) (g.S.Shelf.fetches c.load_job.new.shelf))
+    c.from_residual.result c.in_err-job.field-0.0 c.from_residual.ensures.1
+    (stopped-before (job_sources None) (Source.Plan ∷ []) sources
+    (g.S.Shelf.fetches c.args.shelf.now) (g.S.Shelf.fetches c.load_job.new.shelf)
+    c.in_err-job.field-0.0 refl c.in_err-job.ensures.stopped)
+
+pub returns-in_err-certificate-clause-stopped : goal.returns-in_err-certificate-clause-stopped
+returns-in_err-certificate-clause-stopped g c =
+    let sources = Source.System ∷ Source.Steps ∷ Source.Plan ∷ [] in
+    handed-on (IsStoppedAt sources (g.S.Shelf.fetches c.args.shelf.now) (g.S.Shelf.fetches c.load_plan.new.shelf))
+    c.from_residual-in_err-certificate.result c.in_err-certificate.field-0.0 c.from_residual-in_err-certificate.ensures.1
+    (stopped-at Source.Plan (Source.System ∷ Source.Steps ∷ []) sources [] sources
+    (g.S.Shelf.fetches c.args.shelf.now) (g.S.Shelf.fetches c.load_plan.new.shelf)
+    c.in_err-certificate.field-0.0 refl refl
+    (c.load_plan.ensures.once ∙ ap next_count c.in_ok-job.ensures.all) c.in_err-certificate.ensures.at)

@@ -1,28 +1,27 @@
-use Rattle.std.proofs.Common.{◌+◌, sym, subst, arith, rules, drop}
+use Rattle.std.proofs.Common.{rules, subst, arith}
 use Rattle.std.specs.List.{flat_map}
 use Rattle.ftt_io.specs.Puts.{Puts, PutsPrefix}
 use Rattle.ftt_io.proofs.Shared.{PutsUpTo-next, PutsUpTo-stops}
 use Rattle.bus_trace.specs.Log.{frame_row}
-use Rattle.bus_trace.proofs.PutRows.{frame_rows-at, frames_told-more}
+use Rattle.bus_trace.proofs.PutRows.{rows-split, told-joined}
 use Rattle.bus_trace.proofs.streaming.put_frame_rows.Goals as goal
 
 pub returns-in_err-write_all-clause-prefix : goal.returns-in_err-write_all-clause-prefix
 returns-in_err-write_all-clause-prefix g c =
-    let sent = c.sent-item.result in
-    let row = c.frame_row.ensures.row in
-    let all = PutsUpTo-stops (frame_row sent) (flat_map frame_row (drop (c.loop-sent.sent-index + 1) c.args.frames.now)) c.loop-sent.invariant.put
-    (frame_rows-at c.args.frames.now c.loop-sent.sent-index sent sent c.loop-sent-test.true (sym c.sent-item.is))
-    (subst (PutsPrefix (g.O.Sink.told_bytes c.loop-sent.out) (g.O.Sink.told_bytes c.write_all.new.sink)) row c.in_err-write_all.ensures.prefix) in
+    let all = PutsUpTo-stops (flat_map frame_row c.split_at.result.0.now) (flat_map frame_row c.split_at.result.1.now) c.loop-left.invariant.put
+    (rows-split c.loop-left.left.now c.split_at.result.0.now c.split_at.result.1.now c.split_at.ensures.by_index.0)
+    (subst (PutsPrefix (g.O.Sink.told_bytes c.loop-left.out) (g.O.Sink.told_bytes c.write_all.new.sink)) c.frame_rows.ensures.rows c.in_err-write_all.ensures.prefix) in
     search (rules, all)
 
-pub loop-sent-preserved : goal.loop-sent-preserved
-loop-sent-preserved g c =
-    let sent = c.sent-item.result in
-    let row = c.frame_row.ensures.row in
+pub loop-left-preserved : goal.loop-left-preserved
+loop-left-preserved g c =
+    let left = c.loop-left.left.now in
+    let some = c.split_at.result.0.now in
+    let later = c.split_at.result.1.now in
+    let is = c.split_at.ensures.by_index.0 in
     record {
-      put = PutsUpTo-next (frame_row sent) _ c.loop-sent.invariant.put
-          (frame_rows-at c.args.frames.now c.loop-sent.sent-index sent sent c.loop-sent-test.true (sym c.sent-item.is))
-          (subst (Puts (g.O.Sink.told_bytes c.loop-sent.out) (g.O.Sink.told_bytes c.write_all.new.sink)) row c.in_ok-write_all.ensures.all);
-      told = frames_told-more c.args.frames.now c.loop-sent.sent-index sent c.loop-sent-test.true c.sent-item.is c.loop-sent.invariant.told c.frame_row.ensures.in_range;
-      faults = omega (arith, c.in_ok-write_all.ensures.faults_never_fall, c.loop-sent.invariant.faults);
+      put = PutsUpTo-next (flat_map frame_row some) (flat_map frame_row later) c.loop-left.invariant.put (rows-split left some later is)
+          (subst (Puts (g.O.Sink.told_bytes c.loop-left.out) (g.O.Sink.told_bytes c.write_all.new.sink)) c.frame_rows.ensures.rows c.in_ok-write_all.ensures.all);
+      told = λ rest. c.loop-left.invariant.told (told-joined left some later is c.frame_rows.ensures.in_range rest);
+      faults = omega (arith, c.in_ok-write_all.ensures.faults_never_fall, c.loop-left.invariant.faults);
     }

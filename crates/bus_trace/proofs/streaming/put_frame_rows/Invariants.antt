@@ -1,4 +1,4 @@
-use Rattle.std.proofs.Common.{◌≤◌, All, drop, map, take}
+use Rattle.std.proofs.Common.{◌≤◌, All, length, map}
 use Rattle.std.specs.List.{flat_map}
 use Rattle.ftt_io.proofs.Shared.{PutsUpTo}
 use Rattle.bus_trace.specs.Log.{frame_row}
@@ -6,9 +6,13 @@ use Rattle.bus_trace.specs.Row.{IsLogRow}
 use Rattle.bus_trace.specs.declared.row.LogRow.TheVariants.{Frame}
 use Rattle.bus_trace.proofs.streaming.put_frame_rows.Given as goal
 
-abbrev pub invariant-loop-sent : goal.invariant-loop-sent
-invariant-loop-sent g l = record {
-  put : PutsUpTo (g.O.Sink.told_bytes l.initial.out) (g.O.Sink.told_bytes l.out) (flat_map frame_row l.frames) (flat_map frame_row (drop l.sent-index l.frames));
-  told : All IsLogRow (map Frame (take l.sent-index l.frames));
+-- the rows before those of what is left were put, and all are in range where those that are left are
+abbrev pub invariant-loop-left : goal.invariant-loop-left
+invariant-loop-left g l = record {
+  put : PutsUpTo (g.O.Sink.told_bytes l.initial.out) (g.O.Sink.told_bytes l.out) (flat_map frame_row l.frames) (flat_map frame_row l.left);
+  told : All IsLogRow (map Frame l.left) → All IsLogRow (map Frame l.frames);
   faults : g.O.Sink.faults l.initial.out ≤ g.O.Sink.faults l.out;
 }
+
+abbrev pub decreases-loop-left : goal.decreases-loop-left
+decreases-loop-left g l = length l.left

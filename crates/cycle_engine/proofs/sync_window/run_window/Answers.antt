@@ -1,38 +1,54 @@
-use Rattle.std.proofs.Common.{◌≡◌, ◌+◌, ◌++◌, ◌<◌, ◌≤◌, All, length, vec_len, sym, ap, ◌∙◌, subst, arith}
-use Rattle.requirement_table.specs.Slots.{most_slots}
-use Rattle.node_model.specs.Opening.{first_identifier}
+use Rattle.std.proofs.Common.{◌≡◌, ℕ, ◌+◌, ◌++◌, ◌<◌, ◌≤◌, ◌||◌, All, drop, take, ◌-◌, false, true, inl, inr, length, vec_len, sym, ap, ◌∙◌, subst, arith}
+use Rattle.std.proofs.Math.Seq.{drop-append_seam}
+use Rattle.std.proofs.lemmas.Bool.{cases_lt}
+use Rattle.profile.specs.Limits.{first_identifier}
+use Rattle.requirement_table.specs.Slots.{contains_slot, most_slots}
+use Rattle.requirement_table.proofs.Shared.{contains_slot-above}
 use Rattle.cycle_engine.specs.Nodes.{heard_by, states_of}
-use Rattle.cycle_engine.specs.SyncWindow.{back_to_back, due_frames}
+use Rattle.cycle_engine.specs.SyncWindow.{back_to_back, due_frames, is_among}
 use Rattle.cycle_engine.proofs.Along.{opens_not}
 use Rattle.cycle_engine.proofs.BackToBack.{Follows-due, WindowLaws, behind-front, due-ids}
 use Rattle.cycle_engine.proofs.BySlots.{among-all}
+use Rattle.cycle_engine.proofs.Sent.{sent-none, sent-slots}
 use Rattle.cycle_engine.proofs.sync_window.run_window.Goals as goal
 
-pub send_slots-requires-clause-due : goal.send_slots-requires-clause-due
-send_slots-requires-clause-due c = λ slot within has. sym (c.due_slots.ensures.slots slot within) ∙ has
+pub send_slots-left-requires-clause-due : goal.send_slots-left-requires-clause-due
+send_slots-left-requires-clause-due c = λ slot within has. sym (c.due_slots-due.ensures.slots slot within) ∙ has
 
-pub send_slots-requires-clause-room : goal.send_slots-requires-clause-room
-send_slots-requires-clause-room c = λ early.
+pub send_slots-left-requires-clause-room : goal.send_slots-left-requires-clause-room
+send_slots-left-requires-clause-room c = λ early.
     let same : length c.args.out.now.items ≡ vec_len c.args.out.now = ap length (sym c.as_slice-before.ensures.value) ∙ c.as_slice-before.ensures.len in
     let room = c.requires.room early in
     omega (arith, same, room)
 
-pub slots_of-requires : goal.slots_of-requires
-slots_of-requires c =
+pub hear_slots-requires : goal.hear_slots-requires
+hear_slots-requires c =
     let nodes = states_of c.args.nodes.now in
+    let old = c.args.out.now.items in
     let sent = back_to_back (due_frames nodes) c.args.from c.args.until in
-    let put = c.send_slots.ensures.sent ∙ ap (λ fs. c.args.out.now.items ++ back_to_back fs c.args.from c.args.until) (among-all nodes c.due_slots.result c.due_slots.ensures.slots) in
-    let same = behind-front c.args.out.now.items sent c.as_slice.result.now (length c.as_slice-before.result.now) (c.as_slice.ensures.value ∙ put) (ap length c.as_slice-before.ensures.value) in
+    let put = c.send_slots-left.ensures.sent ∙ ap (λ fs. old ++ back_to_back fs c.args.from c.args.until) (among-all nodes c.due_slots-due.result c.due_slots-due.ensures.slots) in
+    let same = behind-front old sent c.as_slice.result.now (length c.as_slice-before.result.now) (c.as_slice.ensures.value ∙ put) (ap length c.as_slice-before.ensures.value) in
+    let start = length c.as_slice-before.result.now in
+    let frames = take (length c.as_slice.result.now - start) (drop start c.as_slice.result.now) in
+    let behind : drop (length old) c.send_slots-left.new.out.items ≡ frames = ap (drop (length old)) put ∙ drop-append_seam old sent ∙ sym same in
+    let all : (slot : ℕ) → contains_slot c.due_slots-due.result slot ≡ (is_among slot frames || contains_slot c.send_slots-left.result slot) = λ slot. c.send_slots-left.ensures.left slot ∙ ap (λ fs. is_among slot fs || contains_slot c.send_slots-left.result slot) behind in
+    let apart : (slot : ℕ) → contains_slot c.send_slots-left.result slot ≡ true → is_among slot frames ≡ false = λ slot has. ap (is_among slot) (sym behind) ∙ c.send_slots-left.ensures.apart slot has in
     record {
-      of_slots = subst (All (λ one. (first_identifier ≤ one.frame.identifier) × (one.frame.identifier < first_identifier + most_slots))) (sym same)
-          (due-ids nodes c.args.from c.args.until);
+      slots = record {
+        all = subst (All (λ one. (first_identifier ≤ one.frame.identifier) × (one.frame.identifier < first_identifier + most_slots))) (sym same)
+            (due-ids nodes c.args.from c.args.until);
+        each = λ slot. elim (cases_lt slot most_slots) [
+          | inl within ↦ sent-slots _ _ _ slot _ (c.without_all-sent.ensures.slots slot within) (all slot) (apart slot)
+          | inr beyond ↦ sent-none _ _ _ slot _ (contains_slot-above _ most_slots slot c.known-2.ensures.below beyond) (contains_slot-above _ most_slots slot c.known.ensures.below beyond) (all slot)
+        ];
+      };
     }
 
 pub returns : goal.returns
 returns c =
     let nodes = states_of c.args.nodes.now in
     let sent = back_to_back (due_frames nodes) c.args.from c.args.until in
-    let put = c.send_slots.ensures.sent ∙ ap (λ fs. c.args.out.now.items ++ back_to_back fs c.args.from c.args.until) (among-all nodes c.due_slots.result c.due_slots.ensures.slots) in
+    let put = c.send_slots-left.ensures.sent ∙ ap (λ fs. c.args.out.now.items ++ back_to_back fs c.args.from c.args.until) (among-all nodes c.due_slots-due.result c.due_slots-due.ensures.slots) in
     let same = behind-front c.args.out.now.items sent c.as_slice.result.now (length c.as_slice-before.result.now) (c.as_slice.ensures.value ∙ put) (ap length c.as_slice-before.ensures.value) in
     let laws : WindowLaws = record {
       long = c.wire_lengths.ensures.not_empty;
@@ -51,6 +67,6 @@ returns c =
         no_trigger = λ k d within. omega (arith, (due-ids nodes c.args.from c.args.until k d within).0);
         follows = λ layout. Follows-due laws layout c.args.from c.args.until nodes c.requires.nodes c.requires.window;
       };
-      capacity = c.send_slots.ensures.capacity;
+      capacity = c.send_slots-left.ensures.capacity;
       spare = c.hear_slots.ensures.spare;
     }

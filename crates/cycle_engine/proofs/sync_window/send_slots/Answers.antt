@@ -1,10 +1,12 @@
-use Rattle.std.proofs.Common.{◌≡◌, ◌++◌, ◌+◌, sym, ap, ◌∙◌, arith, append-nil, refl, subst, ◌<◌, ◌∷◌, [], cond}
+use Rattle.std.proofs.Common.{◌≡◌, ℕ, ◌++◌, ◌+◌, ◌||◌, drop, nat_eq, length, sym, ap, ◌∙◌, arith, append-nil, refl, subst, ◌<◌, ◌∷◌, [], cond}
 use Rattle.std.specs.Result.{IsOk}
+use Rattle.std.proofs.lemmas.List.{drop_all, length-append}
 use Rattle.can_frame.specs.declared.data_frame.TimedFrame.{TimedFrame}
-use Rattle.std.proofs.lemmas.Bool.Decides.{nat_tests}
 use Rattle.cycle_engine.specs.Nodes.{states_of}
-use Rattle.cycle_engine.specs.SyncWindow.{back_to_back, by_slots, due_among}
+use Rattle.cycle_engine.specs.SyncWindow.{back_to_back, by_slots, due_among, is_among}
 use Rattle.node_model.proofs.Shared.{without-less}
+use Rattle.requirement_table.specs.Slots.{contains_slot}
+use Rattle.cycle_engine.proofs.Sent.{among-more, apart-more, due-identifier, left-before, left-more}
 use Rattle.cycle_engine.proofs.BySlots.{among-first, among-none, least-of, put-late, put-more}
 use Rattle.cycle_engine.proofs.sync_window.send_slots.Goals as goal
 
@@ -13,6 +15,9 @@ loop-slot-init c = record {
   all = refl;
   among = λ slot has. has;
   few = omega arith;
+  left = λ slot. ap (λ xs. is_among slot xs || contains_slot c.args.set slot) (sym (drop_all (length c.args.out.now.items) c.args.out.now.items (omega arith)));
+  apart = λ slot has. ap (is_among slot) (drop_all (length c.args.out.now.items) c.args.out.now.items (omega arith));
+  long = omega arith;
   more = omega arith;
   capacity = omega arith;
 }
@@ -22,6 +27,8 @@ returns-then-at-until c =
     let nothing = put-late (by_slots (due_among (states_of c.args.nodes.now) c.loop-slot.left)) c.loop-slot.at c.args.until c.if-at-until.true in
     record {
       sent = sym (append-nil c.loop-slot.out.items) ∙ ap (λ fs. c.loop-slot.out.items ++ fs) (sym nothing) ∙ c.loop-slot.invariant.all;
+      left = c.loop-slot.invariant.left;
+      apart = c.loop-slot.invariant.apart;
       capacity = c.loop-slot.invariant.capacity;
     }
 
@@ -39,13 +46,11 @@ unwrap-requires c =
     let begun : c.args.from < c.args.until = omega (arith, so_far.few, so_far.more, c.if-at-until.false) in
     c.push.ensures.succeeds (omega (arith, c.requires.room begun, so_far.few, so_far.more, so_far.capacity, c.if-at-until.false))
 
-pub without-left-requires : goal.without-left-requires
-without-left-requires c = (least-of c.loop-slot.left c.in-Some.slot (sym c.in-Some.ensures.least)).0
-
 pub loop-slot-smaller : goal.loop-slot-smaller
 loop-slot-smaller c =
     let least = least-of c.loop-slot.left c.in-Some.slot (sym c.in-Some.ensures.least) in
-    without-less c.loop-slot.left c.without-left.result c.in-Some.slot least.0 c.known.ensures.below c.known-in-Some.ensures.below least.1 c.without-left.ensures.slots
+    without-less c.loop-slot.left c.without_least-left.result c.in-Some.slot least.0 c.known.ensures.below c.known-in-Some.ensures.below least.1
+    (c.without_least-left.ensures.slots c.in-Some.slot (sym c.in-Some.ensures.least))
 
 pub loop-slot-preserved : goal.loop-slot-preserved
 loop-slot-preserved c =
@@ -53,18 +58,26 @@ loop-slot-preserved c =
     let nodes = states_of c.args.nodes.now in
     let until = c.args.until in
     let total = c.args.out.now.items ++ back_to_back (by_slots (due_among nodes c.args.set)) c.args.from until in
-    let later = by_slots (due_among nodes c.without-left.result) in
-    let first = among-first nodes c.loop-slot.left c.without-left.result c.in-Some.slot c.due_frame-frame.result (sym c.in-Some.ensures.least)
-    c.without-left.ensures.slots c.due_frame-frame.ensures.frame in
+    let later = by_slots (due_among nodes c.without_least-left.result) in
+    let without = c.without_least-left.ensures.slots c.in-Some.slot (sym c.in-Some.ensures.least) in
+    let least = least-of c.loop-slot.left c.in-Some.slot (sym c.in-Some.ensures.least) in
+    let first = among-first nodes c.loop-slot.left c.without_least-left.result c.in-Some.slot c.due_frame-frame.result (sym c.in-Some.ensures.least)
+    without c.due_frame-frame.ensures.frame in
     let begun : c.args.from < until = omega (arith, so_far.few, so_far.more, c.if-at-until.false) in
     let ok : IsOk c.push.result = c.push.ensures.succeeds (omega (arith, c.requires.room begun, so_far.few, so_far.more, so_far.capacity, c.if-at-until.false)) in
     let sent : TimedFrame = record { start = c.loop-slot.at; len = c.wire_len-len.result; frame = c.due_frame-frame.result } in
     let put = c.push.ensures.items ∙ ap (λ b. cond b (c.loop-slot.out.items ++ sent ∷ []) c.loop-slot.out.items) ok in
+    let behind : (slot : ℕ) → is_among slot (drop (length c.args.out.now.items) c.push.new.self.items)
+    ≡ (is_among slot (drop (length c.args.out.now.items) c.loop-slot.out.items) || nat_eq slot c.in-Some.slot) = λ slot. among-more c.args.out.now.items c.loop-slot.out.items c.push.new.self.items sent slot c.in-Some.slot so_far.long put
+    (due-identifier nodes c.in-Some.slot c.due_frame-frame.result c.due_frame-frame.ensures.frame) in
     record {
       all = subst (λ n. c.push.new.self.items ++ back_to_back later (c.loop-slot.at + n) until ≡ total) (sym c.from-at.ensures)
           (put-more c.loop-slot.out.items c.push.new.self.items total (by_slots (due_among nodes c.loop-slot.left)) later c.due_frame-frame.result
           c.loop-slot.at c.wire_len-len.result until first c.if-at-until.false c.wire_len-len.ensures.value put so_far.all);
-      among = λ slot has. so_far.among slot (let without = c.without-left.ensures.slots slot in grind (arith, nat_tests));
+      among = λ slot has. so_far.among slot (left-before c.loop-slot.left c.without_least-left.result slot c.in-Some.slot (without slot) has);
+      left = λ slot. left-more c.args.set c.loop-slot.left c.without_least-left.result slot c.in-Some.slot _ _ least.1 (behind slot) (without slot) (so_far.left slot);
+      apart = λ slot. apart-more c.loop-slot.left c.without_least-left.result slot c.in-Some.slot _ _ (behind slot) (without slot) (so_far.apart slot);
+      long = omega (arith, so_far.long, ap length put, length-append c.loop-slot.out.items (sent ∷ []));
       few = omega (arith, so_far.few, c.wire_len-len.ensures.at_least, c.from-at.ensures, c.push.ensures.len);
       more = omega (arith, so_far.more, c.push.ensures.len);
       capacity = omega (arith, so_far.capacity, c.push.ensures.capacity);
@@ -76,6 +89,8 @@ returns c =
     record {
       sent = sym (append-nil c.loop-slot.out.items)
           ∙ ap (λ fs. c.loop-slot.out.items ++ back_to_back fs c.loop-slot.at c.args.until) (sym nothing) ∙ c.loop-slot.invariant.all;
+      left = c.loop-slot.invariant.left;
+      apart = c.loop-slot.invariant.apart;
       capacity = c.loop-slot.invariant.capacity;
     }
 

@@ -3,6 +3,8 @@ use Rattle.std.specs.Prelude.{map, string_bytes}
 use Rattle.ftt_io.specs.Counts.{Rose}
 use Rattle.fttcan_top.specs.Ends.{refusal_of}
 use Rattle.asked_files.specs.declared.stopping.Stop.{Stop}
+use Rattle.asked_files.specs.OfWords.{IsOfLiveWords}
+use Rattle.asked_files.specs.Sources.{live_sources_of}
 use Rattle.asked_files.specs.Asked.{IsLiveAsked, IsLiveAskedBy}
 use Rattle.fttcan_top.specs.Output.{TellsFront}
 use Rattle.command_words.specs.Words.{live_of}
@@ -12,7 +14,9 @@ use Rattle.fttcan_top.proofs.by_threads.live.Goals as goal
 pub returns : goal.returns
 returns g c =
     let all = said (live_of (map string_bytes c.args.words.now) ≡ None) (g.S.Shelf.told_files c.args.shelf.now)
-    (IsLiveAsked (map string_bytes c.args.words.now)) TellsFront
+    (IsLiveAsked (map string_bytes c.args.words.now)) (IsOfLiveWords (map string_bytes c.args.words.now))
+    (live_sources_of (live_of (map string_bytes c.args.words.now)))
+    (g.S.Shelf.fetches c.args.shelf.now) (g.S.Shelf.fetches c.call-ended.new.shelf) TellsFront
     (Rose (g.S.Shelf.faults c.args.shelf.now) (g.S.Shelf.faults c.call-ended.new.shelf))
     (Rose (g.O.Sink.faults c.args.out.now) (g.O.Sink.faults c.call-ended.new.out))
     (g.O.Sink.told_bytes c.args.out.now) (g.O.Sink.told_bytes c.call-ended.new.out)
@@ -27,7 +31,7 @@ returns g c =
       done = all.done;
       cut = all.cut;
       nothing = all.nothing;
-      message = (refusal_of c.call-ended.result, all.input, c.tell.ensures.message);
+      message = (refusal_of c.call-ended.result, all.input, all.fetched, c.tell.ensures.message);
       fetches = c.call-ended.ensures.fetched.counted;
       files_stay = c.call-ended.ensures.fetched.files_stay;
       fetches_never_fall = c.call-ended.ensures.fetched.fetches_never_fall;

@@ -3,6 +3,8 @@ use Rattle.std.specs.Prelude.{map, string_bytes}
 use Rattle.ftt_io.specs.Counts.{Rose}
 use Rattle.fttcan_top.specs.Ends.{PutsPart, refusal_of}
 use Rattle.asked_files.specs.declared.stopping.Stop.{Stop}
+use Rattle.asked_files.specs.OfWords.{IsOfWords}
+use Rattle.asked_files.specs.Sources.{sources_of}
 use Rattle.asked_files.specs.Asked.{IsAsked, IsAskedBy}
 use Rattle.command_words.specs.Words.{command_of}
 use Rattle.fttcan_top.proofs.EndLemmas.{command-status, said}
@@ -11,7 +13,9 @@ use Rattle.fttcan_top.proofs.program.plain.Goals as goal
 pub returns : goal.returns
 returns g c =
     let all = said (command_of (map string_bytes c.args.words.now) ≡ None) (g.S.Shelf.told_files c.args.shelf.now)
-    (IsAsked (map string_bytes c.args.words.now)) PutsPart
+    (IsAsked (map string_bytes c.args.words.now)) (IsOfWords (map string_bytes c.args.words.now))
+    (sources_of (command_of (map string_bytes c.args.words.now)))
+    (g.S.Shelf.fetches c.args.shelf.now) (g.S.Shelf.fetches c.call-ended.new.shelf) PutsPart
     (Rose (g.S.Shelf.faults c.args.shelf.now) (g.S.Shelf.faults c.call-ended.new.shelf))
     (Rose (g.O.Sink.faults c.args.out.now) (g.O.Sink.faults c.call-ended.new.out))
     (g.O.Sink.told_bytes c.args.out.now) (g.O.Sink.told_bytes c.call-ended.new.out)
@@ -26,7 +30,7 @@ returns g c =
       done = all.done;
       cut = all.cut;
       nothing = all.nothing;
-      message = (refusal_of c.call-ended.result, all.input, c.tell.ensures.message);
+      message = (refusal_of c.call-ended.result, all.input, all.fetched, c.tell.ensures.message);
       fetches = c.call-ended.ensures.fetched.counted;
       files_stay = c.call-ended.ensures.fetched.files_stay;
       fetches_never_fall = c.call-ended.ensures.fetched.fetches_never_fall;

@@ -1,6 +1,6 @@
 use Rattle.std.proofs.Common.{rules, ◌≡◌}
 use Rattle.turn_lock.specs.Passes.{knowing, refused}
-use Rattle.live_master.proofs.Calling.{settled}
+use Rattle.live_master.proofs.Calling.{can_settle, settled}
 use Rattle.live_master.proofs.turns.settle_once.Goals as goal
 
 pub returns-in-Err-clause-facts : goal.returns-in-Err-clause-facts
@@ -13,3 +13,8 @@ returns-in-Ok-settle-clause-settled c =
     let (trail, event) = c.in-Ok-settle.ensures.event in
     let caller = c.requires.caller.0 in
     settled _ _ _ _ _ trail c.in-Ok.held.value.master.history c.in-Ok.ensures.begins (search rules)
+
+pub settle-requires-clause-planned : goal.settle-requires-clause-planned
+settle-requires-clause-planned c =
+    rw (c.value_mut-desk.ensures.value, c.in-Ok.ensures.fixed)
+    (can_settle _ _ _ _ _ c.requires.planned c.in-Ok.ensures.begins)

@@ -6,6 +6,11 @@ use Rattle.master_core.specs.declared.event.Event.{Event}
 use Rattle.live_run.specs.declared.crew.Operator.{Operator}
 use Rattle.live_run.specs.declared.script.Script.{Script}
 use Rattle.live_run.specs.Crew.{AreDone}
+use Rattle.can_frame.specs.declared.data_frame.TimedFrame.{TimedFrame}
+use Rattle.cycle_engine.specs.Nodes.{states_of}
+use Rattle.master_core.specs.History.{next_of}
+use Rattle.live_run.specs.Left.{left_at, numbers_of}
+use Rattle.live_run.proofs.Lefts.{left_in_at}
 use Rattle.live_run.proofs.Runs.{begun, can_begin, done-few, done-stand, left-behind, whole}
 use Rattle.live_run.proofs.running.run_live.Goals as goal
 
@@ -70,3 +75,20 @@ returns-clause-run g c =
     (sym (whole c.in_ok-operators.operators.len operators (drop (length operators) c.in_ok-operators.operators.items) long))
     (done-few c.args.shared.now c.args.scripts.items operators same done)))
     c.of.ensures.list c.left-left.ensures.left
+
+pub returns-clause-left : goal.returns-clause-left
+returns-clause-left g c =
+    let (of_t, (of_g, (sync_t, (sync_g, (known, (rules, (first, (fresh, (few, eight))))))))) = c.requires in
+    let lent = c.in_ok-operators.ensures.lent in
+    let begun = begun (record { under_way = c.beginning.ensures.under_way; ready = c.beginning.ensures.ready })
+    g.setting c.args.shared.now c.hire.new.pass.view.seen (record { nodes = c.args.nodes; trace = c.new.result })
+    known rules (lent.seen ∙ ap (λ (k : Known Event Rules). k.view.seen) first.is) fresh c.new.ensures.items in
+    let running = c.in_ok-ran.ensures.running g.setting begun in
+    let bus = c.share-ran.new.bus in
+    let ready = running.way.ready in
+    let at : List TimedFrame → List ℕ → ℕ = left_at g.setting.owners g.setting.requests in
+    c.left-left.ensures.left
+    ∙ (left_in_at g.setting.layout g.setting.owners g.setting.requests ready.known bus.trace.items (next_of c.share-ran.new.pass.view.seen)
+    (states_of bus.nodes.nodes) ready.bus.stand
+    ∙ (ap (λ numbers. at bus.trace.items numbers) c.share-ran.ensures.numbers
+    ∙ ap (λ (trace : List TimedFrame). at trace (numbers_of (states_of c.args.nodes.nodes))) (sym c.of.ensures.list)))

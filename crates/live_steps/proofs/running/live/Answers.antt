@@ -1,7 +1,9 @@
-use Rattle.std.proofs.Common.{◌≡◌, ◌<◌, All, refl, sym, subst, arith}
+use Rattle.std.proofs.Common.{◌≡◌, ◌<◌, ◌∙◌, List, All, refl, sym, ap, subst, arith}
 use Rattle.std.specs.List.{Any}
 use Rattle.std.proofs.lemmas.Result.{IfOk-weaker}
 use Rattle.async_window.specs.Owners.{AreOwners}
+use Rattle.async_window.specs.declared.request.Owner.{Owner}
+use Rattle.live_run.specs.Left.{left_of}
 use Rattle.replay_run.proofs.Shared.{is_rules, owner-of}
 use Rattle.live_steps.proofs.Lives.{answers-operators}
 use Rattle.live_steps.proofs.running.live.Goals as goal
@@ -62,3 +64,9 @@ returns-clause-run g c =
           c.events_in_histories.ensures.calls parted.cycles parted.scripts run.answers;
       kept = run.kept;
     }) c.run_whole.ensures.run
+
+pub returns-clause-left : goal.returns-clause-left
+returns-clause-left g c =
+    IfOk-weaker c.run_whole.result _ _
+    (λ ended left. left ∙ ap (λ (owners : List Owner). left_of owners c.args.requests.now ended.run.trace) c.as_slice.ensures.list)
+    c.run_whole.ensures.left

@@ -1,4 +1,4 @@
-use Rattle.plan_check.proofs.LineReads.{counted-parts, counted-same}
+use Rattle.plan_check.proofs.LineReads.{counted-last, counted-parts}
 use Rattle.plan_check.proofs.Spaces.{no_space}
 use Rattle.text_fields.specs.MaskText.{mask_digits}
 use Rattle.std.specs.Fmt.{decimal}
@@ -15,13 +15,13 @@ returns-in_err-mask-clause-none c =
     rw c.from_residual-in_err-mask.ensures
     (λ run of is.
     c.in_err-mask.ensures.none run.mask of.below
-    (counted-same c.args.line.now c.in_ok-digits.digits.now c.in_ok-digits.behind.now run.mask run.count c.in_ok-digits.ensures.split
-    c.in_ok-digits.ensures.front is).0)
+    (counted-last c.args.line.now c.in_ok-digits.digits.now c.in_ok-digits.behind.now run.mask run.count of.small c.in_ok-digits.ensures.split
+    c.in_ok-digits.ensures.behind is).0)
 
 pub returns-in_err-count-clause-none : goal.returns-in_err-count-clause-none
 returns-in_err-count-clause-none c =
     rw c.from_residual-in_err-count.ensures
     (λ run of is.
     c.in_err-count.ensures.none run.count of.small
-    (counted-same c.args.line.now c.in_ok-digits.digits.now c.in_ok-digits.behind.now run.mask run.count c.in_ok-digits.ensures.split
-    c.in_ok-digits.ensures.front is).1)
+    (counted-last c.args.line.now c.in_ok-digits.digits.now c.in_ok-digits.behind.now run.mask run.count of.small c.in_ok-digits.ensures.split
+    c.in_ok-digits.ensures.behind is).1)

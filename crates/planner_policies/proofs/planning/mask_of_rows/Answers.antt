@@ -21,5 +21,5 @@ returns g c =
     let taken = taken_of plan.fill plan.window line in
     let left = left_of plan.fill plan.window line in
     let split : IsSplit plan cycle before taken left = split-of plan cycle before line plan.fill refl c.line_of-line.ensures.line in
-    let made : IsSetOf c.mask_of_line.result taken = rw (c.as_slice.ensures.list, c.fill.ensures.value) at c.mask_of_line.ensures.planned in
-    record { planned = planned-set plan cycle before taken left split c.mask_of_line.result made }
+    let made : IsSetOf c.plan_of_line.result.mask taken = rw (c.as_slice.ensures.list, c.fill.ensures.value) at c.plan_of_line.ensures.planned in
+    record { planned = planned-set plan cycle before taken left split c.plan_of_line.result.mask made }

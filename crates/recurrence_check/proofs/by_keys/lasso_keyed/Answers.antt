@@ -1,9 +1,9 @@
-use Rattle.std.proofs.Common.{◌+◌, ◌-◌, ◌<◌, Ok, Err, arith, refl}
+use Rattle.std.proofs.Common.{◌≡◌, ◌+◌, ◌-◌, ◌<◌, Ok, Err, arith, refl, ap, subst, ◌∙◌}
 use Rattle.std.specs.BTreeMap.{get}
 use Rattle.recurrence_check.specs.Ends.{IsFirstRepeat}
 use Rattle.recurrence_check.specs.declared.walk_end.WalkEnd.TheVariants.{Broken, NoRepeat}
 use Rattle.recurrence_check.specs.Keys.{table}
-use Rattle.recurrence_check.proofs.Walking.{Walking-start, Walking-breaks, Walking-stays}
+use Rattle.recurrence_check.proofs.Walking.{Walking, Walking-start, Walking-breaks, Walking-stays}
 use Rattle.recurrence_check.proofs.Noted.{Meets-empty, Noted-start, Meeting, Meeting-found, Meeting-first, Meeting-next, Meeting-noted, key_cmp}
 use Rattle.recurrence_check.proofs.Answering.{only_answer}
 use Rattle.recurrence_check.proofs.by_keys.lasso_keyed.Goals as goal
@@ -13,7 +13,7 @@ use Rattle.recurrence_check.proofs.by_keys.lasso_keyed.Given.{Over}
 -- once the key of the next state was looked up
 meeting : (g : Over) (c : In_ok-first g)
     → Meeting (g.W.Walk.course c.args.walk.now) (g.W.Keyed.key_of c.args.walk.now)
-    (g.W.Walk.is_good c.args.walk.now) (g.W.Walk.number c.args.walk.now) c.loop-walked.walked c.loop-walked.here
+    (g.W.Walk.is_good c.args.walk.now) (g.W.Walk.number c.args.walk.now) c.loop-walked.walked (g.W.Walk.state_of c.loop-walked.here)
     c.in-Some.next (table c.loop-walked.row.items (get key_cmp c.loop-walked.others))
     (table c.meet-in-loop-walked.new.row.items (get key_cmp c.meet-in-loop-walked.new.others))
     c.key-in-loop-walked.result c.in_ok-first.field-0
@@ -43,15 +43,18 @@ pub loop-walked-init : goal.loop-walked-init
 loop-walked-init g c =
     let walk = c.args.walk.now in
     let course = g.W.Walk.course walk in
-    let first = c.first-here.ensures in
+    let begun = c.in_ok-here.ensures in
+    let key_is : c.key.result ≡ g.W.Keyed.key_of walk (g.W.Walk.state_of c.in_ok-here.here) =
+    c.key.ensures.key ∙ ap (g.W.Keyed.key_of walk) c.state-first.ensures.state in
     record {
-      walking = Walking-start course (g.W.Walk.is_good walk) (g.W.Walk.number walk) c.first-here.result first.start
-          first.good first.number;
+      walking = Walking-start course (g.W.Walk.is_good walk) (g.W.Walk.number walk) (g.W.Walk.state_of c.in_ok-here.here) begun.start
+          begun.good begun.number;
       noted = Noted-start course (g.W.Keyed.key_of walk) (table c.new-row.result.items (get key_cmp c.new-others.result))
-          (table c.meet.new.row.items (get key_cmp c.meet.new.others)) c.first-here.result c.key.result c.in_ok-meet.field-0 first.start
-          c.key.ensures.key (λ key. rw (c.new-row.ensures.items, c.new-others.ensures.empty)) c.in_ok-meet.ensures.met;
+          (table c.meet.new.row.items (get key_cmp c.meet.new.others)) (g.W.Walk.state_of c.in_ok-here.here) c.key.result c.in_ok-meet.field-0 begun.start
+          key_is (λ key. rw (c.new-row.ensures.items, c.new-others.ensures.empty)) c.in_ok-meet.ensures.met;
       sparse = c.in_ok-meet.ensures.sparse
           (Meets-empty (table c.new-row.result.items (get key_cmp c.new-others.result)) _ c.key.result 0 c.in_ok-meet.field-0 (λ key. rw (c.new-row.ensures.items, c.new-others.ensures.empty)) c.in_ok-meet.ensures.met);
+      on = begun.on;
     }
 
 pub overflow_sub-result : goal.overflow_sub-result
@@ -78,7 +81,7 @@ returns-in-Some-2-clause-only g c = λ other.
 
 pub returns-in_default-clause-only : goal.returns-in_default-clause-only
 returns-in_default-clause-only g c = λ other.
-    let breaks = Walking-breaks _ _ _ c.loop-walked.walked c.loop-walked.here c.loop-walked.invariant.walking
+    let breaks = Walking-breaks _ _ _ c.loop-walked.walked (g.W.Walk.state_of c.loop-walked.here) c.loop-walked.invariant.walking
     c.in_default.ensures.next in
     only_answer (g.W.Walk.course c.args.walk.now) c.args.horizon (Err (Broken c.loop-walked.walked)) other
     (omega arith, breaks)
@@ -87,19 +90,22 @@ pub loop-walked-preserved : goal.loop-walked-preserved
 loop-walked-preserved g c =
     let at = meeting g (goal.at.loop-walked-preserved g c).In_ok-first in
     record {
-      walking = Meeting-next _ _ _ _ _ _ _ _ _ _ _ at c.in_default-2.is;
+      walking = subst (λ state. Walking (g.W.Walk.course c.args.walk.now) (g.W.Walk.is_good c.args.walk.now)
+          (g.W.Walk.number c.args.walk.now) (c.loop-walked.walked + 1) state) c.in-Some.ensures.here
+          (Meeting-next _ _ _ _ _ _ _ _ _ _ _ at c.in_default-2.is);
       noted = Meeting-noted _ _ _ _ _ _ _ _ _ _ _ at c.in_default-2.is;
       sparse = c.in_ok-first.ensures.sparse c.in_default-2.is;
+      on = c.in-Some.ensures.on;
     }
 
 pub returns-clause-only : goal.returns-clause-only
 returns-clause-only g c = λ other.
-    let stays = Walking-stays _ _ _ c.loop-walked.walked c.args.horizon c.loop-walked.here
+    let stays = Walking-stays _ _ _ c.loop-walked.walked c.args.horizon (g.W.Walk.state_of c.loop-walked.here)
     c.loop-walked.invariant.walking (omega arith) in
     only_answer (g.W.Walk.course c.args.walk.now) c.args.horizon (Err (NoRepeat c.args.horizon)) other (refl, stays)
 
 pub returns-clause-ends : goal.returns-clause-ends
 returns-clause-ends g c =
-    let stays = Walking-stays _ _ _ c.loop-walked.walked c.args.horizon c.loop-walked.here
+    let stays = Walking-stays _ _ _ c.loop-walked.walked c.args.horizon (g.W.Walk.state_of c.loop-walked.here)
     c.loop-walked.invariant.walking (omega arith) in
     (refl, stays)

@@ -1,5 +1,5 @@
 use Rattle.replay_run.proofs.Beginnings.{begun-history, begun-trace}
-use Rattle.replay_run.proofs.Histories.{first-history}
+use Rattle.master_core.proofs.Shared.{first-history}
 use Rattle.replay_run.proofs.laws.beginnings.Goals as goal
 
 pub returns-clause-events : goal.returns-clause-events

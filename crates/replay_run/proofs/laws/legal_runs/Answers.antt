@@ -2,7 +2,8 @@ use Rattle.std.proofs.Common.{◌≡◌, ℕ, ◌*◌, ◌++◌, ap, ◌∙◌}
 use Rattle.requirement_table.specs.Instance.{bytes_of}
 use Rattle.bus_line.specs.Trace.{started_before}
 use Rattle.master_core.specs.History.{next_of}
-use Rattle.replay_run.proofs.Beginnings.{distinct, front-trace}
+use Rattle.replay_run.proofs.Beginnings.{front-trace}
+use Rattle.replay_run.proofs.Openings.{distinct}
 use Rattle.replay_run.proofs.Fronts.{cut-at}
 use Rattle.replay_run.proofs.UnderWay.{is_under_way}
 use Rattle.replay_run.proofs.laws.legal_runs.Goals as goal

@@ -2,7 +2,7 @@ use Rattle.std.proofs.Common.{sym, ◌∙◌, subst}
 use Rattle.master_core.specs.History.{next_of}
 use Rattle.master_core.specs.Openings.{openings_of}
 use Rattle.cycle_engine.specs.Offered.{IsCanTrace}
-use Rattle.replay_run.proofs.Histories.{one-history}
+use Rattle.master_core.proofs.Shared.{one-history}
 use Rattle.replay_run.proofs.laws.one_run.Goals as goal
 
 pub returns-clause-one_history : goal.returns-clause-one_history

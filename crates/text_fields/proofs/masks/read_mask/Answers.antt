@@ -5,13 +5,13 @@ use Rattle.text_fields.proofs.masks.read_mask.Goals as goal
 pub returns-then-field-from-clause-value : goal.returns-then-field-from-clause-value
 returns-then-field-from-clause-value c =
     let size : length c.args.field.now ≡ c.from-then-field-from.result = omega arith in
-    c.read_hex.ensures.value ∙ sym (mask_of-few c.args.field.now c.from-then-field-from.result c.from-then-field-from.ensures size)
+    c.read_short_hex.ensures.value ∙ sym (mask_of-few c.args.field.now c.from-then-field-from.result c.from-then-field-from.ensures size)
 
 pub returns-then-field-from-clause-found : goal.returns-then-field-from-clause-found
-returns-then-field-from-clause-found c = found-of c.args.field.now c.read_hex.result (returns-then-field-from-clause-value c)
+returns-then-field-from-clause-found c = found-of c.args.field.now c.read_short_hex.result (returns-then-field-from-clause-value c)
 
 pub returns-then-field-from-clause-none : goal.returns-then-field-from-clause-none
-returns-then-field-from-clause-none c = none-of c.args.field.now c.read_hex.result (returns-then-field-from-clause-value c)
+returns-then-field-from-clause-none c = none-of c.args.field.now c.read_short_hex.result (returns-then-field-from-clause-value c)
 
 pub returns-in_err-mask-clause-value : goal.returns-in_err-mask-clause-value
 returns-in_err-mask-clause-value c =

@@ -5,7 +5,7 @@ use Rattle.text_fields.proofs.RowDigits.{pair-put}
 use Rattle.text_fields.proofs.row_parts.put_hex.Goals as goal
 
 pub loop-preserved : goal.loop-preserved
-loop-preserved c =
+loop-preserved g c =
     let k = c.args.digits - 2 * (c.loop.counter + 1) in
     let l = c.loop in
     let next : suc (suc k) ≡ c.args.digits - 2 * l.counter = omega (arith, c.loop-test.true) in
@@ -17,7 +17,7 @@ loop-preserved c =
     }
 
 pub returns-clause-row : goal.returns-clause-row
-returns-clause-row c =
+returns-clause-row g c =
     let l = c.loop in
     let none : c.args.digits - 2 * l.counter ≡ 0 = omega (arith, c.loop-test.false) in
     sym (ap (λ count. hex_digits count l.left ++ drop l.start l.row) none ∙ ap (λ digits. digits ++ drop l.start l.row) (hex_digits-zero l.left))

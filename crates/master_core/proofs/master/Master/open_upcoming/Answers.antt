@@ -7,6 +7,7 @@ use Rattle.master_core.specs.Orders.{IsOrder, IsUpcoming}
 use Rattle.master_core.proofs.Events.{kept-passed, not-counted, room-used}
 use Rattle.master_core.proofs.Histories.{plain-push}
 use Rattle.master_core.proofs.NextOrder.{kept-upcoming, order-upcoming, upcoming-behind}
+use Rattle.master_core.proofs.NextPlan.{ranked-valid}
 use Rattle.master_core.proofs.master.Master.open_upcoming.Goals as goal
 
 pub pass-requires-clause-since : goal.pass-requires-clause-since
@@ -16,6 +17,13 @@ pass-requires-clause-since c =
 
 pub pass-requires-clause-left : goal.pass-requires-clause-left
 pass-requires-clause-left c = ap (λ (r : Ranking). r.placed) c.self.invariant.0.left
+
+pub pass-requires-clause-valid : goal.pass-requires-clause-valid
+pass-requires-clause-valid c =
+    let is = subst (λ (v : MasterView). IsUpcoming v.rules v.history c.args.upcoming) (sym c.self.view_is) c.requires.upcoming in
+    let near = c.requires.next in
+    let at : c.self.inside.state.cycle ≡ next_of c.args.self.now.history = c.self.invariant.0.next ∙ ap (λ (v : MasterView). next_of v.history) c.self.view_is in
+    ranked-valid _ _ _ _ _ _ _ _ (kept-upcoming _ _ _ _ _ _ _ _ c.self.invariant.0 c.args.upcoming is (omega arith))
 
 pub invariant_of-self : goal.invariant_of-self
 invariant_of-self c =
@@ -27,7 +35,7 @@ invariant_of-self c =
     let early : c.self.inside.state.cycle < 2 ^ 41 = omega arith in
     let kept = kept-upcoming _ _ _ _ _ _ _ _ c.self.invariant.0 c.args.upcoming is early in
     rw (c.put.ensures.events, c.take.ensures.after) (
-      kept-passed _ _ _ _ _ _ _ _ kept _ _ _ c.pass.ensures.placed c.pass.ensures.since c.pass.ensures.ranked,
+      kept-passed _ _ _ _ _ _ _ _ kept _ _ _ c.pass.ensures.placed c.pass.ensures.since c.pass.ensures.ranking,
       room-used _ _ _ _ _ c.self.invariant.1 (omega arith) c.put.ensures.room,
       not-counted c.self.inside.history.items (Open c.self.inside.state.cycle c.args.upcoming.mask) c.self.inside.accepted refl c.self.invariant.2,
     )

@@ -6,10 +6,10 @@ use Rattle.master_core.proofs.NextPlan.{ranked-in_time, ranked-valid}
 use Rattle.master_core.proofs.master.Master.upcoming.Goals as goal
 
 pub plan_next-mask-requires-clause-valid : goal.plan_next-mask-requires-clause-valid
-plan_next-mask-requires-clause-valid c = ranked-valid _ _ _ _ _ _ _ _ c.self.invariant.0
+plan_next-mask-requires-clause-valid c = rw c.ranked.ensures.ranking (ranked-valid _ _ _ _ _ _ _ _ c.self.invariant.0)
 
 pub plan_next-mask-requires-clause-in_time : goal.plan_next-mask-requires-clause-in_time
-plan_next-mask-requires-clause-in_time c = ranked-in_time _ _ _ _ _ _ _ _ c.self.invariant.0
+plan_next-mask-requires-clause-in_time c = rw c.ranked.ensures.ranking (ranked-in_time _ _ _ _ _ _ _ _ c.self.invariant.0)
 
 pub returns : goal.returns
 returns c = record {
@@ -19,6 +19,7 @@ returns c = record {
         l = c.plan_next-mask.result.width;
         next = c.plan_next-mask.result.next;
       })) c.self.view_is
-      (upcoming-is _ _ _ _ _ _ _ _ c.self.invariant.0 _ _ _ c.plan_next-mask.ensures.mask c.plan_next-mask.ensures.width c.plan_next-mask.ensures.cycle
-      c.plan_next-mask.ensures.pending);
+      (upcoming-is _ _ _ _ _ _ _ _ c.self.invariant.0 _ _ _ (rw (← c.ranked.ensures.ranking) c.plan_next-mask.ensures.mask)
+      (rw (← c.ranked.ensures.ranking) c.plan_next-mask.ensures.width) c.plan_next-mask.ensures.cycle
+      (rw (← c.ranked.ensures.ranking) c.plan_next-mask.ensures.pending));
 }

@@ -5,5 +5,5 @@ pub rank-requires : goal.rank-requires
 rank-requires c = record {
   well_placed =
       rw (c.as_slice-2.ensures.value, c.in_ok-left.ensures.list, c.as_slice.ensures.value)
-      (not_over-well_placed c.args.since c.args.placed.items c.requires);
+      (not_over-well_placed c.args.since c.args.placed.items c.requires.well_placed);
 }

@@ -1,4 +1,5 @@
 use Rattle.requirement_table.proofs.Shared.{not_over-well_placed, instance_in-not_over}
+use Rattle.node_model.proofs.Ready.{nothing-ready}
 use Rattle.node_model.proofs.entries.Remaining.pass.Goals as goal
 
 pub first_over-self-requires : goal.first_over-self-requires
@@ -12,3 +13,6 @@ returns-then-self-cycle-clause-well_placed c =
 pub returns-then-self-cycle-clause-instances : goal.returns-then-self-cycle-clause-instances
 returns-then-self-cycle-clause-instances c =
     rw c.drop_over.ensures.left (λ slot at from. instance_in-not_over c.args.cycle c.args.self.now.entries.items slot at from)
+
+pub returns-then-self-cycle-clause-ready : goal.returns-then-self-cycle-clause-ready
+returns-then-self-cycle-clause-ready c = nothing-ready _ 96 (record { number = 0; length = 0 })

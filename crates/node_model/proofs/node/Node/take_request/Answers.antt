@@ -19,6 +19,7 @@ invariant_of-self-2 c =
       own_slots = old.own_slots;
       placed = old.placed;
       instances = old.instances;
+      ready = old.ready;
       due = old.due;
       ahead = tt;
     }

@@ -1,0 +1,7 @@
+use Rattle.std.proofs.Common.{drop}
+use Rattle.bus_trace.proofs.PutRows.{frame-put}
+use Rattle.bus_trace.proofs.rows.put_lone_frame.Goals as goal
+
+pub returns-clause-row : goal.returns-clause-row
+returns-clause-row c =
+    frame-put c.args.sent.now _ _ _ (drop c.args.end c.args.row.now) c.put_word.ensures.row c.put_decimal-place.ensures.row c.put_behind_start-place.ensures.row

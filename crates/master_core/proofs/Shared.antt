@@ -1,0 +1,118 @@
+-- What proofs of the crates above may take from here: calls have one plainly legal history, and what answers the first of
+-- them begins it.
+use Rattle.std.proofs.Common.{◌≡◌, ℕ, List, [], ◌∷◌, ◌++◌, map, refl, sym, ap, ◌∙◌, subst, append-nil}
+use Rattle.requirement_table.specs.declared.entries.Placed.{Placed}
+use Rattle.change_protocol.specs.Applied.{applied}
+use Rattle.change_protocol.specs.declared.operations.Change.{Change}
+use Rattle.planner_policies.specs.Plan.{mask_at, pending_at}
+use Rattle.admission_rules.specs.declared.Rules.{Rules}
+use Rattle.admission.specs.Verdict.{IsVerdict, plan_from, trail_of}
+use Rattle.admission.specs.declared.verdict.Verdict.{Verdict}
+use Rattle.master_core.specs.declared.event.Event.{Event}
+use Rattle.master_core.specs.declared.event.Event.TheVariants.{Submit, Look, Open}
+use Rattle.master_core.specs.History.{AllAfter, IsPlainlyLegal, IsPlannedNow, IsRight, IsRightAnswer, next_of, placed_of, plan_of}
+use Rattle.change_protocol.specs.declared.operations.Act.TheVariants as act
+use Rattle.master_core.specs.Calls.{Call, asked, call_of}
+
+-- there is one verdict
+pub record OneVerdict : Type 0 where
+  pub same : (rules : Rules) (placed : List Placed) (pending from next : ℕ) (change : Change) (one other : Verdict)
+      → IsVerdict rules placed pending from next change one → IsVerdict rules placed pending from next change other → one ≡ other
+
+pub record SameAnswer (one other : Verdict) (trail second : List ℕ) : Type 0 where
+  pub verdict : one ≡ other
+  pub plan : trail ≡ second
+
+-- a change that is planned from one cycle has one answer
+pub same-answer : OneVerdict → (rules : Rules) (before : List Event) (change : Change) (from : ℕ) (one other : Verdict) (trail second : List ℕ)
+    → IsRightAnswer rules before change from one trail → IsRightAnswer rules before change from other second → SameAnswer one other trail second
+same-answer verdicts rules before change from one other trail second right also =
+    let pending = pending_at (plan_of rules (placed_of before)) from in
+    let verdict = verdicts.same rules (placed_of before) pending from (next_of before) change one other right.answer also.answer in
+    record {
+      verdict = verdict;
+      plan = right.plan ∙ ap (trail_of (plan_from rules (applied (placed_of before) change) from pending)) verdict ∙ sym also.plan;
+    }
+
+-- the caller and the change of a call
+record SameAsked (caller other : ℕ) (change also : Change) : Type 0 where
+  pub caller_is : caller ≡ other
+  pub change_is : change ≡ also
+
+same-asked : (caller other : ℕ) (change also : Change) → asked caller (act.Ask change) ≡ asked other (act.Ask also) → SameAsked caller other change also
+same-asked caller other change also is = record { caller_is = cc; change_is = cc }
+
+-- an event is what was called for, and the one right answer to it
+same-event : OneVerdict → (rules : Rules) (before : List Event) (one other : Event) → call_of one ≡ call_of other
+    → IsRight rules before one → IsPlannedNow before one → IsRight rules before other → IsPlannedNow before other → one ≡ other
+same-event verdicts rules before (Submit caller change from verdict trail) (Submit second also later answer plan) calls right now right2 now2 =
+    let same_call = same-asked caller second change also calls in
+    let same_from : later ≡ from = now2 ∙ sym now in
+    let moved : IsRightAnswer rules before change from answer plan =
+    subst (λ f. IsRightAnswer rules before change f answer plan) same_from (subst (λ c. IsRightAnswer rules before c later answer plan) (sym same_call.change_is) right2) in
+    let same = same-answer verdicts rules before change from verdict answer trail plan right moved in
+    let caller_is = same_call.caller_is in
+    let change_is = same_call.change_is in
+    let verdict_is = same.verdict in
+    let plan_is = same.plan in
+    cc
+same-event verdicts rules before (Submit caller change from verdict trail) (Look second next) calls right now right2 now2 = absurd (cc)
+same-event verdicts rules before (Submit caller change from verdict trail) (Open cycle mask) calls right now right2 now2 = absurd (cc)
+same-event verdicts rules before (Look caller next) (Submit second also later answer plan) calls right now right2 now2 = absurd (cc)
+same-event verdicts rules before (Look caller next) (Look second also) calls right now right2 now2 =
+    let next_is : next ≡ also = right ∙ sym right2 in
+    cc
+same-event verdicts rules before (Look caller next) (Open cycle mask) calls right now right2 now2 = absurd (cc)
+same-event verdicts rules before (Open cycle mask) (Submit second also later answer plan) calls right now right2 now2 = absurd (cc)
+same-event verdicts rules before (Open cycle mask) (Look second next) calls right now right2 now2 = absurd (cc)
+same-event verdicts rules before (Open cycle mask) (Open later slots) calls right now right2 now2 =
+    let cycle_is : cycle ≡ later = right.0 ∙ sym right2.0 in
+    let mask_is : mask ≡ slots = right.1 ∙ ap (mask_at (plan_of rules (placed_of before))) cycle_is ∙ sym right2.1 in
+    cc
+
+record SameHeadAndTail (one other : Call) (calls more : List Call) : Type 0 where
+  pub head : one ≡ other
+  pub tail : calls ≡ more
+
+same-parts : (one other : Call) (calls more : List Call) → one ∷ calls ≡ other ∷ more → SameHeadAndTail one other calls more
+same-parts one other calls more is = record { head = cc; tail = cc }
+
+-- events that answer the first of some calls are the first of the events that answer them all
+first-events : OneVerdict → (rules : Rules) (before one other : List Event) (later : List Call)
+    → map call_of one ++ later ≡ map call_of other
+    → AllAfter (IsRight rules) before one → AllAfter IsPlannedNow before one
+    → AllAfter (IsRight rules) before other → AllAfter IsPlannedNow before other → (rest : List Event) × (other ≡ one ++ rest)
+first-events verdicts rules before [] other later calls right now right2 now2 = (other, refl)
+first-events verdicts rules before (x ∷ xs) [] later calls right now right2 now2 = absurd (cc)
+first-events verdicts rules before (x ∷ xs) (y ∷ ys) later calls right now right2 now2 =
+    let parts = same-parts (call_of x) (call_of y) (map call_of xs ++ later) (map call_of ys) calls in
+    let event : x ≡ y = same-event verdicts rules before x y parts.head right.0 now.0 right2.0 now2.0 in
+    let (rest, is) = first-events verdicts rules (before ++ x ∷ []) xs ys later parts.tail right.1 now.1
+    (subst (λ e. AllAfter (IsRight rules) (before ++ e ∷ []) ys) (sym event) right2.1)
+    (subst (λ e. AllAfter IsPlannedNow (before ++ e ∷ []) ys) (sym event) now2.1) in
+    (rest, ap (λ l. y ∷ l) is ∙ ap (λ e. e ∷ (xs ++ rest)) (sym event))
+
+pub first-history : OneVerdict → (rules : Rules) (one other : List Event) (later : List Call)
+    → map call_of one ++ later ≡ map call_of other → IsPlainlyLegal rules one → IsPlainlyLegal rules other → (rest : List Event) × (other ≡ one ++ rest)
+first-history verdicts rules one other later calls plain plain2 =
+    first-events verdicts rules [] one other later calls plain.legal plain.now plain2.legal plain2.now
+
+-- where the same calls are answered, no event is left
+none-left : (one rest : List Event) → map call_of one ≡ map call_of (one ++ rest) → one ≡ one ++ rest
+none-left [] [] calls = refl
+none-left [] (y ∷ rest) calls = absurd (cc)
+none-left (x ∷ one) rest calls =
+    ap (λ l. x ∷ l) (none-left one rest (same-parts (call_of x) (call_of x) (map call_of one) (map call_of (one ++ rest)) calls).tail)
+
+-- after one history the same calls have the same answers
+pub same-events : OneVerdict → (rules : Rules) (before one other : List Event) → map call_of one ≡ map call_of other
+    → AllAfter (IsRight rules) before one → AllAfter IsPlannedNow before one
+    → AllAfter (IsRight rules) before other → AllAfter IsPlannedNow before other → one ≡ other
+same-events verdicts rules before one other calls right now right2 now2 =
+    let (rest, is) = first-events verdicts rules before one other [] (append-nil (map call_of one) ∙ calls) right now right2 now2 in
+    none-left one rest (calls ∙ ap (map call_of) is) ∙ sym is
+
+pub one-history : OneVerdict → (rules : Rules) (one other : List Event) → map call_of one ≡ map call_of other
+    → IsPlainlyLegal rules one → IsPlainlyLegal rules other → one ≡ other
+one-history verdicts rules one other calls plain plain2 =
+    same-events verdicts rules [] one other calls plain.legal plain.now plain2.legal plain2.now

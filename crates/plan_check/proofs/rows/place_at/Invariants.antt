@@ -1,5 +1,0 @@
-use Rattle.plan_check.specs.Rows.{IsPassed}
-use Rattle.plan_check.proofs.rows.place_at.Given as goal
-
-abbrev pub invariant-loop-next : goal.invariant-loop-next
-invariant-loop-next l = IsPassed l.placed l.cycle l.slot l.next
