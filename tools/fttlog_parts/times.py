@@ -142,7 +142,7 @@ def asynchronous(rows, words, names, end):
         pictures.append((names.of(identifier), values, shown, f"{what}, in {unit}"))
     head = ["identifier", "sent", "least", "mean", *PERCENTS, "greatest", "waiting", "later"]
     told = f"asynchronous frames, {what}, in {unit}\n" + table(head, lines)
-    told += "waiting: requests that were not sent by the end of the run; later: those that arrive behind it\n"
+    told += "waiting: requests that were not sent by the end of the run; later: those that arrive after it\n"
     return told, pictures
 
 

@@ -171,7 +171,7 @@ class Teller:
             elif word == "open":
                 self.sending = (*fields, [])
             elif word == "end":
-                self.line(f"The run ends behind {some(fields[0], 'cycle')}.")
+                self.line(f"The run ends after {some(fields[0], 'cycle')}.")
             else:
                 self.reported(word, fields)
 

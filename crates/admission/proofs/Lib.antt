@@ -6,6 +6,7 @@ mod Decided
 mod Divided
 mod Due
 mod Later
+mod Left
 mod Listed
 mod Multiples
 mod Once
@@ -15,3 +16,4 @@ mod Repeats
 mod Row
 mod Same
 mod States
+mod Places

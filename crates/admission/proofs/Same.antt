@@ -100,7 +100,7 @@ unchosen : (b : Bool) (x : PlanState) → b ≡ false → None ≡ (if b then So
 unchosen true x is = absurd (cc)
 unchosen false x is = refl
 
-state-same : (x y : PlanState) → x.cycle ≡ y.cycle → x.pending ≡ y.pending → x ≡ y
+pub state-same : (x y : PlanState) → x.cycle ≡ y.cycle → x.pending ≡ y.pending → x ≡ y
 state-same x y cycle pending =
     ap (λ (n : ℕ). record x { cycle = n }) cycle ∙ ap (λ (n : ℕ). record y { pending = n }) pending
 

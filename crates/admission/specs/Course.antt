@@ -1,5 +1,5 @@
 -- The states of a planning, one after the other, and which of them are the same.
-use Rattle.std.specs.Prelude.{◌≡◌, ℕ, ◌+◌, ◌-◌, ◌%◌, ◌≤◌}
+use Rattle.std.specs.Prelude.{◌≡◌, ℕ, ◌+◌, ◌%◌, ◌≤◌}
 use Rattle.std.specs.Prelude.{Bool, false, nat_eq, nat_le, nat_lt, if◌then◌else◌, List, Option, Some, None}
 use Rattle.std.specs.Option.{option_map_or}
 use Rattle.requirement_table.specs.declared.entries.Placed.{Placed}
@@ -46,11 +46,11 @@ abbrev pub course_of : Ranking → ℕ → PlanState → ℕ → Option ℕ → 
 course_of ranking window first bound period =
     record { start = first; next = state_behind ranking window; alike = IsSame bound period }
 
--- the key of a state: the slots that are pending, and how many cycles of the period are behind its place
+-- the key of a state: the slots that are pending, and its place in the period
 abbrev pub key_in_period : ℕ → Option ℕ → PlanState → Option (ℕ × ℕ)
 key_in_period bound None state = None
 key_in_period bound (Some period) state =
-    if nat_le bound state.cycle then Some (state.pending, (period - 1) - state.cycle % period) else None
+    if nat_le bound state.cycle then Some (state.pending, state.cycle % period) else None
 
 -- the state of a planning before its n-th cycle
 abbrev pub state_at : Planning → ℕ → PlanState

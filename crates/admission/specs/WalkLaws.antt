@@ -1,10 +1,9 @@
 -- What a walk over the states of a planning owes of them.
-use Rattle.std.specs.Prelude.{◌≡◌, ℕ, ◌+◌, ◌-◌, ◌%◌, ◌<◌, ◌↔◌}
+use Rattle.std.specs.Prelude.{◌≡◌, ℕ, ◌+◌, ◌%◌, ◌↔◌}
 use Rattle.std.specs.Prelude.{Bool, true, false, nat_eq, nat_le, if◌then◌else◌, Option, Some, None}
-use Rattle.std.proofs.Common.{ap, arith, refl, sym, ◌∙◌, subst}
+use Rattle.std.proofs.Common.{ap, sym, ◌∙◌, subst}
 use Rattle.std.proofs.Math.Nat.{le-add_right, le_trans, mod-add-mod}
 use Rattle.std.proofs.lemmas.Bool.{cond-true, le-leb, leb-true}
-use Rattle.std.proofs.lemmas.Nat.{mod_below}
 use Rattle.std.proofs.lemmas.Option.{cond_some, none-some}
 use Rattle.planner_policies.specs.declared.state.PlanState.{PlanState}
 use Rattle.planner_policies.specs.Plan.{Ranking}
@@ -76,43 +75,31 @@ pair-same a b c d first second =
     let right : ℕ → ℕ × ℕ = λ n. (c, n) in
     ap left first ∙ ap right second
 
--- two places in a period that have as many cycles behind them are the same
-same-place : (place other length : ℕ) → place < length → other < length
-    → (length - 1) - place ≡ (length - 1) - other → place ≡ other
-same-place place other length within also same = omega arith
-
 pub keyed : (bound : ℕ) (period : Option ℕ)
-    → ((length : ℕ) → period ≡ Some length → 0 < length) → (one other : PlanState)
+    → (one other : PlanState)
     → IsSame bound period one other
     ↔ ((key : ℕ × ℕ) × (key_in_period bound period one ≡ Some key) × (key_in_period bound period other ≡ Some key))
-keyed bound None positive one other = (λ same. absurd same, λ keys. none-some keys.0 keys.1)
-keyed bound (Some length) positive one other = (
+keyed bound None one other = (λ same. absurd same, λ keys. none-some keys.0 keys.1)
+keyed bound (Some length) one other = (
   λ same.
-      let first : ℕ × ℕ = (one.pending, (length - 1) - one.cycle % length) in
-      let second : ℕ × ℕ = (other.pending, (length - 1) - other.cycle % length) in
-      let behind : (length - 1) - other.cycle % length ≡ (length - 1) - one.cycle % length =
-      ap (λ place. (length - 1) - place) (sym same.place) in
+      let first : ℕ × ℕ = (one.pending, one.cycle % length) in
+      let second : ℕ × ℕ = (other.pending, other.cycle % length) in
       let equal : second ≡ first =
-      pair-same other.pending ((length - 1) - other.cycle % length) one.pending ((length - 1) - one.cycle % length)
-      (sym same.pending) behind in (
+      pair-same other.pending (other.cycle % length) one.pending (one.cycle % length) (sym same.pending) (sym same.place) in (
         first,
         cond-true (nat_le bound one.cycle) (Some first) None (le-leb bound one.cycle same.one_settled),
         cond-true (nat_le bound other.cycle) (Some second) None (le-leb bound other.cycle same.other_settled)
             ∙ ap (λ (key : ℕ × ℕ). Some key) equal,
       ),
   λ keys.
-      let first = cond_some (nat_le bound one.cycle) (one.pending, (length - 1) - one.cycle % length) keys.0 keys.1 in
-      let second =
-      cond_some (nat_le bound other.cycle) (other.pending, (length - 1) - other.cycle % length) keys.0 keys.2 in
-      let equal : ◌≡◌ {A = ℕ × ℕ} (one.pending, (length - 1) - one.cycle % length)
-      (other.pending, (length - 1) - other.cycle % length) =
+      let first = cond_some (nat_le bound one.cycle) (one.pending, one.cycle % length) keys.0 keys.1 in
+      let second = cond_some (nat_le bound other.cycle) (other.pending, other.cycle % length) keys.0 keys.2 in
+      let equal : ◌≡◌ {A = ℕ × ℕ} (one.pending, one.cycle % length) (other.pending, other.cycle % length) =
       first.1 ∙ sym second.1 in
       record {
         one_settled = leb-true bound one.cycle first.0;
         other_settled = leb-true bound other.cycle second.0;
-        place = same-place (one.cycle % length) (other.cycle % length) length
-            (mod_below one.cycle length (positive length refl))
-            (mod_below other.cycle length (positive length refl)) (ap (λ (key : ℕ × ℕ). key.1) equal);
+        place = ap (λ (key : ℕ × ℕ). key.1) equal;
         pending = ap (λ (key : ℕ × ℕ). key.0) equal;
       },
 )

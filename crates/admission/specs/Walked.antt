@@ -1,10 +1,11 @@
 -- The walk over the planning of a list.
-use Rattle.std.specs.Prelude.{◌≡◌, ℕ, ◌^◌, ◌<◌, List, Option}
+use Rattle.std.specs.Prelude.{◌≡◌, ℕ, ◌^◌, ◌<◌, ◌≤◌, List, Option}
 use Rattle.requirement_table.specs.declared.entries.Placed.{Placed}
 use Rattle.requirement_table.specs.Slots.{most_slots}
 use Rattle.requirement_table.specs.Table.{IsWellPlaced, not_over}
 use Rattle.planner_policies.specs.declared.state.PlanState.{PlanState}
-use Rattle.planner_policies.specs.Plan.{IsValid, Ranking}
+use Rattle.planner_policies.specs.Plan.{IsValid, Ranking, Standing, planning_of}
+use Rattle.release_wheel.specs.Passed.{IsPassed}
 use Rattle.admission_rules.specs.declared.Rules.{Rules}
 use Rattle.admission.specs.Period.{IsPeriodUpTo}
 use Rattle.admission.specs.Recurrence.{bound_of}
@@ -22,3 +23,12 @@ pub record IsWalked (rules : Rules) (list : List Placed) (from pending : ℕ) (w
   pub first_is : first ≡ record { cycle = from; pending = pending }
   pub bound_is : bound ≡ bound_of from list
   pub period_is : IsPeriodUpTo rules.horizon list period
+
+-- a planning of the list stands at the state, or at a later cycle. Up to that cycle the walk comes to states that differ
+-- by their cycles alone
+pub record IsOn (ranking : Ranking) (window : ℕ) (here : Standing) (state : PlanState) : Type 0 where
+  pub ranking_is : here.ranking ≡ ranking
+  pub pending_is : here.pending ≡ state.pending
+  pub onward : state.cycle ≤ here.cycle
+  pub valid : (c : ℕ) → state.cycle ≤ c → c ≤ here.cycle → IsValid ranking.placed c state.pending
+  pub passed : (c : ℕ) → state.cycle ≤ c → c < here.cycle → IsPassed (planning_of ranking window c state.pending)

@@ -20,8 +20,9 @@ use crate::walk::PlanWalk;
 use admission_rules::Rules;
 use change_protocol::{ApplyFault, Change, apply};
 use planner_policies::laws::{loops, valid_states};
-use planner_policies::{Miss, PlanState, Planner, cycle_mask};
+use planner_policies::{Miss, PlanState, cycle_mask};
 use recurrence_check::{Repeat, WalkEnd, lasso_keyed};
+use release_wheel::Planner;
 use requirement_table::{Mask, Placed, PlacedList, not_over};
 use std::alloc::{AllocError, Global};
 
@@ -147,11 +148,11 @@ pub fn walk_over(
     state.pending.known();
     let left = not_over(alloc, list, state.cycle)?;
     Ok(PlanWalk {
-        entries: Entries::of(left, rules.policy, rules.fill),
         window: rules.window,
         first: *state,
-        bound: bound(list, state.cycle),
-        period: period(list, rules.horizon),
+        bound: bound(left.as_slice(), state.cycle),
+        period: period(left.as_slice(), rules.horizon),
+        entries: Entries::of(left, rules.policy, rules.fill),
     })
 }
 

@@ -5,7 +5,8 @@ ghost use Rattle.profile.specs.Limits.{cycles_end};
 ghost use Rattle.requirement_table.specs.Table.{IsWellPlaced};
 ghost use Rattle.planner_policies.specs.Plan.{IsValid};
 
-use planner_policies::{Fill, PlanState, Planner, Policy, rank};
+use planner_policies::{Fill, PlanState, Policy, rank};
+use release_wheel::Planner;
 use requirement_table::Placed;
 use std::alloc::{AllocError, Global};
 use std::marker::Model;

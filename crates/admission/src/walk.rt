@@ -7,8 +7,9 @@ ghost use Rattle.admission.specs.Course.{is_held_from};
 ghost use Rattle.admission.specs.WalkLaws.{GoesOn};
 
 use crate::entries::Entries;
-use planner_policies::{PlanState, Planner};
+use planner_policies::PlanState;
 use recurrence_check::{Keyed, Walk};
+use release_wheel::Planner;
 use std::alloc::{AllocError, Global};
 
 /// The planning of a list of placed entries. It goes on as long as no deadline is missed.
@@ -31,13 +32,24 @@ pub struct PlanWalk {
     ghost goes_on: { GoesOn entries window bound period },
 }
 
+/// A place on the walk over a planning: a state, and a planning that stands there or at a later cycle. Up to that cycle
+/// nothing is planned, so the states until then differ by their cycles alone.
+#[derive(Drop)]
+pub struct PlanPlace {
+    /// The state.
+    pub state: PlanState,
+    /// The planning.
+    pub planner: Planner,
+}
+
 impl Walk for PlanWalk {
     type State = PlanState;
 
-    type Here = Planner;
+    type Here = PlanPlace;
 
     ghost use Rattle.std.proofs.Common.{◌-◌};
-    ghost use Rattle.admission.specs.Course.{IsGoodState, course_of, state_in};
+    ghost use Rattle.admission.specs.Course.{IsGoodState, course_of};
+    ghost use Rattle.admission.specs.Walked.{IsOn};
     ghost use Rattle.admission.specs.WalkLaws.{kept, same-symmetric, same-transitive};
 
     ghost course = { λ walk. course_of walk.entries walk.window walk.first walk.bound walk.period };
@@ -46,21 +58,33 @@ impl Walk for PlanWalk {
 
     ghost number = { λ walk state. state.cycle - walk.first.cycle };
 
-    ghost state_of = { λ here. state_in here };
+    ghost state_of = { λ here. here.state };
 
-    ghost is_on = { λ walk here. here.ranking ≡ walk.entries };
+    ghost is_on = { λ walk here. IsOn walk.entries walk.window here.planner here.state };
 
-    fn begin(&self, alloc: Global) -> Result<Planner, AllocError> {
-        self.entries.planner(alloc, &self.first)
+    fn begin(&self, alloc: Global) -> Result<PlanPlace, AllocError> {
+        let planner = self.entries.planner(alloc, &self.first)?;
+        Ok(PlanPlace {
+            state: self.first,
+            planner,
+        })
     }
 
-    fn state(&self, here: &Planner) -> PlanState {
-        here.state()
+    fn state(&self, here: &PlanPlace) -> PlanState {
+        here.state
     }
 
-    fn step(&self, here: &mut Planner) -> Option<PlanState> {
-        match here.step(self.window) {
-            Ok(_) => Some(here.state()),
+    fn step(&self, here: &mut PlanPlace) -> Option<PlanState> {
+        if here.state.cycle < here.planner.state().cycle {
+            here.state.cycle += 1;
+            return Some(here.state);
+        }
+        match here.planner.step(self.window) {
+            Ok(_) => {
+                here.state = here.planner.state();
+                here.planner.pass();
+                Some(here.state)
+            }
             Err(_) => None,
         }
     }
@@ -92,13 +116,13 @@ impl Keyed for PlanWalk {
 
     ghost key_of = { λ walk state. key_in_period walk.bound walk.period state };
 
-    /// Places are counted down to the end of the period: a row of places is as long as the period from the first one on
-    /// where the walk begins a period, and a map finds a least key soonest.
+    /// The place is the cycle's place in the period. So the places of a walk are one more at each step, and a row of
+    /// them grows at its end, where the walk begins a period.
     fn key(&self, state: &PlanState) -> Option<(u128, u64)> {
         let period = self.period?;
         let settled = self.bound <= state.cycle;
-        settled.then_some((state.pending.bits(), period - 1 - state.cycle % period))
+        settled.then_some((state.pending.bits(), state.cycle % period))
     }
 
-    ghost keyed = { λ walk one other _ _ _ _. keyed walk.bound walk.period walk.positive one other };
+    ghost keyed = { λ walk one other _ _ _ _. keyed walk.bound walk.period one other };
 }

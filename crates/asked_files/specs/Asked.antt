@@ -3,8 +3,8 @@ use Rattle.std.specs.Prelude.{◌≡◌, ℕ, Bool, false, List, [], length, if�
 use Rattle.ftt_io.specs.Files.{NamedFiles}
 use Rattle.plan_check.specs.Certificate.{CertificateView}
 use Rattle.plan_check.specs.PlanText.{IsFirstWrongLine, IsPlanOf}
-use Rattle.bus_trace.specs.Row.{AreRowsOf, IsFirstFaultyRow}
-use Rattle.bus_trace.specs.declared.row.LogRow.{LogRow}
+use Rattle.log_reader.specs.Row.{AreRowsOf, IsFirstFaultyRow}
+use Rattle.log_reader.specs.declared.row.LogRow.{LogRow}
 use Rattle.async_window.specs.declared.request.Owner.{Owner}
 use Rattle.async_window.specs.declared.request.Request.{Request}
 use Rattle.system_file.specs.SystemFile.{system_of}

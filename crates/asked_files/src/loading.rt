@@ -1,28 +1,27 @@
 //! What is asked for, from the words of a call and the bytes of the files that they name.
 
 ghost use Rattle.std.specs.Prelude.{◌≡◌, ◌+◌, ◌⊎◌, [], ◌∷◌, IfOk, IfErr, IsErrOf, OnOk, Ok, Some, None, map, option_map};
-ghost use Rattle.std.specs.Prelude.{string_bytes};
+ghost use Rattle.std.specs.Prelude.{string_bytes, length, List, ℕ};
 ghost use Rattle.std.specs.Option.{ForSome};
 ghost use Rattle.ftt_io.specs.Counts.{Rose, next_count};
 ghost use Rattle.system_file.specs.SystemFile.{IsSystem};
 ghost use Rattle.requests_file.specs.RequestsFile.{AreLegal};
 ghost use Rattle.steps_file.specs.StepsFile.{AreLegalSteps};
 ghost use Rattle.sporadic_poll.specs.StreamsFile.{AreLegal as AreLegalStreams};
-ghost use Rattle.command_words.specs.Words.{admit, audit, check, command_of, elastic, file_count, files_named, handover, live_file_count, live_of, named, poll, replay};
+ghost use Rattle.command_words.specs.Words.{admit, audit, check, command_of, elastic, handover, live_of, poll, replay};
 ghost use Rattle.command_words.specs.WordsRead.{command_read, run_read};
 ghost use Rattle.asked_files.specs.Asked.{IsAsked, IsAskedOf, IsLiveAsked, IsLogIn, IsLogMeant, IsLogText, IsPlanIn, IsPlanMeant, job_in, live_log_of, requests_in, steps_in, streams_in, system_in, wish_in, within_limit};
 ghost use Rattle.asked_files.specs.Loads.{Bars, Fetches, IsBarred, IsJob, IsRefusedFor, IsTask, IsToCheck, IsToChoose, asked_of};
 ghost use Rattle.asked_files.specs.OfWords.{IsNamedJob, IsOfCommand, IsOfLiveWords, IsOfWords};
-ghost use Rattle.asked_files.specs.Sources.{IsStoppedAt, StopsAt, count_behind, job_sources, live_sources_of, requests_named};
-ghost use Rattle.asked_files.specs.Sources.{sources_of};
+ghost use Rattle.asked_files.specs.Sources.{Refuses, StopsAmong, StopsOn, WereRead, count_behind, file_count, file_of, first_sources, job_sources, live_file_count, live_sources_of, requests_named, sources_of};
 
 use crate::runs::Job;
 use crate::stopping::{Refusal, Source, Stop};
 use async_window::{Owner, Request};
-use bus_trace::{LogFault, check_log};
 use command_words::{Command, RunWords, command_in, live_in};
 use elastic::{Wish, WishFault, read_wish};
 use ftt_io::{FetchFault, Shelf};
+use log_reader::{LogFault, check_log};
 use plan_check::{Certificate, PlanTextFault, read_plan};
 use requests_file::{RequestFault, read_requests};
 use requirement_table::Mask;
@@ -72,7 +71,8 @@ fn fetch_file<S: Shelf>(
 ) -> Result<Vec<u8>, Stop>
     ensures fetched { Fetches S.told_files S.fetches S.faults shelf.old shelf.new 1 }
     ensures once { S.fetches shelf.new ≡ next_count (S.fetches shelf.old) }
-    ensures at { IfErr result (StopsAt source) }
+    ensures at { IfErr result (StopsOn S.told_files S.faults shelf.old shelf.new
+        (file_of source name.now)) }
     ensures ok { IfOk result (λ bytes. ForSome (S.told_files shelf.old)
         (λ files. within_limit source (files name.now) ≡ Ok bytes.items)) }
     ensures stop { IfErr result (Bars S.told_files S.faults shelf.old shelf.new
@@ -90,7 +90,8 @@ fn fetch_file<S: Shelf>(
 fn load_system<S: Shelf>(alloc: Global, shelf: &mut S, name: &str) -> Result<System, Stop>
     ensures fetched { Fetches S.told_files S.fetches S.faults shelf.old shelf.new 1 }
     ensures once { S.fetches shelf.new ≡ next_count (S.fetches shelf.old) }
-    ensures at { IfErr result (StopsAt Source.System) }
+    ensures at { IfErr result (StopsOn S.told_files S.faults shelf.old shelf.new
+        (file_of Source.System name.now)) }
     ensures valid { IfOk result IsSystem }
     ensures ok { IfOk result (λ system. ForSome (S.told_files shelf.old)
         (λ files. system_in files name.now ≡ Ok system)) }
@@ -109,7 +110,8 @@ fn load_system<S: Shelf>(alloc: Global, shelf: &mut S, name: &str) -> Result<Sys
 fn load_steps<S: Shelf>(alloc: Global, shelf: &mut S, name: &str) -> Result<Vec<Step>, Stop>
     ensures fetched { Fetches S.told_files S.fetches S.faults shelf.old shelf.new 1 }
     ensures once { S.fetches shelf.new ≡ next_count (S.fetches shelf.old) }
-    ensures at { IfErr result (StopsAt Source.Steps) }
+    ensures at { IfErr result (StopsOn S.told_files S.faults shelf.old shelf.new
+        (file_of Source.Steps name.now)) }
     ensures valid { IfOk result (λ steps. AreLegalSteps steps.items) }
     ensures ok { IfOk result (λ steps. ForSome (S.told_files shelf.old)
         (λ files. steps_in files name.now ≡ Ok steps.items)) }
@@ -133,7 +135,8 @@ fn load_requests<S: Shelf>(
 ) -> Result<Vec<Request>, Stop>
     ensures fetched { Fetches S.told_files S.fetches S.faults shelf.old shelf.new 1 }
     ensures once { S.fetches shelf.new ≡ next_count (S.fetches shelf.old) }
-    ensures at { IfErr result (StopsAt Source.Requests) }
+    ensures at { IfErr result (StopsOn S.told_files S.faults shelf.old shelf.new
+        (file_of Source.Requests name.now)) }
     ensures valid { IfOk result (λ requests. AreLegal owners.now requests.items) }
     ensures ok { IfOk result (λ requests. ForSome (S.told_files shelf.old)
         (λ files. requests_in files (Some name.now) owners.now ≡ Ok requests.items)) }
@@ -156,11 +159,12 @@ fn load_named_requests<S: Shelf>(
     owners: &[Owner],
 ) -> Result<Vec<Request>, Stop>
     ensures fetched { Fetches S.told_files S.fetches S.faults shelf.old shelf.new
-        (named (option_map (λ word. word.now) name.entry)) }
+        (length (requests_named (option_map (λ word. word.now) name.entry))) }
     ensures once { S.fetches shelf.new
         ≡ count_behind (S.fetches shelf.old) (requests_named (option_map (λ word. word.now) name.entry)) }
-    ensures at { IfErr result (λ why. StopsAt Source.Requests why
-        × (requests_named (option_map (λ word. word.now) name.entry) ≡ Source.Requests ∷ [])) }
+    ensures at { IfErr result (λ why. (word : List ℕ)
+        × StopsOn S.told_files S.faults shelf.old shelf.new (file_of Source.Requests word) why
+        × (requests_named (option_map (λ word. word.now) name.entry) ≡ file_of Source.Requests word ∷ [])) }
     ensures none { IfOk result
         (λ requests. option_map (λ word. word.now) name.entry ≡ None → requests.items ≡ []) }
     ensures valid { IfOk result (λ requests. AreLegal owners.now requests.items) }
@@ -185,11 +189,12 @@ fn load_job<S: Shelf>(
     requests_name: Option<&str>,
 ) -> Result<Job, Stop>
     ensures fetched { Fetches S.told_files S.fetches S.faults shelf.old shelf.new
-        (2 + named (option_map (λ word. word.now) requests_name.entry)) }
+        (length (job_sources system_name.now steps_name.now (option_map (λ word. word.now) requests_name.entry))) }
     ensures all { OnOk result (S.fetches shelf.new ≡ count_behind (S.fetches shelf.old)
-        (job_sources (option_map (λ word. word.now) requests_name.entry))) }
-    ensures stopped { IfErr result (IsStoppedAt
-        (job_sources (option_map (λ word. word.now) requests_name.entry)) (S.fetches shelf.old) (S.fetches shelf.new)) }
+        (job_sources system_name.now steps_name.now (option_map (λ word. word.now) requests_name.entry))) }
+    ensures first { OnOk result (WereRead (S.told_files shelf.old) (first_sources system_name.now steps_name.now)) }
+    ensures stopped { IfErr result (StopsAmong S.told_files S.fetches S.faults shelf.old shelf.new
+        (job_sources system_name.now steps_name.now (option_map (λ word. word.now) requests_name.entry))) }
     ensures job { IfOk result IsJob }
     ensures named { IfOk result (IsNamedJob (option_map (λ word. word.now) requests_name.entry)) }
     ensures ok { IfOk result (λ job. ForSome (S.told_files shelf.old)
@@ -210,7 +215,7 @@ fn plan_in(alloc: Global, bytes: &[u8]) -> Result<Certificate, Stop>
     ensures certificate { IfOk result IsToCheck }
     ensures ok { IfOk result (λ certificate. IsPlanMeant bytes.now (Ok certificate)) }
     ensures stop { IfErr result (IsRefusedFor (IsPlanMeant bytes.now)) }
-    ensures at { IfErr result (StopsAt Source.Plan) }
+    ensures at { IfErr result (Refuses Source.Plan) }
 {
     let certificate = match read_plan(alloc, bytes) {
         Ok(certificate) => certificate,
@@ -227,7 +232,8 @@ fn plan_in(alloc: Global, bytes: &[u8]) -> Result<Certificate, Stop>
 fn load_plan<S: Shelf>(alloc: Global, shelf: &mut S, name: &str) -> Result<Certificate, Stop>
     ensures fetched { Fetches S.told_files S.fetches S.faults shelf.old shelf.new 1 }
     ensures once { S.fetches shelf.new ≡ next_count (S.fetches shelf.old) }
-    ensures at { IfErr result (StopsAt Source.Plan) }
+    ensures at { IfErr result (StopsOn S.told_files S.faults shelf.old shelf.new
+        (file_of Source.Plan name.now)) }
     ensures certificate { IfOk result IsToCheck }
     ensures ok { IfOk result (λ certificate. ForSome (S.told_files shelf.old)
         (λ files. IsPlanIn files name.now (Ok certificate))) }
@@ -246,11 +252,11 @@ fn load_replay<S: Shelf>(
     tail: Option<u16>,
 ) -> Result<Task, Stop>
     ensures fetched { Fetches S.told_files S.fetches S.faults shelf.old shelf.new
-        (files_named (Some (replay (run_read run.entry) tail))) }
+        (length (sources_of (Some (replay (run_read run.entry) tail)))) }
     ensures all { OnOk result (S.fetches shelf.new
         ≡ count_behind (S.fetches shelf.old) (sources_of (Some (replay (run_read run.entry) tail)))) }
-    ensures stopped { IfErr result (IsStoppedAt
-        (sources_of (Some (replay (run_read run.entry) tail))) (S.fetches shelf.old) (S.fetches shelf.new)) }
+    ensures stopped { IfErr result (StopsAmong S.told_files S.fetches S.faults shelf.old shelf.new
+        (sources_of (Some (replay (run_read run.entry) tail)))) }
     ensures task { IfOk result IsTask }
     ensures words { IfOk result (λ task. IsOfCommand (replay (run_read run.entry) tail) (asked_of task)) }
     ensures ok { IfOk result (λ task. ForSome (S.told_files shelf.old)
@@ -275,8 +281,8 @@ fn load_table<S: Shelf>(
     ensures fetched { Fetches S.told_files S.fetches S.faults shelf.old shelf.new 2 }
     ensures all { OnOk result (S.fetches shelf.new
         ≡ count_behind (S.fetches shelf.old) (sources_of (Some (admit system_name.now steps_name.now)))) }
-    ensures stopped { IfErr result (IsStoppedAt
-        (sources_of (Some (admit system_name.now steps_name.now))) (S.fetches shelf.old) (S.fetches shelf.new)) }
+    ensures stopped { IfErr result (StopsAmong S.told_files S.fetches S.faults shelf.old shelf.new
+        (sources_of (Some (admit system_name.now steps_name.now)))) }
     ensures task { IfOk result IsTask }
     ensures words { IfOk result (λ task. IsOfCommand (admit system_name.now steps_name.now) (asked_of task)) }
     ensures ok { IfOk result (λ task. ForSome (S.told_files shelf.old)
@@ -299,8 +305,8 @@ fn load_check<S: Shelf>(
     ensures fetched { Fetches S.told_files S.fetches S.faults shelf.old shelf.new 3 }
     ensures all { OnOk result (S.fetches shelf.new
         ≡ count_behind (S.fetches shelf.old) (sources_of (Some (check system_name.now steps_name.now plan_name.now)))) }
-    ensures stopped { IfErr result (IsStoppedAt
-        (sources_of (Some (check system_name.now steps_name.now plan_name.now))) (S.fetches shelf.old) (S.fetches shelf.new)) }
+    ensures stopped { IfErr result (StopsAmong S.told_files S.fetches S.faults shelf.old shelf.new
+        (sources_of (Some (check system_name.now steps_name.now plan_name.now)))) }
     ensures task { IfOk result IsTask }
     ensures words { IfOk result (λ task. IsOfCommand (check system_name.now steps_name.now plan_name.now) (asked_of task)) }
     ensures ok { IfOk result (λ task. ForSome (S.told_files shelf.old)
@@ -317,7 +323,8 @@ fn load_check<S: Shelf>(
 fn load_wish<S: Shelf>(alloc: Global, shelf: &mut S, name: &str) -> Result<Wish, Stop>
     ensures fetched { Fetches S.told_files S.fetches S.faults shelf.old shelf.new 1 }
     ensures once { S.fetches shelf.new ≡ next_count (S.fetches shelf.old) }
-    ensures at { IfErr result (StopsAt Source.Wishes) }
+    ensures at { IfErr result (StopsOn S.told_files S.faults shelf.old shelf.new
+        (file_of Source.Wishes name.now)) }
     ensures valid { IfOk result IsToChoose }
     ensures ok { IfOk result (λ wish. ForSome (S.told_files shelf.old)
         (λ files. wish_in files name.now ≡ Ok wish)) }
@@ -343,8 +350,8 @@ fn load_choice<S: Shelf>(
     ensures fetched { Fetches S.told_files S.fetches S.faults shelf.old shelf.new 3 }
     ensures all { OnOk result (S.fetches shelf.new
         ≡ count_behind (S.fetches shelf.old) (sources_of (Some (elastic system_name.now steps_name.now wishes_name.now)))) }
-    ensures stopped { IfErr result (IsStoppedAt
-        (sources_of (Some (elastic system_name.now steps_name.now wishes_name.now))) (S.fetches shelf.old) (S.fetches shelf.new)) }
+    ensures stopped { IfErr result (StopsAmong S.told_files S.fetches S.faults shelf.old shelf.new
+        (sources_of (Some (elastic system_name.now steps_name.now wishes_name.now)))) }
     ensures task { IfOk result IsTask }
     ensures words { IfOk result (λ task. IsOfCommand (elastic system_name.now steps_name.now wishes_name.now) (asked_of task)) }
     ensures ok { IfOk result (λ task. ForSome (S.told_files shelf.old)
@@ -367,13 +374,13 @@ fn load_handover<S: Shelf>(
     requests_name: Option<&str>,
 ) -> Result<Task, Stop>
     ensures fetched { Fetches S.told_files S.fetches S.faults shelf.old shelf.new
-        (2 + named (option_map (λ word. word.now) requests_name.entry)) }
+        (length (job_sources system_name.now steps_name.now (option_map (λ word. word.now) requests_name.entry))) }
     ensures all { OnOk result (S.fetches shelf.new
         ≡ count_behind (S.fetches shelf.old) (sources_of (Some (handover system_name.now steps_name.now at
         (option_map (λ word. word.now) requests_name.entry))))) }
-    ensures stopped { IfErr result (IsStoppedAt
+    ensures stopped { IfErr result (StopsAmong S.told_files S.fetches S.faults shelf.old shelf.new
         (sources_of (Some (handover system_name.now steps_name.now at
-        (option_map (λ word. word.now) requests_name.entry)))) (S.fetches shelf.old) (S.fetches shelf.new)) }
+        (option_map (λ word. word.now) requests_name.entry))))) }
     ensures task { IfOk result IsTask }
     ensures words { IfOk result (λ task. IsOfCommand (handover system_name.now steps_name.now at
         (option_map (λ word. word.now) requests_name.entry)) (asked_of task)) }
@@ -393,7 +400,7 @@ fn log_in(alloc: Global, bytes: Vec<u8>) -> Result<Vec<u8>, Stop>
     ensures text { IfOk result (λ text. IsLogText text.items) }
     ensures ok { IfOk result (λ text. IsLogMeant bytes.items (Ok text.items)) }
     ensures stop { IfErr result (IsRefusedFor (IsLogMeant bytes.items)) }
-    ensures at { IfErr result (StopsAt Source.Log) }
+    ensures at { IfErr result (Refuses Source.Log) }
 {
     match check_log(alloc, bytes.as_slice()) {
         Ok(()) => Ok(bytes),
@@ -406,7 +413,8 @@ fn log_in(alloc: Global, bytes: Vec<u8>) -> Result<Vec<u8>, Stop>
 fn load_log<S: Shelf>(alloc: Global, shelf: &mut S, name: &str) -> Result<Vec<u8>, Stop>
     ensures fetched { Fetches S.told_files S.fetches S.faults shelf.old shelf.new 1 }
     ensures once { S.fetches shelf.new ≡ next_count (S.fetches shelf.old) }
-    ensures at { IfErr result (StopsAt Source.Log) }
+    ensures at { IfErr result (StopsOn S.told_files S.faults shelf.old shelf.new
+        (file_of Source.Log name.now)) }
     ensures text { IfOk result (λ text. IsLogText text.items) }
     ensures ok { IfOk result (λ text. ForSome (S.told_files shelf.old)
         (λ files. IsLogIn files name.now (Ok text.items))) }
@@ -427,13 +435,14 @@ fn load_audit<S: Shelf>(
     requests_name: Option<&str>,
 ) -> Result<Task, Stop>
     ensures fetched { Fetches S.told_files S.fetches S.faults shelf.old shelf.new
-        (3 + named (option_map (λ word. word.now) requests_name.entry)) }
+        (length (sources_of (Some (audit system_name.now steps_name.now log_name.now
+        (option_map (λ word. word.now) requests_name.entry))))) }
     ensures all { OnOk result (S.fetches shelf.new
         ≡ count_behind (S.fetches shelf.old) (sources_of (Some (audit system_name.now steps_name.now log_name.now
         (option_map (λ word. word.now) requests_name.entry))))) }
-    ensures stopped { IfErr result (IsStoppedAt
+    ensures stopped { IfErr result (StopsAmong S.told_files S.fetches S.faults shelf.old shelf.new
         (sources_of (Some (audit system_name.now steps_name.now log_name.now
-        (option_map (λ word. word.now) requests_name.entry)))) (S.fetches shelf.old) (S.fetches shelf.new)) }
+        (option_map (λ word. word.now) requests_name.entry))))) }
     ensures task { IfOk result IsTask }
     ensures words { IfOk result (λ task. IsOfCommand (audit system_name.now steps_name.now log_name.now
         (option_map (λ word. word.now) requests_name.entry)) (asked_of task)) }
@@ -460,7 +469,8 @@ fn load_streams<S: Shelf>(
 ) -> Result<Vec<Stream>, Stop>
     ensures fetched { Fetches S.told_files S.fetches S.faults shelf.old shelf.new 1 }
     ensures once { S.fetches shelf.new ≡ next_count (S.fetches shelf.old) }
-    ensures at { IfErr result (StopsAt Source.Streams) }
+    ensures at { IfErr result (StopsOn S.told_files S.faults shelf.old shelf.new
+        (file_of Source.Streams name.now)) }
     ensures valid { IfOk result (λ streams. AreLegalStreams slots streams.items) }
     ensures ok { IfOk result (λ streams. ForSome (S.told_files shelf.old)
         (λ files. streams_in files name.now slots ≡ Ok streams.items)) }
@@ -486,8 +496,8 @@ fn load_poll<S: Shelf>(
     ensures fetched { Fetches S.told_files S.fetches S.faults shelf.old shelf.new 3 }
     ensures all { OnOk result (S.fetches shelf.new
         ≡ count_behind (S.fetches shelf.old) (sources_of (Some (poll system_name.now steps_name.now streams_name.now)))) }
-    ensures stopped { IfErr result (IsStoppedAt
-        (sources_of (Some (poll system_name.now steps_name.now streams_name.now))) (S.fetches shelf.old) (S.fetches shelf.new)) }
+    ensures stopped { IfErr result (StopsAmong S.told_files S.fetches S.faults shelf.old shelf.new
+        (sources_of (Some (poll system_name.now steps_name.now streams_name.now)))) }
     ensures task { IfOk result IsTask }
     ensures words { IfOk result (λ task. IsOfCommand (poll system_name.now steps_name.now streams_name.now) (asked_of task)) }
     ensures ok { IfOk result (λ task. ForSome (S.told_files shelf.old)
@@ -504,11 +514,11 @@ fn load_poll<S: Shelf>(
 /// The task that a command asks for.
 fn load_command<S: Shelf>(alloc: Global, shelf: &mut S, command: Command<'_>) -> Result<Task, Stop>
     ensures fetched { Fetches S.told_files S.fetches S.faults shelf.old shelf.new
-        (files_named (Some (command_read command.entry))) }
+        (length (sources_of (Some (command_read command.entry)))) }
     ensures all { OnOk result (S.fetches shelf.new
         ≡ count_behind (S.fetches shelf.old) (sources_of (Some (command_read command.entry)))) }
-    ensures stopped { IfErr result (IsStoppedAt
-        (sources_of (Some (command_read command.entry))) (S.fetches shelf.old) (S.fetches shelf.new)) }
+    ensures stopped { IfErr result (StopsAmong S.told_files S.fetches S.faults shelf.old shelf.new
+        (sources_of (Some (command_read command.entry)))) }
     ensures task { IfOk result IsTask }
     ensures words { IfOk result (λ task. IsOfCommand (command_read command.entry) (asked_of task)) }
     ensures ok { IfOk result (λ task. ForSome (S.told_files shelf.old)
@@ -556,8 +566,8 @@ pub fn load<S: Shelf>(alloc: Global, words: &[String], shelf: &mut S) -> Result<
         (file_count (map string_bytes words.now)) }
     ensures all { OnOk result (S.fetches shelf.new
         ≡ count_behind (S.fetches shelf.old) (sources_of (command_of (map string_bytes words.now)))) }
-    ensures stopped { IfErr result (IsStoppedAt
-        (sources_of (command_of (map string_bytes words.now))) (S.fetches shelf.old) (S.fetches shelf.new)) }
+    ensures stopped { IfErr result (StopsAmong S.told_files S.fetches S.faults shelf.old shelf.new
+        (sources_of (command_of (map string_bytes words.now)))) }
     ensures task { IfOk result IsTask }
     ensures words { IfOk result (λ task. IsOfWords (map string_bytes words.now) (asked_of task)) }
     ensures ok { IfOk result (λ task. ForSome (S.told_files shelf.old)
@@ -578,8 +588,8 @@ pub fn load_live<S: Shelf>(alloc: Global, words: &[String], shelf: &mut S) -> Re
         (live_file_count (map string_bytes words.now)) }
     ensures all { OnOk result (S.fetches shelf.new
         ≡ count_behind (S.fetches shelf.old) (live_sources_of (live_of (map string_bytes words.now)))) }
-    ensures stopped { IfErr result (IsStoppedAt
-        (live_sources_of (live_of (map string_bytes words.now))) (S.fetches shelf.old) (S.fetches shelf.new)) }
+    ensures stopped { IfErr result (StopsAmong S.told_files S.fetches S.faults shelf.old shelf.new
+        (live_sources_of (live_of (map string_bytes words.now)))) }
     ensures job { IfOk result (λ task. IsJob task.job) }
     ensures words { IfOk result
         (λ task. IsOfLiveWords (map string_bytes words.now) (live_log_of task.job task.report)) }

@@ -1,10 +1,11 @@
 //! Mailboxes: the requests of some identifiers, first in, first out for each identifier.
 
 ghost use Rattle.std.specs.Prelude.{◌≡◌, ◌≢◌, ◌↔◌, ℕ, ◌+◌, ◌-◌, ◌/◌, ◌<◌, ◌≤◌, ◌==◌, [], ◌++◌, All};
-ghost use Rattle.std.specs.Prelude.{AllPairs, IfOk, IfSome, IsSome, MatchOption, Some, true, drop, is_some};
-ghost use Rattle.std.specs.Prelude.{if◌then◌else◌, length, map, min, option_map, slice_get, slice_index_or};
+ghost use Rattle.std.specs.Prelude.{AllPairs, IfOk, IfSome, IsSome, MatchOption, None, Some, false, true, drop};
+ghost use Rattle.std.specs.Prelude.{if◌then◌else◌, is_some, length, map, min, option_map, slice_get, slice_index_or};
 ghost use Rattle.std.specs.Option.{option_map_or, option_to_list};
 ghost use Rattle.profile.specs.Limits.{arrivals_end, greatest_identifier, least_asynchronous, times_end};
+ghost use Rattle.cycle_layout.specs.Layout.{CycleLayout};
 ghost use Rattle.async_window.specs.Mailbox.{IsLeastWith, IsMail, IsNextInCycle, Mail, Offers, StaysUntil};
 ghost use Rattle.async_window.specs.Mailbox.{least_of, left, mail_after, mail_offer, unsent_of, without_first};
 ghost use Rattle.async_window.specs.Adding.{with_request};
@@ -140,6 +141,14 @@ impl Mailboxes {
             },
             None => None,
         }
+    }
+
+    /// Whether a first unsent request has arrived at a time. Where none has, nothing is offered up to that time.
+    pub fn has_arrived(&self, at: u64) -> bool
+        ensures none { result ≡ false → (layout : CycleLayout) (l later : ℕ) → later ≤ at
+            → mail_offer layout l self.now later ≡ None }
+    {
+        self.firsts.has_arrived(self.boxes.as_slice(), at)
     }
 
     /// The frame of the first unsent request of an identifier, where there is one.

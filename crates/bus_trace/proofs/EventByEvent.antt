@@ -8,7 +8,7 @@ use Rattle.master_core.specs.History.{AllAfter}
 use Rattle.bus_trace.specs.EventRows.{SaysWidth, opened_row, rows_of_event, told_of_event}
 use Rattle.bus_trace.specs.Log.{event_rows, events_rows, frame_row, started_in}
 use Rattle.bus_trace.specs.LogRows.{event_told, events_told}
-use Rattle.bus_trace.specs.declared.row.LogRow.TheVariants as row
+use Rattle.log_reader.specs.declared.row.LogRow.TheVariants as row
 use Rattle.bus_trace.specs.Logged.{frames_of_event}
 
 one-event : (trace : List TimedFrame) (before : List Event) (event : Event) → SaysWidth trace before event

@@ -21,8 +21,8 @@ use Rattle.bus_trace.specs.Log.{event_rows, events_rows, frame_row}
 use Rattle.bus_trace.specs.EventRows.{opened_row}
 use Rattle.bus_trace.specs.Logged.{HasEntries, IsFormed, IsFormedIn, IsInTurn, IsLeft, IsNear, frames_of_event, rows_with, told_with}
 use Rattle.bus_trace.specs.LogRows.{event_told, events_told}
-use Rattle.bus_trace.specs.Row.{IsLogRow}
-use Rattle.bus_trace.specs.declared.row.LogRow.TheVariants as row
+use Rattle.log_reader.specs.Row.{IsLogRow}
+use Rattle.log_reader.specs.declared.row.LogRow.TheVariants as row
 use Rattle.bus_trace.proofs.Width.{width-same}
 
 -- Rows

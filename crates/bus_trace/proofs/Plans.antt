@@ -3,8 +3,8 @@ use Rattle.std.proofs.Common.{◌≡◌, ℕ, ◌+◌, ◌<◌, List, [], ◌∷
 use Rattle.std.proofs.lemmas.List.{take_more, length-take-le}
 use Rattle.std.proofs.lemmas.List.Elements.{All-push}
 use Rattle.bus_trace.specs.LogRows.{plan_told}
-use Rattle.bus_trace.specs.Row.{IsLogRow}
-use Rattle.bus_trace.specs.declared.row.LogRow.TheVariants.{Plan}
+use Rattle.log_reader.specs.Row.{IsLogRow}
+use Rattle.log_reader.specs.declared.row.LogRow.TheVariants.{Plan}
 
 -- the last mask's row comes last
 plan_told-push : (cycle at : ℕ) (masks : List ℕ) (mask : ℕ) → at ≡ cycle + length masks

@@ -8,12 +8,12 @@ use Rattle.std.proofs.lemmas.List.{append-nil, drop_all, map-append}
 use Rattle.std.proofs.lemmas.List.Elements.{All-append, All-cons}
 use Rattle.std.proofs.Math.Seq.{drop-cons}
 use Rattle.ftt_io.specs.Puts.{Puts, PutsPrefix}
-use Rattle.ftt_io.proofs.Shared.{Puts-append, PutsPrefix-append}
+use Rattle.ftt_io.proofs.Shared.{Puts-append, PutsPrefix-append, PutsPrefix-longer}
 use Rattle.can_frame.specs.declared.data_frame.TimedFrame.{TimedFrame}
 use Rattle.bus_trace.specs.Log.{frame_row, hex_digits, plan_row, plan_rows}
-use Rattle.bus_trace.specs.Row.{IsLogRow}
-use Rattle.bus_trace.specs.declared.row.LogRow.{LogRow}
-use Rattle.bus_trace.specs.declared.row.LogRow.TheVariants.{Frame}
+use Rattle.log_reader.specs.Row.{IsLogRow}
+use Rattle.log_reader.specs.declared.row.LogRow.{LogRow}
+use Rattle.log_reader.specs.declared.row.LogRow.TheVariants.{Frame}
 
 -- the rows from a place on begin with the row at the place
 pub frame_rows-at : (frames : List TimedFrame) (place : ℕ) (d sent : TimedFrame) → place < length frames → get_or frames place d ≡ sent
@@ -53,12 +53,7 @@ pub told-joined : (left some later : List TimedFrame) → left ≡ some ++ later
 told-joined left some later is first rest =
     subst (All IsLogRow) (sym (told-split left some later is)) (All-append IsLogRow (map Frame some) (map Frame later) first rest)
 
--- a row and the rows of some frames, and behind them those of the others
-pub cycle-split : (row : List ℕ) (left some later : List TimedFrame) → left ≡ some ++ later
-    → (row ++ flat_map frame_row some) ++ flat_map frame_row later ≡ row ++ flat_map frame_row left
-cycle-split row left some later is =
-    append_assoc row (flat_map frame_row some) (flat_map frame_row later) ∙ ap (λ l. row ++ l) (sym (rows-split left some later is))
-
+-- with the row of a cycle before them
 pub cycle-told : (row : LogRow) (left some later : List TimedFrame) → left ≡ some ++ later
     → All IsLogRow (row ∷ map Frame some) → All IsLogRow (map Frame later) → All IsLogRow (row ∷ map Frame left)
 cycle-told row left some later is first rest =
@@ -110,3 +105,23 @@ pub prefix-behind : {T E : Type 0} (result : Result T E) (old between new : Opti
     → OnErr result (PutsPrefix between new second) → OnErr result (PutsPrefix old new (first ++ second))
 prefix-behind (Ok x) old between new first second p q = tt
 prefix-behind (Err e) old between new first second p q = PutsPrefix-append old between new first p q
+
+-- The rows of a cycle: one call puts its own row and those of some frames, and the next one those of the others.
+module _ (row first : List ℕ) (left some later : List TimedFrame) (is : left ≡ some ++ later) (first-is : first ≡ row ++ flat_map frame_row some) where
+  cycle-split : first ++ flat_map frame_row later ≡ row ++ flat_map frame_row left
+  cycle-split =
+      ap (λ l. l ++ flat_map frame_row later) first-is ∙ append_assoc row (flat_map frame_row some) (flat_map frame_row later)
+      ∙ ap (λ l. row ++ l) (sym (rows-split left some later is))
+
+  pub cycle-stopped : {old new : Option (List ℕ)} → PutsPrefix old new first → PutsPrefix old new (row ++ flat_map frame_row left)
+  cycle-stopped {old = old} {new = new} p = subst (PutsPrefix old new) cycle-split (PutsPrefix-longer (flat_map frame_row later) p)
+
+  pub cycle-all : {T E : Type 0} (result : Result T E) (old between new : Option (List ℕ)) → Puts old between first
+      → OnOk result (Puts between new (flat_map frame_row later)) → OnOk result (Puts old new (row ++ flat_map frame_row left))
+  cycle-all result old between new p q =
+      subst (λ bytes. OnOk result (Puts old new bytes)) cycle-split (all-behind result old between new first (flat_map frame_row later) p q)
+
+  pub cycle-prefix : {T E : Type 0} (result : Result T E) (old between new : Option (List ℕ)) → Puts old between first
+      → OnErr result (PutsPrefix between new (flat_map frame_row later)) → OnErr result (PutsPrefix old new (row ++ flat_map frame_row left))
+  cycle-prefix result old between new p q =
+      subst (λ bytes. OnErr result (PutsPrefix old new bytes)) cycle-split (prefix-behind result old between new first (flat_map frame_row later) p q)

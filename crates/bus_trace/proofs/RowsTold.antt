@@ -15,8 +15,8 @@ use Rattle.master_core.specs.History.{next_of, placed_of}
 use Rattle.bus_trace.specs.Log.{event_rows, events_rows, frame_row, hex_digits, last_field, log_text, look_row, mask_digits, plan_row, plan_rows, started_in, submit_row, until_of, verdict_fields}
 use Rattle.bus_trace.specs.EventRows.{opened_row}
 use Rattle.bus_trace.specs.LogRows.{event_told, events_told, log_rows, plan_told, verdict_told}
-use Rattle.bus_trace.specs.Row.{field_of_until, fields_of_verdict, row_text, text_of_rows}
-use Rattle.bus_trace.specs.declared.row.LogRow.TheVariants as row
+use Rattle.log_reader.specs.Row.{field_of_until, fields_of_verdict, row_text, text_of_rows}
+use Rattle.log_reader.specs.declared.row.LogRow.TheVariants as row
 
 -- Fields, and the commas between them
 

@@ -2,4 +2,3 @@
 pub use Rattle.bus_trace.proofs.LogHistory.{events_rows-append, events_rows-push, one_or_none}
 pub use Rattle.bus_trace.proofs.Width.{width-le}
 pub use Rattle.bus_trace.proofs.LogTrace.{started_in-later, starts-elsewhere, triggers_with-le, triggers_with-trigger}
-pub use Rattle.bus_trace.proofs.Readings.{none-found}

@@ -10,8 +10,8 @@ use Rattle.master_core.specs.declared.event.Event.TheVariants.{Submit, Look, Ope
 use Rattle.master_core.specs.History.{placed_of}
 use Rattle.bus_trace.specs.Log.{frame_row, look_row, mask_digits, plan_rows, started_in, submit_row}
 use Rattle.bus_trace.specs.LogRows.{plan_told, verdict_told}
-use Rattle.bus_trace.specs.declared.row.LogRow.{LogRow}
-use Rattle.bus_trace.specs.declared.row.LogRow.TheVariants as row
+use Rattle.log_reader.specs.declared.row.LogRow.{LogRow}
+use Rattle.log_reader.specs.declared.row.LogRow.TheVariants as row
 
 -- the frames of an opened cycle: first its first trigger frame, which says some length of the synchronous window, and
 -- then no other frame with identifier 0

@@ -1,10 +1,6 @@
 pub mod EventRows
-pub mod FaultText
 pub mod LastRows
 pub mod Log
-pub mod LogReading
 pub mod LogRows
 pub mod Logged
 pub mod Recent
-pub mod Row
-pub mod RowFields

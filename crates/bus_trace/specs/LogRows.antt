@@ -9,10 +9,10 @@ use Rattle.master_core.specs.declared.event.Event.{Event}
 use Rattle.master_core.specs.declared.event.Event.TheVariants.{Submit, Look, Open}
 use Rattle.master_core.specs.History.{next_of, placed_of}
 use Rattle.bus_trace.specs.Log.{started_in, until_of}
-use Rattle.bus_trace.specs.declared.row.LogRow.{LogRow}
-use Rattle.bus_trace.specs.declared.row.LogRow.TheVariants as row
-use Rattle.bus_trace.specs.declared.row.LogVerdict.{LogVerdict}
-use Rattle.bus_trace.specs.declared.row.LogVerdict.TheVariants as told
+use Rattle.log_reader.specs.declared.row.LogRow.{LogRow}
+use Rattle.log_reader.specs.declared.row.LogRow.TheVariants as row
+use Rattle.log_reader.specs.declared.row.LogVerdict.{LogVerdict}
+use Rattle.log_reader.specs.declared.row.LogVerdict.TheVariants as told
 
 -- a verdict, as a row tells it
 abbrev pub verdict_told : Verdict → LogVerdict

@@ -15,7 +15,7 @@ use Rattle.master_core.specs.declared.event.Event.{Event}
 use Rattle.master_core.specs.declared.event.Event.TheVariants.{Submit, Look, Open}
 use Rattle.bus_trace.specs.Log.{started_in}
 use Rattle.bus_trace.specs.EventRows.{rows_at, told_at}
-use Rattle.bus_trace.specs.declared.row.LogRow.{LogRow}
+use Rattle.log_reader.specs.declared.row.LogRow.{LogRow}
 
 -- The frames
 

@@ -9,11 +9,10 @@ ghost use Rattle.bus_trace.specs.EventRows.{SaysWidth, rows_of_event, told_of_ev
 ghost use Rattle.bus_trace.specs.LastRows.{AreRows};
 ghost use Rattle.bus_trace.specs.Log.{end_row, log_text, started_in};
 ghost use Rattle.bus_trace.specs.LogRows.{log_rows};
-ghost use Rattle.bus_trace.specs.LogReading.{IsBehind, RowReader};
-ghost use Rattle.bus_trace.specs.Row.{AreRowsOf, IsFirstFaultyRow, text_of_rows};
+ghost use Rattle.log_reader.specs.Row.{text_of_rows};
 ghost use Rattle.bus_trace.specs.Logged.{frames_of_event, is_trigger};
-ghost use Rattle.bus_trace.specs.declared.row.LogRow.{LogRow};
-ghost use Rattle.bus_trace.specs.declared.row.LogRow.TheVariants.{End};
+ghost use Rattle.log_reader.specs.declared.row.LogRow.{LogRow};
+ghost use Rattle.log_reader.specs.declared.row.LogRow.TheVariants.{End};
 
 /// Where each trigger says the length of its cycle's synchronous window, the rows of the events of a history, each with
 /// the frames that start in the cycle that it opens, and then the last row, are the log: as texts, and as values.
@@ -45,15 +44,4 @@ pub fn frames_by_cycle()
 pub fn rows_are_whole()
     ensures event { (event : Event) (frames : List TimedFrame) → AreRows (rows_of_event event frames) }
     ensures end { (next : ℕ) → AreRows (end_row next) }
-{}
-
-/// A text is the rows of a log in one way only, and has no faulty row then. The rows that were read so far are the first
-/// of these rows.
-pub fn one_log()
-    ensures one { (bytes : List ℕ) (rows others : List LogRow) → AreRowsOf bytes rows → AreRowsOf bytes others
-        → rows ≡ others }
-    ensures no_fault { (bytes : List ℕ) (rows : List LogRow) (number : ℕ) → AreRowsOf bytes rows
-        → IsFirstFaultyRow bytes number → ⊥ }
-    ensures first { (bytes : List ℕ) (reader : RowReader) (read rows : List LogRow) → IsBehind bytes reader read
-        → AreRowsOf bytes rows → (later : List LogRow) × (rows ≡ read ++ later) }
 {}

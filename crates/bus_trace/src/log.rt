@@ -12,7 +12,7 @@ ghost use Rattle.bus_trace.specs.Log.{log_text};
 ghost use Rattle.bus_trace.specs.LogRows.{log_rows};
 ghost use Rattle.bus_trace.specs.Logged.{HasEntries, IsFormedIn, IsInTurn, IsLeft};
 ghost use Rattle.bus_trace.specs.Logged.{IsNear, frames_of_event, rows_with, told_with, width_with};
-ghost use Rattle.bus_trace.specs.Row.{IsLogRow};
+ghost use Rattle.log_reader.specs.Row.{IsLogRow};
 
 use crate::entries::Entries;
 use crate::frames::{cycle_len, until_trigger};

@@ -10,8 +10,8 @@ ghost use Rattle.bus_trace.specs.Log.{end_row, frame_row, last_field, look_row, 
 ghost use Rattle.bus_trace.specs.Log.{submit_row, until_of, verdict_fields};
 ghost use Rattle.bus_trace.specs.LogRows.{verdict_told};
 ghost use Rattle.bus_trace.specs.EventRows.{opened_row};
-ghost use Rattle.bus_trace.specs.Row.{IsLogRow, IsLogVerdict};
-ghost use Rattle.bus_trace.specs.declared.row.LogRow.TheVariants.{Submit, Plan, Look, Open, Frame, End};
+ghost use Rattle.log_reader.specs.Row.{IsLogRow, IsLogVerdict};
+ghost use Rattle.log_reader.specs.declared.row.LogRow.TheVariants.{Submit, Plan, Look, Open, Frame, End};
 
 use admission::Verdict;
 use can_frame::TimedFrame;

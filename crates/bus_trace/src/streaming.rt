@@ -10,8 +10,8 @@ ghost use Rattle.bus_trace.specs.EventRows.{opened_row, width_told_in};
 ghost use Rattle.bus_trace.specs.Log.{end_row, frame_row, plan_rows};
 ghost use Rattle.bus_trace.specs.LogRows.{plan_told};
 ghost use Rattle.bus_trace.specs.Logged.{IsNear};
-ghost use Rattle.bus_trace.specs.Row.{IsLogRow};
-ghost use Rattle.bus_trace.specs.declared.row.LogRow.TheVariants.{Frame as FrameRow, Open as OpenRow, End};
+ghost use Rattle.log_reader.specs.Row.{IsLogRow};
+ghost use Rattle.log_reader.specs.declared.row.LogRow.TheVariants.{Frame as FrameRow, Open as OpenRow, End};
 
 use crate::gathering::Gathered;
 use crate::rows::{
@@ -119,31 +119,7 @@ fn put_frame_rows<O: Sink>(
 }
 
 /// Puts the row of an opened cycle and those of the frames that were sent in it, its own and up to 16 of theirs by a
-/// call.
-fn put_full_cycle<O: Sink>(
-    out: &mut O,
-    cycle: u64,
-    mask: Mask,
-    width: u32,
-    frames: &[TimedFrame],
-) -> Result<(), Failed>
-    ensures faults_never_fall { O.faults out.old ≤ O.faults out.new }
-    ensures all { OnOk result
-        (Puts (O.told_bytes out.old) (O.told_bytes out.new)
-        (opened_row cycle mask width ++ flat_map frame_row frames.now)) }
-    ensures failed { OnErr result (Rose (O.faults out.old) (O.faults out.new)) }
-    ensures prefix { OnErr result
-        (PutsPrefix (O.told_bytes out.old) (O.told_bytes out.new)
-        (opened_row cycle mask width ++ flat_map frame_row frames.now)) }
-    ensures in_range { OnOk result (All IsLogRow (OpenRow cycle mask width ∷ map FrameRow frames.now)) }
-{
-    let mut rows = [0; ROWS_ROOM];
-    let (first, later) = frames.split_at(frames.len().min(FRAMES_TOGETHER));
-    write_all(out, opened_rows(&mut rows, cycle, mask, width, first))?;
-    put_frame_rows(out, &mut rows, later)
-}
-
-/// Puts the row of an opened cycle and those of the frames that were sent in it. Many cycles have one frame alone.
+/// call. Many cycles have one frame alone.
 fn put_cycle<O: Sink>(
     out: &mut O,
     cycle: u64,
@@ -165,11 +141,14 @@ fn put_cycle<O: Sink>(
         let mut row = [0; ROOM];
         return write_all(out, lone_rows(&mut row, cycle, mask, width, sent));
     }
-    put_full_cycle(out, cycle, mask, width, frames)
+    let mut rows = [0; ROWS_ROOM];
+    let (first, later) = frames.split_at(frames.len().min(FRAMES_TOGETHER));
+    write_all(out, opened_rows(&mut rows, cycle, mask, width, first))?;
+    put_frame_rows(out, &mut rows, later)
 }
 
-/// Puts the rows of an event and of these frames, up to 16 frames of a cycle together. Where the event opens a cycle, the cycle's
-/// synchronous window has this length, in bit times.
+/// Puts the rows of an event and of these frames, up to 16 frames of a cycle together. Where the event opens a cycle,
+/// the cycle's synchronous window has this length, in bit times.
 pub fn put_rows<O: Sink>(
     out: &mut O,
     event: &Event,

@@ -1,4 +1,5 @@
 mod Allowed
+mod Ends
 mod First
 mod Kept
 mod Live

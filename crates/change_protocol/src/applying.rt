@@ -1,81 +1,58 @@
 //! The application of a change.
 
-ghost use Rattle.std.specs.Prelude.{◌≡◌, ◌<◌, ◌≤◌, ◌++◌, ◌&&◌, ◌||◌, ℕ, []};
-ghost use Rattle.std.specs.Prelude.{Some, None, All, IfErr, IfOk, OnOk, is_none, if◌then◌else◌, map};
-ghost use Rattle.std.specs.List.{cons_option, filter_map, list_any};
+ghost use Rattle.std.specs.Prelude.{◌≡◌, ◌<◌, ◌≤◌, ◌++◌, ℕ, []};
+ghost use Rattle.std.specs.Prelude.{Some, None, All, IfErr, IfOk, IfSome, OnOk, map, length, slice_index_or, slice_set};
+ghost use Rattle.std.specs.List.{cons_option, filter_map};
 ghost use Rattle.profile.specs.Limits.{starts_end};
-ghost use Rattle.requirement_table.specs.Slots.{contains_slot, most_slots};
+ghost use Rattle.requirement_table.specs.declared.entries.Placed.{Placed};
+ghost use Rattle.requirement_table.specs.Slots.{most_slots};
 ghost use Rattle.requirement_table.specs.Table.{IsWellPlaced};
 ghost use Rattle.change_protocol.specs.Applied.{IsChangedAt, applied, ended, origin_behind, placed_by};
 ghost use Rattle.change_protocol.specs.Malformed.{IsFaultOf, IsWellFormed, bounds_of};
-ghost use Rattle.change_protocol.specs.Operations.{HasTypes, IsTyped, ends, slot_of};
+ghost use Rattle.change_protocol.specs.Operations.{HasTypes, IsTyped, slot_of};
+ghost use Rattle.change_protocol.specs.Slots.{FindsOnly, ended_by};
 ghost use Rattle.change_protocol.specs.declared.malformed.ApplyFault.TheVariants.{Memory};
 
 use crate::malformed::ApplyFault;
 use crate::operations::{Change, Op};
 use crate::rules::{check_change, check_operations};
 use crate::slots::Table;
-use requirement_table::{Entry, Mask, Placed};
+use requirement_table::{Entry, Placed, copy_with_room};
 use std::alloc::Global;
 
-/// The slots whose live entries the operations end.
-fn ended_slots(ops: &[Op]) -> Mask
-    requires { All (λ op. slot_of op < most_slots) ops.now }
-    ensures { (slot : ℕ) → contains_slot result slot ≡ list_any (ends slot) ops.now }
-{
-    let mut ended = Mask::empty();
-    for op in ops {
-        ended = with_ended(ended, op);
-    }
-    ended
-}
-
-/// The set with the slot in it whose live entry the operation ends.
-fn with_ended(ended: Mask, op: &Op) -> Mask
+/// The place of the live entry that the operation ends, where it ends one.
+fn ended_place(table: &Table, op: &Op) -> Option<usize>
     requires { slot_of op.now < most_slots }
-    ensures { (slot : ℕ) → contains_slot result slot ≡ (ends slot op.now || contains_slot ended slot) }
+    ensures only { FindsOnly (ended_by op.now) table.now.placed.now result }
 {
     match op {
-        Op::Add { .. } => ended,
-        Op::Remove { slot } => ended.with(*slot),
-        Op::Change { entry } => ended.with(entry.slot),
+        Op::Add { .. } => None,
+        Op::Remove { slot } => table.live_place(*slot),
+        Op::Change { entry } => table.live_place(entry.slot),
     }
 }
 
-/// A placed entry after operations at `start` that end the live entries of these slots.
-fn after(p: &Placed, ended: Mask, start: u64) -> Placed
-    requires { p.now.entry.slot < most_slots }
-    ensures { result ≡ (if is_none p.now.end && contains_slot ended p.now.entry.slot
-        then record p.now { end = Some start } else p.now) }
+/// Sets the end of the entry at the place, where there is one.
+fn set_end(list: &mut Vec<Placed>, place: Option<usize>, start: u64)
+    requires within { IfSome place (λ k. k < length list.old.items) }
+    ensures none { place ≡ None → list.new.items ≡ list.old.items }
+    ensures some { (k : ℕ) (d : Placed) → place ≡ Some k → list.new.items
+        ≡ slice_set list.old.items k (record (slice_index_or list.old.items k d) { end = Some start }) }
 {
-    if p.end.is_none() && ended.has(p.entry.slot) {
-        Placed {
-            end: Some(start),
-            ..*p
-        }
-    } else {
-        *p
+    if let Some(place) = place {
+        list[place].end = Some(start);
     }
 }
 
-/// The placed entries with the ends that the operations set.
-fn with_ends(
-    alloc: Global,
-    placed: &[Placed],
-    start: u64,
-    ops: &[Op],
-) -> Result<Vec<Placed>, ApplyFault>
-    requires placed { All (λ p. p.entry.slot < most_slots) placed.now }
-    requires ops { All (λ op. slot_of op < most_slots) ops.now }
-    ensures list { IfOk result (λ list. list.items ≡ map (ended start ops.now) placed.now) }
-    ensures fault { IfErr result (λ fault. fault ≡ Memory) }
+/// Sets the ends that the operations set in a copy of the table's entries.
+fn set_ends(list: &mut Vec<Placed>, table: &Table, start: u64, ops: &[Op])
+    requires slots { All (λ op. slot_of op < most_slots) ops.now }
+    requires copy { list.old.items ≡ table.now.placed.now }
+    ensures list { list.new.items ≡ map (ended start ops.now) table.now.placed.now }
 {
-    let ended = ended_slots(ops);
-    let mut list = Vec::new(alloc);
-    for p in placed {
-        list.push(after(p, ended, start))?;
+    for op in ops {
+        set_end(list, ended_place(table, op), start);
     }
-    Ok(list)
 }
 
 /// The entry with this origin and no end.
@@ -175,7 +152,8 @@ pub fn apply(
     check_change(change.start, ops)?;
     let table = Table::of(placed);
     check_operations(&table, nodes, slots, change.start, ops)?;
-    let mut list = with_ends(alloc, placed, change.start, ops)?;
+    let mut list = copy_with_room(alloc, placed, ops.len())?;
+    set_ends(&mut list, &table, change.start, ops);
     place(&mut list, &table, change.start, ops)?;
     Ok(list)
 }

@@ -3,7 +3,7 @@
 ghost use Rattle.std.specs.Prelude.{◌≡◌};
 ghost use Rattle.change_protocol.specs.Code.{code_of};
 
-use std::alloc::AllocFailed;
+use std::alloc::{AllocError, AllocFailed};
 use std::error::Error;
 use std::fmt;
 
@@ -95,6 +95,17 @@ pub enum ApplyFault {
     },
     /// Memory ran out, which says nothing of the change.
     Memory,
+}
+
+impl From<AllocError> for ApplyFault {
+    ghost use Rattle.std.specs.Prelude.{◌≡◌};
+    ghost use Rattle.change_protocol.specs.declared.malformed.ApplyFault.TheVariants.{Memory};
+
+    ghost from_gives = { λ _ fault. fault ≡ Memory };
+
+    fn from(_: AllocError) -> ApplyFault {
+        ApplyFault::Memory
+    }
 }
 
 impl<T: Drop> From<AllocFailed<T>> for ApplyFault {

@@ -1,10 +1,11 @@
 //! What the placed entries make of each slot.
 
-ghost use Rattle.std.specs.Prelude.{◌≡◌, ◌<◌, IfSome};
+ghost use Rattle.std.specs.Prelude.{◌≡◌, ◌<◌, None, IfSome};
 ghost use Rattle.std.proofs.Props.{props};
 ghost use Rattle.requirement_table.specs.Slots.{most_slots};
 ghost use Rattle.requirement_table.specs.Table.{IsInRange, IsWellPlaced};
-ghost use Rattle.change_protocol.specs.Slots.{AreUses, use_after, use_of};
+ghost use Rattle.change_protocol.specs.Slots.{AreUpToLast, FindsOnly, IsLastAt, ended_by, unused, use_by, use_of};
+ghost use Rattle.change_protocol.specs.declared.operations.Op.TheVariants.{Remove};
 
 use requirement_table::{MOST_SLOTS, Placed};
 
@@ -13,37 +14,36 @@ use requirement_table::{MOST_SLOTS, Placed};
 pub struct SlotUse {
     // The slot's live entry.
     pub live: Option<Placed>,
-    // The cycle from which the slot is free of its entries that have an end: the greatest end + deadline - 1, or 0
-    // where none has an end.
+    // The cycle from which a slot without a live entry is free: the greatest end + deadline - 1 of its entries, or 0
+    // where it has none.
     pub free: u64,
 }
 
-impl SlotUse {
-    /// The slot after one entry of it more.
-    fn after(self, p: &Placed) -> SlotUse
-        requires { IsInRange p.now }
-        ensures { result ≡ use_after p.now self }
-    {
-        match p.end {
-            Some(end) => SlotUse {
-                live: self.live,
-                free: self.free.max(end + u64::from(p.entry.deadline) - 1),
-            },
-            None => SlotUse {
-                live: self.live.or(Some(*p)),
-                free: self.free,
-            },
-        }
+/// What the placed entries make of a slot whose last entry is this one.
+fn use_by(p: &Placed) -> SlotUse
+    requires { IsInRange p.now }
+    ensures { result ≡ use_by p.now }
+{
+    match p.end {
+        Some(end) => SlotUse {
+            live: None,
+            free: end + u64::from(p.entry.deadline) - 1,
+        },
+        None => SlotUse {
+            live: Some(*p),
+            free: 0,
+        },
     }
 }
 
-/// The placed entries, and what they make of each slot.
+/// The placed entries, and where the last one of each slot stands.
 #[derive(Drop)]
 pub struct Table<'a> {
     pub placed: &'a [Placed],
-    uses: [SlotUse; MOST_SLOTS as usize],
+    // For each slot how many entries there are up to its last one, which is counted, and 0 where it has none.
+    up_to_last: [usize; MOST_SLOTS as usize],
     ghost well_placed: { IsWellPlaced placed.now } by { Prim.hlevel props },
-    ghost counted: { AreUses placed.now uses },
+    ghost counted: { AreUpToLast placed.now up_to_last },
 }
 
 impl<'a> Table<'a> {
@@ -52,16 +52,41 @@ impl<'a> Table<'a> {
         requires { IsWellPlaced placed.now }
         ensures { result.placed.now ≡ placed.now }
     {
-        let unused = SlotUse {
-            live: None,
-            free: 0,
-        };
-        let mut uses = [unused; MOST_SLOTS as usize];
-        for p in placed {
-            let slot = usize::from(p.entry.slot);
-            uses[slot] = uses[slot].after(p);
+        let mut up_to_last = [0; MOST_SLOTS as usize];
+        for (place, p) in placed.iter().enumerate() {
+            up_to_last[usize::from(p.entry.slot)] = place + 1;
         }
-        Table { placed, uses }
+        Table { placed, up_to_last }
+    }
+
+    /// The place of the slot's last entry, where it has one.
+    pub fn last(&self, slot: u8) -> Option<usize>
+        requires { slot < most_slots }
+        ensures none { result ≡ None → use_of self.now.placed.now slot ≡ unused }
+        ensures last { IfSome result (IsLastAt self.now.placed.now slot) }
+    {
+        let count = self.up_to_last[usize::from(slot)];
+        if count == 0 {
+            return None;
+        }
+        Some(count - 1)
+    }
+
+    /// The place of the slot's live entry, where it has one.
+    pub fn live_place(&self, slot: u8) -> Option<usize>
+        requires { slot < most_slots }
+        ensures only { FindsOnly (ended_by (Remove slot)) self.now.placed.now result }
+    {
+        match self.last(slot) {
+            Some(place) => {
+                if self.placed[place].end.is_some() {
+                    None
+                } else {
+                    Some(place)
+                }
+            }
+            None => None,
+        }
     }
 
     /// What the placed entries make of this slot.
@@ -70,6 +95,12 @@ impl<'a> Table<'a> {
         ensures held { result ≡ use_of self.now.placed.now slot }
         ensures live { IfSome result.live IsInRange }
     {
-        self.uses[usize::from(slot)]
+        match self.last(slot) {
+            Some(place) => use_by(&self.placed[place]),
+            None => SlotUse {
+                live: None,
+                free: 0,
+            },
+        }
     }
 }

@@ -1,5 +1,5 @@
 -- What clap's getters read, by the rows of its matches.
-use Rattle.std.proofs.Common.{◌≡◌, ◌<◌, ◌^◌, ℕ, Bool, true, false, refl, sym, ap, List, [], ◌∷◌, length, codes, Option, Some, None, Result, Ok, Err, nat_lt, lt-ltb, ltb-true, unwrap_or}
+use Rattle.std.proofs.Common.{◌≡◌, ◌∙◌, ◌<◌, ◌^◌, ℕ, Bool, true, false, refl, sym, ap, List, [], ◌∷◌, length, codes, Option, Some, None, Result, Ok, Err, nat_lt, lt-ltb, ltb-true, unwrap_or}
 use Rattle.std.specs.Option.{option_map_or}
 use Rattle.std.specs.Prelude.{option_and_then}
 use Rattle.std.specs.List.{list_all}
@@ -11,9 +11,9 @@ use Rattle.clap.specs.Matches.{ReadsOne}
 use Rattle.clap.specs.ValueTests.{is_numeral}
 use Rattle.clap.specs.Walk.{Text}
 use Rattle.clap.proofs.WalkLemmas.{both}
-use Rattle.clap.specs.Words.{is_simple_and_free}
+use Rattle.clap.specs.Words.{App, Row, fault_of, is_simple_and_free, matches_of}
 use Rattle.clap.proofs.OnLiterals.{clap_on_literals}
-use Rattle.command_words.specs.Words.{admit_app, audit_app, check_app, elastic_app, generate_app, handover_app, live_app, number_in, poll_app, replay_app}
+use Rattle.command_words.specs.Words.{admit_app, audit_app, check_app, elastic_app, generate_app, handover_app, live_app, number_in, poll_app, replay_app, taken_by}
 
 is_true : {E : Type 0} (G : Text → Result Bool E → Type 0) (text : Text) (read : Option Bool)
     → ((t : Text) (x : Result Bool E) → G t x → ParsesBool t x) → ReadsOne G text read → unwrap_or read false ≡ bytes_eq text (codes "true")
@@ -70,6 +70,15 @@ pub read_number_of : {E : Type 0} (G : Text → Result ℕ E → Type 0) (bits :
     → ((t : Text) → text ≡ Some t → ReadsOne G t read) → read ≡ option_and_then (number_in bits) text
 read_number_of G bits None read gives none some = none refl
 read_number_of G bits (Some text) read gives none some = read_number G bits text read gives (some text refl)
+
+-- where clap takes the words of a command of the table, they ask for what the rows mean that it found
+pub asked_for : {A : Type 0} (app : App) (meaning : List Row → A) (words : List Text) (own : App) (rows : List Row) (value : A)
+    → own ≡ app → fault_of own words ≡ [] → rows ≡ matches_of own words → value ≡ meaning rows
+    → Some value ≡ taken_by app meaning words
+asked_for app meaning words own rows value same none found means =
+    let no_fault : fault_of app words ≡ [] = ap (λ it. fault_of it words) (sym same) ∙ none in
+    let of_table : rows ≡ matches_of app words = found ∙ ap (λ it. matches_of it words) same in
+    rw no_fault (ap Some (means ∙ ap meaning of_table))
 
 -- clap's contract is exact of each command of the table
 

@@ -1,7 +1,7 @@
 -- The words of a call, the program's name left out: which command they ask for. The first word names the command. The
 -- words are in the table of commands exactly where clap's simple command of that row takes them, which gets the first
 -- word as its program's name.
-use Rattle.std.specs.Prelude.{ℕ, ◌+◌, ◌^◌, pos, List, [], ◌∷◌, Bool, true, false, ◌&&◌, Option, Some, None, if◌then◌else◌, codes, nat_lt, unwrap_or, option_and_then}
+use Rattle.std.specs.Prelude.{ℕ, ◌^◌, pos, List, [], ◌∷◌, Bool, true, false, ◌&&◌, Option, Some, None, if◌then◌else◌, codes, nat_lt, unwrap_or, option_and_then}
 use Rattle.std.specs.Option.{option_map_or}
 use Rattle.std.specs.Str.{bytes_eq}
 use Rattle.std.specs.Str.Parse.{digits_value, without_leading_plus}
@@ -190,32 +190,3 @@ live_named name words = if bytes_eq name (codes "live") then taken_by live_app r
 abbrev pub live_of : List Text → Option RunWords
 live_of [] = None
 live_of (name ∷ rest) = live_named name (name ∷ rest)
-
--- the number of files that stand under a name that may be missing
-abbrev pub named : Option Text → ℕ
-named None = 0
-named (Some name) = 1
-
--- the number of files that a command names
-abbrev pub files_named : Option Command → ℕ
-files_named None = 0
-files_named (Some (replay run tail)) = 2 + named run.requests
-files_named (Some (admit system steps)) = 2
-files_named (Some (check system steps plan)) = 3
-files_named (Some (generate number)) = 0
-files_named (Some (elastic system steps wishes)) = 3
-files_named (Some (handover system steps at requests)) = 2 + named requests
-files_named (Some (audit system steps log requests)) = 3 + named requests
-files_named (Some (poll system steps streams)) = 3
-
--- the number of files that the words name
-abbrev pub file_count : List Text → ℕ
-file_count words = files_named (command_of words)
-
--- the number of files that the words of a run by threads name
-abbrev pub live_files_named : Option RunWords → ℕ
-live_files_named None = 0
-live_files_named (Some run) = 2 + named run.requests
-
-abbrev pub live_file_count : List Text → ℕ
-live_file_count words = live_files_named (live_of words)

@@ -1,8 +1,10 @@
 mod Along
 mod Announced
+mod HandedOut
 mod Hearing
 mod TriggerFrames
 mod Belongs
+mod Closed
 mod FewFrames
 mod FreshNodes
 mod Least

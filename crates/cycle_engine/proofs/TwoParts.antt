@@ -80,7 +80,7 @@ module _ (in_range : (node : NodeState) (at id : ℕ) → IsNode node → node_o
     → (fold after_hearing node sent).opened ≡ Some (record { cycle = node.next; width = l; mask = mask; heard = 0 }))
     (layout : CycleLayout) (cycle l mask : ℕ) (is_layout : IsLayout layout) (early : cycle < 2 ^ 42) (small : l ≤ layout.window) (few : mask < 2 ^ layout.slots) where
   -- a node that hears the trigger frames is in the window of that cycle
-  opened-by : (window end : ℕ) (node : NodeState) (sent : List TimedFrame) → sync_start layout cycle l ≤ window → end ≤ (cycle + 1) * layout.cycle
+  opened-by : (window end : ℕ) (node : NodeState) (sent : List TimedFrame) → sync_start layout cycle l ≤ window → end ≡ (cycle + 1) * layout.cycle
       → map (λ one. one.frame) sent ≡ triggers_with layout.slots cycle l mask → node.layout ≡ layout → node.next ≡ cycle → IsInWindow window end (fold after_hearing node sent)
   opened-by window end node sent begun ends triggers same next =
       let own = opens node l mask sent (subst IsLayout (sym same) is_layout) (subst (λ x. l ≤ x.window) (sym same) small) (subst (λ x. mask < 2 ^ x.slots) (sym same) few)
@@ -90,11 +90,11 @@ module _ (in_range : (node : NodeState) (at id : ℕ) → IsNode node → node_o
         opened = record { cycle = node.next; width = l; mask = mask; heard = 0 };
         is_open = own;
         begun = subst (λ x. sync_start x node.next l ≤ window) (sym its) (subst (λ c. sync_start layout c l ≤ window) (sym next) begun);
-        ends = subst (λ x. end ≤ (node.next + 1) * x.cycle) (sym its) (subst (λ c. end ≤ (c + 1) * layout.cycle) (sym next) ends);
+        ends = subst (λ x. end ≡ (node.next + 1) * x.cycle) (sym its) (subst (λ c. end ≡ (c + 1) * layout.cycle) (sym next) ends);
       }
 
   pub in_window-behind : (start window end : ℕ) (nodes : List NodeState) (frames : List TimedFrame) → start + trigger_part layout ≤ window → sync_start layout cycle l ≤ window
-      → end ≤ (cycle + 1) * layout.cycle → CanBeHeard layout (triggers_with layout.slots cycle l mask) nodes → All (λ node. node.next ≡ cycle) nodes
+      → end ≡ (cycle + 1) * layout.cycle → CanBeHeard layout (triggers_with layout.slots cycle l mask) nodes → All (λ node. node.next ≡ cycle) nodes
       → Follows (offers_of cycle_line (announced layout start (triggers_with layout.slots cycle l mask) nodes)) [] start window frames
       → All (IsInWindow window end) (heard_by frames nodes)
       × ((told cycle_line (announced layout start (triggers_with layout.slots cycle l mask) nodes) frames).triggers ≡ [])

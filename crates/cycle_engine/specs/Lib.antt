@@ -1,4 +1,5 @@
 pub mod Cycle
+pub mod Handed
 pub mod Nodes
 pub mod Offered
 pub mod Soonest

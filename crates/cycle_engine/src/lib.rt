@@ -6,6 +6,7 @@
 
 mod cycle;
 mod each;
+mod handing;
 pub mod laws;
 mod next_offers;
 mod nodes;

@@ -10,7 +10,9 @@ ghost use Rattle.cycle_engine.specs.Stations.{offered_by_nodes};
 
 use crate::each;
 use arbitration::Contenders;
-use node_model::Node;
+use can_frame::TimedFrame;
+use node_model::{Node, last_bit};
+use profile::TIMES_END;
 
 /// What nodes offer soonest while nothing is heard.
 #[derive(Clone, Copy)]
@@ -28,6 +30,18 @@ pub fn find(nodes: &[Node], since: u64) -> Soonest
 {
     let next = each::wake(nodes, since);
     Soonest { since, next }
+}
+
+/// What nodes offer soonest behind a frame, whose last bit is before 2^60.
+pub fn find_behind(nodes: &[Node], sent: &TimedFrame) -> Option<Soonest>
+    ensures soonest { IfSome result (IsSoonest (states_of nodes.now)) }
+{
+    let last = last_bit(sent);
+    if last < TIMES_END {
+        Some(find(nodes, last))
+    } else {
+        None
+    }
 }
 
 /// What is offered soonest, where by that nothing is offered at a time. It is then offered soonest behind that time

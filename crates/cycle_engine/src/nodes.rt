@@ -16,8 +16,10 @@ ghost use Rattle.cycle_engine.specs.Nodes.{CanLearn, HaveSpare, IsBus, IsNumber,
 ghost use Rattle.cycle_engine.specs.Nodes.{states_of};
 ghost use Rattle.cycle_engine.specs.Stations.{AreNodes, announced, cycle_line};
 ghost use Rattle.cycle_engine.specs.SyncWindow.{IsBeforeWindow};
+ghost use Rattle.cycle_engine.specs.Handed.{IsNodeTable};
 
 use crate::each::SLOTS_OF_ONE;
+use crate::handing::{by_node, nodes_of};
 use crate::stations::NodeStations;
 use async_window::{Owner, Request};
 use bus_line::laws::{StationOffers, same_along, trace_laws};
@@ -77,9 +79,10 @@ impl Nodes {
     {
         nodes_are_apart();
         fit_into_memory(requests);
-        let made = fresh_nodes(alloc, layout, nodes, owners, requests)?;
+        let table = nodes_of(alloc, owners)?;
+        let made = fresh_nodes(alloc, layout, nodes, owners, table.as_slice(), requests)?;
         Ok(Nodes {
-            stations: NodeStations::new(layout, made, owners),
+            stations: NodeStations::new(layout, made, table),
         })
     }
 
@@ -225,15 +228,18 @@ fn fit_into_memory(requests: &[Request])
     let _ = requests.len();
 }
 
-/// The nodes 0 to `nodes` - 1 before cycle 0.
+/// The nodes 0 to `nodes` - 1 before cycle 0. Each is made from the requests of its own. `table` has the node of each
+/// owned identifier.
 fn fresh_nodes(
     alloc: Global,
     layout: Layout,
     nodes: u8,
     owners: &[Owner],
+    table: &[u8],
     requests: &[Request],
 ) -> Result<Vec<Node>, AllocError>
     requires owners { AreOwners owners.now }
+    requires table { IsNodeTable owners.now table.now }
     requires arrivals { AllPairs (λ one other. one.at ≤ other.at) requests.now }
     requires early { All (λ request. request.at < arrivals_end) requests.now }
     ensures count { IfOk result (λ made. length made.items ≡ nodes) }
@@ -241,9 +247,12 @@ fn fresh_nodes(
         → (slice_index_or made.items number d).state ≡ fresh_node layout owners.now requests.now number) }
     ensures are { IfOk result (λ made. All IsNode (states_of made.items)) }
 {
+    let lists = by_node(alloc, table, nodes, requests)?;
     let mut made = Vec::with_capacity(alloc, usize::from(nodes))?;
-    for number in 0..nodes {
-        made.push(Node::new(alloc, number, layout, owners, requests)?)?;
+    let mut number = 0;
+    for own in lists {
+        made.push(Node::new(alloc, number, layout, owners, own.as_slice())?)?;
+        number += 1;
     }
     Ok(made)
 }

@@ -10,7 +10,6 @@ ghost use Rattle.node_model.specs.Node.{learnt};
 ghost use Rattle.node_model.specs.Window.{IsInWindow};
 ghost use Rattle.cycle_engine.specs.Nodes.{HaveSpare, KeepSpare, left_in, spares_of, states_of};
 ghost use Rattle.bus_line.specs.Stations.{IsWake};
-ghost use Rattle.async_window.specs.Owners.{AreOwners};
 ghost use Rattle.cycle_engine.specs.Stations.{AreDue, AreNodes, announced, due_from, due_list, frame_by_nodes};
 ghost use Rattle.cycle_engine.specs.Stations.{offered_by_nodes, offered_trigger, triggers_after};
 ghost use Rattle.cycle_engine.specs.SyncWindow.{IsSentBy};
@@ -19,13 +18,12 @@ use crate::each;
 use crate::next_offers::{self, Soonest};
 use crate::sync_window::{self, Fronts};
 use arbitration::Contenders;
-use async_window::Owner;
 use bus_line::Stations;
 use bus_line::laws::sooner_wake;
 use can_frame::{Frame, KnownFront, TimedFrame};
 use cycle_layout::Layout;
 use node_model::Node;
-use node_model::laws::{nodes_are_apart, offers_in_range, stays_a_node};
+use node_model::laws::{nodes_are_apart, offers_in_range, sends_its_slots, stays_a_node};
 use requirement_table::{MOST_SLOTS, Placed};
 use std::alloc::{AllocError, Global};
 use std::marker::Model;
@@ -41,9 +39,6 @@ pub struct Due {
     pub second: Option<Frame>,
 }
 
-/// The number of identifiers of 11 bits.
-const IDENTIFIERS: usize = 2_048;
-
 /// The nodes of a bus, and the trigger frames that are offered next, where there are any.
 #[derive(Drop)]
 pub struct NodeStations {
@@ -52,7 +47,7 @@ pub struct NodeStations {
     due: Option<Due>,
     /// For each identifier the place of the node that is asked first for its frame. All others are asked where that one
     /// does not offer it.
-    asked_first: [u8; IDENTIFIERS],
+    asked_first: Vec<u8>,
     /// What the nodes offer soonest, where it is known and nothing has changed since.
     soonest: Option<Soonest>,
     /// For each slot what is known of the first bits of its frames.
@@ -76,17 +71,17 @@ impl Model for NodeStations {
 }
 
 impl NodeStations {
-    /// The stations without trigger frames. These are the owners of asynchronous identifiers.
-    pub fn new(layout: Layout, nodes: Vec<Node>, owners: &[Owner]) -> NodeStations
+    /// The stations without trigger frames. For each identifier, `asked_first` has the place of the node that is asked
+    /// first for its frame.
+    pub fn new(layout: Layout, nodes: Vec<Node>, asked_first: Vec<u8>) -> NodeStations
         requires nodes { AreNodes layout (states_of nodes.items) }
-        requires owners { AreOwners owners.now }
         ensures stations { result ≡ record { layout = layout; triggers = []; nodes = nodes.items } }
     {
         NodeStations {
             layout,
             nodes,
             due: None,
-            asked_first: nodes_of_owners(owners),
+            asked_first,
             soonest: None,
             fronts: [KnownFront::new(); MOST_SLOTS as usize],
         }
@@ -159,7 +154,10 @@ impl NodeStations {
 
     /// The place of the node that is asked first for the frame of an identifier.
     fn first_place(&self, id: u16) -> usize {
-        usize::from(self.asked_first[usize::from(id) % IDENTIFIERS])
+        match self.asked_first.get(usize::from(id)) {
+            Some(place) => usize::from(*place),
+            None => 0,
+        }
     }
 
     /// The frame of the node that offers an identifier at a time.
@@ -174,7 +172,8 @@ impl NodeStations {
     }
 
     /// Runs the bus over the nodes in their synchronous window from `from` on, and puts the frames that start before
-    /// `until` behind `out`, which has room for them. The trigger frames were sent.
+    /// `until` behind `out`, which has room for them. The trigger frames were sent. The window ends at `until`, and no
+    /// node offers anything from then on up to the next trigger.
     pub fn run_window(&mut self, from: u64, until: u64, out: &mut Vec<TimedFrame>)
         requires time { until < times_end }
         requires window { All (IsInWindow from until) (states_of self.old.nodes) }
@@ -188,6 +187,7 @@ impl NodeStations {
     {
         stays_a_node();
         nodes_are_apart();
+        sends_its_slots();
         self.soonest = None;
         sync_window::run_window(
             self.nodes.as_mut_slice(),
@@ -197,6 +197,10 @@ impl NodeStations {
             out,
         );
         self.due = None;
+        self.soonest = Some(Soonest {
+            since: until.saturating_sub(1),
+            next: None,
+        });
     }
 }
 
@@ -250,19 +254,8 @@ impl Stations for NodeStations {
         let slots = self.layout.slots();
         each::hear(self.nodes.as_mut_slice(), slots, first, sent);
         self.due = due_after(&self.due, sent.frame.id());
-        self.soonest = Some(next_offers::find(self.nodes.as_slice(), sent.start));
+        self.soonest = next_offers::find_behind(self.nodes.as_slice(), sent);
     }
-}
-
-/// For each identifier the number of its owner, where it has one.
-fn nodes_of_owners(owners: &[Owner]) -> [u8; IDENTIFIERS]
-    requires owners { AreOwners owners.now }
-{
-    let mut nodes = [0; IDENTIFIERS];
-    for owner in owners {
-        nodes[usize::from(owner.id)] = owner.node;
-    }
-    nodes
 }
 
 /// Adds the identifier of the first of the trigger frames to no contenders, where it is offered at this time.

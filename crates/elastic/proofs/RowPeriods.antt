@@ -1,5 +1,5 @@
 -- The periods of a row, one after the other.
-use Rattle.std.proofs.Common.{◌≡◌, ℕ, suc, ◌+◌, List, [], ◌∷◌, ◌++◌, Option, Some, None, option_map, refl, sym, ap, ◌∙◌, append_assoc}
+use Rattle.std.proofs.Common.{◌≡◌, ℕ, suc, ◌+◌, List, [], ◌∷◌, ◌++◌, Option, Some, None, option_map, refl, ap, append_assoc}
 use Rattle.text_fields.specs.CsvRows.{number_at}
 use Rattle.elastic.specs.WishFields.{numbers_from}
 

@@ -1,6 +1,6 @@
 -- *Elastic choice*: which combination of a wish is chosen, and why none is. A combination is judged as a change of a
 -- list, planned from the cycle `from`, which is the next one to be opened, and before which these slots are pending.
-use Rattle.std.specs.Prelude.{◌≡◌, ℕ, ◌<◌, Bool, false, List, length, slice_get, Option, Some, All, ⊤, Result, Ok, Err}
+use Rattle.std.specs.Prelude.{◌≡◌, ℕ, ◌<◌, false, List, length, slice_get, Some, All, ⊤, Result, Ok, Err}
 use Rattle.requirement_table.specs.declared.entries.Placed.{Placed}
 use Rattle.admission_rules.specs.declared.Rules.{Rules}
 use Rattle.admission.specs.Verdict.{IsVerdict, is_accepted}

@@ -3,7 +3,7 @@
 -- A number takes one period from each list of periods, the last list running fastest: as the digits of a number whose
 -- places have as many digits as the lists have periods.
 use Rattle.std.specs.Prelude.{◌≡◌, ℕ, ◌+◌, ◌*◌, ◌/◌, ◌%◌, ◌<◌, ◌≤◌, ◌⊎◌, ⊤, min, get_or, take, length, slice_get}
-use Rattle.std.specs.Prelude.{List, [], ◌∷◌, Option, Some, None, option_map, All}
+use Rattle.std.specs.Prelude.{List, [], ◌∷◌, Some, option_map, All}
 use Rattle.std.specs.List.{filter_map}
 use Rattle.requirement_table.specs.declared.entries.Entry.{Entry}
 use Rattle.change_protocol.specs.declared.operations.Op.{Op}

@@ -6,9 +6,8 @@ use Rattle.std.specs.Option.{ForSome}
 use Rattle.ftt_io.specs.Files.{NamedFiles}
 use Rattle.asked_files.specs.Asked.{Asked}
 use Rattle.asked_files.specs.Loads.{IsBarred}
-use Rattle.asked_files.specs.Sources.{IsStoppedAt, count_behind}
+use Rattle.asked_files.specs.Sources.{IsStoppedAt, NamedSource, count_behind}
 use Rattle.asked_files.specs.declared.stopping.Refusal.{Refusal}
-use Rattle.asked_files.specs.declared.stopping.Source.{Source}
 use Rattle.asked_files.specs.declared.stopping.Stop.{Stop}
 use Rattle.asked_files.specs.declared.stopping.Stop.TheVariants.{Words, Input, Read, Write, Memory}
 use Rattle.fttcan_top.specs.declared.status.Status.{Status}
@@ -50,38 +49,38 @@ not-stopped Refused done stopped = stopped
 not-stopped No done stopped = stopped
 not-stopped _ done stopped = done
 
-fetched-done : (sources : List Source) (before behind : ℕ) (status : Status) → IsDone status
-    → behind ≡ count_behind before sources → HasFetched sources before behind status Refusal.LaterPlan
-fetched-done sources before behind Done done all = all
-fetched-done sources before behind Refused done all = all
-fetched-done sources before behind No done all = all
-fetched-done sources before behind _ done all = absurd done
+module _ (told : Option NamedFiles) (rose : Type 0) (sources : List NamedSource) (before behind : ℕ) where
+  fetched-done : (status : Status) → IsDone status → behind ≡ count_behind before sources
+      → HasFetched told rose sources before behind status Refusal.LaterPlan
+  fetched-done Done done all = all
+  fetched-done Refused done all = all
+  fetched-done No done all = all
+  fetched-done _ done all = absurd done
 
--- memory may run out behind all files
-fetched-all : (sources : List Source) (before behind : ℕ) → behind ≡ count_behind before sources
-    → IsStoppedAt sources before behind Memory
-fetched-all sources before behind all =
-    record { fetched = sources; rest = []; parts = sym (append-nil sources); counted = all; behind = tt }
+  -- memory may run out behind all files
+  fetched-all : behind ≡ count_behind before sources → IsStoppedAt told rose sources before behind Memory
+  fetched-all all =
+      record { fetched = sources; rest = []; parts = sym (append-nil sources); counted = all; behind = tt }
 
--- or where it runs out for the line of a refused one
-fetched-some : (sources : List Source) (before behind : ℕ) (refusal : Refusal)
-    → IsStoppedAt sources before behind (Input refusal) → IsStoppedAt sources before behind Memory
-fetched-some sources before behind refusal is =
-    record { fetched = is.fetched; rest = is.rest; parts = is.parts; counted = is.counted; behind = tt }
+  -- or where it runs out for the line of a refused one
+  fetched-some : (refusal : Refusal) → IsStoppedAt told rose sources before behind (Input refusal)
+      → IsStoppedAt told rose sources before behind Memory
+  fetched-some refusal is =
+      record { fetched = is.fetched; rest = is.rest; parts = is.parts; counted = is.counted; behind = tt }
 
 module _ (none : Type 0) (told : Option NamedFiles) (IsFor : NamedFiles → Result Asked Stop → Type 0)
-    (IsOf : Asked → Type 0) (sources : List Source) (before behind : ℕ)
+    (IsOf : Asked → Type 0) (sources : List NamedSource) (before behind : ℕ)
     (IsPart : Asked → Option (List ℕ) → Option (List ℕ) → Type 0) (shelf_rose out_rose : Type 0)
     (old new : Option (List ℕ)) where
   -- a call whose `?` handed on why it has nothing to do
   pub end-barred : (ended : Result Status Stop) (why : Stop) → IsErrAnd ended (λ now. now ≡ why)
-      → IsBarred none shelf_rose told IsFor why → IsStoppedAt sources before behind why → new ≡ old
+      → IsBarred none shelf_rose told IsFor why → IsStoppedAt told shelf_rose sources before behind why → new ≡ old
       → IsEnd none told IsFor IsOf sources before behind IsPart shelf_rose out_rose old new ended
   end-barred (Ok status) why is barred stopped same = absurd is
   end-barred (Err now) why is barred stopped same =
       inl (
         subst (λ stop. IsBarred none shelf_rose told IsFor stop) (sym is) barred,
-        subst (λ stop. IsStoppedAt sources before behind stop) (sym is) stopped,
+        subst (λ stop. IsStoppedAt told shelf_rose sources before behind stop) (sym is) stopped,
         same,
       )
 
@@ -98,7 +97,7 @@ module _ (none : Type 0) (told : Option NamedFiles) (IsFor : NamedFiles → Resu
         × (behind ≡ count_behind before sources) × IsPart asked_for old new)
     pub nothing : IsStopped status → new ≡ old
     pub input : status ≡ Status.Input → ForSome told (λ files. IsFor files (Err (Input refusal)))
-    pub fetched : HasFetched sources before behind status refusal
+    pub fetched : HasFetched told shelf_rose sources before behind status refusal
 
   said-done : (status : Status) → IsDone status → (asked_for : Asked) → ForSome told (λ files. IsFor files (Ok asked_for))
       → IsOf asked_for → behind ≡ count_behind before sources → Tells asked_for status old new
@@ -112,7 +111,7 @@ module _ (none : Type 0) (told : Option NamedFiles) (IsFor : NamedFiles → Resu
     cut = λ d. absurd (not-cut status done d);
     nothing = λ d. absurd (not-stopped status done d);
     input = λ e. absurd (subst IsDone e done);
-    fetched = fetched-done sources before behind status done all;
+    fetched = fetched-done told shelf_rose sources before behind status done all;
   }
 
   cut-of : (asked_for : Asked) → ForSome told (λ files. IsFor files (Ok asked_for)) → IsOf asked_for
@@ -122,7 +121,7 @@ module _ (none : Type 0) (told : Option NamedFiles) (IsFor : NamedFiles → Resu
   cut-of asked_for asks of_words all (inl same) = inl same
   cut-of asked_for asks of_words all (inr part) = inr (asked_for, asks, of_words, all, part)
 
-  said-memory : (refusal : Refusal) → IsStoppedAt sources before behind Memory
+  said-memory : (refusal : Refusal) → IsStoppedAt told shelf_rose sources before behind Memory
       → (new ≡ old) ⊎ ((asked : Asked) × ForSome told (λ files. IsFor files (Ok asked)) × IsOf asked
       × (behind ≡ count_behind before sources) × IsPart asked old new)
       → IsSaid Status.Memory refusal
@@ -153,7 +152,7 @@ module _ (none : Type 0) (told : Option NamedFiles) (IsFor : NamedFiles → Resu
     fetched = all;
   }
 
-  said-nothing : (why : Stop) → IsBarred none shelf_rose told IsFor why → IsStoppedAt sources before behind why
+  said-nothing : (why : Stop) → IsBarred none shelf_rose told IsFor why → IsStoppedAt told shelf_rose sources before behind why
       → new ≡ old
       → (none → (files : NamedFiles) → IsFor files (Err Words)) → IsSaid (end_status (Err why)) (refusal_of (Err why))
   said-nothing Words is stopped same named = record {
@@ -202,7 +201,7 @@ module _ (none : Type 0) (told : Option NamedFiles) (IsFor : NamedFiles → Resu
   said-carried (Err Write) done asked_for asks of_words all (rose, part) =
       said-write rose asked_for asks of_words all part
   said-carried (Err Memory) done asked_for asks of_words all part =
-      said-memory Refusal.LaterPlan (fetched-all sources before behind all) (cut-of asked_for asks of_words all part)
+      said-memory Refusal.LaterPlan (fetched-all told shelf_rose sources before behind all) (cut-of asked_for asks of_words all part)
 
   said-end : (ended : Result Status Stop) → IfOk ended IsDone → IsEnd none told IsFor IsOf sources before behind IsPart shelf_rose out_rose old new ended
       → (none → (files : NamedFiles) → IsFor files (Err Words)) → IsSaid (end_status ended) (refusal_of ended)
@@ -215,7 +214,7 @@ module _ (none : Type 0) (told : Option NamedFiles) (IsFor : NamedFiles → Resu
 
   unput : (refusal : Refusal)
       → IsEnd none told IsFor IsOf sources before behind IsPart shelf_rose out_rose old new (Err (Input refusal))
-      → IsStoppedAt sources before behind (Input refusal) × (new ≡ old)
+      → IsStoppedAt told shelf_rose sources before behind (Input refusal) × (new ≡ old)
   unput refusal (inl (is, stopped, same)) = (stopped, same)
   unput refusal (inr worked) = absurd worked.carried
 
@@ -227,7 +226,7 @@ module _ (none : Type 0) (told : Option NamedFiles) (IsFor : NamedFiles → Resu
       subst (λ s. IsSaid s (refusal_of ended)) (sym same) (said-end ended done is named)
   said (Ok answered) status (inr (input, same)) done is named = absurd (subst IsDone input done)
   said (Err (Input refusal)) status (inr (input, same)) done is named =
-      let stopped = fetched-some sources before behind refusal (unput refusal is).0 in
+      let stopped = fetched-some told shelf_rose sources before behind refusal (unput refusal is).0 in
       subst (λ s. IsSaid s refusal) (sym same) (said-memory refusal stopped (inl (unput refusal is).1))
   said (Err Words) status (inr (input, same)) done is named = absurd (cc)
   said (Err Read) status (inr (input, same)) done is named = absurd (cc)

@@ -1,8 +1,8 @@
 -- What is written of a log that is audited: that it is one of a whole run, or why it is not.
 use Rattle.std.specs.Prelude.{◌≡◌, ◌⊎◌, ℕ, List, ◌++◌, codes}
 use Rattle.std.specs.Fmt.{decimal}
-use Rattle.bus_trace.specs.Row.{AreRowsOf}
-use Rattle.bus_trace.specs.declared.row.LogRow.{LogRow}
+use Rattle.log_reader.specs.Row.{AreRowsOf}
+use Rattle.log_reader.specs.declared.row.LogRow.{LogRow}
 use Rattle.trace_audit.specs.Audit.{IsAudited, IsFirstBreak, IsUnfinished}
 use Rattle.asked_files.specs.Asked.{JobView}
 use Rattle.fttcan_top.specs.declared.status.Status.{Status}

@@ -4,9 +4,8 @@ use Rattle.std.specs.Option.{ForSome}
 use Rattle.ftt_io.specs.Files.{NamedFiles}
 use Rattle.asked_files.specs.Asked.{Asked}
 use Rattle.asked_files.specs.Loads.{IsBarred}
-use Rattle.asked_files.specs.Sources.{IsStoppedAt, count_behind}
+use Rattle.asked_files.specs.Sources.{IsStoppedAt, NamedSource, count_behind}
 use Rattle.asked_files.specs.declared.stopping.Refusal.{Refusal}
-use Rattle.asked_files.specs.declared.stopping.Source.{Source}
 use Rattle.asked_files.specs.declared.stopping.Stop.{Stop}
 use Rattle.asked_files.specs.declared.stopping.Stop.TheVariants.{Words, Input, Read, Write, Memory}
 use Rattle.fttcan_top.specs.declared.status.Status.{Status}
@@ -44,25 +43,27 @@ module _ (asked_for : Asked) (IsPart : Asked → Option (List ℕ) → Option (L
   IsCarried (Err Memory) = (new ≡ old) ⊎ IsPart asked_for old new
   IsCarried (Err _) = ⊥
 
--- how many files a call with this status had fetched, where `sources` are those that its words name, `before` and
--- `behind` the counts of fetches, and `refusal` is why a file was refused: where it was done, or its output failed, as
--- many as there are
-abbrev pub HasFetched : List Source → ℕ → ℕ → Status → Refusal → Type 0
-HasFetched sources before behind Status.Done refusal = behind ≡ count_behind before sources
-HasFetched sources before behind Status.Refused refusal = behind ≡ count_behind before sources
-HasFetched sources before behind Status.No refusal = behind ≡ count_behind before sources
-HasFetched sources before behind Status.Words refusal = IsStoppedAt sources before behind Words
-HasFetched sources before behind Status.Input refusal = IsStoppedAt sources before behind (Input refusal)
-HasFetched sources before behind Status.Read refusal = IsStoppedAt sources before behind Read
-HasFetched sources before behind Status.Write refusal = behind ≡ count_behind before sources
-HasFetched sources before behind Status.Memory refusal = IsStoppedAt sources before behind Memory
+-- Which files a call with this status had fetched, where `told` are the files, where they are told, `rose` says that
+-- the shelf's count of faults rose, `sources` are the files that its words name, `before` and `behind` the counts of
+-- fetches, and `refusal` is why a file was refused. Where it was done, or its output failed, it had fetched them all.
+-- Where a file was refused or could not be read, these are the first ones up to that file, and all before it were read
+module _ (told : Option NamedFiles) (rose : Type 0) (sources : List NamedSource) (before behind : ℕ) where
+  abbrev pub HasFetched : Status → Refusal → Type 0
+  HasFetched Status.Done refusal = behind ≡ count_behind before sources
+  HasFetched Status.Refused refusal = behind ≡ count_behind before sources
+  HasFetched Status.No refusal = behind ≡ count_behind before sources
+  HasFetched Status.Words refusal = IsStoppedAt told rose sources before behind Words
+  HasFetched Status.Input refusal = IsStoppedAt told rose sources before behind (Input refusal)
+  HasFetched Status.Read refusal = IsStoppedAt told rose sources before behind Read
+  HasFetched Status.Write refusal = behind ≡ count_behind before sources
+  HasFetched Status.Memory refusal = IsStoppedAt told rose sources before behind Memory
 
 -- What a call did, where `none` says that its words are no command's, `told` are the files, where they are told,
 -- `IsFor` says what was asked of them and `IsOf` what the words alone say of that, `sources` are the files that the
 -- words name, `before` and `behind` the counts of fetches, `IsPart` says what may have been put of an answer,
 -- `shelf_rose` and `out_rose` that the count of faults rose, and `old` and `new` are what the output tells
 module _ (none : Type 0) (told : Option NamedFiles) (IsFor : NamedFiles → Result Asked Stop → Type 0)
-    (IsOf : Asked → Type 0) (sources : List Source) (before behind : ℕ)
+    (IsOf : Asked → Type 0) (sources : List NamedSource) (before behind : ℕ)
     (IsPart : Asked → Option (List ℕ) → Option (List ℕ) → Type 0) (shelf_rose out_rose : Type 0)
     (old new : Option (List ℕ)) where
   -- it was asked for this, and carried it out so
@@ -77,7 +78,7 @@ module _ (none : Type 0) (told : Option NamedFiles) (IsFor : NamedFiles → Resu
   abbrev pub IsNothing : Result Status Stop → Type 0
   IsNothing (Ok status) = ⊥
   IsNothing (Err why) =
-      IsBarred none shelf_rose told IsFor why × IsStoppedAt sources before behind why × (new ≡ old)
+      IsBarred none shelf_rose told IsFor why × IsStoppedAt told shelf_rose sources before behind why × (new ≡ old)
 
   -- it ended so
   abbrev pub IsEnd : Result Status Stop → Type 0

@@ -3,12 +3,12 @@
 ghost use Rattle.std.specs.Prelude.{◌≡◌, ◌+◌, ◌≤◌, ◌⊎◌, map, string_bytes, IfOk, IsErrOf, IsSome, None, Ok, Err};
 ghost use Rattle.std.specs.Option.{ForSome};
 ghost use Rattle.ftt_io.specs.Counts.{Rose};
-ghost use Rattle.command_words.specs.Words.{command_of, file_count};
+ghost use Rattle.command_words.specs.Words.{command_of};
 ghost use Rattle.asked_files.specs.declared.stopping.Refusal.{Refusal};
 ghost use Rattle.asked_files.specs.Asked.{Asked, IsAsked};
 ghost use Rattle.asked_files.specs.Loads.{Fetches, IsTask, asked_of};
 ghost use Rattle.asked_files.specs.OfWords.{IsOfWords};
-ghost use Rattle.asked_files.specs.Sources.{count_behind, sources_of};
+ghost use Rattle.asked_files.specs.Sources.{count_behind, file_count, sources_of};
 ghost use Rattle.fttcan_top.specs.Ends.{HasFetched, IsCarried, IsEnd, PutsPart};
 ghost use Rattle.fttcan_top.specs.Output.{IsAnswer, IsCut, IsCutWhileRun, IsDone, IsStopped, Says, Tells, TellsFront, message_of};
 
@@ -126,13 +126,13 @@ pub fn plain<S: Shelf, O: Sink, R: Sink>(
         ⊎ IsCutWhileRun asked_for (O.told_bytes out.old) (O.told_bytes out.new))) }
     ensures nothing { IsStopped result → O.told_bytes out.new ≡ O.told_bytes out.old }
 
-    // What was put to `err`, and how many files were fetched: as many as the words name, or none behind the one that is
-    // refused.
+    // What was put to `err`, and which files were fetched: all that the words name, or the first ones up to the one
+    // that is refused or could not be read.
     ensures message { (refusal : Refusal)
         × (result ≡ Status.Input → ForSome (S.told_files shelf.old)
         (λ files. IsAsked (map string_bytes words.now) files (Err (Stop.Input refusal))))
-        × HasFetched (sources_of (command_of (map string_bytes words.now))) (S.fetches shelf.old)
-        (S.fetches shelf.new) result refusal
+        × HasFetched (S.told_files shelf.old) (Rose (S.faults shelf.old) (S.faults shelf.new))
+        (sources_of (command_of (map string_bytes words.now))) (S.fetches shelf.old) (S.fetches shelf.new) result refusal
         × Says (R.told_bytes err.old) (R.told_bytes err.new) (Rose (R.faults err.old) (R.faults err.new))
         (message_of result refusal) }
     ensures fetches { S.fetches shelf.new ≤ S.fetches shelf.old + file_count (map string_bytes words.now) }

@@ -3,7 +3,7 @@
 //! A linear congruential generator of 64 bits starts at the number. Its draws, in their order, are
 //! the forty changes of the steps, six draws each, and then the requests.
 
-ghost use Rattle.std.specs.Prelude.{◌≡◌, ◌+◌, ◌*◌, ◌/◌, ◌%◌, ◌<◌, ◌≤◌, ℕ, [], ◌∷◌, IfOk, OnOk};
+ghost use Rattle.std.specs.Prelude.{◌≡◌, ◌+◌, ◌*◌, ◌%◌, ◌<◌, ◌≤◌, ℕ, [], ◌∷◌, IfOk, OnOk};
 ghost use Rattle.profile.specs.Limits.{arrivals_end, greatest_identifier};
 ghost use Rattle.change_protocol.specs.declared.operations.Op.TheVariants.{Add};
 ghost use Rattle.generated_input.specs.Generator.{bytes_made, draw, each_below, entry_made, gap_made};

@@ -14,7 +14,7 @@ use async_window::Request;
 use change_protocol::Act;
 use replay_run::{Bus, refuses_nothing};
 use standby::Standby;
-use standby::laws::{follows_each, goes_on, one_core};
+use standby::laws::{goes_on, one_core};
 use std::alloc::{AllocError, Global};
 use system_file::System;
 

@@ -1,8 +1,9 @@
 //! Reading logs, and writing the rows of events.
 
 use crate::marks::plain;
-use bus_trace::{LogFault, LogRow, Recent, event_rows, read_log};
+use bus_trace::{Recent, event_rows};
 use can_frame::TimedFrame;
+use log_reader::{LogFault, LogRow, read_log};
 use master_core::Event;
 use requirement_table::Mask;
 use std::alloc::{AllocError, Global};

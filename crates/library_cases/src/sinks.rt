@@ -1,7 +1,7 @@
 //! Putting to a sink in memory, and the texts of faults.
 
-use bus_trace::LogFault;
 use ftt_io::{Failed, FetchFault, MemSink, write_all};
+use log_reader::LogFault;
 use std::alloc::{AllocError, Global};
 
 /// How a put ended.

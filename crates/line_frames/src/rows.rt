@@ -8,16 +8,9 @@ ghost use Rattle.line_frames.specs.Rows.{end_row, frame_fields, frame_row, no_ro
 
 use can_frame::{Frame, TimedFrame, WireFault};
 use text_fields::{
-    ROOM, put_byte, put_data_bytes, put_decimal, put_hex, put_identifier, put_word, row_from,
+    ROOM, put_byte, put_data_bytes, put_decimal, put_first, put_hex, put_identifier, put_line_feed,
+    put_word, row_from,
 };
-
-/// Puts the line feed that ends a row.
-fn put_line_feed(row: &mut [u8; ROOM]) -> usize
-    ensures start { result ≡ 127 }
-    ensures row { drop result row.new ≡ codes "\n" }
-{
-    put_byte(row, ROOM, b'\n')
-}
 
 /// Makes the row of a frame.
 pub fn frame_row<'a>(row: &'a mut [u8; ROOM], sent: &TimedFrame) -> &'a [u8]
@@ -53,8 +46,7 @@ pub fn end_row<'a>(row: &'a mut [u8; ROOM], count: usize) -> &'a [u8]
     ensures row { result.now ≡ end_row count }
 {
     let place = put_line_feed(row);
-    let place = put_decimal(row, place, count as u64);
-    let place = put_word(row, place, b"end,");
+    let place = put_first(row, place, b"end,", count as u64);
     row_from(row, place)
 }
 
@@ -65,8 +57,7 @@ pub fn no_row<'a>(row: &'a mut [u8; ROOM], start: usize, fault: &WireFault) -> &
     let place = put_line_feed(row);
     let place = put_why(row, place, fault);
     let place = put_byte(row, place, b',');
-    let place = put_decimal(row, place, start as u64);
-    let place = put_word(row, place, b"no,");
+    let place = put_first(row, place, b"no,", start as u64);
     row_from(row, place)
 }
 
@@ -79,25 +70,13 @@ fn put_why(row: &mut [u8; ROOM], end: usize, fault: &WireFault) -> usize
     ensures row { drop result row.new ≡ why fault.now ++ drop end row.old }
 {
     match fault {
-        WireFault::Stuff { place } => put_place(row, end, b"stuff,", *place),
-        WireFault::Form { place } => put_place(row, end, b"form,", *place),
+        WireFault::Stuff { place } => put_first(row, end, b"stuff,", *place as u64),
+        WireFault::Form { place } => put_first(row, end, b"form,", *place as u64),
         WireFault::Crc { sent, computed } => put_sequences(row, end, *sent, *computed),
-        WireFault::Short { have } => put_place(row, end, b"short,", *have),
-        WireFault::Tail { place } => put_place(row, end, b"tail,", *place),
+        WireFault::Short { have } => put_first(row, end, b"short,", *have as u64),
+        WireFault::Tail { place } => put_first(row, end, b"tail,", *place as u64),
         WireFault::Memory => put_word(row, end, b"memory"),
     }
-}
-
-/// Puts a word and a place behind it.
-fn put_place(row: &mut [u8; ROOM], end: usize, word: &[u8], place: usize) -> usize
-    requires room { 20 + length word.now ≤ end }
-    requires within { end ≤ 128 }
-    ensures start { result ≤ end }
-    ensures few { end ≤ result + 20 + length word.now }
-    ensures row { drop result row.new ≡ word.now ++ (decimal place ++ drop end row.old) }
-{
-    let start = put_decimal(row, end, place as u64);
-    put_word(row, start, word)
 }
 
 /// Puts the two CRC sequences, that which was sent first.

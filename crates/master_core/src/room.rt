@@ -9,6 +9,9 @@ use std::alloc::AllocError;
 const EVENTS: usize = 1 << 61;
 
 /// Makes room for so many events more. Where memory runs out the history has the room that it had.
+///
+/// A full history grows by an eighth and sixteen events, so that it takes little more memory than its events need. Where
+/// there is no memory for that, it grows by what is asked for alone.
 pub fn make_room(history: &mut Vec<Event>, events: usize) -> Result<(), AllocError>
     requires { length history.old.items < 2 ^ 61 }
     ensures same { history.new.items ≡ history.old.items }
@@ -19,7 +22,14 @@ pub fn make_room(history: &mut Vec<Event>, events: usize) -> Result<(), AllocErr
     if events >= EVENTS - history.len() {
         return Err(AllocError);
     }
-    history.reserve(events)
+    if events <= history.capacity() - history.len() {
+        return Ok(());
+    }
+    let eighth = history.len() / 8 + 16;
+    if history.reserve_exact(events.max(eighth)).is_ok() {
+        return Ok(());
+    }
+    history.reserve_exact(events)
 }
 
 /// Puts an event behind the others; there is room for it.

@@ -10,8 +10,9 @@ ghost use Rattle.admission.specs.Verdict.{ranking_by};
 
 use admission::Rules;
 use change_protocol::{Change, Op, Ops};
-use planner_policies::{CyclePlan, PlanState, Planned, Planner, rank};
-use requirement_table::{Entry, Mask, Placed, PlacedList, first_over, not_over};
+use planner_policies::{PlanState, Planned, rank};
+use release_wheel::{CyclePlan, Planner};
+use requirement_table::{Entry, Mask, Placed, PlacedList, copy_with_room, first_over, not_over};
 use std::alloc::{AllocError, Global};
 
 /// A list of placed entries, and what is needed to plan from a cycle on.
@@ -128,7 +129,7 @@ fn bring(planner: &mut Planner, state: &PlanState)
 pub fn list_of(alloc: Global, placed: &[Placed]) -> Result<PlacedList, AllocError>
     ensures same { IfOk result (λ list. list ≡ placed.now) }
 {
-    let list = placed.to_vec(alloc)?;
+    let list = copy_with_room(alloc, placed, 0)?;
     Ok(PlacedList::of(list))
 }
 
@@ -138,7 +139,7 @@ pub fn copy_of(alloc: Global, change: &Change) -> Result<Change, AllocError>
     ensures types { IfOk result (λ copy. All HasTypes change.now.ops) }
 {
     let ops = change.ops.as_slice();
-    let mut list = Vec::new(alloc);
+    let mut list = Vec::with_capacity(alloc, ops.len())?;
     for op in ops {
         list.push(same(op))?;
     }

@@ -111,8 +111,8 @@ stays-in_window node from until one other is =
       begun = subst (λ l. sync_start l kept.0.cycle kept.0.width ≤ from) (sym layout)
           (subst (λ c. sync_start node.layout c kept.0.width ≤ from) (sym kept.2)
           (subst (λ w. sync_start node.layout o.cycle w ≤ from) (sym kept.3) is.begun));
-      ends = subst (λ l. until ≤ (kept.0.cycle + 1) * l.cycle) (sym layout)
-          (subst (λ c. until ≤ (c + 1) * node.layout.cycle) (sym kept.2) is.ends);
+      ends = subst (λ l. until ≡ (kept.0.cycle + 1) * l.cycle) (sym layout)
+          (subst (λ c. until ≡ (c + 1) * node.layout.cycle) (sym kept.2) is.ends);
     }
 
 bytes_kept : (entries : List Placed) (slot : ℕ) (own : Bool) (k : ℕ) (opened : Option Opened)

@@ -16,7 +16,7 @@ use Rattle.async_window.specs.declared.request.Request.{Request}
 use Rattle.async_window.specs.Mailbox.{IsMail, IsNextInCycle, mail_offer, unsent_of}
 use Rattle.async_window.proofs.Shared.{IsLeastWith-same}
 use Rattle.node_model.specs.Node.{IsNextOffer, IsNode, NodeState, Opened, is_due, least_where, node_frame, node_offer, offer_in}
-use Rattle.node_model.specs.Kept.{IsOpenAt, opened_of, sends_from}
+use Rattle.node_model.specs.Kept.{IsOpenAt, KnowsDue, opened_of, sends_from}
 use Rattle.node_model.specs.declared.cycle.Open.{Open}
 use Rattle.node_model.proofs.Least.{least_where-same, least_where-sound}
 use Rattle.node_model.proofs.Mail.{offered-early, offered-asynchronous, offered-request}
@@ -211,6 +211,61 @@ next-offer node at o found known opened next =
     let before : max at start < (o.cycle + 1) * E = omega (arith, has.0, within.1, times.1) in
     (omega (arith, has.0, within.1), within.0 ∙ sym (div-eq_of_lt-le E from before), has.1))
     next
+
+-- where the mailboxes offer nothing before the synchronous window, only the slots that are due are left
+module _ (node : NodeState) (at : ℕ) (o : Open) (known : IsNode node) (opened : node.opened ≡ Some (opened_of o)) (due : KnowsDue node.entries o)
+    (silent : (later : ℕ) → later ≤ sync_start node.layout o.cycle o.width → mail_offer node.layout o.width node.mail later ≡ None) where
+  abbrev E : ℕ
+  E = node.layout.cycle
+
+  abbrev window_at : ℕ
+  window_at = sync_start node.layout o.cycle o.width
+
+  abbrev first_at : ℕ
+  first_at = max (at + 1) window_at
+
+  abbrev has_due : Bool
+  has_due = is_some (least_where most_slots (contains_slot o.due))
+
+  abbrev is_there : Bool
+  is_there = has_due && nat_lt first_at ((o.cycle + 1) * E)
+
+  some-due : (later : ℕ) → IsSome (node_offer node later) → (window_at ≤ later) × (later < (o.cycle + 1) * E) × (has_due ≡ true)
+  some-due later some =
+      let within = offers-within node later (opened_of o) known opened some in
+      let is : IsOpenAt node later o = record { opened = opened; cycle = within.0; due = due } in
+      let times = in_cycle-times E later o.cycle (omega (arith, known.layout.cycle_range.above)) within.0 in
+      ⊎_elim
+      (λ (before : later < window_at).
+      absurd (false≢true (subst IsSome (node_offer-early node later o is before ∙ silent later (omega arith)) some)))
+      (λ (late : window_at ≤ later).
+      (late, times.1, sym (is_some-map (λ slot. first_identifier + slot) (least_where most_slots (contains_slot o.due))) ∙ ap is_some (sym (node_offer-late node later o is late)) ∙ some))
+      (cases_lt later window_at)
+
+  due-there : is_there ≡ true → IsNextOffer node at (Some first_at)
+  due-there there =
+      let parts = and_parts has_due (nat_lt first_at ((o.cycle + 1) * E)) there in
+      let before : first_at < (o.cycle + 1) * E = ltb-true first_at ((o.cycle + 1) * E) parts.1 in
+      let range = rw opened at known.opened in
+      let from : o.cycle * E ≤ first_at = omega (arith, range.0, known.layout.room) in
+      let is : IsOpenAt node first_at o = record { opened = opened; cycle = div-eq_of_lt-le E from before; due = due } in
+      let some : IsSome (due_identifier o) = is_some-map (λ slot. first_identifier + slot) (least_where most_slots (contains_slot o.due)) ∙ parts.0 in (
+        (omega arith, subst IsSome (sym (node_offer-late node first_at o is (omega arith))) some),
+        λ later has. let late = some-due later has.1 in omega (arith, late.0, has.0),
+      )
+
+  due-nowhere : is_there ≡ false → IsNextOffer node at None
+  due-nowhere nowhere = λ later has.
+      let late = some-due later has.1 in
+      let before : first_at < (o.cycle + 1) * E = omega (arith, late.0, late.1, has.0) in
+      false≢true (sym nowhere ∙ and_from _ _ late.2 (lt-ltb first_at ((o.cycle + 1) * E) before))
+
+  pub next-due : (next : Option ℕ) → next ≡ (if is_there then Some first_at else None) → IsNextOffer node at next
+  next-due next value =
+      ⊎_elim
+      (λ (there : is_there ≡ true). subst (IsNextOffer node at) (sym (value ∙ ap (λ b. if b then Some first_at else None) there)) (due-there there))
+      (λ (nowhere : is_there ≡ false). subst (IsNextOffer node at) (sym (value ∙ ap (λ b. if b then Some first_at else None) nowhere)) (due-nowhere nowhere))
+      (cases_Bool is_there)
 
 pub never-offers : (node : NodeState) (at : ℕ) → node.opened ≡ None → IsNextOffer node at None
 never-offers node at none = λ later has.

@@ -36,12 +36,13 @@ with_all_heard heard opened = record opened {
       (λ slot. contains_slot opened.heard slot || contains_slot heard slot);
 }
 
--- the times from `from` to below `until` lie in the synchronous window of the cycle that is open for the node
+-- the times from `from` to below `until` lie in the synchronous window of the cycle that is open for the node, and it ends
+-- at `until`
 pub record IsInWindow (from until : ℕ) (node : NodeState) : Type 0 where
   pub opened : Opened
   pub is_open : node.opened ≡ Some opened
   pub begun : sync_start node.layout opened.cycle opened.width ≤ from
-  pub ends : until ≤ (opened.cycle + 1) * node.layout.cycle
+  pub ends : until ≡ (opened.cycle + 1) * node.layout.cycle
 
 -- all of these frames are frames of slots, and these are their slots
 pub record AreOfSlots (sent : ℕ) (frames : List TimedFrame) : Type 0 where

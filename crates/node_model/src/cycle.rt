@@ -43,6 +43,7 @@ pub fn is_in(at: u64, cycle: u64, length: u64) -> bool
 
 /// The cycle as its trigger opens it for a node with these entries; without one it has nothing synchronous. What the
 /// frames of the instances carry that may be sent in it is noted by slot.
+#[inline(always)]
 pub fn opened_by(
     cycle: u64,
     trigger: Option<Trigger>,

@@ -112,6 +112,7 @@ impl Remaining {
     }
 
     /// Drops those that are over by a cycle, in place, where one of them is.
+    #[inline(always)]
     pub fn pass(&mut self, cycle: u64)
         requires well_placed { IsWellPlaced self.old.entries.items }
         requires ready { AreReady self.old.entries.items self.old.ready }

@@ -13,4 +13,4 @@ mod slots_due;
 
 pub use cycle::{least_slot, without_least};
 pub use due::without_all;
-pub use node::Node;
+pub use node::{Node, last_bit};

@@ -1,6 +1,7 @@
 //! A node, which offers what follows from what it learnt and heard.
 
-ghost use Rattle.std.specs.Prelude.{◌≡◌, ◌≢◌, ◌↔◌, ℕ, ◌+◌, ◌*◌, ◌/◌, ◌%◌, ◌<◌, ◌≤◌, not, nat_eq, [], All, AllPairs, IfOk, IfSome};
+ghost use Rattle.std.specs.Prelude.{◌≡◌, ◌≢◌, ◌↔◌, ℕ, ◌+◌, ◌-◌, ◌*◌, ◌/◌, ◌%◌, ◌^◌, ◌<◌, ◌≤◌, not, nat_eq, min, []};
+ghost use Rattle.std.specs.Prelude.{All, AllPairs, IfOk, IfSome};
 ghost use Rattle.std.specs.Prelude.{IsSome, MatchOption, OnErr, OnOk, Some, None, false, true, length, option_map};
 ghost use Rattle.profile.specs.Limits.{arrivals_end, cycles_end, first_identifier, least_asynchronous, times_end};
 ghost use Rattle.can_frame.specs.DataFrame.{DataFrame};
@@ -181,7 +182,7 @@ impl Node {
         } else if id == SECOND_IDENTIFIER && self.has_two_triggers() {
             self.hear_second(heard, &decode_second(&heard.frame).ok());
         } else if self.hear_other(heard) {
-            self.look_ahead(heard.start);
+            self.look_ahead(last_bit(heard));
         }
     }
 
@@ -207,7 +208,7 @@ impl Node {
             self.noted = trigger;
         } else {
             self.open_next(trigger);
-            self.ahead = self.search_ahead(heard.start);
+            self.ahead = self.search_ahead(last_bit(heard));
         }
     }
 
@@ -224,7 +225,7 @@ impl Node {
         self.count();
         let trigger = self.joined(second);
         self.open_next(trigger);
-        self.ahead = self.search_ahead(heard.start);
+        self.ahead = self.search_ahead(last_bit(heard));
     }
 
     /// Hears a frame that is none of the trigger frames, without a look ahead. The answer is whether the frame is
@@ -255,7 +256,7 @@ impl Node {
     {
         let taken = self.take_request(heard.frame.id());
         if taken {
-            self.look_ahead(heard.start);
+            self.look_ahead(last_bit(heard));
         }
         taken
     }
@@ -328,6 +329,7 @@ impl Node {
     }
 
     /// Opens the next cycle as its trigger frames say; without such a trigger it has nothing synchronous.
+    #[inline(always)]
     fn open_next(&mut self, trigger: Option<Trigger>)
         requires cycle { self.old.state.next < cycles_end }
         requires fits { IfSome trigger (λ said. said.l ≤ self.old.state.layout.window) }
@@ -539,12 +541,18 @@ impl Node {
         }
     }
 
-    /// The same, with no use of a look ahead.
+    /// The same, with no use of a look ahead. Where no request arrives before the synchronous window, the mailboxes are
+    /// not searched.
     fn find_next_offer(&self, at: u64) -> Option<u64>
         requires time { at < times_end }
         ensures next { IsNextOffer self.now.state at result }
     {
         let open_cycle = self.opened?;
+        let window = self.layout.sync_start(open_cycle.cycle, open_cycle.width);
+        if !self.mailboxes.has_arrived(window) {
+            let end = self.layout.sync_start(open_cycle.cycle, 0);
+            return cycle::next_due(&open_cycle, at, window, end);
+        }
         let start = open_cycle.cycle * u64::from(self.layout.cycle());
         self.wake(at.max(start))
     }
@@ -655,6 +663,14 @@ impl Node {
     {
         self.mailboxes.left()
     }
+}
+
+/// The last bit time of a frame. Behind it the bus is free.
+pub fn last_bit(sent: &TimedFrame) -> u64
+    ensures last { result ≡ min (sent.now.start + (sent.now.len - 1)) (2 ^ 64 - 1) }
+{
+    sent.start
+        .saturating_add(u64::from(sent.len.saturating_sub(1)))
 }
 
 /// Whether an offer is one of an identifier.

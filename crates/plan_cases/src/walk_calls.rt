@@ -1,6 +1,6 @@
 //! Calls of both searches for the first repeat of a walk.
 
-ghost use Rattle.std.specs.Prelude.{◌≡◌, ◌+◌, ◌<◌, ◌≤◌, Some, None, nat_lt, nat_eq, if◌then◌else◌};
+ghost use Rattle.std.specs.Prelude.{◌≡◌, ◌+◌, ◌<◌, Some, None, nat_lt, nat_eq, if◌then◌else◌};
 
 use profile::GREATEST_HORIZON;
 use recurrence_check::{Keyed, Repeat, Walk, WalkEnd, lasso, lasso_keyed};

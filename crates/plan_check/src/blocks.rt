@@ -1,9 +1,9 @@
 //! What the slots do in a block: some cycles one after the other.
 
-ghost use Rattle.std.specs.Prelude.{◌≡◌, ◌≢◌, ℕ, ◌+◌, ◌*◌, ◌^◌, ◌<◌, ◌≤◌, ◌&&◌, true, false, nat_lt, All, IfSome, is_some, slice_get, slice_index_or};
+ghost use Rattle.std.specs.Prelude.{◌≡◌, ℕ, ◌+◌, ◌*◌, ◌^◌, ◌<◌, ◌≤◌, ◌&&◌, true, false, nat_lt, All, IfSome, is_some, slice_get};
 ghost use Rattle.profile.specs.Limits.{cycles_end};
 ghost use Rattle.requirement_table.specs.Instance.{released_by};
-ghost use Rattle.requirement_table.specs.Slots.{contains_slot, most_slots, sum_where};
+ghost use Rattle.requirement_table.specs.Slots.{most_slots};
 ghost use Rattle.requirement_table.specs.Table.{IsInRange, IsWellPlaced, is_over};
 ghost use Rattle.plan_check.specs.Blocks.{AreMarked, IsClearFor, IsFilled, IsFilledFor, IsLast, IsSameBut, ends_by, meets};
 ghost use Rattle.plan_check.specs.Places.{AreCurrent, AreSlotsBelow, IsCurrent};

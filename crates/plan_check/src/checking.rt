@@ -6,7 +6,7 @@ ghost use Rattle.std.specs.List.{list_any};
 ghost use Rattle.profile.specs.Limits.{cycles_end};
 ghost use Rattle.requirement_table.specs.Instance.{release_of};
 ghost use Rattle.requirement_table.specs.Slots.{contains_slot, most_slots};
-ghost use Rattle.requirement_table.specs.Table.{IsInRange, IsWellPlaced, instance_in, is_last_in};
+ghost use Rattle.requirement_table.specs.Table.{IsWellPlaced, instance_in, is_last_in};
 ghost use Rattle.plan_check.specs.Blocks.{IsFilled};
 ghost use Rattle.plan_check.specs.Breaches.{IsBreach, IsGoodAt};
 ghost use Rattle.plan_check.specs.Certificate.{IsCertificate, length_of};

@@ -1,6 +1,6 @@
 //! The lines of a plan text, read one by one.
 
-ghost use Rattle.std.specs.Prelude.{◌≡◌, ◌≢◌, ℕ, ◌<◌, ◌≤◌, ◌++◌, ◌∷◌, List, IfSome, IfNone, get_or, length, true, false};
+ghost use Rattle.std.specs.Prelude.{◌≡◌, ℕ, ◌<◌, ◌≤◌, ◌++◌, ◌∷◌, List, IfSome, IfNone, true};
 ghost use Rattle.std.specs.Fmt.{decimal};
 ghost use Rattle.text_fields.specs.Lines.{HasNoFeed};
 ghost use Rattle.text_fields.specs.MaskText.{mask_digits};

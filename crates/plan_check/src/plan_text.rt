@@ -21,9 +21,10 @@
 //! Version 1 is read too. Its first line is `fttcan plan 1`, it has a line `MASK` for each cycle, and it names slots
 //! below 40 alone.
 
-ghost use Rattle.std.specs.Prelude.{◌≡◌, ℕ, ◌+◌, ◌-◌, ◌^◌, ◌<◌, ◌≤◌, ◌++◌, ◌∷◌, [], List, All, Some, IfSome};
-ghost use Rattle.std.specs.Prelude.{IfOk, IfErr, OnOk, ◌&&◌, drop, get_or, length, map, nat_le, replicate, MatchResult};
-ghost use Rattle.std.specs.String.{string_bytes};
+ghost use Rattle.std.specs.Prelude.{◌≡◌, ◌+◌, ◌-◌, ◌<◌, ◌≤◌, ◌++◌, ◌∷◌, [], Some};
+ghost use Rattle.std.specs.Prelude.{IfOk, IfErr, OnOk, ◌&&◌, codes, drop, get_or, length, map, nat_le, replicate};
+ghost use Rattle.std.specs.Prelude.{MatchResult};
+ghost use Rattle.std.specs.Fmt.{decimal};
 ghost use Rattle.plan_check.specs.declared.plan_runs.Version.TheVariants.{Two};
 ghost use Rattle.plan_check.specs.Certificate.{CertificateView};
 ghost use Rattle.plan_check.specs.PlanText.{IsBody, IsFirstWrongLine, IsPlanOf, IsReadable, IsReadableHead, IsRunFault, IsTextFault};
@@ -36,36 +37,62 @@ use crate::plan_runs::{Run, Version};
 use crate::text_fault::PlanTextFault;
 use requirement_table::Mask;
 use std::alloc::{AllocError, Global};
+use text_fields::{
+    ROOM, put_byte, put_decimal, put_first, put_line_feed, put_mask, put_word, row_from,
+};
 
 /// The text of a certificate, in version 2.
 pub fn write_plan(alloc: Global, certificate: &Certificate) -> Result<Vec<u8>, AllocError>
     ensures text { IfOk result (λ bytes. bytes.items ≡ plan_text certificate.now) }
 {
-    let mut text = String::new(alloc);
+    let mut text = Vec::new(alloc);
     push_head(&mut text, certificate)?;
     push_runs(&mut text, certificate.masks())?;
-    writeln!(text, "end")?;
-    Ok(text.into_bytes())
+    text.extend_from_slice(b"end\n")?;
+    Ok(text)
 }
 
 /// Appends the five lines before the masks.
-fn push_head(text: &mut String, certificate: &Certificate) -> Result<(), AllocError>
-    ensures ok { OnOk result (string_bytes text.new
-        ≡ string_bytes text.old ++ text_of (head_lines Version.Two certificate.now)) }
+fn push_head(text: &mut Vec<u8>, certificate: &Certificate) -> Result<(), AllocError>
+    ensures ok { OnOk result (text.new.items
+        ≡ text.old.items ++ text_of (head_lines Version.Two certificate.now)) }
 {
-    let from = certificate.from();
-    let first = certificate.first();
-    let length = certificate.length();
-    write!(text, "fttcan plan 2\nfrom {from}\npending ")?;
-    push_mask_line(text, certificate.pending())?;
-    write!(text, "first {first}\nlength {length}\n")
+    text.extend_from_slice(b"fttcan plan 2\n")?;
+    push_number(text, b"from ", certificate.from())?;
+    push_pending(text, certificate.pending())?;
+    push_number(text, b"first ", certificate.first())?;
+    push_number(text, b"length ", certificate.length())
+}
+
+/// Appends the line of a word and a number.
+fn push_number(text: &mut Vec<u8>, word: &[u8], number: u64) -> Result<(), AllocError>
+    requires short { length word.now ≤ 7 }
+    ensures ok { OnOk result (text.new.items ≡ text.old.items ++ ((word.now ++ decimal number) ++ 10 ∷ [])) }
+{
+    let mut row = [0; ROOM];
+    let end = put_line_feed(&mut row);
+    let start = put_first(&mut row, end, word, number);
+    text.extend_from_slice(row_from(&row, start))
+}
+
+/// Appends the line of the slots that are pending.
+fn push_pending(text: &mut Vec<u8>, mask: Mask) -> Result<(), AllocError>
+    ensures ok { OnOk result (text.new.items
+        ≡ text.old.items ++ ((codes "pending " ++ mask_digits mask) ++ 10 ∷ [])) }
+{
+    let mut row = [0; ROOM];
+    let end = put_line_feed(&mut row);
+    let start = put_mask(&mut row, end, mask.bits());
+    let start = put_word(&mut row, start, b"pending ");
+    text.extend_from_slice(row_from(&row, start))
 }
 
 /// Appends a line for each run of equal masks.
-fn push_runs(text: &mut String, masks: &[Mask]) -> Result<(), AllocError>
-    ensures ok { OnOk result (string_bytes text.new
-        ≡ string_bytes text.old ++ text_of (map (run_line Version.Two) (runs_of masks.now))) }
+fn push_runs(text: &mut Vec<u8>, masks: &[Mask]) -> Result<(), AllocError>
+    ensures ok { OnOk result (text.new.items
+        ≡ text.old.items ++ text_of (map (run_line Version.Two) (runs_of masks.now))) }
 {
+    let mut row = [0; ROOM];
     let mut start = 0;
     while start < masks.len() {
         let end = end_of_run(masks, start);
@@ -73,7 +100,7 @@ fn push_runs(text: &mut String, masks: &[Mask]) -> Result<(), AllocError>
             mask: masks[start],
             count: (end - start) as u64,
         };
-        push_run(text, &run)?;
+        push_run(text, &mut row, &run)?;
         start = end;
     }
     Ok(())
@@ -96,29 +123,16 @@ fn end_of_run(masks: &[Mask], start: usize) -> usize
     masks.len()
 }
 
-/// Appends the line of a run.
-fn push_run(text: &mut String, run: &Run) -> Result<(), AllocError>
-    ensures ok { OnOk result (string_bytes text.new
-        ≡ string_bytes text.old ++ (run_line Version.Two run.now ++ 10 ∷ [])) }
+/// Appends the line of a run, which is made in `row`.
+fn push_run(text: &mut Vec<u8>, row: &mut [u8; ROOM], run: &Run) -> Result<(), AllocError>
+    ensures ok { OnOk result (text.new.items
+        ≡ text.old.items ++ (run_line Version.Two run.now ++ 10 ∷ [])) }
 {
-    let count = run.count;
-    push_mask(text, run.mask)?;
-    write!(text, " {count}\n")
-}
-
-/// Appends the digits of a mask and a line feed.
-fn push_mask_line(text: &mut String, mask: Mask) -> Result<(), AllocError>
-    ensures ok { OnOk result (string_bytes text.new ≡ string_bytes text.old ++ (mask_digits mask ++ 10 ∷ [])) }
-{
-    push_mask(text, mask)?;
-    writeln!(text)
-}
-
-/// Appends the digits of a mask.
-fn push_mask(text: &mut String, mask: Mask) -> Result<(), AllocError>
-    ensures ok { OnOk result (string_bytes text.new ≡ string_bytes text.old ++ mask_digits mask) }
-{
-    text_fields::push_mask(text, mask.bits())
+    let end = put_line_feed(row);
+    let start = put_decimal(row, end, run.count);
+    let start = put_byte(row, start, b' ');
+    let start = put_mask(row, start, run.mask.bits());
+    text.extend_from_slice(row_from(row, start))
 }
 
 /// The most cycles from FROM to FIRST, and the most that the repeated part has.

@@ -1,6 +1,6 @@
 //! What sets of slots cost.
 
-ghost use Rattle.std.specs.Prelude.{◌≡◌, ◌≢◌, ℕ, ◌+◌, ◌*◌, ◌^◌, ◌<◌, ◌≤◌, slice_index_or};
+ghost use Rattle.std.specs.Prelude.{◌≡◌, ◌≢◌, ℕ, ◌+◌, ◌*◌, ◌<◌, ◌≤◌, slice_index_or};
 ghost use Rattle.requirement_table.specs.Slots.{contains_slot, sum_where};
 ghost use Rattle.plan_check.specs.Cycles.{width_of};
 
@@ -20,7 +20,7 @@ pub struct Costs {
 }
 
 impl Model for Costs {
-    ghost use Rattle.std.specs.Prelude.{◌≡◌, ◌≢◌, ℕ, ◌≤◌, List, length, slice_index_or};
+    ghost use Rattle.std.specs.Prelude.{◌≡◌, ◌≢◌, ℕ, ◌≤◌, List, slice_index_or};
     ghost use Rattle.plan_check.specs.Cycles.{AreCosts};
 
     ghost Value = { List ℕ };

@@ -1,5 +1,5 @@
 -- All that is pending in a cycle, where it fits the window together.
-use Rattle.std.proofs.Common.{◌≡◌, ℕ, ◌+◌, ◌-◌, ◌<◌, ◌≤◌, ◌||◌, ◌^◌, Bool, true, false, None, Contains, IsPermutation, nat_eq, nat_le, if◌then◌else◌, List, [], ◌∷◌, ◌++◌, All, get_or, take, length, refl, sym, ap, ◌∙◌, ⊎_elim, arith}
+use Rattle.std.proofs.Common.{◌≡◌, ℕ, ◌≢◌, ◌+◌, ◌-◌, ◌<◌, ◌≤◌, ◌||◌, ◌^◌, Bool, true, false, None, Contains, IsPermutation, nat_eq, nat_le, if◌then◌else◌, List, [], ◌∷◌, ◌++◌, All, get_or, take, length, refl, sym, ap, ◌∙◌, ⊎_elim, arith}
 use Rattle.std.specs.List.{list_any}
 use Rattle.std.proofs.lemmas.Bool.{both_ways, cases_Bool, eq-eqb, eqb-true, le-leb}
 use Rattle.std.proofs.lemmas.List.Elements.{All-cons, All-nil, All-weaker}
@@ -7,12 +7,13 @@ use Rattle.std.proofs.lemmas.List.Sums.{sum_by-cons}
 use Rattle.requirement_table.specs.declared.entries.Placed.{Placed}
 use Rattle.requirement_table.specs.Slots.{contains_slot, most_slots}
 use Rattle.requirement_table.specs.Table.{IsWellPlaced}
+use Rattle.requirement_table.proofs.Shared.{contains_slot-none}
 use Rattle.planner_policies.specs.declared.Fill.{Fill}
 use Rattle.planner_policies.specs.declared.Fill.TheVariants.{Prefix, Skip}
 use Rattle.planner_policies.specs.declared.due.Due.{Due}
-use Rattle.planner_policies.specs.Due.{IsAllFitting, IsDueOf, IsLined, IsPutIn, is_due_by, left_of, taken_of}
+use Rattle.planner_policies.specs.Due.{IsAllFitting, IsDueOf, IsLined, IsPlanned, IsPutIn, IsSetOf, is_due_by, left_of, taken_of}
 use Rattle.planner_policies.specs.Plan.{IsValid, Planning}
-use Rattle.planner_policies.proofs.Cycles.{split-of}
+use Rattle.planner_policies.proofs.Cycles.{split-of, split-planned}
 use Rattle.planner_policies.proofs.DueSlots.{IsSplit, has_slot}
 use Rattle.planner_policies.proofs.EachLoop.{HasSlots}
 use Rattle.planner_policies.proofs.Filling.{same-test}
@@ -48,13 +49,21 @@ none-left Skip window (x ∷ xs) fits =
     ap (λ b. if b then left_of Skip (window - x.cost) xs else x ∷ left_of Skip window xs) small
     ∙ none-left Skip (window - x.cost) xs (omega arith)
 
-pub split-all : (plan : Planning) (c : ℕ) (before : ℕ → Bool) (mask width : ℕ) (all : IsAllFitting plan c before mask width)
+split-all : (plan : Planning) (c : ℕ) (before : ℕ → Bool) (mask width : ℕ) (all : IsAllFitting plan c before mask width)
     → IsSplit plan c before all.line []
 split-all plan c before mask width all =
     let cost = all.cost in
     let fits = all.fits in
     let small : cost_of all.line ≤ plan.window = omega arith in
     rw (all-taken plan.fill plan.window all.line small, none-left plan.fill plan.window all.line small) at (split-of plan c before all.line plan.fill refl all.whole)
+
+-- all is planned
+pub all-planned : (plan : Planning) (c : ℕ) (before : ℕ → Bool) (mask width next : ℕ) → IsAllFitting plan c before mask width → next ≡ 0
+    → IsPlanned plan c before mask width next
+all-planned plan c before mask width next all none =
+    let empty : IsSetOf next [] = record { slots = λ slot. ap (λ m. contains_slot m slot) none ∙ contains_slot-none slot; below = omega arith } in
+    split-planned plan c before all.line [] (split-all plan c before mask width all) mask width next all.slots all.cost all.fits empty
+    (All-nil (λ due. due.last ≢ c))
 
 -- an instance has a place in a line
 pub record IsPut (due : Due) (line : List Due) : Type 0 where

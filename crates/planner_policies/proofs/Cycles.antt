@@ -4,16 +4,15 @@ use Rattle.std.specs.List.{sum_by}
 use Rattle.std.proofs.lemmas.Bool.{and_from, and_parts, eq-eqb, eqb-true, false_from_ne_true}
 use Rattle.std.proofs.lemmas.List.Elements.{All-contains, All-map, All-weaker}
 use Rattle.std.proofs.lemmas.List.Folds.{list_any-from_Any}
-use Rattle.requirement_table.specs.Instance.{MaySend}
 use Rattle.requirement_table.specs.Slots.{set_of, most_slots}
-use Rattle.requirement_table.specs.Table.{IsHeldFrom, IsWellPlaced, instance_in, is_last_in, width_in, worst_in}
-use Rattle.requirement_table.proofs.Shared.{found-in, found-of, set_of-from_slots, sum_where-same}
+use Rattle.requirement_table.specs.Table.{instance_in, is_last_in, width_in, worst_in}
+use Rattle.requirement_table.proofs.Shared.{set_of-from_slots, sum_where-same}
 use Rattle.planner_policies.specs.declared.due.Due.{Due}
 use Rattle.planner_policies.specs.declared.state.Miss.{Miss}
-use Rattle.planner_policies.specs.Due.{IsDueIn, IsLeastMissed, IsSetOf, IsWholeLine, left_of, taken_of}
+use Rattle.planner_policies.specs.Due.{IsDueIn, IsLeastMissed, IsLineTaken, IsPlanned, IsSetOf, IsWholeLine, left_of, taken_of}
 use Rattle.planner_policies.specs.declared.Fill.{Fill}
 use Rattle.planner_policies.specs.declared.Fill.TheVariants.{Prefix, Skip}
-use Rattle.planner_policies.specs.Plan.{HasNoMissIn, IsMissIn, IsValid, Planning, is_missed_in, left_after, planned_in}
+use Rattle.planner_policies.specs.Plan.{HasNoMissIn, IsMissIn, Planning, is_missed_in, left_after, planned_in}
 use Rattle.planner_policies.proofs.DueSlots.{IsSplit, has-order, has_slot, instance-with, last-is, order_of, slot_of, slots-contain, sum-costs}
 use Rattle.planner_policies.proofs.TakenEach.{split-each}
 use Rattle.planner_policies.proofs.TakenFront.{split-front}
@@ -77,28 +76,6 @@ module _ (plan : Planning) (c : ℕ) (before : ℕ → Bool) (taken left : List 
         released = ap (λ m. m.release) is ∙ in'.is.release;
       }
 
-  -- where none is missed, each instance that is left may be sent in the next cycle
-  held-next : (due : Due) → IsWellPlaced plan.placed → IsDueIn plan c before due → due.last ≢ c
-      → IsHeldFrom plan.placed (c + 1) due.slot
-  held-next due well in' more =
-      let i = in'.instance in
-      let found = found-in plan.placed due.slot c i well in'.found in
-      let last = in'.is.last in
-      let in_time = found.sends.in_time in
-      let released = found.sends.released in
-      let sends : MaySend i.placed i.number (c + 1) = record { exists = found.sends.exists; released = omega arith; in_time = omega arith } in
-      record {
-        instance = i;
-        found = ap (λ s. instance_in plan.placed s (c + 1)) (sym found.of_slot) ∙ found-of plan.placed i.placed i.number (c + 1) well found.stands sends;
-        before = omega arith;
-      }
-
-  pub next-valid : (mask : ℕ) → IsWellPlaced plan.placed → IsLeastMissed c left None → IsSetOf mask left → IsValid plan.placed (c + 1) mask
-  next-valid mask well none made slot holds =
-      let one = instance-with slot left (slots-contain slot left (sym (made.slots slot) ∙ holds)) in
-      let in' = All-contains (IsDueIn plan c before) left one.due split.each_left one.stands in
-      rw (← one.value) (held-next one.due well in' (All-contains (λ due. due.last ≢ c) left one.due none one.stands))
-
   -- what they cost together is what the planned slots cost
   pub planned-width : width_in plan.placed c (planned_in plan c before) ≡ sum_by (λ due. due.cost) taken
   planned-width =
@@ -109,6 +86,23 @@ module _ (plan : Planning) (c : ℕ) (before : ℕ → Bool) (taken left : List 
       (λ slot within. sym (split.planned slot within) ∙ has-order slot taken)
       ∙ sum_where-list most_slots (order_of taken) (worst_in plan.placed c) known distinct
       ∙ sum-costs plan c before taken split.each_taken
+
+  -- all of this at once
+  pub split-planned : (mask width next : ℕ) → IsSetOf mask taken → width ≡ sum_by (λ due. due.cost) taken → width ≤ plan.window → IsSetOf next left
+      → IsLeastMissed c left None → IsPlanned plan c before mask width next
+  split-planned mask width next made cost fits rest none = record {
+    planned = planned-set mask made;
+    width_is = cost ∙ sym planned-width;
+    fits = fits;
+    left = left-set next rest;
+    none_missed = none-missed none;
+  }
+
+pub line-planned : (plan : Planning) (c : ℕ) (before : ℕ → Bool) (line : List Due) (mask width next : ℕ) → IsWholeLine plan c before line
+    → IsLineTaken plan.fill plan.window line c mask width next → IsPlanned plan c before mask width next
+line-planned plan c before line mask width next whole is =
+    split-planned plan c before (taken_of plan.fill plan.window line) (left_of plan.fill plan.window line) (split-of plan c before line plan.fill refl whole)
+    mask width next is.planned is.cost is.fits is.left is.none_missed
 
 pub miss-cycle : (c : ℕ) (xs : List Due) (miss : Miss) → IsLeastMissed c xs (Some miss) → miss.cycle ≡ c
 miss-cycle c xs miss least = ap (λ m. m.cycle) least.0.4.1 ∙ least.0.4.0

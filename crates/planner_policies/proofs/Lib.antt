@@ -17,16 +17,7 @@ mod Longest
 mod Loops
 mod Pairs
 mod Rows
-mod Releasing
 mod RankOrder
-mod RowCycles
-mod RowDues
-mod RowFilling
-mod RowLines
-mod RowRoom
-mod RowSets
-mod RowSums
-mod RowTaking
 mod Steps
 mod Sums
 mod TakenEach

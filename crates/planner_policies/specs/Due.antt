@@ -6,15 +6,15 @@ use Rattle.std.specs.List.{list_any}
 use Rattle.std.specs.Option.{option_map_or}
 use Rattle.requirement_table.specs.declared.entries.Placed.{Placed}
 use Rattle.requirement_table.specs.Instance.{Instance, MaySend, deadline_of, instance_of, release_of, worst_of}
-use Rattle.requirement_table.specs.Slots.{contains_slot, most_slots}
-use Rattle.requirement_table.specs.Table.{instance_in}
+use Rattle.requirement_table.specs.Slots.{contains_slot, most_slots, set_of}
+use Rattle.requirement_table.specs.Table.{instance_in, width_in}
 use Rattle.planner_policies.specs.declared.Fill.{Fill}
 use Rattle.planner_policies.specs.declared.Fill.TheVariants.{Prefix, Skip}
 use Rattle.planner_policies.specs.declared.Policy.{Policy}
 use Rattle.planner_policies.specs.declared.Policy.TheVariants.{Rm, Dm, Edf}
 use Rattle.planner_policies.specs.declared.state.Miss.{Miss}
 use Rattle.planner_policies.specs.declared.due.Due.{Due}
-use Rattle.planner_policies.specs.Plan.{Planning, by_number, key_of, pending_in}
+use Rattle.planner_policies.specs.Plan.{HasNoMissIn, Planning, by_number, key_of, left_after, pending_in, planned_in}
 
 -- what is kept of an instance
 pub record IsOf (policy : Policy) (i : Instance) (due : Due) : Type 0 where
@@ -141,3 +141,19 @@ abbrev pub IsLeastMissed : ℕ → List Due → Option Miss → Type 0
 IsLeastMissed c line None = All (λ due. due.last ≢ c) line
 IsLeastMissed c line (Some miss) =
     Any (λ due. (due.last ≡ c) × (miss ≡ miss_of due)) line × All (λ due. due.last ≡ c → miss.slot ≤ due.slot) line
+
+-- what a filling takes of a line in a cycle, and what it leaves: none of that is in its last cycle
+pub record IsLineTaken (fill : Fill) (window : ℕ) (line : List Due) (c mask width next : ℕ) : Type 0 where
+  pub planned : IsSetOf mask (taken_of fill window line)
+  pub cost : width ≡ sum_by (λ due. due.cost) (taken_of fill window line)
+  pub fits : width ≤ window
+  pub left : IsSetOf next (left_of fill window line)
+  pub none_missed : IsLeastMissed c (left_of fill window line) None
+
+-- what is planned in a cycle, and the slots that are pending after it; no instance is missed
+pub record IsPlanned (plan : Planning) (c : ℕ) (before : ℕ → Bool) (mask width next : ℕ) : Type 0 where
+  pub planned : mask ≡ set_of most_slots (planned_in plan c before)
+  pub width_is : width ≡ width_in plan.placed c (planned_in plan c before)
+  pub fits : width ≤ plan.window
+  pub left : next ≡ set_of most_slots (left_after plan c before)
+  pub none_missed : HasNoMissIn plan c before

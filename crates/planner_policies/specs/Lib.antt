@@ -3,4 +3,3 @@ pub mod Ranked
 pub mod Order
 pub mod Loop
 pub mod Due
-pub mod Wheel

@@ -58,7 +58,7 @@ impl Due {
 
 /// The instance of a placed entry that is pending in the cycle of the state, where there is one.
 #[inline(always)]
-pub fn due_of(policy: Policy, placed: &Placed, state: &PlanState) -> Option<Due>
+pub(crate) fn due_of(policy: Policy, placed: &Placed, state: &PlanState) -> Option<Due>
     requires in_range { IsInRange placed.now }
     requires cycle { state.now.cycle < cycles_end }
     ensures pending { IsDueOf policy (contains_slot state.now.pending) state.now.cycle placed.now result }
@@ -97,9 +97,9 @@ fn release_waiting(placed: &Placed, state: &PlanState) -> Option<u64>
     }
 }
 
-/// The number that the policy looks at first; the least goes first. The deadline is that of an instance, the cycle
-/// behind its last one.
-pub(crate) fn key(policy: Policy, placed: &Placed, deadline: u64) -> u64
+/// The number that the policy looks at first; the least goes first. The deadline is that of an instance of the entry:
+/// the cycle behind its last one.
+pub fn key(policy: Policy, placed: &Placed, deadline: u64) -> u64
     ensures key { result ≡ key_with policy placed.now deadline }
 {
     match policy {

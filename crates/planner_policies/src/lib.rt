@@ -5,18 +5,16 @@
 //! counted in elementary cycles from 0, and lengths in bit times. A cycle number handed to any call is below 2^42.
 #![tactic(auto)]
 
-mod due;
+pub mod due;
 pub mod laws;
-mod line;
-mod planner;
+pub mod line;
 mod planning;
 mod ranking;
-mod row_set;
 mod state;
-mod wheel;
 
-pub use planner::{CyclePlan, Planner};
-pub use planning::{Planned, cycle_mask, plan_cycle, plan_with_width, valid};
+pub use planning::{
+    Planned, Taken, cycle_mask, is_held, plan_cycle, plan_of_line, plan_with_width, valid,
+};
 pub use ranking::{Ranked, rank};
 pub use state::{Miss, PlanState};
 

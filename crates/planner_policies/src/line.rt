@@ -4,7 +4,14 @@ ghost use Rattle.std.specs.Prelude.{◌≡◌, ◌<◌, [], length};
 ghost use Rattle.planner_policies.specs.Due.{IsLined, IsPutIn};
 
 use crate::due::Due;
+use requirement_table::MOST_SLOTS;
 use std::marker::Model;
+
+/// A table of at most so many entries has a shorter line, which is made in less time.
+pub const FEW: usize = 40;
+
+/// A line of this room holds what is pending in any table: one instance a slot.
+pub const ALL: usize = MOST_SLOTS as usize;
 
 /// A list of at most `ROOM` instances, one a slot. Contracts see the list.
 #[derive(Drop)]

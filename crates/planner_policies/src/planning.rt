@@ -1,29 +1,22 @@
 //! The plan of one cycle.
 
 ghost use Rattle.std.specs.Prelude.{◌≡◌, ℕ, ◌+◌, ◌^◌, ◌<◌, ◌≤◌, ◌↔◌, nat_eq};
-ghost use Rattle.std.specs.Prelude.{sum_by, take, All, IsTrue, IfOk, IfErr, IfSome, length, None, Some};
+ghost use Rattle.std.specs.Prelude.{sum_by, take, All, IsTrue, IfOk, IfErr, IfSome, length, Some};
 ghost use Rattle.planner_policies.specs.declared.Fill.TheVariants.{Prefix, Skip};
 ghost use Rattle.std.specs.List.{list_any};
 ghost use Rattle.profile.specs.Limits.{cycles_end};
 ghost use Rattle.requirement_table.specs.Slots.{contains_slot, set_of, most_slots};
-ghost use Rattle.requirement_table.specs.Table.{IsInRange, IsWellPlaced, width_in};
-ghost use Rattle.planner_policies.specs.Due.{IsAllFitting, IsLeastMissed, IsLongestFit, IsSetOf, IsWholeLine, is_held_in, left_of, lesser_miss};
-ghost use Rattle.planner_policies.specs.Due.{taken_of, with_missed};
+ghost use Rattle.requirement_table.specs.Table.{IsInRange, width_in};
+ghost use Rattle.planner_policies.specs.Due.{IsAllFitting, IsLeastMissed, IsLineTaken, IsLongestFit, IsPlanned, IsSetOf};
+ghost use Rattle.planner_policies.specs.Due.{IsWholeLine, is_held_in, left_of, lesser_miss, taken_of, with_missed};
 ghost use Rattle.planner_policies.specs.Plan.{HasNoMissIn, IsMissIn, IsValid, left_after, planned_in, planning_of};
 
 use crate::Fill;
 use crate::due::{Due, due_of};
-use crate::line::Line;
-use crate::planner::CyclePlan;
+use crate::line::{ALL, FEW, Line};
 use crate::ranking::Ranked;
 use crate::state::{Miss, PlanState};
-use requirement_table::{MOST_SLOTS, Mask, Placed, current_instance};
-
-/// A table of at most so many entries has a shorter line, which is made in less time.
-pub(crate) const FEW: usize = 40;
-
-/// A line of this room holds what is pending in any table: one instance a slot.
-pub(crate) const ALL: usize = MOST_SLOTS as usize;
+use requirement_table::{Mask, Placed, current_instance};
 
 /// Whether a state can be planned from: each pending slot has an instance that was released before the cycle and whose
 /// last cycle is not below it.
@@ -42,8 +35,9 @@ pub fn valid(ranked: &Ranked, state: &PlanState) -> bool
     rest == Mask::empty()
 }
 
-/// Whether the entry has an instance that was released before the cycle and may be sent in it.
-pub(crate) fn is_held(placed: &Placed, cycle: u64) -> bool
+/// Whether the entry has an instance that was released before the cycle and may be sent in it. The cycle is at most
+/// 2^42.
+pub fn is_held(placed: &Placed, cycle: u64) -> bool
     requires in_range { IsInRange placed.now }
     requires cycle { cycle ≤ cycles_end }
     ensures held { result ≡ is_held_in cycle placed.now }
@@ -121,6 +115,22 @@ pub fn plan_with_width(ranked: &Ranked, w: u32, state: &PlanState) -> Result<Pla
         IfErr result (λ miss. IsMissIn plan state.now.cycle (contains_slot state.now.pending) miss.slot miss.release) }
     ensures missed_cycle { IfErr result (λ miss. miss.cycle ≡ state.now.cycle) }
 {
+    ranked.placed();
+    let planned = plan_pending(ranked, w, state)?;
+    Ok(planned)
+}
+
+/// Plans the cycle of the state as `plan_with_width` does.
+fn plan_pending(ranked: &Ranked, w: u32, state: &PlanState) -> Result<Planned, Miss>
+    requires cycle { state.now.cycle < cycles_end }
+    requires valid { IsValid ranked.now.placed state.now.cycle state.now.pending }
+    ensures planned { let plan = planning_of ranked.now w state.now.cycle state.now.pending in IfOk result
+        (λ r. IsPlanned plan state.now.cycle (contains_slot state.now.pending) r.mask r.width r.next.pending) }
+    ensures next_cycle { IfOk result (λ r. r.next.cycle ≡ state.now.cycle + 1) }
+    ensures missed { let plan = planning_of ranked.now w state.now.cycle state.now.pending in
+        IfErr result (λ miss. IsMissIn plan state.now.cycle (contains_slot state.now.pending) miss.slot miss.release) }
+    ensures missed_cycle { IfErr result (λ miss. miss.cycle ≡ state.now.cycle) }
+{
     if let Some(all) = all_fitting(ranked, w, state) {
         return Ok(Planned {
             mask: all.mask,
@@ -144,19 +154,9 @@ fn plan_rows<const ROOM: usize>(ranked: &Ranked, w: u32, state: &PlanState) -> R
     requires valid { IsValid ranked.now.placed state.now.cycle state.now.pending }
     requires most { ROOM ≤ most_slots }
     requires room { ROOM < most_slots → length ranked.now.placed ≤ ROOM }
-    ensures planned { let plan = planning_of ranked.now w state.now.cycle state.now.pending in
-        IfOk result (λ r. r.mask ≡ set_of most_slots (planned_in plan state.now.cycle (contains_slot state.now.pending))) }
-    ensures width { let plan = planning_of ranked.now w state.now.cycle state.now.pending in
-        IfOk result (λ r. r.width ≡ width_in plan.placed state.now.cycle
-        (planned_in plan state.now.cycle (contains_slot state.now.pending))) }
-    ensures fits { IfOk result (λ r. r.width ≤ w) }
+    ensures planned { let plan = planning_of ranked.now w state.now.cycle state.now.pending in IfOk result
+        (λ r. IsPlanned plan state.now.cycle (contains_slot state.now.pending) r.mask r.width r.next.pending) }
     ensures next_cycle { IfOk result (λ r. r.next.cycle ≡ state.now.cycle + 1) }
-    ensures left { let plan = planning_of ranked.now w state.now.cycle state.now.pending in
-        IfOk result
-        (λ r. r.next.pending ≡ set_of most_slots (left_after plan state.now.cycle (contains_slot state.now.pending))) }
-    ensures next_valid { IfOk result (λ r. IsValid ranked.now.placed r.next.cycle r.next.pending) }
-    ensures none_missed { let plan = planning_of ranked.now w state.now.cycle state.now.pending in
-        IfOk result (λ _. HasNoMissIn plan state.now.cycle (contains_slot state.now.pending)) }
     ensures missed { let plan = planning_of ranked.now w state.now.cycle state.now.pending in
         IfErr result (λ miss. IsMissIn plan state.now.cycle (contains_slot state.now.pending) miss.slot miss.release) }
     ensures missed_cycle { IfErr result (λ miss. miss.cycle ≡ state.now.cycle) }
@@ -195,25 +195,24 @@ fn mask_of_rows<const ROOM: usize>(ranked: &Ranked, w: u32, state: &PlanState) -
     plan_of_line(line.as_slice(), ranked.fill(), w).mask
 }
 
-/// All that is pending in a cycle.
-#[derive(Drop)]
-struct Fitting {
-    /// The slots.
-    mask: Mask,
-    /// What their instances cost together, in bit times.
-    width: u32,
+/// The pending instances that a cycle takes.
+#[derive(Clone, Copy, PartialEq, Eq, Debug)]
+pub struct Taken {
+    /// Their slots.
+    pub mask: Mask,
+    /// What they cost together, in bit times.
+    pub width: u32,
 }
 
 /// All that is pending in the cycle of the state, where it fits a window of `w` bit times together: then all is planned,
 /// and need not be ordered. `None` where it does not fit. `None` too where something was left before the cycle: then most
 /// often it does not fit, and no row is looked at twice.
-fn all_fitting(ranked: &Ranked, w: u32, state: &PlanState) -> Option<Fitting>
+fn all_fitting(ranked: &Ranked, w: u32, state: &PlanState) -> Option<Taken>
     requires cycle { state.now.cycle < cycles_end }
     requires valid { IsValid ranked.now.placed state.now.cycle state.now.pending }
     ensures fitting { let plan = planning_of ranked.now w state.now.cycle state.now.pending in
         IfSome result
         (λ all. IsAllFitting plan state.now.cycle (contains_slot state.now.pending) all.mask all.width) }
-    ensures well_placed { IsWellPlaced ranked.now.placed }
 {
     let rows = ranked.rows();
     let mut mask = Mask::empty();
@@ -231,7 +230,7 @@ fn all_fitting(ranked: &Ranked, w: u32, state: &PlanState) -> Option<Fitting>
         }
     }
     mask.known();
-    Some(Fitting { mask, width })
+    Some(Taken { mask, width })
 }
 
 /// The instances that are pending in the cycle of the state, in key order.
@@ -241,7 +240,6 @@ fn line_of<const ROOM: usize>(ranked: &Ranked, w: u32, state: &PlanState) -> Lin
     requires room { ROOM < most_slots → length ranked.now.placed ≤ ROOM }
     ensures line { IsWholeLine (planning_of ranked.now w state.now.cycle state.now.pending) state.now.cycle
         (contains_slot state.now.pending) result }
-    ensures well_placed { IsWellPlaced ranked.now.placed }
 {
     let rows = ranked.rows();
     let mut line = Line::<ROOM>::new();
@@ -257,12 +255,8 @@ fn line_of<const ROOM: usize>(ranked: &Ranked, w: u32, state: &PlanState) -> Lin
 fn plan_line(line: &[Due], fill: Fill, w: u32, cycle: u64) -> Result<Planned, Miss>
     requires known { All (λ due. due.slot < most_slots) line.now }
     requires cycle { cycle < cycles_end }
-    ensures planned { IfOk result (λ r. IsSetOf r.mask (taken_of fill w line.now)) }
-    ensures width { IfOk result (λ r. r.width ≡ sum_by (λ due. due.cost) (taken_of fill w line.now)) }
-    ensures fits { IfOk result (λ r. r.width ≤ w) }
+    ensures planned { IfOk result (λ r. IsLineTaken fill w line.now cycle r.mask r.width r.next.pending) }
     ensures next_cycle { IfOk result (λ r. r.next.cycle ≡ cycle + 1) }
-    ensures left { IfOk result (λ r. IsSetOf r.next.pending (left_of fill w line.now)) }
-    ensures none_missed { IfOk result (λ _. IsLeastMissed cycle (left_of fill w line.now) None) }
     ensures missed { IfErr result (λ miss. IsLeastMissed cycle (left_of fill w line.now) (Some miss)) }
 {
     match fill {
@@ -271,8 +265,8 @@ fn plan_line(line: &[Due], fill: Fill, w: u32, cycle: u64) -> Result<Planned, Mi
     }
 }
 
-/// What a filling takes of a line, within a window of `w` bit times: the slots, and what they cost together.
-pub(crate) fn plan_of_line(line: &[Due], fill: Fill, w: u32) -> CyclePlan
+/// What a filling takes of a line of instances in key order, within a window of `w` bit times: at most `w` together.
+pub fn plan_of_line(line: &[Due], fill: Fill, w: u32) -> Taken
     requires known { All (λ due. due.slot < most_slots) line.now }
     ensures planned { IsSetOf result.mask (taken_of fill w line.now) }
     ensures width { result.width ≡ sum_by (λ due. due.cost) (taken_of fill w line.now) }
@@ -285,28 +279,28 @@ pub(crate) fn plan_of_line(line: &[Due], fill: Fill, w: u32) -> CyclePlan
 }
 
 /// What the filling `Prefix` takes of a line.
-fn plan_of_front(line: &[Due], w: u32) -> CyclePlan
+fn plan_of_front(line: &[Due], w: u32) -> Taken
     requires known { All (λ due. due.slot < most_slots) line.now }
     ensures planned { IsSetOf result.mask (taken_of Prefix w line.now) }
     ensures width { result.width ≡ sum_by (λ due. due.cost) (taken_of Prefix w line.now) }
     ensures fits { result.width ≤ w }
 {
     let front = front_of(line, w);
-    CyclePlan {
+    Taken {
         mask: front.mask,
         width: front.width,
     }
 }
 
 /// What the filling `Skip` takes of a line.
-fn plan_of_each(line: &[Due], w: u32) -> CyclePlan
+fn plan_of_each(line: &[Due], w: u32) -> Taken
     requires known { All (λ due. due.slot < most_slots) line.now }
     ensures planned { IsSetOf result.mask (taken_of Skip w line.now) }
     ensures width { result.width ≡ sum_by (λ due. due.cost) (taken_of Skip w line.now) }
     ensures fits { result.width ≤ w }
 {
     let each = each_of(line, w, 0);
-    CyclePlan {
+    Taken {
         mask: each.mask,
         width: each.width,
     }
@@ -316,12 +310,8 @@ fn plan_of_each(line: &[Due], w: u32) -> CyclePlan
 fn plan_front(line: &[Due], w: u32, cycle: u64) -> Result<Planned, Miss>
     requires known { All (λ due. due.slot < most_slots) line.now }
     requires cycle { cycle < cycles_end }
-    ensures planned { IfOk result (λ r. IsSetOf r.mask (taken_of Prefix w line.now)) }
-    ensures width { IfOk result (λ r. r.width ≡ sum_by (λ due. due.cost) (taken_of Prefix w line.now)) }
-    ensures fits { IfOk result (λ r. r.width ≤ w) }
+    ensures planned { IfOk result (λ r. IsLineTaken Prefix w line.now cycle r.mask r.width r.next.pending) }
     ensures next_cycle { IfOk result (λ r. r.next.cycle ≡ cycle + 1) }
-    ensures left { IfOk result (λ r. IsSetOf r.next.pending (left_of Prefix w line.now)) }
-    ensures none_missed { IfOk result (λ _. IsLeastMissed cycle (left_of Prefix w line.now) None) }
     ensures missed { IfErr result (λ miss. IsLeastMissed cycle (left_of Prefix w line.now) (Some miss)) }
 {
     let front = front_of(line, w);
@@ -343,12 +333,8 @@ fn plan_front(line: &[Due], w: u32, cycle: u64) -> Result<Planned, Miss>
 fn plan_each(line: &[Due], w: u32, cycle: u64) -> Result<Planned, Miss>
     requires known { All (λ due. due.slot < most_slots) line.now }
     requires cycle { cycle < cycles_end }
-    ensures planned { IfOk result (λ r. IsSetOf r.mask (taken_of Skip w line.now)) }
-    ensures width { IfOk result (λ r. r.width ≡ sum_by (λ due. due.cost) (taken_of Skip w line.now)) }
-    ensures fits { IfOk result (λ r. r.width ≤ w) }
+    ensures planned { IfOk result (λ r. IsLineTaken Skip w line.now cycle r.mask r.width r.next.pending) }
     ensures next_cycle { IfOk result (λ r. r.next.cycle ≡ cycle + 1) }
-    ensures left { IfOk result (λ r. IsSetOf r.next.pending (left_of Skip w line.now)) }
-    ensures none_missed { IfOk result (λ _. IsLeastMissed cycle (left_of Skip w line.now) None) }
     ensures missed { IfErr result (λ miss. IsLeastMissed cycle (left_of Skip w line.now) (Some miss)) }
 {
     let each = each_of(line, w, cycle);

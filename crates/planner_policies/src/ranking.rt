@@ -103,8 +103,8 @@ impl Ranked {
         drop_over(&mut self.rows, cycle);
     }
 
-    /// The placed entries in key order.
-    pub(crate) fn rows(&self) -> &[Placed]
+    /// The placed entries in key order, by their own numbers: for `Edf` in the order that breaks ties.
+    pub fn rows(&self) -> &[Placed]
         ensures same { IsPermutation self.now.placed result.now }
         ensures order { AreRanked self.now.policy result.now }
         ensures in_range { All IsInRange result.now }

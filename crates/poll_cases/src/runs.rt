@@ -20,8 +20,8 @@ const WINDOW: u32 = 135;
 /// The number of slots.
 const SLOTS: u8 = 40;
 
-/// The most cycles of a run.
-const MOST_CYCLES: u64 = 10;
+/// The longest run, in cycles.
+const LONGEST_RUN: u64 = 10;
 
 /// Whether the slots of a set are slots of the bus.
 fn fits(mask: Mask) -> bool
@@ -110,7 +110,7 @@ pub fn run(
     let Ok(layout) = Layout::new(CYCLE, 0, WINDOW, SLOTS) else {
         return Ok(text);
     };
-    if !well_placed(&placed) || entry.length > 8 || count > MOST_CYCLES {
+    if !well_placed(&placed) || entry.length > 8 || count > LONGEST_RUN {
         return Ok(text);
     }
     let mut nodes = PolledNodes::new(alloc, layout, 1, streams)?;

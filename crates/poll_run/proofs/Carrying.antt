@@ -106,7 +106,7 @@ pub record Carries (layout : CycleLayout) (streams : List Stream) (cycle : ℕ) 
       → Follows (offered_in_with (polled_bytes streams carried) layout [] (record { cycle = cycle; mask = mask; placed = placed })) past
       (cycle * layout.cycle) ((cycle + 1) * layout.cycle) frames
 
--- a cycle is opened behind the history of a polled run, and run on the bus without requests
+-- a cycle is opened after the history of a polled run, and run on the bus without requests
 pub record IsOpened (setting : Setting) (streams : List Stream) (history : List Event) (cycle mask : ℕ) (trace plain_trace plain frames : List TimedFrame)
     (old new : Riding) : Type 0 where
   pub known : IsSetting setting

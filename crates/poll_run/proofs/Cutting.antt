@@ -43,7 +43,7 @@ module _ {L : Type 0} (Heard Broke : L → List ℕ → L → Type 0) where
         };
   }
 
-  -- where the listener broke off within them, the run is cut behind that event
+  -- where the listener broke off within them, the run is cut after that event
   pub cut-behind : Later → (run after : Polled) (frames : List TimedFrame) (told now : L) (calls : List Call) → PollsOn run after frames calls
       → HearsLast Broke after.bus.master.history frames told now → IsCutBehind Heard Broke run told calls now Write
   cut-behind later run after frames told now calls polls breaks = λ start logged.

@@ -115,7 +115,7 @@ module _ (laws : TimeLaws) (layout_cycle : ℕ) (streams : List Stream) (placed 
           };
     }
 
-    -- the entry's first release behind the arrival
+    -- the entry's first release after the arrival
     abbrev span : IsReleasedWithin (lengths_by p) (arrival + 1) p.entry.period p.entry.length
     span = polled.released place (arrival + 1) request (omega arith) polled.stands (omega arith) (omega arith)
 

@@ -26,7 +26,7 @@ pub record MayRide (layout : CycleLayout) (streams : List Stream) (next : ℕ) (
   pub run : arrival_cycle layout.cycle request + p.entry.period + p.entry.deadline ≤ next
 
 -- an instance of an entry of the slot took the request at a place: an instance of `p`, or of another entry that has or had
--- the slot. The instance was sent exactly once in its time, and that frame has the request's bytes. It is sent behind the
+-- the slot. The instance was sent exactly once in its time, and that frame has the request's bytes. It is sent after the
 -- cycle a in which the request arrives, and by the cycle a + period + deadline - 1, with period and deadline of `p`
 pub record IsSentInTime (layout : CycleLayout) (streams : List Stream) (placed : List Placed) (openings : List Opening)
     (carried : ℕ → ℕ → Option ℕ) (trace : List TimedFrame) (p : Placed) (place : ℕ) (request : Stream) : Type 0 where

@@ -98,7 +98,7 @@ module _ {L : Type 0} (Heard Broke : L → List ℕ → L → Type 0) where
         (λ carried. IsUnderWayWith (polled_bytes start.streams carried) start.setting history trace)
     pub heard : HeardAt Heard Broke why start.listener (events_rows trace [] history) now
 
-  -- the run was cut in these calls behind those before
+  -- the run was cut in these calls after those before
   abbrev pub IsCutBehind : Polled → L → List Call → L → Cut → Type 0
   IsCutBehind old told calls now why = (start : Start L) → IsLogged Heard start old told
       → IsCutIn start (map call_of old.bus.master.history ++ calls) now why

@@ -49,7 +49,7 @@ pub fn one_polled_run()
 
 /// A polled run of the first calls of some steps begins the polled run of all of them. Its events are the first ones of
 /// the whole history. In the cycles that it opens the instances of each slot carry the same requests. Its frames are the
-/// first ones of the whole trace, whose other frames start behind those cycles.
+/// first ones of the whole trace, whose other frames start after those cycles.
 pub fn beginnings()
     ensures history { (system : System) (steps : List Step) (streams : List Stream) (history whole : List Event)
         (carried again : ℕ → ℕ → Option ℕ) (trace frames : List TimedFrame)

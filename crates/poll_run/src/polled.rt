@@ -23,7 +23,7 @@ use sporadic_poll::{Rides, Stream};
 use std::alloc::{AllocError, Global};
 use system_file::System;
 
-/// A master and the nodes of its bus, behind some calls, and the requests that the instances of polled slots carry.
+/// A master and the nodes of its bus, after some calls, and the requests that the instances of polled slots carry.
 #[derive(Drop)]
 pub struct Polled {
     /// The bus, without requests. On it each instance sends its number.

@@ -1,9 +1,7 @@
 -- The table whose first marks stand in a row by their places.
-use Rattle.std.proofs.Common.{◌≡◌, ◌≢◌, ℕ, zero, suc, ◌<◌, ◌≤◌, if◌then◌else◌, List, [], ◌∷◌, length, get_or, set, slice_index_or, Some, None, refl, sym, ◌∙◌, ap, arith, subst, inl, inr}
+use Rattle.std.proofs.Common.{◌≡◌, ◌≢◌, ℕ, zero, suc, ◌<◌, ◌≤◌, if◌then◌else◌, List, [], ◌∷◌, length, get_or, slice_index_or, Some, None, refl, sym, ◌∙◌, ap, arith, subst, inl, inr}
 use Rattle.std.specs.Prelude.{Option}
-use Rattle.std.proofs.Math.ListN.{length-set}
 use Rattle.std.proofs.lemmas.Bool.{cases_eq, eq-eqb, ne_eqb}
-use Rattle.std.proofs.lemmas.List.{get_or-set_other, get_or-set_same}
 use Rattle.recurrence_check.specs.Keys.{IsSparse, Meets, at_place, table}
 use Rattle.recurrence_check.proofs.Noted.{key_cases}
 
@@ -77,19 +75,14 @@ meets-first row others new key first steps stands same = (
   λ none. absurd (cc),
 )
 
--- the first mark at its place is put down
-module _ (row : List (Option (ℕ × ℕ))) (others : ℕ × ℕ → Option ℕ) (mark place steps : ℕ) (sparse : IsSparse row others)
-    (none : slice_index_or row place None ≡ None) (near : place < 100000) (within : place < length row) where
-  at-same : get_or (set row place (Some (mark, steps))) place None ≡ Some (mark, steps)
-  at-same = get_or-set_same row place (Some (mark, steps)) None within
-
-  at-other : (q : ℕ) → q ≢ place → get_or (set row place (Some (mark, steps))) q None ≡ get_or row q None
-  at-other q apart = get_or-set_other row place q (Some (mark, steps)) None apart
-
+-- the first mark at its place is put down, and nothing else changes in the row
+module _ (row new : List (Option (ℕ × ℕ))) (others : ℕ × ℕ → Option ℕ) (mark place steps : ℕ) (sparse : IsSparse row others)
+    (none : slice_index_or row place None ≡ None) (near : place < 100000) (at-same : slice_index_or new place None ≡ Some (mark, steps))
+    (at-other : (q : ℕ) → q ≢ place → slice_index_or new q None ≡ slice_index_or row q None) where
   before-none : None ≡ table row others (mark, place)
   before-none = sym (ap (λ (one : Option (ℕ × ℕ)). at_place one mark (others (mark, place))) none ∙ sparse.first (mark, place) near none)
 
-  now-there : table (set row place (Some (mark, steps))) others (mark, place) ≡ Some steps
+  now-there : table new others (mark, place) ≡ Some steps
   now-there =
       ap (λ (one : Option (ℕ × ℕ)). at_place one mark (others (mark, place))) at-same
       ∙ ap (λ b. if b then Some steps else others (mark, place)) (eq-eqb mark mark refl)
@@ -100,30 +93,28 @@ module _ (row : List (Option (ℕ × ℕ))) (others : ℕ × ℕ → Option ℕ)
       let right : ℕ → ℕ × ℕ = λ n. (other.0, n) in
       ap left (sym first) ∙ ap right (sym second)
 
-  others-stay : (other : ℕ × ℕ) → (mark, place) ≢ other → table (set row place (Some (mark, steps))) others other ≡ table row others other
+  others-stay : (other : ℕ × ℕ) → (mark, place) ≢ other → table new others other ≡ table row others other
   others-stay other apart = elim (cases_eq other.1 place) [
     | inl same ↦
         let differs : mark ≢ other.0 = λ equal. apart (pair-of other (sym equal) same) in
-        let here : get_or (set row place (Some (mark, steps))) other.1 None ≡ Some (mark, steps)
-        = ap (λ q. get_or (set row place (Some (mark, steps))) q None) same ∙ at-same in
-        let was : get_or row other.1 None ≡ None = ap (λ q. get_or row q None) same ∙ none in
+        let here : slice_index_or new other.1 None ≡ Some (mark, steps) = ap (λ q. slice_index_or new q None) same ∙ at-same in
+        let was : slice_index_or row other.1 None ≡ None = ap (λ q. slice_index_or row q None) same ∙ none in
         ap (λ (one : Option (ℕ × ℕ)). at_place one other.0 (others other)) here
         ∙ ap (λ b. if b then Some steps else others other) (ne_eqb mark other.0 differs)
         ∙ sym (ap (λ (one : Option (ℕ × ℕ)). at_place one other.0 (others other)) was)
     | inr elsewhere ↦ ap (λ (one : Option (ℕ × ℕ)). at_place one other.0 (others other)) (at-other other.1 elsewhere)
   ]
 
-  pub meets-new : Meets (table row others) (table (set row place (Some (mark, steps))) others) (Some (mark, place)) steps None
+  pub meets-new : Meets (table row others) (table new others) (Some (mark, place)) steps None
   meets-new = (before-none, λ _. (now-there, others-stay))
 
-  pub sparse-new : IsSparse (set row place (Some (mark, steps))) others
-  sparse-new = record {
-    short = let short = sparse.short in let size = length-set row place (Some (mark, steps)) in omega arith;
+  pub sparse-new : length new ≤ 100000 → IsSparse new others
+  sparse-new short = record {
+    short = short;
     first = λ key under nothing. elim (cases_eq key.1 place) [
       | inl same ↦
-          let here : get_or (set row place (Some (mark, steps))) key.1 None ≡ Some (mark, steps)
-          = ap (λ q. get_or (set row place (Some (mark, steps))) q None) same ∙ at-same in
-          absurd (stands-first (set row place (Some (mark, steps))) key (mark, steps) here nothing)
+          let here : slice_index_or new key.1 None ≡ Some (mark, steps) = ap (λ q. slice_index_or new q None) same ∙ at-same in
+          absurd (stands-first new key (mark, steps) here nothing)
       | inr elsewhere ↦ sparse.first key under (sym (at-other key.1 elsewhere) ∙ nothing)
     ];
   }

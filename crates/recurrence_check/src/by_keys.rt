@@ -84,7 +84,10 @@ fn meet(
     if place >= PLACES {
         return note(others, mark, place, steps);
     }
-    reach(row, place)?;
+    if row.len() <= place as usize {
+        lengthen(row, mark, place, steps)?;
+        return Ok(None);
+    }
     match row[place as usize] {
         None => {
             row[place as usize] = Some((mark, steps));
@@ -100,16 +103,39 @@ fn meet(
     }
 }
 
-/// Makes the row reach to the place, and changes nothing that stands in it.
-fn reach(row: &mut Vec<Option<(u128, u64)>>, place: u64) -> Result<(), AllocError>
+/// Puts the mark and the steps down at a place behind the end of the row, which then ends with it. A full row grows by
+/// an eighth, so that it takes little more memory than it needs.
+fn lengthen(
+    row: &mut Vec<Option<(u128, u64)>>,
+    mark: u128,
+    place: u64,
+    steps: u64,
+) -> Result<(), WalkEnd>
     requires place { place < row_places }
-    ensures short { OnOk result (length row.old.items ≤ row_places → length row.new.items ≤ row_places) }
-    ensures reached { OnOk result (place < length row.new.items) }
+    requires behind { length row.old.items ≤ place }
+    ensures short { IfOk result (λ _. length row.new.items ≤ row_places) }
+    ensures stands { IfOk result (λ _. slice_index_or row.new.items place None ≡ Some (mark, steps)) }
+    ensures same { IfOk result (λ _. (other : ℕ) → other ≢ place
+        → slice_index_or row.new.items other None ≡ slice_index_or row.old.items other None) }
+    ensures memory { IfErr result (λ end. end ≡ WalkEnd.Memory) }
+{
+    reach(row, place)?;
+    if row.len() == row.capacity() {
+        row.reserve_exact(row.len() / 8 + 16)?;
+    }
+    row.push_reserved(Some((mark, steps)));
+    Ok(())
+}
+
+/// Makes the row reach up to the place, and changes nothing that stands in it.
+fn reach(row: &mut Vec<Option<(u128, u64)>>, place: u64) -> Result<(), AllocError>
+    requires behind { length row.old.items ≤ place }
+    ensures reached { OnOk result (length row.new.items ≡ place) }
     ensures same { OnOk result ((other : ℕ)
         → slice_index_or row.new.items other None ≡ slice_index_or row.old.items other None) }
 {
-    if row.len() <= place as usize {
-        row.resize(place as usize + 1, None)?;
+    if row.len() < place as usize {
+        row.resize(place as usize, None)?;
     }
     Ok(())
 }

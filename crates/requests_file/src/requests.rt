@@ -4,10 +4,9 @@
 //! identifier, as a decimal number or as `0x` and one to three hexadecimal digits. DATA is two
 //! hexadecimal digits for each of 0 to 8 bytes. There are at most 50,000 rows.
 
-ghost use Rattle.std.specs.Prelude.{◌≡◌, ◌≢◌, ◌⊎◌, ℕ, ◌<◌, ◌≤◌, ◌&&◌, IfOk, IfErr, IfSome};
-ghost use Rattle.std.specs.Prelude.{Err, Ok, Some, None, map, nat_eq, nat_le, length, get_or, false, true};
+ghost use Rattle.std.specs.Prelude.{◌≡◌, ◌⊎◌, ℕ, ◌<◌, ◌≤◌, ◌&&◌, IfOk, IfErr, IfSome};
+ghost use Rattle.std.specs.Prelude.{Err, Ok, Some, None, map, length, get_or, false, true};
 ghost use Rattle.std.specs.Prelude.{List, option_and_then, option_map, MatchResult};
-ghost use Rattle.std.specs.List.{list_any};
 ghost use Rattle.profile.specs.Limits.{greatest_identifier};
 ghost use Rattle.csv.specs.Records.{fields_of};
 ghost use Rattle.can_frame.specs.DataFrame.{IsFrame};
@@ -199,5 +198,7 @@ pub fn read_requests(
             }
         }
     }
+    // The room for more requests is given back: the list stays for the whole run.
+    requests.shrink_to_fit();
     Ok(requests)
 }

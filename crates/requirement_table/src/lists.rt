@@ -12,6 +12,13 @@ use crate::slots::{MOST_SLOTS, Mask};
 use profile::CYCLES_END;
 use std::alloc::{AllocError, Global};
 
+/// Of how many entries at most the room is taken before it is known how many there are: a slot has one live entry.
+const FIRST_ROOM: usize = MOST_SLOTS as usize;
+
+/// So many entries are copied at once, 5 KiB. A longer block the C library copies by an instruction that is slow to
+/// begin, and that a count of instructions counts once for each byte.
+const BLOCK: usize = 128;
+
 /// Whether the list is well placed: all fields are in range, no end is below its entry's origin, and
 /// in each slot the entries stand in order, each free before the next one's origin, with at most the
 /// last one live.
@@ -72,6 +79,15 @@ pub fn is_over(p: &Placed, cycle: u64) -> bool
         .is_some_and(|end| u128::from(end) + deadline <= u128::from(cycle) + 1)
 }
 
+/// Whether a placed entry whose fields are in range is over by `cycle`.
+#[inline(always)]
+fn is_over_in_range(p: &Placed, cycle: u64) -> bool
+    requires { IsInRange p.now }
+    ensures over { result ≡ is_over cycle p.now }
+{
+    free_after(p).is_some_and(|from| from <= cycle)
+}
+
 /// Drops the entries that are over by `cycle`, in place and without memory. The others stay in their order.
 pub fn drop_over(placed: &mut Vec<Placed>, cycle: u64)
     ensures left { placed.new.items ≡ not_over cycle placed.old.items }
@@ -108,13 +124,32 @@ pub fn not_over(alloc: Global, placed: &[Placed], cycle: u64) -> Result<Vec<Plac
     requires { IsWellPlaced placed.now }
     ensures list { IfOk result (λ left. left.items ≡ not_over cycle placed.now) }
 {
-    let mut left = Vec::new(alloc);
+    let mut left = Vec::with_capacity(alloc, placed.len().min(FIRST_ROOM))?;
     for p in placed {
-        if !is_over(p, cycle) {
+        if !is_over_in_range(p, cycle) {
             left.push(*p)?;
         }
     }
     Ok(left)
+}
+
+/// A copy of the list, with room for `more` entries more: all of it is taken at once.
+pub fn copy_with_room(
+    alloc: Global,
+    placed: &[Placed],
+    more: usize,
+) -> Result<Vec<Placed>, AllocError>
+    ensures list { IfOk result (λ list. list.items ≡ placed.now) }
+{
+    let mut list = Vec::with_capacity(alloc, placed.len().saturating_add(more))?;
+    let mut rest = placed;
+    while rest.len() > BLOCK {
+        let (block, later) = rest.split_at(BLOCK);
+        list.extend_from_slice(block)?;
+        rest = later;
+    }
+    list.extend_from_slice(rest)?;
+    Ok(list)
 }
 
 /// The set of the slots with an instance that is released in `cycle`.

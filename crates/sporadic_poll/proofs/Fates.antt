@@ -1,4 +1,4 @@
--- What became of the requests, behind the frames of one more cycle.
+-- What became of the requests, after the frames of one more cycle.
 use Rattle.std.proofs.Common.{◌≡◌, ◌⊎◌, inl, inr, ℕ, zero, suc, ◌<◌, ◌==◌, ◌||◌, Bool, true, false, List, [], ◌∷◌, ◌++◌, Contains, length, set, get_or, Option, Some, None, option_and_then, refl, sym, ap, ◌∙◌, arith}
 use Rattle.std.specs.Prelude.{if◌then◌else◌}
 use Rattle.std.specs.List.{slice_get}
@@ -204,7 +204,7 @@ polled_by (one ∷ streams) (suc place) stream at = by_test (one.slot == stream.
     by_test true later = refl
     by_test false later = later
 
--- the fates behind one more cycle
+-- the fates after one more cycle
 pub fates_more : (streams : List Stream) (openings : List Opening) (opening : Opening) (carried : ℕ → ℕ → Option ℕ) (old middle : List Fate) (frames : List TimedFrame)
     → SameSent old middle → length middle ≡ length streams
     → ((slot release place : ℕ) → slot < most_slots → carried slot release ≡ Some place → IsOfSlot streams slot place)

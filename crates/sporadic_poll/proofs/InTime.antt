@@ -24,7 +24,7 @@ module _ (layout_cycle : ℕ) (streams : List Stream) (slot : ℕ) (lengths carr
         released = λ k from other within there above below. polled.released k from other (omega (arith, within, less)) there above (omega (arith, below, apart));
       }
 
-  -- a request is carried behind its arrival
+  -- a request is carried after its arrival
   behind_arrival : (place release : ℕ) (request : Stream) → 0 < layout_cycle → slice_get streams place ≡ Some request → carried release ≡ Some place → arrival_cycle layout_cycle request < release
   behind_arrival place release request some at took =
       let takes = (by_instance layout_cycle streams slot lengths carried ride release place took).1 in

@@ -45,7 +45,7 @@ module _ (layout : CycleLayout) (opening : Opening) (sends : Instance → List �
   abbrev pub AreAlike : List TimedFrame → List TimedFrame → Type 0
   AreAlike past others = (id : ℕ) → HasNotStarted layout opening id past ↔ HasNotStarted layout opening id others
 
-  -- the synchronous window starts behind the trigger part
+  -- the synchronous window starts after the trigger part
   late : start_of layout opening + trigger_part layout ≤ window_start layout opening
   late = omega (arith, add-mul opening.cycle 1 layout.cycle, known.room, fits.width)
 
@@ -201,7 +201,7 @@ module _ (layout : CycleLayout) (opening : Opening) (sends : Instance → List �
           bytes.0,
         )
 
-    -- the frames of the window, one right behind the other
+    -- the frames of the window, one right after the other
     behind : (window : List TimedFrame) (past others : List TimedFrame) (free at : ℕ) → AreAlike past others → AllSent (past ++ window)
         → window_start layout opening ≤ free → start_of layout opening ≤ free → window_start layout opening ≤ at → start_of layout opening ≤ at
         → Follows (offered_in layout [] opening) past free (end_of_cycle layout opening) window

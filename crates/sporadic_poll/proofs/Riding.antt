@@ -30,7 +30,7 @@ pub one_slot : (streams : List Stream) (slot other place : ℕ) → IsOfSlot str
 one_slot streams slot other place one two =
     sym one.its_slot ∙ ap (λ (s : Stream). s.slot) (same_Some _ _ (sym one.at ∙ two.at)) ∙ two.its_slot
 
--- what is noted behind a request that was taken
+-- what is noted after a request that was taken
 pub taken-same : (fates : List Fate) (place : ℕ) (fate : Fate) → place < length fates → taken_in (set fates place fate) place ≡ release_noted fate
 taken-same fates place fate within = ap (option_and_then release_noted) (read-set_same fates place fate within)
 

@@ -77,7 +77,7 @@ taking-all time cycle placed old new slots all taking layout_cycle mask lengths 
 pub noting-first : (cycle : ℕ) (placed : List Placed) (frames : List TimedFrame) (old : Riding) → IsNoting cycle placed frames old old 0
 noting-first cycle placed frames old = record { queued = refl; noted_so_far = λ carried ridden. (ridden, refl) }
 
--- the fates behind one frame more
+-- the fates after one frame more
 abbrev step_of : List Stream → (ℕ → ℕ → Option ℕ) → List Placed → ℕ → List Fate → TimedFrame → List Fate
 step_of streams carried placed cycle fates sent = noted cycle fates (option_and_then (ride_sent streams carried placed cycle) (slot_sent sent.frame))
 

@@ -46,7 +46,7 @@ from_carry streams time entry_length next stream at can =
     let test : (nat_lt stream.at time && nat_lt (length stream.payload) entry_length) ≡ true = and_from _ _ (lt-ltb _ _ can.arrived) (lt-ltb _ _ can.short) in
     rw (at, test) refl
 
--- none is taken behind the end, nor before it arrived, nor where it is too long
+-- none is taken after the end, nor before it arrived, nor where it is too long
 pub from_past : (streams : List Stream) (time entry_length next : ℕ) → length streams ≤ next → None ≡ taken_from streams time entry_length next
 unfolding taken_from
 from_past streams time entry_length next past = rw (slice_get_past streams next past) refl

@@ -19,7 +19,7 @@ pub record PolledView : Type 0 where
 abbrev pub AreNext : ℕ → PolledView → Type 0
 AreNext cycle view = All (λ node. node.next ≡ cycle) (states_of view.nodes.nodes)
 
--- the placed entries behind an order that has a list where they changed
+-- the placed entries after an order that has a list where they changed
 abbrev pub placed_by : Option (List Placed) → List Placed → List Placed
 placed_by None placed = placed
 placed_by (Some learned) placed = learned

@@ -20,9 +20,9 @@ pub record IsReleasedWithin (lengths : ℕ → Option ℕ) (from period entry_le
   pub within : release < from + period
   pub releases : lengths release ≡ Some entry_length
 
--- the premises: each of the requests of the slot up to the one at this place arrives at least the period after those
--- before it, and has fewer bytes than the length; and in each span of a period, from the first of these arrivals on
--- until a period behind the last, an instance of the entry is released
+-- the premises: a cycle takes some time. Each of the requests of the slot up to the one at this place arrives at least
+-- the period after those before it, and has fewer bytes than the length. In each span of a period, from the first of
+-- these arrivals on until a period after the last, an instance of the entry is released
 pub record IsPolled (layout_cycle : ℕ) (streams : List Stream) (slot : ℕ) (lengths : ℕ → Option ℕ) (period entry_length place : ℕ)
     (request : Stream) : Type 0 where
   pub some_time : 0 < layout_cycle
@@ -36,7 +36,7 @@ pub record IsPolled (layout_cycle : ℕ) (streams : List Stream) (slot : ℕ) (l
       → arrival_cycle layout_cycle before ≤ from → from ≤ arrival_cycle layout_cycle request + 1
       → IsReleasedWithin lengths from period entry_length
 
--- the request at a place is carried by an instance that is released within a period behind the cycle of its arrival
+-- the request at a place is carried by an instance that is released within a period after the cycle of its arrival
 pub record IsCarriedInTime (layout_cycle : ℕ) (carried : ℕ → Option ℕ) (period place : ℕ) (request : Stream) : Type 0 where
   pub release : ℕ
   pub after : arrival_cycle layout_cycle request < release

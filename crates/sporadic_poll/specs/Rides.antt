@@ -148,7 +148,7 @@ polled_frame streams carried placed cycle frame = unwrap_or
       bytes = bytes_or streams carried placed cycle slot frame.bytes;
     }) (slot_sent frame)) frame
 
--- the frames from the first frame of a slot on, with other bytes, one right behind the other from the start of the
+-- the frames from the first frame of a slot on, with other bytes, one right after the other from the start of the
 -- first one, as many of them as start before `until`
 abbrev pub sent_anew : (DataFrame → DataFrame) → ℕ → List TimedFrame → List TimedFrame
 sent_anew polled until [] = []
@@ -163,12 +163,12 @@ ride_sent streams carried placed cycle slot =
     (release_in placed slot cycle)
     else None
 
--- the fates behind a frame that carries a request
+-- the fates after a frame that carries a request
 abbrev pub noted : ℕ → List Fate → Option Ride → List Fate
 noted cycle fates None = fates
 noted cycle fates (Some ride) = set fates ride.place (Sent ride.release cycle)
 
--- the fates behind frames of the cycle
+-- the fates after frames of the cycle
 abbrev pub noted_all : List Stream → (ℕ → ℕ → Option ℕ) → List Placed → ℕ → List Fate → List TimedFrame → List Fate
 noted_all streams carried placed cycle fates frames =
     fold (λ so_far sent. noted cycle so_far

@@ -55,7 +55,7 @@ pub fn plain_cycle()
     same_along::<OneCycle, OneCycle>();
 }
 
-/// A request is carried by at most one instance. That instance is one of the request's slot, released behind the
+/// A request is carried by at most one instance. That instance is one of the request's slot, released after the
 /// request's arrival, with room for its bytes. The requests of a slot are carried in the order of the file, and none
 /// overtakes another.
 pub fn in_order()
@@ -76,7 +76,7 @@ pub fn in_order()
 {}
 
 /// *Polling*: a request whose slot's requests come no oftener than an entry of the slot releases instances is carried
-/// by an instance that is released in one of the cycles behind that of its arrival, as many as the period.
+/// by an instance that is released in one of the cycles after that of its arrival, as many as the period.
 pub fn in_time()
     ensures bound { (layout_cycle : ℕ) (streams : List Stream) (slot : ℕ) (lengths carried : ℕ → Option ℕ)
         (period entry_length place : ℕ) (request : Stream)

@@ -7,7 +7,6 @@ ghost use Rattle.profile.specs.Limits.{cycles_end, most_nodes};
 ghost use Rattle.can_frame.specs.declared.data_frame.TimedFrame.{TimedFrame};
 ghost use Rattle.requirement_table.specs.declared.entries.Placed.{Placed};
 ghost use Rattle.requirement_table.specs.Opening.{Opening};
-ghost use Rattle.requirement_table.specs.Slots.{most_slots};
 ghost use Rattle.requirement_table.specs.Table.{IsWellPlaced};
 ghost use Rattle.bus_line.specs.Trace.{Follows};
 ghost use Rattle.node_model.specs.Node.{fresh_node};
@@ -190,7 +189,7 @@ pub fn run_polled(
         → Follows (offered_in_with (polled_bytes nodes.old.riding.queued.streams carried) nodes.old.nodes.layout []
         (opened_by order.now nodes.old.placed)) past (order.now.cycle * nodes.old.nodes.layout.cycle)
         ((order.now.cycle + 1) * nodes.old.nodes.layout.cycle) frames.items) }
-    // What became of the requests is known behind this cycle too.
+    // What became of the requests is known after this cycle too.
     ensures fates { OnOk result ((openings : List Opening) (plain : List TimedFrame)
         (lengths carried : ℕ → ℕ → Option ℕ)
         → AreBefore order.now plain nodes.old

@@ -3,12 +3,12 @@
 //! AT is the arrival in bit times, below 2^40, and never falls from row to row. SLOT is below the number of slots of
 //! the bus. DATA is two hexadecimal digits for each of 0 to 7 bytes. There are at most 10,000 rows.
 
-ghost use Rattle.std.specs.Prelude.{◌≡◌, ◌⊎◌, ℕ, ◌<◌, ◌≤◌, IfOk, IfErr, IfSome, MatchResult};
-ghost use Rattle.std.specs.Prelude.{Err, Ok, map, length, option_map};
+ghost use Rattle.std.specs.Prelude.{◌≡◌, ◌⊎◌, ◌<◌, ◌≤◌, IfOk, IfErr, IfSome, MatchResult};
+ghost use Rattle.std.specs.Prelude.{Err, Ok, map, length};
 ghost use Rattle.profile.specs.Limits.{arrivals_end};
 ghost use Rattle.csv.specs.Records.{fields_of};
 ghost use Rattle.text_fields.specs.CsvRows.{rows_of, trimmed};
-ghost use Rattle.sporadic_poll.specs.StreamRow.{IsStream, arrival_above, meaning, payload_in};
+ghost use Rattle.sporadic_poll.specs.StreamRow.{arrival_above, meaning, payload_in};
 ghost use Rattle.sporadic_poll.specs.StreamsFile.{AreLegal, AreStreams, Faults, streams_of};
 ghost use Rattle.sporadic_poll.specs.declared.stream_fault.StreamFault.TheVariants.{Memory};
 

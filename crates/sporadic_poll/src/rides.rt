@@ -18,7 +18,7 @@ ghost use Rattle.sporadic_poll.specs.Ride.{IsOfSlot, IsRide, bytes_with, length_
 ghost use Rattle.sporadic_poll.specs.Rides.{AreFates, AreRidesAt, HasRidden, HaveRidden, IsNoting, IsPlainCycle};
 ghost use Rattle.sporadic_poll.specs.Rides.{SameSent};
 ghost use Rattle.sporadic_poll.specs.Waiting.{HasTaken};
-ghost use Rattle.sporadic_poll.specs.Rides.{noted, noted_all, polled_frame, ride_sent, sent_anew, slot_sent, taken_in};
+ghost use Rattle.sporadic_poll.specs.Rides.{noted, polled_frame, ride_sent, sent_anew, slot_sent, taken_in};
 
 use crate::current::{Current, current_in};
 use crate::fate::{Fate, Ride};
@@ -217,7 +217,7 @@ impl Rides {
     }
 
     /// A cycle was run on the bus without requests: its frames get the bytes of the requests that their instances
-    /// carry, and take the place of those of `out`. Frames of slots start one right behind the other, from the start of
+    /// carry, and take the place of those of `out`. Frames of slots start one right after the other, from the start of
     /// the first.
     ///
     /// First each instance of a polled slot that is released in the cycle takes its request, whether or not its slot is
@@ -241,7 +241,7 @@ impl Rides {
             → AreRidesAt layout.now.cycle self.old.queued.streams
             (record { cycle = cycle; mask = mask; placed = placed.now }) lengths carried
             → HaveRidden carried cycle self.old → HaveRidden carried (cycle + 1) self.new }
-        // What became of the requests is known behind this cycle too, whatever cycles were opened before.
+        // What became of the requests is known after this cycle too, whatever cycles were opened before.
         ensures fates { (openings : List Opening) (mask : ℕ) (lengths carried : ℕ → ℕ → Option ℕ)
             → AreRidesAt layout.now.cycle self.old.queued.streams
             (record { cycle = cycle; mask = mask; placed = placed.now }) lengths carried
@@ -416,7 +416,7 @@ impl Rides {
         }
     }
 
-    /// Puts frames of a cycle behind `out`, with the bytes of the requests that they carry, one right behind the other
+    /// Puts frames of a cycle behind `out`, with the bytes of the requests that they carry, one right after the other
     /// from a time on, as many as start before `until`. `out` has room for them.
     fn send(
         &self,

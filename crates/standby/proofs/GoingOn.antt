@@ -6,7 +6,7 @@ use Rattle.admission.specs.declared.verdict.Verdict.{Verdict}
 use Rattle.admission_rules.specs.declared.Rules.{Rules}
 use Rattle.change_protocol.specs.Applied.{applied}
 use Rattle.change_protocol.specs.declared.operations.Change.{Change}
-use Rattle.master_core.specs.Calls.{Call, asked, call_of}
+use Rattle.master_core.specs.Calls.{call_of}
 use Rattle.master_core.specs.History.{placed_of, next_of, accepts, IsSince, IsRight, IsRightAnswer, AllAfter, IsLegal, IsPlannedNow, IsPlainlyLegal, plan_of}
 use Rattle.master_core.specs.declared.event.Event.{Event}
 use Rattle.master_core.specs.declared.event.Event.TheVariants.{Submit, Look, Open}
@@ -17,7 +17,6 @@ use Rattle.requirement_table.specs.declared.entries.Order.{Order}
 use Rattle.requirement_table.specs.declared.entries.Placed.{Placed}
 use Rattle.requirement_table.specs.Slots.{contains_slot}
 use Rattle.requirement_table.specs.Table.{instance_in, width_in}
-use Rattle.change_protocol.specs.declared.operations.Act.TheVariants as act
 use Rattle.standby.specs.Core.{Item, changed, opened, items_of, core_of}
 use Rattle.standby.proofs.Cores.{core_of-append, core_of-cons, core_of-push, learned-core, next-core, placed-core}
 

@@ -9,7 +9,7 @@ use change_protocol::{Change, Op, Ops};
 use planner_policies::{Fill, Policy};
 use profile::{GREATEST_HORIZON, LONGEST_WINDOW, OPENINGS_END, SHORTEST_WINDOW};
 use requirement_table::{Entry, MOST_SLOTS, Mask};
-use standby::{FollowFault, Frames, Standby, Told, follow};
+use standby::{Frames, Standby, Told, follow};
 use std::alloc::{AllocError, Global};
 use trigger_codec::{encode, encode_second};
 

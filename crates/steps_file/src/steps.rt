@@ -5,7 +5,7 @@
 //! change gives it one operation more. There are at most 1,000 changes and 1,000 looks, and the
 //! counts of the `cycle` rows sum to at most 20,000.
 
-ghost use Rattle.std.specs.Prelude.{◌≡◌, ◌⊎◌, ℕ, ◌+◌, List, [], ◌∷◌, ◌++◌, map, Option, is_some, is_ok, true};
+ghost use Rattle.std.specs.Prelude.{◌≡◌, ◌⊎◌, ◌+◌, List, [], ◌∷◌, ◌++◌, map, Option, is_some, is_ok, true};
 ghost use Rattle.std.specs.Prelude.{false, nat_lt, nat_le, IfOk, IfErr, Err, Ok, Some, None, MatchResult};
 ghost use Rattle.profile.specs.Limits.{most_cycles};
 ghost use Rattle.csv.specs.Records.{fields_of};

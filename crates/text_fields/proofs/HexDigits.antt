@@ -1,11 +1,9 @@
 -- Hexadecimal digits, and those of a number at a fixed width.
-use Rattle.std.proofs.Common.{◌≡◌, ℕ, zero, suc, ◌+◌, ◌*◌, ◌/◌, ◌%◌, ◌^◌, ◌<◌, ◌≤◌, true, false, nat_lt, List, get_or, [], ◌∷◌, ◌++◌, length, refl, sym, ap, ◌∙◌, arith, ⊎_elim, append_assoc}
+use Rattle.std.proofs.Common.{◌≡◌, ℕ, zero, suc, ◌+◌, ◌/◌, ◌%◌, ◌<◌, ◌≤◌, true, false, nat_lt, List, get_or, [], ◌∷◌, ◌++◌, length, refl, sym, ap, ◌∙◌, arith, ⊎_elim}
 use Rattle.std.proofs.lemmas.Bool.{and_parts, and_from, cases_lt, cond-false, cond-true}
 use Rattle.std.proofs.lemmas.Bool.Decides.{nat_tests}
-use Rattle.std.proofs.lemmas.List.{append-nil, length-append}
+use Rattle.std.proofs.lemmas.List.{length-append}
 use Rattle.std.proofs.lemmas.List.Folds.{list_all-append}
-use Rattle.std.proofs.lemmas.Nat.{div-mul-add}
-use Rattle.std.proofs.Math.Nat.{div-div-eq-div-mul, div-one, mul_comm, mul_left_comm, pow-suc}
 use Rattle.std.specs.Char.{digit_value, is_ascii_hexdigit}
 use Rattle.std.specs.Fmt.{digit_glyph}
 use Rattle.std.specs.List.{list_all}
@@ -67,7 +65,7 @@ lower-digits (b ∷ rest) all =
     let (here, more) = and_parts (is_hex_digit b) (list_all is_hex_digit rest) all in
     and_from (is_ascii_hexdigit b) (list_all is_ascii_hexdigit rest) (lower-digit b here) (lower-digits rest more)
 
-digit-small : (b : ℕ) → is_ascii_hexdigit b ≡ true → digit_value b < 16
+pub digit-small : (b : ℕ) → is_ascii_hexdigit b ≡ true → digit_value b < 16
 digit-small b is = grind (arith, nat_tests)
 
 pub digits-small : (field : List ℕ) → list_all is_ascii_hexdigit field ≡ true → AllDigits 16 field
@@ -105,42 +103,3 @@ hex-two b small =
     hex_digits-suc 1 b
     ∙ ap (λ l. l ++ digit_glyph false (b % 16) ∷ []) (hex_digits-suc 0 (b / 16) ∙ ap (λ l. l ++ digit_glyph false ((b / 16) % 16) ∷ []) (hex_digits-zero (b / 16 / 16)))
     ∙ ap (λ v. digit_glyph false v ∷ digit_glyph false (b % 16) ∷ []) high
-
--- Digits in two parts
-
--- what stands above so many digits does not change them
-hex-low : (k q m : ℕ) → hex_digits k (q * 16 ^ k + m) ≡ hex_digits k m
-hex-low zero q m = hex_digits-zero (q * 16 ^ 0 + m) ∙ sym (hex_digits-zero m)
-hex-low (suc k) q m =
-    let grown : q * 16 ^ suc k ≡ 16 * (q * 16 ^ k) = ap (λ p. q * p) (pow-suc 16 k ∙ mul_comm (16 ^ k) 16) ∙ mul_left_comm q 16 (16 ^ k) in
-    let front : (q * 16 ^ suc k + m) / 16 ≡ q * 16 ^ k + m / 16 = omega arith in
-    let last : (q * 16 ^ suc k + m) % 16 ≡ m % 16 = omega arith in
-    hex_digits-suc k (q * 16 ^ suc k + m)
-    ∙ ap (λ n. hex_digits k n ++ digit_glyph false ((q * 16 ^ suc k + m) % 16) ∷ []) front
-    ∙ ap (λ n. hex_digits k (q * 16 ^ k + m / 16) ++ digit_glyph false n ∷ []) last
-    ∙ ap (λ l. l ++ digit_glyph false (m % 16) ∷ []) (hex-low k q (m / 16))
-    ∙ sym (hex_digits-suc k m)
-
-hex-split : (j k n : ℕ) → hex_digits (j + k) n ≡ hex_digits j (n / 16 ^ k) ++ hex_digits k n
-hex-split j zero n =
-    let none : j + 0 ≡ j = omega arith in
-    let one : n / 16 ^ 0 ≡ n = div-one n in
-    ap (λ count. hex_digits count n) none ∙ ap (hex_digits j) (sym one) ∙ sym (append-nil (hex_digits j (n / 16 ^ 0))) ∙ ap (λ l. hex_digits j (n / 16 ^ 0) ++ l) (sym (hex_digits-zero n))
-hex-split j (suc k) n =
-    let next : j + suc k ≡ suc (j + k) = omega arith in
-    let above : n / 16 / 16 ^ k ≡ n / 16 ^ suc k = div-div-eq-div-mul n 16 (16 ^ k) ∙ ap (λ p. n / p) (sym (pow-suc 16 k ∙ mul_comm (16 ^ k) 16)) in
-    ap (λ count. hex_digits count n) next
-    ∙ hex_digits-suc (j + k) n
-    ∙ ap (λ l. l ++ digit_glyph false (n % 16) ∷ []) (hex-split j k (n / 16))
-    ∙ append_assoc (hex_digits j (n / 16 / 16 ^ k)) (hex_digits k (n / 16)) (digit_glyph false (n % 16) ∷ [])
-    ∙ ap (λ q. hex_digits j q ++ (hex_digits k (n / 16) ++ digit_glyph false (n % 16) ∷ [])) above
-    ∙ ap (λ l. hex_digits j (n / 16 ^ suc k) ++ l) (sym (hex_digits-suc k n))
-
--- the digits of a number that is cut into two
-pub hex-parts : (j k n high low : ℕ) → n ≡ high * 16 ^ k + low → low < 16 ^ k → hex_digits (j + k) n ≡ hex_digits j high ++ hex_digits k low
-hex-parts j k n high low is small =
-    let above : n / 16 ^ k ≡ high = ap (λ m. m / 16 ^ k) is ∙ div-mul-add high (16 ^ k) low small in
-    hex-split j k n
-    ∙ ap (λ q. hex_digits j q ++ hex_digits k n) above
-    ∙ ap (λ m. hex_digits j high ++ hex_digits k m) is
-    ∙ ap (λ l. hex_digits j high ++ l) (hex-low k high low)

@@ -1,5 +1,5 @@
 -- The numbers that hexadecimal digits in lower case write, as the reader finds them and as the writer writes them.
-use Rattle.std.proofs.Common.{◌≡◌, ℕ, zero, suc, ◌+◌, ◌-◌, ◌*◌, ◌/◌, ◌%◌, ◌^◌, ◌<◌, ◌≤◌, ◌&&◌, true, false, if◌then◌else◌, ◌==◌, None, List, [], ◌∷◌, ◌++◌, length, Some, sym, ap, ◌∙◌, subst, arith, append_assoc}
+use Rattle.std.proofs.Common.{Bool, ◌≡◌, ℕ, zero, suc, ◌+◌, ◌-◌, ◌*◌, ◌/◌, ◌%◌, ◌^◌, ◌<◌, ◌≤◌, ◌&&◌, true, false, if◌then◌else◌, ◌==◌, None, List, [], ◌∷◌, ◌++◌, length, Some, sym, ap, ◌∙◌, subst, arith, append_assoc}
 use Rattle.std.proofs.lemmas.Bool.{and_parts, eqb-true, eq-eqb}
 use Rattle.std.proofs.lemmas.Int.Digits.{digits_value-lt, digits_value_push}
 use Rattle.std.proofs.lemmas.List.{append-nil}
@@ -83,8 +83,9 @@ hex-read k field n size all is =
     (digits-of_hex k field n read).0
 
 -- a digit that is read is one, and has this value
-pub digit-read : (b v : ℕ) → (if is_hex_digit b then Some (digit_value b) else None) ≡ Some v → (is_hex_digit b ≡ true) × (digit_value b ≡ v)
-digit-read b v is = let parts = if-some (is_hex_digit b) (Some (digit_value b)) v is in (parts.0, same_Some (digit_value b) v parts.1)
+pub digit-read : (is_digit : ℕ → Bool) (b v : ℕ) → (if is_digit b then Some (digit_value b) else None) ≡ Some v
+    → (is_digit b ≡ true) × (digit_value b ≡ v)
+digit-read is_digit b v is = let parts = if-some (is_digit b) (Some (digit_value b)) v is in (parts.0, same_Some (digit_value b) v parts.1)
 
 -- a word that is read is that of digits
 pub word-read : (field : List ℕ) (n : ℕ) → (if list_all is_hex_digit field then Some (digits_value 16 field) else None) ≡ Some n

@@ -4,7 +4,6 @@ mod DecimalDigits
 mod DigitValues
 mod HexDigits
 mod HexNumbers
-mod HexText
 mod ByteDigits
 mod LineFeeds
 mod LowDigits

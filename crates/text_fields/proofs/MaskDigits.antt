@@ -18,11 +18,11 @@ few-width mask small = let test : nat_lt mask (2 ^ 40) ≡ true = grind (arith, 
 all-width : (mask : ℕ) → 2 ^ 40 ≤ mask → mask_width mask ≡ 24
 all-width mask great = let test : nat_lt mask (2 ^ 40) ≡ false = grind (arith, nat_tests) in rw test
 
-pub few-digits : (mask : ℕ) → mask < 2 ^ 40 → mask_digits mask ≡ hex_digits 10 mask
+few-digits : (mask : ℕ) → mask < 2 ^ 40 → mask_digits mask ≡ hex_digits 10 mask
 unfolding mask_digits
 few-digits mask small = ap (λ count. hex_digits count mask) (few-width mask small)
 
-pub all-digits : (mask : ℕ) → 2 ^ 40 ≤ mask → mask_digits mask ≡ hex_digits 24 mask
+all-digits : (mask : ℕ) → 2 ^ 40 ≤ mask → mask_digits mask ≡ hex_digits 24 mask
 unfolding mask_digits
 all-digits mask great = ap (λ count. hex_digits count mask) (all-width mask great)
 

@@ -1,11 +1,12 @@
 //! Data bytes as text: two hexadecimal digits each.
 
-ghost use Rattle.std.specs.Prelude.{◌≡◌, ◌%◌, ◌≤◌, IfSome, length, true};
+ghost use Rattle.std.specs.Prelude.{◌≡◌, ◌%◌, ◌≤◌, if◌then◌else◌, IfSome, None, Some, length};
 ghost use Rattle.std.specs.Char.{is_ascii_hexdigit};
 ghost use Rattle.std.specs.List.{list_all};
 ghost use Rattle.text_fields.specs.ByteText.{bytes_of, bytes_written, data_of};
 
-use crate::hexadecimal::{all_hex_digits, all_hexadecimal, digit};
+use crate::both_cases::digit_of_both_cases;
+use crate::hexadecimal::all_hex_digits;
 use std::marker::Model;
 
 /// The greatest number of data bytes of a field.
@@ -40,22 +41,22 @@ impl DataBytes {
     }
 }
 
-/// The bytes that two hexadecimal digits each write.
-fn bytes_written(field: &[u8]) -> DataBytes
+/// The bytes that two hexadecimal digits of either case write each, where all are such digits.
+fn bytes_written(field: &[u8]) -> Option<DataBytes>
     requires few { length field.now ≤ 16 }
     requires even { length field.now % 2 ≡ 0 }
-    requires hexadecimal { list_all is_ascii_hexdigit field.now ≡ true }
-    ensures value { result ≡ bytes_written field.now }
+    ensures value { result
+        ≡ (if list_all is_ascii_hexdigit field.now then Some (bytes_written field.now) else None) }
 {
     let mut bytes = [0; MAX_BYTES];
     let mut count = 0;
     let mut left = field;
     while let [high, low, rest @ ..] = left {
-        bytes[count] = 16 * digit(*high) + digit(*low);
+        bytes[count] = 16 * digit_of_both_cases(*high)? + digit_of_both_cases(*low)?;
         count += 1;
         left = rest;
     }
-    DataBytes { bytes, count }
+    Some(DataBytes { bytes, count })
 }
 
 /// The bytes that a field writes: two hexadecimal digits of either case for each of 0 to 8 bytes.
@@ -63,10 +64,10 @@ pub fn read_bytes(field: &[u8]) -> Option<DataBytes>
     ensures value { result ≡ bytes_of field.now }
     ensures few { IfSome result (λ bytes. length bytes ≤ 8) }
 {
-    if field.len() > MAX_DIGITS || field.len() % 2 != 0 || !all_hexadecimal(field) {
+    if field.len() > MAX_DIGITS || field.len() % 2 != 0 {
         return None;
     }
-    Some(bytes_written(field))
+    bytes_written(field)
 }
 
 /// The bytes that a field writes in the one form that a writer gives: with digits in lower case.
@@ -74,8 +75,8 @@ pub fn read_data(field: &[u8]) -> Option<DataBytes>
     ensures value { result ≡ data_of field.now }
     ensures few { IfSome result (λ bytes. length bytes ≤ 8) }
 {
-    if field.len() > MAX_DIGITS || field.len() % 2 != 0 || !all_hex_digits(field) {
+    if !all_hex_digits(field) {
         return None;
     }
-    Some(bytes_written(field))
+    read_bytes(field)
 }

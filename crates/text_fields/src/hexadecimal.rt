@@ -1,14 +1,11 @@
 //! Hexadecimal numbers as text.
 
-ghost use Rattle.std.specs.Prelude.{◌≡◌, ℕ, ◌+◌, ◌^◌, ◌<◌, ◌≤◌, ◌++◌, if◌then◌else◌};
-ghost use Rattle.std.specs.Prelude.{IfSome, IfNone, OnOk, Some, None, length, true};
+ghost use Rattle.std.specs.Prelude.{◌≡◌, ℕ, ◌+◌, ◌^◌, ◌<◌, ◌≤◌, if◌then◌else◌};
+ghost use Rattle.std.specs.Prelude.{IfSome, IfNone, Some, None, length, true};
 ghost use Rattle.std.specs.Char.{digit_value, is_ascii_hexdigit};
 ghost use Rattle.std.specs.List.{list_all};
 ghost use Rattle.std.specs.Str.Parse.{digits_value};
-ghost use Rattle.std.specs.String.{string_bytes};
 ghost use Rattle.text_fields.specs.Hexadecimal.{hex_digits, hex_of, is_hex_digit};
-
-use std::alloc::AllocError;
 
 /// Whether every byte is a hexadecimal digit of either case.
 pub fn all_hexadecimal(field: &[u8]) -> bool
@@ -148,12 +145,4 @@ pub fn read_short_hex(field: &[u8], count: usize) -> Option<u128>
     }
     let number = read_word(field)?;
     Some(u128::from(number))
-}
-
-/// Appends the ten hexadecimal digits of a number.
-pub fn push_hex(text: &mut String, number: u64) -> Result<(), AllocError>
-    requires small { number < 16 ^ 10 }
-    ensures ok { OnOk result (string_bytes text.new ≡ string_bytes text.old ++ hex_digits 10 number) }
-{
-    write!(text, "{number:010x}")
 }

@@ -1,6 +1,6 @@
 //! Numbers one behind the other, as the starts of frames are: most have the same digits above the last four.
 
-ghost use Rattle.std.specs.Prelude.{◌≡◌, ◌+◌, ◌*◌, ◌^◌, ◌≤◌, ◌<◌, ◌++◌, drop};
+ghost use Rattle.std.specs.Prelude.{◌≡◌, ◌+◌, ◌*◌, ◌≤◌, ◌<◌, ◌++◌, drop};
 ghost use Rattle.std.specs.Fmt.{decimal};
 
 use crate::row_parts::{put_byte, put_decimal, put_decimal_pair};

@@ -2,6 +2,7 @@
 //! whole lines, and rows of comma-separated fields.
 #![tactic(auto)]
 
+mod both_cases;
 mod csv_rows;
 mod data_bytes;
 mod decimal_pairs;
@@ -19,7 +20,7 @@ pub use decimals::{read_decimal, read_number};
 pub use hexadecimal::{read_hex, read_hexadecimal};
 pub use high_digits::HighDigits;
 pub use lines::split_line;
-pub use masks::{masks_are_read, push_mask, put_mask, read_mask};
+pub use masks::{masks_are_read, put_mask, read_mask};
 pub use row_parts::{
     ROOM, put_byte, put_data_bytes, put_decimal, put_field, put_first, put_hex, put_identifier,
     put_length, put_line_feed, put_word, row_from,

@@ -3,14 +3,11 @@
 //! A set has ten digits where all its slots are below 40, and 24 otherwise. So a set has one text.
 
 ghost use Rattle.std.specs.Prelude.{◌≡◌, ℕ, ◌+◌, ◌%◌, ◌^◌, ◌<◌, ◌≤◌, ◌++◌};
-ghost use Rattle.std.specs.Prelude.{IfSome, IfNone, OnOk, Some, List, drop};
-ghost use Rattle.std.specs.String.{string_bytes};
-ghost use Rattle.text_fields.specs.Hexadecimal.{hex_digits};
+ghost use Rattle.std.specs.Prelude.{IfSome, IfNone, Some, List, drop};
 ghost use Rattle.text_fields.specs.MaskText.{mask_digits, mask_of, mask_width};
 
-use crate::hexadecimal::{push_hex, read_hex, read_short_hex};
+use crate::hexadecimal::{read_hex, read_short_hex};
 use crate::row_parts::put_hex;
-use std::alloc::AllocError;
 
 /// The number of digits of a set with slots below 40 alone.
 const FEW_DIGITS: u8 = 10;
@@ -20,9 +17,6 @@ const ALL_DIGITS: u8 = 24;
 
 /// The number above those of all sets with slots below 40 alone.
 const ABOVE_FEW: u128 = 1 << 40;
-
-/// The number above those of sixteen digits.
-const LOW_NUMBERS: u128 = 1 << 64;
 
 /// The number of digits of a set.
 fn mask_width(mask: u128) -> u8
@@ -47,42 +41,6 @@ pub fn put_mask<const N: usize>(row: &mut [u8; N], end: usize, mask: u128) -> us
     ensures row { drop result row.new ≡ mask_digits mask ++ drop end row.old }
 {
     put_hex(row, end, mask, mask_width(mask))
-}
-
-/// Appends the eight digits of a number.
-fn push_high_digits(text: &mut String, number: u64) -> Result<(), AllocError>
-    requires small { number < 16 ^ 8 }
-    ensures ok { OnOk result (string_bytes text.new ≡ string_bytes text.old ++ hex_digits 8 number) }
-{
-    write!(text, "{number:08x}")
-}
-
-/// Appends the sixteen digits of a number.
-fn push_low_digits(text: &mut String, number: u64) -> Result<(), AllocError>
-    ensures ok { OnOk result (string_bytes text.new ≡ string_bytes text.old ++ hex_digits 16 number) }
-{
-    write!(text, "{number:016x}")
-}
-
-/// Appends the 24 digits of a number.
-fn push_all_digits(text: &mut String, number: u128) -> Result<(), AllocError>
-    requires small { number < 2 ^ 96 }
-    ensures ok { OnOk result (string_bytes text.new ≡ string_bytes text.old ++ hex_digits 24 number) }
-{
-    push_high_digits(text, (number / LOW_NUMBERS) as u64)?;
-    push_low_digits(text, (number % LOW_NUMBERS) as u64)
-}
-
-/// Appends the digits of a set.
-pub fn push_mask(text: &mut String, mask: u128) -> Result<(), AllocError>
-    requires small { mask < 2 ^ 96 }
-    ensures ok { OnOk result (string_bytes text.new ≡ string_bytes text.old ++ mask_digits mask) }
-{
-    if mask < ABOVE_FEW {
-        push_hex(text, mask as u64)
-    } else {
-        push_all_digits(text, mask)
-    }
 }
 
 /// The set that a field writes, in the one form that a writer gives.

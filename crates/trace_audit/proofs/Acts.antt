@@ -15,7 +15,7 @@ use Rattle.master_core.specs.declared.event.Event.TheVariants.{Submit, Look, Ope
 use Rattle.live_master.specs.Callers.{is_called_by}
 use Rattle.live_steps.specs.Live.{acts_of}
 use Rattle.steps_file.specs.declared.steps.Step.{Step}
-use Rattle.bus_trace.specs.declared.row.LogRow.{LogRow}
+use Rattle.log_reader.specs.declared.row.LogRow.{LogRow}
 use Rattle.trace_audit.specs.Audit.{BeginsActs}
 use Rattle.trace_audit.specs.Reading.{AreReadFrom, IsHistoryOf, IsNextAct, IsReadFrom, is_event_row}
 use Rattle.trace_audit.proofs.Readings.{drop-next}

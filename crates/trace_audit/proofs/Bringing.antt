@@ -21,7 +21,7 @@ use Rattle.system_file.specs.declared.system.System.{System}
 use Rattle.replay_run.specs.Progress.{setting_of}
 use Rattle.bus_trace.specs.EventRows.{told_at}
 use Rattle.bus_trace.specs.LogRows.{events_told}
-use Rattle.bus_trace.specs.declared.row.LogRow.{LogRow}
+use Rattle.log_reader.specs.declared.row.LogRow.{LogRow}
 use Rattle.trace_audit.specs.Again.{Asks, IsAgain, IsBroughtOn, IsOpenedWith}
 use Rattle.trace_audit.specs.States.{KeepsStates, state_of}
 use Rattle.trace_audit.specs.declared.rerun.Rerun.{Rerun}

@@ -28,8 +28,8 @@ use Rattle.steps_file.specs.declared.steps.Step.TheVariants as step
 use Rattle.system_file.specs.declared.system.System.{System}
 use Rattle.replay_run.specs.Progress.{setting_of}
 use Rattle.bus_trace.specs.LogRows.{event_told, events_told, log_rows}
-use Rattle.bus_trace.specs.declared.row.LogRow.{LogRow}
-use Rattle.bus_trace.specs.declared.row.LogRow.TheVariants as row
+use Rattle.log_reader.specs.declared.row.LogRow.{LogRow}
+use Rattle.log_reader.specs.declared.row.LogRow.TheVariants as row
 use Rattle.trace_audit.specs.Again.{Asks}
 use Rattle.trace_audit.specs.Audit.{CanStand, IsRunOf, IsWholeLog}
 use Rattle.trace_audit.specs.Auditing.{AnswersAll, IsAuditing, is_end, is_inner, left_of}

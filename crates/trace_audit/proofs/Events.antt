@@ -20,9 +20,9 @@ use Rattle.live_master.specs.Callers.{is_called_by}
 use Rattle.live_steps.specs.Live.{acts_of}
 use Rattle.bus_trace.specs.EventRows.{told_at}
 use Rattle.bus_trace.specs.LogRows.{plan_told, verdict_told}
-use Rattle.bus_trace.specs.declared.row.LogRow.{LogRow}
-use Rattle.bus_trace.specs.declared.row.LogRow.TheVariants as row
-use Rattle.bus_trace.specs.declared.row.LogVerdict.{LogVerdict}
+use Rattle.log_reader.specs.declared.row.LogRow.{LogRow}
+use Rattle.log_reader.specs.declared.row.LogRow.TheVariants as row
+use Rattle.log_reader.specs.declared.row.LogVerdict.{LogVerdict}
 use Rattle.trace_audit.specs.Again.{Asks}
 use Rattle.trace_audit.specs.Auditing.{is_inner}
 use Rattle.trace_audit.specs.Reading.{IsNextAct, IsReadFrom, is_event_row}

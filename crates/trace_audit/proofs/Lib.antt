@@ -1,4 +1,5 @@
 mod Acts
+mod Behind
 mod Bringing
 mod Ending
 mod Events

@@ -28,8 +28,8 @@ use Rattle.kept_run.specs.Progress.{IsSetting}
 use Rattle.replay_run.specs.Progress.{setting_of}
 use Rattle.bus_trace.specs.Log.{started_in}
 use Rattle.bus_trace.specs.LogRows.{event_told, events_told, log_rows, plan_told, verdict_told}
-use Rattle.bus_trace.specs.declared.row.LogRow.{LogRow}
-use Rattle.bus_trace.specs.declared.row.LogRow.TheVariants as row
+use Rattle.log_reader.specs.declared.row.LogRow.{LogRow}
+use Rattle.log_reader.specs.declared.row.LogRow.TheVariants as row
 use Rattle.trace_audit.specs.Audit.{AllStand, BeginsActs, IsAuditFault, IsRunOf, IsWholeLog}
 use Rattle.trace_audit.specs.declared.audit_fault.AuditFault.{AuditFault}
 use Rattle.trace_audit.specs.declared.audit_fault.AuditFault.TheVariants.{Row, Unfinished, Memory}

@@ -18,7 +18,7 @@ use Rattle.kept_run.proofs.Shared.{next_of-push}
 use Rattle.bus_trace.specs.EventRows.{told_at}
 use Rattle.bus_trace.specs.Log.{started_in}
 use Rattle.bus_trace.specs.LogRows.{event_told, events_told, log_rows}
-use Rattle.bus_trace.specs.declared.row.LogRow.TheVariants as row
+use Rattle.log_reader.specs.declared.row.LogRow.TheVariants as row
 
 -- The rows of more events
 

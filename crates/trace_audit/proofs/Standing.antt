@@ -20,8 +20,8 @@ use Rattle.steps_file.specs.declared.steps.Step.{Step}
 use Rattle.system_file.specs.declared.system.System.{System}
 use Rattle.replay_run.specs.Progress.{setting_of}
 use Rattle.bus_trace.specs.LogRows.{events_told, log_rows}
-use Rattle.bus_trace.specs.declared.row.LogRow.{LogRow}
-use Rattle.bus_trace.specs.declared.row.LogRow.TheVariants as row
+use Rattle.log_reader.specs.declared.row.LogRow.{LogRow}
+use Rattle.log_reader.specs.declared.row.LogRow.TheVariants as row
 use Rattle.trace_audit.specs.Again.{Asks, IsAgain, IsBroughtOn}
 use Rattle.trace_audit.specs.Audit.{CanStand}
 use Rattle.trace_audit.specs.Auditing.{IsAuditing, is_inner, left_of}

@@ -13,8 +13,8 @@ use Rattle.steps_file.specs.declared.steps.Step.{Step}
 use Rattle.system_file.specs.declared.system.System.{System}
 use Rattle.replay_run.specs.Progress.{setting_of}
 use Rattle.bus_trace.specs.LogRows.{events_told}
-use Rattle.bus_trace.specs.declared.row.LogRow.{LogRow}
-use Rattle.bus_trace.specs.declared.row.LogRow.TheVariants as row
+use Rattle.log_reader.specs.declared.row.LogRow.{LogRow}
+use Rattle.log_reader.specs.declared.row.LogRow.TheVariants as row
 use Rattle.trace_audit.specs.Audit.{AllStand, CanStand, IsAudited, IsFirstBreak, IsUnfinished, IsWholeLog}
 use Rattle.trace_audit.specs.Auditing.{AnswersAll, Hears, IsAuditing, IsEnded, IsHeard, IsUpTo, Takes, is_end}
 use Rattle.trace_audit.specs.declared.log_audit.LogAudit.{LogAudit}

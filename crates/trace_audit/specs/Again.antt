@@ -16,8 +16,8 @@ use Rattle.replay_run.specs.Progress.{setting_of}
 use Rattle.bus_trace.specs.EventRows.{told_at}
 use Rattle.bus_trace.specs.Logged.{IsNear}
 use Rattle.bus_trace.specs.LogRows.{events_told}
-use Rattle.bus_trace.specs.declared.row.LogRow.{LogRow}
-use Rattle.bus_trace.specs.declared.row.LogRow.TheVariants as row
+use Rattle.log_reader.specs.declared.row.LogRow.{LogRow}
+use Rattle.log_reader.specs.declared.row.LogRow.TheVariants as row
 use Rattle.trace_audit.specs.Reading.{IsNextAct}
 use Rattle.trace_audit.specs.States.{KeepsStates}
 use Rattle.trace_audit.specs.declared.rerun.Rerun.{Rerun}

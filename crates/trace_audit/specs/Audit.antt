@@ -14,7 +14,7 @@ use Rattle.steps_file.specs.declared.steps.Step.{Step}
 use Rattle.system_file.specs.declared.system.System.{System}
 use Rattle.live_steps.specs.Live.{AnswersOperators, acts_of}
 use Rattle.bus_trace.specs.LogRows.{log_rows}
-use Rattle.bus_trace.specs.declared.row.LogRow.{LogRow}
+use Rattle.log_reader.specs.declared.row.LogRow.{LogRow}
 use Rattle.trace_audit.specs.Reading.{IsHistoryOf}
 use Rattle.trace_audit.specs.declared.audit_fault.AuditFault.{AuditFault}
 use Rattle.trace_audit.specs.declared.audit_fault.AuditFault.TheVariants.{Row, Unfinished, Memory}

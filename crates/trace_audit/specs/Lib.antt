@@ -1,5 +1,6 @@
 pub mod Again
 pub mod Audit
 pub mod Auditing
+pub mod FaultText
 pub mod Reading
 pub mod States

@@ -15,8 +15,8 @@ use Rattle.live_master.specs.Callers.{is_called_by}
 use Rattle.steps_file.specs.declared.steps.Step.{Step}
 use Rattle.live_steps.specs.Live.{acts_of}
 use Rattle.bus_trace.specs.LogRows.{verdict_told}
-use Rattle.bus_trace.specs.declared.row.LogRow.{LogRow}
-use Rattle.bus_trace.specs.declared.row.LogRow.TheVariants as row
+use Rattle.log_reader.specs.declared.row.LogRow.{LogRow}
+use Rattle.log_reader.specs.declared.row.LogRow.TheVariants as row
 
 -- whether a row is that of an event: a change, a look or the opening of a cycle
 abbrev pub is_event_row : LogRow → Bool

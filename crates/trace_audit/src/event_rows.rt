@@ -4,12 +4,13 @@ ghost use Rattle.std.specs.Prelude.{◌≡◌, ◌∷◌, ◌^◌, ◌<◌, IfOk
 ghost use Rattle.bus_trace.specs.EventRows.{told_at};
 ghost use Rattle.bus_trace.specs.Logged.{IsNear};
 ghost use Rattle.bus_trace.specs.LogRows.{plan_told, verdict_told};
-ghost use Rattle.bus_trace.specs.declared.row.LogRow.TheVariants as row;
+ghost use Rattle.log_reader.specs.declared.row.LogRow.TheVariants as row;
 
 use crate::same_rows::same_row;
 use admission::Verdict;
-use bus_trace::{LogRow, LogVerdict, until_of};
+use bus_trace::until_of;
 use can_frame::TimedFrame;
+use log_reader::{LogRow, LogVerdict};
 use master_core::Event;
 use requirement_table::Mask;
 use std::alloc::{AllocError, Global};

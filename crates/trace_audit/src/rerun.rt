@@ -16,8 +16,8 @@ ghost use Rattle.master_core.specs.declared.event.Event.TheVariants.{Submit, Loo
 ghost use Rattle.master_core.specs.History.{IsLegal, IsRight, IsRightAnswer, next_of};
 ghost use Rattle.replay_run.specs.Progress.{setting_of};
 ghost use Rattle.bus_trace.specs.EventRows.{told_at};
-ghost use Rattle.bus_trace.specs.declared.row.LogRow.TheVariants as row;
-ghost use Rattle.bus_trace.specs.declared.row.LogVerdict.{LogVerdict};
+ghost use Rattle.log_reader.specs.declared.row.LogRow.TheVariants as row;
+ghost use Rattle.log_reader.specs.declared.row.LogVerdict.{LogVerdict};
 ghost use Rattle.trace_audit.specs.Again.{Asks, CanGoOn, EndsIn, EndsNear, IsAgain, IsAnsweredWith};
 ghost use Rattle.trace_audit.specs.Again.{IsBroughtOn, IsOpenedWith};
 ghost use Rattle.trace_audit.specs.States.{KeepsStates};
@@ -26,7 +26,6 @@ use crate::event_rows::rows_of;
 use crate::states::{States, keep_answered};
 use crate::step_acts::{act_at, calls_of, cycles_of};
 use async_window::Request;
-use bus_trace::LogRow;
 use bus_trace::laws::frames_by_cycle;
 use can_frame::TimedFrame;
 use change_protocol::{Act, Change};
@@ -35,6 +34,7 @@ use kept_run::laws::{
     beginning, calls_between, cycles_run, one_call_more, orders, requests_of_owners,
     triggers_count_cycles,
 };
+use log_reader::LogRow;
 use master_core::laws::legal_histories;
 use master_core::{Master, plan_apart};
 use replay_run::laws::legal_runs;

@@ -1,10 +1,10 @@
 //! Whether two rows of a log are the same.
 
 ghost use Rattle.std.specs.Prelude.{◌≡◌, false, true};
-ghost use Rattle.bus_trace.specs.declared.row.LogRow.TheVariants as row;
+ghost use Rattle.log_reader.specs.declared.row.LogRow.TheVariants as row;
 
-use bus_trace::{LogRow, LogVerdict};
 use can_frame::{Frame, TimedFrame};
+use log_reader::{LogRow, LogVerdict};
 use requirement_table::Mask;
 
 /// Whether two verdicts are the same.

@@ -1,7 +1,7 @@
 use Rattle.std.proofs.Common.{◌++◌, ◌∷◌, [], ap}
 use Rattle.master_core.specs.History.{next_of}
 use Rattle.bus_trace.specs.Log.{end_row}
-use Rattle.bus_trace.specs.declared.row.LogRow.TheVariants.{End}
+use Rattle.log_reader.specs.declared.row.LogRow.TheVariants.{End}
 use Rattle.bus_trace.proofs.EventByEvent.{all-events, all-events-told}
 use Rattle.bus_trace.proofs.laws.events_make_the_log.Goals as goal
 

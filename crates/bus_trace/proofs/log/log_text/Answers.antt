@@ -3,7 +3,7 @@ use Rattle.std.proofs.lemmas.List.{take_rest}
 use Rattle.std.proofs.lemmas.List.Elements.{All-nil}
 use Rattle.master_core.specs.History.{is_open}
 use Rattle.bus_trace.specs.Logged.{IsLeft}
-use Rattle.bus_trace.specs.Row.{IsLogRow}
+use Rattle.log_reader.specs.Row.{IsLogRow}
 use Rattle.bus_trace.proofs.LogTrace.{IsLeft-first}
 use Rattle.bus_trace.proofs.LogHistory.{one_or_none, ready-at, written-more}
 use Rattle.bus_trace.proofs.log.log_text.Goals as goal

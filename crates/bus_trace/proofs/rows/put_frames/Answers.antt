@@ -4,8 +4,8 @@ use Rattle.std.proofs.lemmas.List.{drop_all}
 use Rattle.std.proofs.lemmas.List.Elements.{All-nil}
 use Rattle.std.proofs.Math.Seq.{drop-length}
 use Rattle.bus_trace.specs.Log.{frame_row}
-use Rattle.bus_trace.specs.Row.{IsLogRow}
-use Rattle.bus_trace.specs.declared.row.LogRow.TheVariants.{Frame}
+use Rattle.log_reader.specs.Row.{IsLogRow}
+use Rattle.log_reader.specs.declared.row.LogRow.TheVariants.{Frame}
 use Rattle.bus_trace.proofs.PutRows.{frame_rows-at, frames_told-at}
 use Rattle.bus_trace.proofs.rows.put_frames.Goals as goal
 

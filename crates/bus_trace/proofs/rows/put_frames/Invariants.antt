@@ -1,8 +1,8 @@
 use Rattle.std.proofs.Common.{◌≡◌, ◌+◌, ◌-◌, ◌*◌, ◌≤◌, All, drop, length, map}
 use Rattle.std.specs.List.{flat_map}
 use Rattle.bus_trace.specs.Log.{frame_row}
-use Rattle.bus_trace.specs.Row.{IsLogRow}
-use Rattle.bus_trace.specs.declared.row.LogRow.TheVariants.{Frame}
+use Rattle.log_reader.specs.Row.{IsLogRow}
+use Rattle.log_reader.specs.declared.row.LogRow.TheVariants.{Frame}
 use Rattle.bus_trace.proofs.rows.put_frames.Given as goal
 
 -- the rows of the frames from this one on stand

@@ -2,8 +2,8 @@ use Rattle.std.proofs.Common.{◌≤◌, All, length, map}
 use Rattle.std.specs.List.{flat_map}
 use Rattle.ftt_io.proofs.Shared.{PutsUpTo}
 use Rattle.bus_trace.specs.Log.{frame_row}
-use Rattle.bus_trace.specs.Row.{IsLogRow}
-use Rattle.bus_trace.specs.declared.row.LogRow.TheVariants.{Frame}
+use Rattle.log_reader.specs.Row.{IsLogRow}
+use Rattle.log_reader.specs.declared.row.LogRow.TheVariants.{Frame}
 use Rattle.bus_trace.proofs.streaming.put_frame_rows.Given as goal
 
 -- the rows before those of what is left were put, and all are in range where those that are left are

@@ -2,7 +2,7 @@ use Rattle.std.proofs.Common.{◌≤◌, ◌+◌, All, drop, take}
 use Rattle.ftt_io.proofs.Shared.{PutsUpTo}
 use Rattle.bus_trace.specs.Log.{plan_rows}
 use Rattle.bus_trace.specs.LogRows.{plan_told}
-use Rattle.bus_trace.specs.Row.{IsLogRow}
+use Rattle.log_reader.specs.Row.{IsLogRow}
 use Rattle.bus_trace.proofs.streaming.put_plan_rows.Given as goal
 
 abbrev pub invariant-loop-number : goal.invariant-loop-number

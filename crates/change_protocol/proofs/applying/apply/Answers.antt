@@ -8,8 +8,8 @@ use Rattle.change_protocol.proofs.Kept.{changed-applied}
 use Rattle.change_protocol.proofs.WellPlaced.{well_placed-applied}
 use Rattle.change_protocol.proofs.applying.apply.Goals as goal
 
-pub with_ends-requires-clause-ops : goal.with_ends-requires-clause-ops
-with_ends-requires-clause-ops c =
+pub set_ends-requires-clause-slots : goal.set_ends-requires-clause-slots
+set_ends-requires-clause-slots c =
     let placed = c.of-table.result.placed.now in
     let start = c.args.change.now.start in
     let ops = c.as_slice-ops.result.now in
@@ -29,10 +29,10 @@ returns-clause-well_placed c =
     let whole = rw c.as_slice-ops.ensures.list at c.in_ok-check_change.ensures.ok in
     let each = rw (c.of-table.ensures, c.as_slice-ops.ensures.list) at c.in_ok-check_operations.ensures.ok in
     let types = rw c.as_slice-ops.ensures.list at c.in_ok-place.ensures.types in
-    rw (c.in_ok-place.ensures.list, c.in_ok-list.ensures.list, c.of-table.ensures, c.as_slice-ops.ensures.list)
+    rw (c.in_ok-place.ensures.list, c.set_ends.ensures.list, c.of-table.ensures, c.as_slice-ops.ensures.list)
     (well_placed-applied c.args.placed.now (bounds_of c.args.nodes c.args.slots) c.args.change.now c.requires.slots c.requires.well_placed whole each types)
 
 pub returns-clause-changed : goal.returns-clause-changed
 returns-clause-changed c =
-    rw (c.in_ok-place.ensures.list, c.in_ok-list.ensures.list, c.of-table.ensures, c.as_slice-ops.ensures.list)
+    rw (c.in_ok-place.ensures.list, c.set_ends.ensures.list, c.of-table.ensures, c.as_slice-ops.ensures.list)
     (changed-applied c.args.placed.now c.args.change.now c.requires.well_placed.in_range)

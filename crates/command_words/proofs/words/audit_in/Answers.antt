@@ -1,7 +1,17 @@
-use Rattle.std.proofs.Common.{◌∙◌, ap}
+use Rattle.std.proofs.Common.{◌∙◌, ap, refl}
 use Rattle.clap.specs.Words.{is_simple_and_free}
-use Rattle.command_words.proofs.WordLemmas.{audit_is_simple}
+use Rattle.command_words.specs.Words.{audit_app, audit_meant}
+use Rattle.command_words.proofs.WordLemmas.{asked_for, audit_is_simple}
 use Rattle.command_words.proofs.words.audit_in.Goals as goal
 
 pub parsed-requires : goal.parsed-requires
 parsed-requires c = record { simple = ap is_simple_and_free c.in_ok-command.ensures.app ∙ audit_is_simple }
+
+pub returns : goal.returns
+returns c =
+    let matches = c.in_ok-matches.ensures in
+    record {
+      ok = asked_for audit_app audit_meant _ _ _ _ c.in_ok-command.ensures.app matches.taken matches.rows
+          (rw (c.needed_word.ensures.word, c.needed_word-2.ensures.word, c.needed_word-3.ensures.word, c.word.ensures.word) refl);
+      stop = tt;
+    }

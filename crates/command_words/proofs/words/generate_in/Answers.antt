@@ -1,7 +1,17 @@
-use Rattle.std.proofs.Common.{◌∙◌, ap}
+use Rattle.std.proofs.Common.{◌∙◌, ap, refl}
 use Rattle.clap.specs.Words.{is_simple_and_free}
-use Rattle.command_words.proofs.WordLemmas.{generate_is_simple}
+use Rattle.command_words.specs.Words.{generate_app, generate_meant}
+use Rattle.command_words.proofs.WordLemmas.{asked_for, generate_is_simple}
 use Rattle.command_words.proofs.words.generate_in.Goals as goal
 
 pub parsed-requires : goal.parsed-requires
 parsed-requires c = record { simple = ap is_simple_and_free c.in_ok-command.ensures.app ∙ generate_is_simple }
+
+pub returns : goal.returns
+returns c =
+    let matches = c.in_ok-matches.ensures in
+    record {
+      ok = asked_for generate_app generate_meant _ _ _ _ c.in_ok-command.ensures.app matches.taken matches.rows
+          (rw c.number.ensures.number refl);
+      stop = tt;
+    }

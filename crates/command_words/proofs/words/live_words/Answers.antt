@@ -1,7 +1,17 @@
-use Rattle.std.proofs.Common.{◌∙◌, ap}
+use Rattle.std.proofs.Common.{◌∙◌, ap, refl}
 use Rattle.clap.specs.Words.{is_simple_and_free}
-use Rattle.command_words.proofs.WordLemmas.{live_is_simple}
+use Rattle.command_words.specs.Words.{live_app, run_meant}
+use Rattle.command_words.proofs.WordLemmas.{asked_for, live_is_simple}
 use Rattle.command_words.proofs.words.live_words.Goals as goal
 
 pub parsed-requires : goal.parsed-requires
 parsed-requires c = record { simple = ap is_simple_and_free c.in_ok-command.ensures.app ∙ live_is_simple }
+
+pub returns : goal.returns
+returns c =
+    let matches = c.in_ok-matches.ensures in
+    record {
+      ok = asked_for live_app run_meant _ _ _ _ c.in_ok-command.ensures.app matches.taken matches.rows
+          c.run_words.ensures.run;
+      stop = tt;
+    }

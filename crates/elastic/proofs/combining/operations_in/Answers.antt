@@ -1,5 +1,5 @@
 -- What is left behind an operation, and the operation that it becomes.
-use Rattle.std.proofs.Common.{◌≡◌, ◌+◌, ◌<◌, ◌/◌, ◌++◌, ◌∷◌, [], true, length, drop, sym, ap, ◌∙◌, arith, rules, append_assoc}
+use Rattle.std.proofs.Common.{◌≡◌, ◌+◌, ◌<◌, ◌/◌, ◌++◌, ◌∷◌, [], true, length, drop, sym, ap, ◌∙◌, rules, append_assoc}
 use Rattle.std.specs.Result.{is_ok}
 use Rattle.elastic.specs.Combination.{choices, combinations, operation_in, operations_in}
 use Rattle.elastic.proofs.Products.{drop_item, some_other, without_factor}

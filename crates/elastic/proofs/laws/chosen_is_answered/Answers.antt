@@ -1,5 +1,5 @@
 -- The last event of a legal history is right, and there is one verdict.
-use Rattle.std.proofs.Common.{◌++◌, ◌∷◌, [], ℕ, List}
+use Rattle.std.proofs.Common.{[]}
 use Rattle.planner_policies.specs.Plan.{pending_at}
 use Rattle.admission.specs.declared.verdict.Verdict.TheVariants.{Accepted}
 use Rattle.master_core.specs.declared.event.Event.TheVariants.{Submit}

@@ -1,7 +1,7 @@
 -- There is no first row, or it says no start.
 use Rattle.std.proofs.Common.{◌≡◌, [], map, true, false, sym, ap, rules}
 use Rattle.csv.specs.Records.{fields_of}
-use Rattle.text_fields.specs.CsvRows.{records_of, rows_of, trimmed}
+use Rattle.text_fields.specs.CsvRows.{rows_of, trimmed}
 use Rattle.text_fields.proofs.Shared.{trimmed-split}
 use Rattle.elastic.proofs.WishLines.{bad_start, no_rows}
 use Rattle.elastic.proofs.reading.read_first.Goals as goal

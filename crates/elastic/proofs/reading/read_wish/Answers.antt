@@ -1,9 +1,9 @@
 -- The rows so far say the wish so far, and each fault is that of the next one.
-use Rattle.std.proofs.Common.{◌≡◌, true, ◌≤◌, map, length, rules, arith}
+use Rattle.std.proofs.Common.{◌≡◌, true, ◌≤◌, length, rules, arith}
 use Rattle.std.proofs.lemmas.Bool.Decides.{nat_tests}
 use Rattle.std.specs.Result.{is_ok}
 use Rattle.csv.specs.Records.{fields_of}
-use Rattle.text_fields.specs.CsvRows.{rows_of, trimmed}
+use Rattle.text_fields.specs.CsvRows.{rows_of}
 use Rattle.elastic.specs.WishesFile.{Faults}
 use Rattle.elastic.specs.declared.wish_fault.WishWhy.TheVariants.{Word}
 use Rattle.elastic.specs.declared.wish_fault.WishFault.TheVariants.{Row}

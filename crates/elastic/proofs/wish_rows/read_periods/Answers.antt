@@ -1,10 +1,10 @@
 -- A field more, which is a number or not.
-use Rattle.std.proofs.Common.{◌≡◌, ◌+◌, ◌-◌, ◌≤◌, ◌++◌, ◌∷◌, [], suc, true, length, length-append, map, option_map, Some, None, sym, ap, ◌∙◌, arith, rules}
+use Rattle.std.proofs.Common.{◌≡◌, ◌+◌, ◌-◌, ◌∷◌, [], suc, true, length, length-append, map, Some, None, sym, ap, ◌∙◌, arith, rules}
 use Rattle.std.proofs.lemmas.List.{length-map}
 use Rattle.std.specs.Result.{is_ok}
 use Rattle.csv.specs.Records.{fields_of}
 use Rattle.text_fields.specs.CsvRows.{number_at, trimmed}
-use Rattle.elastic.specs.WishFields.{numbers_from, periods_in}
+use Rattle.elastic.specs.WishFields.{periods_in}
 use Rattle.elastic.proofs.RowPeriods.{no_number, number_more}
 use Rattle.elastic.proofs.wish_rows.read_periods.Goals as goal
 

@@ -1,6 +1,5 @@
 use Rattle.std.proofs.Common.{◌++◌, map, ap, sym, ◌∙◌}
 use Rattle.std.proofs.lemmas.List.{append-nil}
-use Rattle.std.specs.String.{string_bytes}
 use Rattle.plan_check.specs.declared.plan_runs.Version.TheVariants.{Two}
 use Rattle.plan_check.specs.PlanText.{run_line, text_of}
 use Rattle.plan_check.proofs.Runs.{no-runs}
@@ -10,7 +9,7 @@ pub returns : goal.returns
 returns c =
     let none = no-runs c.args.masks.now c.loop-start.start c.loop-start-test.false c.loop-start.invariant.within in
     record {
-      ok = sym (append-nil (string_bytes c.loop-start.text))
-          ∙ ap (λ runs. string_bytes c.loop-start.text ++ text_of (map (run_line Two) runs)) (sym none)
+      ok = sym (append-nil (c.loop-start.text.items))
+          ∙ ap (λ runs. c.loop-start.text.items ++ text_of (map (run_line Two) runs)) (sym none)
           ∙ c.loop-start.invariant.text;
     }

@@ -43,8 +43,8 @@ loop-row-preserved c =
           (gathered-none plan cycle before rows k no_entry c.loop-row.mask c.loop-row.width well within stands so_far none)
     ]
 
-pub returns-clause-fitting : goal.returns-clause-fitting
-returns-clause-fitting c =
+pub returns : goal.returns
+returns c =
     let ranked = c.args.ranked.now in
     let plan = planning_of ranked c.args.w c.args.state.now.cycle c.args.state.now.pending in
     let rows = c.rows-rows.result.now in
@@ -52,5 +52,7 @@ returns-clause-fitting c =
     let all : take k rows ≡ rows = take_all k rows c.loop-row-test.false in
     let done : IsGathered plan c.args.state.now.cycle (contains_slot c.args.state.now.pending) rows c.loop-row.mask c.loop-row.width
     = rw all at c.loop-row.invariant in
-    gathered-whole plan c.args.state.now.cycle c.args.state.now.pending rows c.loop-row.mask c.loop-row.width c.rows-rows.ensures.well_placed
-    c.rows-rows.ensures.same c.requires.valid c.known.ensures.below done
+    record {
+      fitting = gathered-whole plan c.args.state.now.cycle c.args.state.now.pending rows c.loop-row.mask c.loop-row.width c.rows-rows.ensures.well_placed
+          c.rows-rows.ensures.same c.requires.valid c.known.ensures.below done;
+    }

@@ -58,8 +58,8 @@ loop-row-preserved g c =
           rw w.line-is (line_of-none plan cycle before rows k no_entry c.loop-row.line well within stands c.loop-row.invariant none)
     ]
 
-pub returns-clause-line : goal.returns-clause-line
-returns-clause-line g c =
+pub returns : goal.returns
+returns g c =
     let ranked = c.args.ranked.now in
     let plan = planning_of ranked c.args.w c.args.state.now.cycle c.args.state.now.pending in
     let cycle = c.args.state.now.cycle in
@@ -67,5 +67,7 @@ returns-clause-line g c =
     let k = c.loop-row.row-index in
     let all : take k rows ≡ rows = take_all k rows c.loop-row-test.false in
     let done : IsLineOf plan cycle (contains_slot c.args.state.now.pending) rows c.loop-row.line = rw all at c.loop-row.invariant in
-    whole_line-of plan cycle c.args.state.now.pending rows c.loop-row.line c.rows-rows.ensures.well_placed c.rows-rows.ensures.same
-    c.requires.valid done
+    record {
+      line = whole_line-of plan cycle c.args.state.now.pending rows c.loop-row.line c.rows-rows.ensures.well_placed c.rows-rows.ensures.same
+          c.requires.valid done;
+    }

@@ -77,10 +77,10 @@ returns-clause-ok c =
     let so_far = c.loop-requests.invariant in
     let rows : rows_of c.args.bytes.now ≡ map (map trimmed) so_far.before
     = ap (map (map trimmed)) (c.in_ok-read_next.ensures.all c.if-branch.false c.args.bytes.now so_far.before so_far.reads) in
-    rw rows so_far.means
+    rw (c.shrink_to_fit.ensures.items, rows) so_far.means
 
 pub returns-clause-value : goal.returns-clause-value
 unfolding requests_of
 returns-clause-value c =
-    let are : AreRequests c.args.owners.now (rows_of c.args.bytes.now) c.loop-requests.requests.items = returns-clause-ok c in
-    requests_computed c.args.owners.now (rows_of c.args.bytes.now) c.loop-requests.requests.items are
+    let are : AreRequests c.args.owners.now (rows_of c.args.bytes.now) c.shrink_to_fit.new.self.items = returns-clause-ok c in
+    requests_computed c.args.owners.now (rows_of c.args.bytes.now) c.shrink_to_fit.new.self.items are

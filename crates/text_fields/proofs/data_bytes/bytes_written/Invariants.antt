@@ -1,4 +1,4 @@
-use Rattle.std.proofs.Common.{◌≡◌, ◌+◌, ◌*◌, ◌++◌, true, length, take}
+use Rattle.std.proofs.Common.{◌≡◌, ◌+◌, ◌*◌, ◌++◌, length, take}
 use Rattle.std.specs.Char.{is_ascii_hexdigit}
 use Rattle.std.specs.List.{list_all}
 use Rattle.text_fields.specs.ByteText.{bytes_written}
@@ -10,7 +10,7 @@ invariant-loop-left l =
     record {
       room : length l.bytes ≡ 8;
       few : 2 * l.count + length l.left ≡ length l.field;
-      hexadecimal : list_all is_ascii_hexdigit l.left ≡ true;
+      all : list_all is_ascii_hexdigit l.left ≡ list_all is_ascii_hexdigit l.field;
       written : take l.count l.bytes ++ bytes_written l.left ≡ bytes_written l.fn.field;
     }
 

@@ -24,7 +24,7 @@ loop-byte-preserved c =
     let next : i + 1 ≡ suc i = omega arith in
     let digits = c.args.digits.now in
     let before = c.loop-byte.invariant in
-    let read = digit-read (get_or digits i 0) c.in_ok-lower_digit.field-0 (sym c.in_ok-lower_digit.ensures.value) in
+    let read = digit-read is_hex_digit (get_or digits i 0) c.in_ok-lower_digit.field-0 (sym c.in_ok-lower_digit.ensures.value) in
     let more = digits_value_more 16 digits i c.loop-byte-test.true in
     let value : c.from.result ≡ digit_value (get_or digits i 0) = c.from.ensures ∙ sym read.1 in
     record {

@@ -1,6 +1,6 @@
 use Rattle.std.proofs.Common.{◌≡◌, ◌++◌, ◌∷◌, [], length-append, subst, arith}
 use Rattle.trace_audit.specs.Auditing.{IsHeard}
-use Rattle.bus_trace.proofs.Shared.{none-found}
+use Rattle.log_reader.proofs.Shared.{none-found}
 use Rattle.trace_audit.proofs.Whole.{first-break}
 use Rattle.trace_audit.proofs.auditing.audit_text.Goals as goal
 

@@ -1,7 +1,7 @@
 use Rattle.std.proofs.Common.{List}
 use Rattle.text_fields.specs.CsvReading.{bytes_left}
-use Rattle.bus_trace.specs.LogReading.{IsBehind}
-use Rattle.bus_trace.specs.declared.row.LogRow.{LogRow}
+use Rattle.log_reader.specs.LogReading.{IsBehind}
+use Rattle.log_reader.specs.declared.row.LogRow.{LogRow}
 use Rattle.trace_audit.specs.Auditing.{IsHeard}
 use Rattle.trace_audit.proofs.auditing.audit_text.Given as goal
 

@@ -1,5 +1,5 @@
 use Rattle.std.proofs.Common.{◌≡◌, ◌++◌, ◌∷◌, drop, map}
-use Rattle.bus_trace.specs.declared.row.LogRow.TheVariants as row
+use Rattle.log_reader.specs.declared.row.LogRow.TheVariants as row
 use Rattle.trace_audit.proofs.event_rows.rows_of_cycle.Given as goal
 
 abbrev pub invariant-loop-timed : goal.invariant-loop-timed

@@ -1,21 +1,41 @@
-use Rattle.std.proofs.Common.{ap, ◌∙◌}
+use Rattle.std.proofs.Common.{◌+◌, ◌<◌, ◌≤◌, refl, ap, ◌∙◌, arith}
+use Rattle.planner_policies.specs.declared.state.PlanState.{PlanState}
 use Rattle.planner_policies.specs.Plan.{Ranking, Standing}
 use Rattle.admission.specs.Course.{state_behind, state_in}
+use Rattle.admission.proofs.Places.{behind-passed, stands-here}
 use Rattle.admission.proofs.Same.{behind-missed, behind-planned}
 use Rattle.admission.proofs.walk.PlanWalkWalk.step.Goals as goal
+
+pub returns-then-here-state-clause-next : goal.returns-then-here-state-clause-next
+returns-then-here-state-clause-next c =
+    let here = c.args.here.now in
+    let walk = c.args.self.now in
+    let less : here.state.cycle < here.planner.cycle = omega (arith, c.if-here-state.true, c.state.ensures.cycle) in
+    behind-passed walk.entries walk.window here.planner here.state c.requires.on (record { cycle = here.state.cycle + 1; pending = here.state.pending })
+    refl refl less
 
 pub returns-in-Ok-clause-next : goal.returns-in-Ok-clause-next
 returns-in-Ok-clause-next c =
     let here = c.args.here.now in
-    let window = c.args.self.now.window in
-    behind-planned here.ranking window (state_in here) c.state.result c.in-Ok.ensures.none_missed
-    (c.state.ensures.cycle ∙ ap (λ (s : Standing). s.cycle) c.in-Ok.ensures.next)
-    (c.state.ensures.pending ∙ ap (λ (s : Standing). s.pending) c.in-Ok.ensures.next)
-    ∙ ap (λ (r : Ranking). state_behind r window (state_in here)) c.requires.on
+    let planner = here.planner in
+    let walk = c.args.self.now in
+    let on = c.requires.on in
+    let not_later : planner.cycle ≤ here.state.cycle = omega (arith, c.if-here-state.false, c.state.ensures.cycle) in
+    behind-planned planner.ranking walk.window (state_in planner) c.state-here.result c.in-Ok.ensures.none_missed
+    (c.state-here.ensures.cycle ∙ ap (λ (s : Standing). s.cycle) c.in-Ok.ensures.next)
+    (c.state-here.ensures.pending ∙ ap (λ (s : Standing). s.pending) c.in-Ok.ensures.next)
+    ∙ ap (λ (r : Ranking). state_behind r walk.window (state_in planner)) on.ranking_is
+    ∙ ap (λ (s : PlanState). state_behind walk.entries walk.window s)
+    (stands-here walk.entries walk.window planner here.state on not_later)
 
 pub returns-in-Err-clause-next : goal.returns-in-Err-clause-next
 returns-in-Err-clause-next c =
     let here = c.args.here.now in
-    let window = c.args.self.now.window in
-    behind-missed here.ranking window c.in-Err.field-0.slot c.in-Err.field-0.release (state_in here) c.in-Err.ensures.missed
-    ∙ ap (λ (r : Ranking). state_behind r window (state_in here)) c.requires.on
+    let planner = here.planner in
+    let walk = c.args.self.now in
+    let on = c.requires.on in
+    let not_later : planner.cycle ≤ here.state.cycle = omega (arith, c.if-here-state.false, c.state.ensures.cycle) in
+    behind-missed planner.ranking walk.window c.in-Err.field-0.slot c.in-Err.field-0.release (state_in planner) c.in-Err.ensures.missed
+    ∙ ap (λ (r : Ranking). state_behind r walk.window (state_in planner)) on.ranking_is
+    ∙ ap (λ (s : PlanState). state_behind walk.entries walk.window s)
+    (stands-here walk.entries walk.window planner here.state on not_later)

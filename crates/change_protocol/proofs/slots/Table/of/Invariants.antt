@@ -1,6 +1,6 @@
 use Rattle.std.proofs.Common.{take}
-use Rattle.change_protocol.specs.Slots.{AreUses}
+use Rattle.change_protocol.specs.Slots.{AreUpToLast}
 use Rattle.change_protocol.proofs.slots.Table.of.Given as goal
 
-abbrev pub invariant-loop-p : goal.invariant-loop-p
-invariant-loop-p l = AreUses (take l.p-index l.placed) l.uses
+abbrev pub invariant-loop-place : goal.invariant-loop-place
+invariant-loop-place l = AreUpToLast (take l.place l.placed) l.up_to_last

@@ -18,7 +18,6 @@ new-requires c =
       nodes = AreNodes-fresh layout owners requests (states_of made) c.args.nodes (length-map made (λ x. x.state) ∙ c.in_ok-made.ensures.count) each
           c.requires.few c.requires.owners c.in_ok-made.ensures.are (λ one other apart are well first second.
           c.nodes_are_apart.ensures.by_number layout owners requests requests [] [] [] [] 0 0 one other apart are well (inl refl) first second);
-      owners = c.requires.owners;
     }
 
 pub returns-clause-each : goal.returns-clause-each

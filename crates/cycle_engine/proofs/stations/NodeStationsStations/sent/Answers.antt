@@ -1,4 +1,5 @@
 use Rattle.std.proofs.Common.{◌≡◌, ◌^◌, ◌<◌, All, AllPairs, sym, ap, ◌∙◌, subst}
+use Rattle.std.specs.Prelude.{IfSome}
 use Rattle.std.proofs.lemmas.List.{take_at}
 use Rattle.bus_line.specs.Stations.{IsSending}
 use Rattle.node_model.specs.Node.{IsNode, opening_identifier}
@@ -39,5 +40,5 @@ invariant_of-self c =
           (subst (λ ts. AreStations (record { layout = layout; triggers = ts; nodes = all_hear before sent })) (sym left)
           (AreStations-told layout triggers before sent c.offers_in_range.ensures.in_range (λ node. c.stays_a_node.ensures.hearing node sent)
           (λ one other. c.nodes_are_apart.ensures.hearing one other sent sent) sending.offered.contends c.self.invariant.are));
-      look = subst (λ nodes. IsSoonest (states_of nodes) c.find.result) c.as_slice.ensures.value c.find.ensures.soonest;
+      look = subst (λ nodes. IfSome c.find_behind-self-inside.result (IsSoonest (states_of nodes))) c.as_slice.ensures.value c.find_behind-self-inside.ensures.soonest;
     }

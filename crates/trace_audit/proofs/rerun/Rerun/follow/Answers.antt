@@ -1,6 +1,6 @@
 use Rattle.std.proofs.Common.{sym, subst}
 use Rattle.std.specs.Prelude.{IfOk, IfSome}
-use Rattle.bus_trace.specs.declared.row.LogRow.{LogRow}
+use Rattle.log_reader.specs.declared.row.LogRow.{LogRow}
 use Rattle.trace_audit.specs.Again.{IsBroughtOn}
 use Rattle.trace_audit.proofs.rerun.Rerun.follow.Goals as goal
 

@@ -4,7 +4,7 @@ use Rattle.change_protocol.specs.declared.operations.Act.TheVariants as act
 use Rattle.live_master.specs.Callers.{is_called_by}
 use Rattle.live_steps.specs.Live.{acts_of}
 use Rattle.master_core.specs.declared.event.Event.TheVariants.{Submit}
-use Rattle.bus_trace.specs.declared.row.LogRow.TheVariants as row
+use Rattle.log_reader.specs.declared.row.LogRow.TheVariants as row
 use Rattle.trace_audit.specs.Again.{IsAnsweredWith, IsBroughtOn}
 use Rattle.trace_audit.specs.Reading.{IsNextAct}
 use Rattle.trace_audit.proofs.Bringing.{called-on, ok-none, ok-some}

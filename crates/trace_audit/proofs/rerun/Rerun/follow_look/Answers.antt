@@ -5,7 +5,7 @@ use Rattle.live_master.specs.Callers.{is_called_by}
 use Rattle.live_steps.specs.Live.{acts_of}
 use Rattle.master_core.specs.History.{next_of}
 use Rattle.master_core.specs.declared.event.Event.TheVariants.{Look}
-use Rattle.bus_trace.specs.declared.row.LogRow.TheVariants as row
+use Rattle.log_reader.specs.declared.row.LogRow.TheVariants as row
 use Rattle.trace_audit.specs.Reading.{IsNextAct}
 use Rattle.trace_audit.proofs.Bringing.{called-on}
 use Rattle.trace_audit.proofs.rerun.Rerun.follow_look.Goals as goal

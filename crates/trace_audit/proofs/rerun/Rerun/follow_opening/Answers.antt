@@ -5,7 +5,7 @@ use Rattle.steps_file.specs.StepsFile.{count_of}
 use Rattle.bus_trace.specs.EventRows.{told_at}
 use Rattle.master_core.specs.History.{next_of}
 use Rattle.master_core.specs.declared.event.Event.TheVariants.{Open}
-use Rattle.bus_trace.specs.declared.row.LogRow.TheVariants as row
+use Rattle.log_reader.specs.declared.row.LogRow.TheVariants as row
 use Rattle.trace_audit.proofs.Bringing.{opened-on}
 use Rattle.trace_audit.proofs.rerun.Rerun.follow_opening.Goals as goal
 

@@ -1,0 +1,72 @@
+-- Places on the walk over a planning: the planning stands at the state, or passes the cycles from there on.
+use Rattle.std.proofs.Common.{◌≡◌, ℕ, ◌+◌, ◌<◌, ◌≤◌, Some, sym, ◌∙◌, subst, arith}
+use Rattle.planner_policies.specs.declared.state.PlanState.{PlanState}
+use Rattle.planner_policies.specs.Plan.{IsValid, Ranking, Standing, planning_of}
+use Rattle.release_wheel.specs.Passed.{IsPassed}
+use Rattle.admission.specs.Course.{IsGoodState, state_behind, state_in}
+use Rattle.admission.specs.Walked.{IsOn}
+use Rattle.admission.proofs.Same.{behind-planned, state-same}
+
+-- the planning stands at the state
+pub on-start : (ranking : Ranking) (window : ℕ) (here : Standing) (state : PlanState) → here.ranking ≡ ranking → here.cycle ≡ state.cycle
+    → here.pending ≡ state.pending → IsValid ranking.placed state.cycle state.pending → IsOn ranking window here state
+on-start ranking window here state ranking_is cycle_is pending_is valid = record {
+  ranking_is = ranking_is;
+  pending_is = pending_is;
+  onward = omega arith;
+  valid = λ c from to.
+      let same : state.cycle ≡ c = omega arith in
+      subst (λ n. IsValid ranking.placed n state.pending) same valid;
+  passed = λ c from to. absurd (omega arith);
+}
+
+-- the planning stands where it passed the cycles from the state on
+pub on-passed : (ranking : Ranking) (window : ℕ) (old new : Standing) (state : PlanState) → old.ranking ≡ ranking → new.ranking ≡ ranking
+    → new.pending ≡ old.pending → state.cycle ≡ old.cycle → state.pending ≡ old.pending → old.cycle ≤ new.cycle
+    → ((c : ℕ) → old.cycle ≤ c → c ≤ new.cycle → IsValid old.ranking.placed c old.pending)
+    → ((w c : ℕ) → old.cycle ≤ c → c < new.cycle → IsPassed (planning_of old.ranking w c old.pending)) → IsOn ranking window new state
+on-passed ranking window old new state was is still cycle_is pending_is onward valid passed = record {
+  ranking_is = is;
+  pending_is = still ∙ sym pending_is;
+  onward = omega arith;
+  valid = λ c from to.
+      subst (λ q. IsValid ranking.placed c q) (sym pending_is)
+      (subst (λ (r : Ranking). IsValid r.placed c old.pending) was (valid c (omega arith) to));
+  passed = λ c from to.
+      subst (λ q. IsPassed (planning_of ranking window c q)) (sym pending_is)
+      (subst (λ r. IsPassed (planning_of r window c old.pending)) was (passed window c (omega arith) to));
+}
+
+module _ (ranking : Ranking) (window : ℕ) (here : Standing) (state : PlanState) (on : IsOn ranking window here state) where
+  -- the planning stands at a later cycle, so the next state differs by its cycle alone
+  module _ (next : PlanState) (cycle_is : next.cycle ≡ state.cycle + 1) (pending_is : next.pending ≡ state.pending)
+      (less : state.cycle < here.cycle) where
+    pub on-next : IsOn ranking window here next
+    on-next = record {
+      ranking_is = on.ranking_is;
+      pending_is = on.pending_is ∙ sym pending_is;
+      onward = omega arith;
+      valid = λ c from to. subst (λ q. IsValid ranking.placed c q) (sym pending_is) (on.valid c (omega arith) to);
+      passed = λ c from to. subst (λ q. IsPassed (planning_of ranking window c q)) (sym pending_is) (on.passed c (omega arith) to);
+    }
+
+    pub behind-passed : Some next ≡ state_behind ranking window state
+    behind-passed =
+        let here = on.passed state.cycle (omega arith) less in
+        behind-planned ranking window state next here.none_missed cycle_is (pending_is ∙ here.left)
+
+    pub good-next : (from : ℕ) → from ≤ state.cycle → IsGoodState ranking from next
+    good-next from begun =
+        let valid = on.valid (state.cycle + 1) (omega arith) (omega arith) in
+        record {
+          held = subst (λ n. IsValid ranking.placed n next.pending) (sym cycle_is)
+              (subst (λ q. IsValid ranking.placed (state.cycle + 1) q) (sym pending_is) valid);
+          begun = omega arith;
+        }
+
+  -- else it stands at the state
+  pub stands-here : here.cycle ≤ state.cycle → state_in here ≡ state
+  stands-here not_later =
+      let onward = on.onward in
+      let cycle : here.cycle ≡ state.cycle = omega arith in
+      state-same (state_in here) state cycle on.pending_is

@@ -1,0 +1,4 @@
+mod Readings
+mod RowForms
+mod RowLines
+pub mod Shared

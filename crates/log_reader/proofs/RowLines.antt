@@ -1,0 +1,94 @@
+-- The text of rows, read as records: the fields of each row.
+use Rattle.std.proofs.Common.{◌≡◌, ℕ, Bool, ◌^◌, ◌<◌, true, List, [], ◌∷◌, All, Some, None, map, refl, ap, ◌∙◌, arith}
+use Rattle.std.proofs.lemmas.Bool.{and_parts, and_from}
+use Rattle.std.proofs.lemmas.Bool.Decides.{nat_tests}
+use Rattle.std.proofs.lemmas.List.Elements.{All-head, All-tail}
+use Rattle.std.specs.Char.{is_ascii_digit}
+use Rattle.std.specs.Fmt.{decimal}
+use Rattle.std.specs.List.{flat_map, list_all}
+use Rattle.csv.specs.Reading.{strip_bom}
+use Rattle.csv.specs.declared.parser.State.TheVariants as st
+use Rattle.text_fields.specs.CsvReading.{records_left}
+use Rattle.text_fields.specs.CsvRows.{records_of}
+use Rattle.text_fields.specs.Hexadecimal.{is_hex_digit}
+use Rattle.text_fields.proofs.Shared.{ArePlain, IsPlainRecord, all-data, all-decimal, all-hex, is_plain, no-mark, no-mark-empty, none-next, plain-next}
+use Rattle.text_fields.specs.MaskText.{mask_digits, mask_width}
+use Rattle.text_fields.specs.Hexadecimal.{hex_digits}
+use Rattle.log_reader.specs.Row.{IsLogRow, IsLogVerdict, fields_of_row, fields_of_verdict, text_of_rows}
+use Rattle.log_reader.specs.declared.row.LogRow.{LogRow}
+use Rattle.log_reader.specs.declared.row.LogRow.TheVariants as row
+use Rattle.log_reader.specs.declared.row.LogVerdict.{LogVerdict}
+use Rattle.log_reader.specs.declared.row.LogVerdict.TheVariants as verdict
+
+plain-digit : (x : ℕ) → is_ascii_digit x ≡ true → is_plain x ≡ true
+plain-digit x test = grind (arith, nat_tests)
+
+plain-hex : (x : ℕ) → is_hex_digit x ≡ true → is_plain x ≡ true
+plain-hex x test = grind (arith, nat_tests)
+
+all-plain : (p : ℕ → Bool) → ((x : ℕ) → p x ≡ true → is_plain x ≡ true) → (xs : List ℕ) → list_all p xs ≡ true → list_all is_plain xs ≡ true
+all-plain p each [] all = refl
+all-plain p each (x ∷ xs) all =
+    let (here, more) = and_parts (p x) (list_all p xs) all in
+    and_from (is_plain x) (list_all is_plain xs) (each x here) (all-plain p each xs more)
+
+number-plain : (n : ℕ) → n < 2 ^ 64 → list_all is_plain (decimal n) ≡ true
+number-plain n small = all-plain is_ascii_digit plain-digit (decimal n) (all-decimal n small)
+
+hex-plain : (k n : ℕ) → list_all is_plain (hex_digits k n) ≡ true
+hex-plain k n = all-plain is_hex_digit plain-hex (hex_digits k n) (all-hex k n)
+
+mask-plain : (mask : ℕ) → list_all is_plain (mask_digits mask) ≡ true
+unfolding mask_digits
+mask-plain mask = hex-plain (mask_width mask) mask
+
+data-plain : (bytes : List ℕ) → list_all is_plain (flat_map (hex_digits 2) bytes) ≡ true
+data-plain bytes = all-plain is_hex_digit plain-hex (flat_map (hex_digits 2) bytes) (all-data bytes)
+
+verdict-plain : (said : LogVerdict) → IsLogVerdict said → ArePlain (fields_of_verdict said)
+verdict-plain (verdict.Accepted first len) legal = (refl, (number-plain first legal.0, (number-plain len legal.1, tt)))
+verdict-plain (verdict.Passed start next) legal = (refl, (number-plain start legal.0, (number-plain next legal.1, tt)))
+verdict-plain (verdict.Horizon from walked) legal = (refl, (number-plain from legal.0, (number-plain walked legal.1, tt)))
+verdict-plain (verdict.Miss slot release cycle) legal = (refl, (number-plain slot (omega (arith, legal.0)), (number-plain release legal.1, (number-plain cycle legal.2, tt))))
+verdict-plain (verdict.Malformed op why None) legal = (refl, (number-plain op (omega (arith, legal.0)), (number-plain why (omega (arith, legal.1)), tt)))
+verdict-plain (verdict.Malformed op why (Some until)) legal = (refl, (number-plain op (omega (arith, legal.0)), (number-plain why (omega (arith, legal.1)), (number-plain until legal.2.0, tt))))
+
+row-plain : (read : LogRow) → IsLogRow read → ArePlain (fields_of_row read)
+row-plain (row.Submit caller from said) legal = (refl, (number-plain caller (omega (arith, legal.0)), (number-plain from legal.1, verdict-plain said legal.2)))
+row-plain (row.Plan cycle mask) legal = (refl, (number-plain cycle legal.0, (mask-plain mask, tt)))
+row-plain (row.Look caller next) legal = (refl, (number-plain caller (omega (arith, legal.0)), (number-plain next legal.1, tt)))
+row-plain (row.Open cycle mask width) legal = (refl, (number-plain cycle legal.0, (mask-plain mask, (number-plain width (omega (arith, legal.2)), tt))))
+row-plain (row.Frame timed) legal = (refl, (number-plain timed.start legal.0, (number-plain timed.len (omega (arith, legal.1)), (hex-plain 3 timed.frame.identifier, (data-plain timed.frame.bytes, tt)))))
+row-plain (row.End next) legal = (refl, (number-plain next legal, tt))
+
+-- Rows
+
+record-plain : (read : LogRow) → IsLogRow read → IsPlainRecord (fields_of_row read)
+record-plain (row.Submit caller from said) legal = row-plain (row.Submit caller from said) legal
+record-plain (row.Plan cycle mask) legal = row-plain (row.Plan cycle mask) legal
+record-plain (row.Look caller next) legal = row-plain (row.Look caller next) legal
+record-plain (row.Open cycle mask width) legal = row-plain (row.Open cycle mask width) legal
+record-plain (row.Frame timed) legal = row-plain (row.Frame timed) legal
+record-plain (row.End next) legal = row-plain (row.End next) legal
+
+text-records : (rows : List LogRow) → All IsLogRow rows → records_left st.StartRecord (text_of_rows rows) ≡ map fields_of_row rows
+text-records [] legal = none-next
+text-records (read ∷ rows) legal =
+    plain-next (fields_of_row read) (text_of_rows rows) (record-plain read (All-head IsLogRow read rows legal))
+    ∙ ap (λ (l : List (List (List ℕ))). fields_of_row read ∷ l) (text-records rows (All-tail IsLogRow read rows legal))
+
+unmarked : (rows : List LogRow) → strip_bom (text_of_rows rows) ≡ text_of_rows rows
+unmarked [] = no-mark-empty
+unmarked (row.Submit caller from said ∷ rows) = no-mark 115 _ refl
+unmarked (row.Plan cycle mask ∷ rows) = no-mark 112 _ refl
+unmarked (row.Look caller next ∷ rows) = no-mark 108 _ refl
+unmarked (row.Open cycle mask width ∷ rows) = no-mark 111 _ refl
+unmarked (row.Frame timed ∷ rows) = no-mark 102 _ refl
+unmarked (row.End next ∷ rows) = no-mark 101 _ refl
+
+-- the records of the text of rows are their fields
+pub records-text : (bytes : List ℕ) (rows : List LogRow) → All IsLogRow rows → bytes ≡ text_of_rows rows → records_of bytes ≡ map fields_of_row rows
+records-text bytes rows legal is =
+    ap (λ (b : List ℕ). records_left st.StartRecord (strip_bom b)) is
+    ∙ ap (records_left st.StartRecord) (unmarked rows)
+    ∙ text-records rows legal

@@ -1,0 +1,2 @@
+-- What proofs of the crates above may take from here.
+pub use Rattle.log_reader.proofs.Readings.{none-found}

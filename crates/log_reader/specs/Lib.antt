@@ -1,0 +1,4 @@
+pub mod FaultText
+pub mod LogReading
+pub mod Row
+pub mod RowFields

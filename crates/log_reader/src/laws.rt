@@ -1,0 +1,17 @@
+//! Laws about the rows of a text. Each function has an empty body, and its contract is the law.
+
+ghost use Rattle.std.specs.Prelude.{◌≡◌, ℕ, ◌++◌, List};
+ghost use Rattle.log_reader.specs.LogReading.{IsBehind, RowReader};
+ghost use Rattle.log_reader.specs.Row.{AreRowsOf, IsFirstFaultyRow};
+ghost use Rattle.log_reader.specs.declared.row.LogRow.{LogRow};
+
+/// A text is the rows of a log in one way only, and has no faulty row then. The rows that were read so far are the first
+/// of these rows.
+pub fn one_log()
+    ensures one { (bytes : List ℕ) (rows others : List LogRow) → AreRowsOf bytes rows → AreRowsOf bytes others
+        → rows ≡ others }
+    ensures no_fault { (bytes : List ℕ) (rows : List LogRow) (number : ℕ) → AreRowsOf bytes rows
+        → IsFirstFaultyRow bytes number → ⊥ }
+    ensures first { (bytes : List ℕ) (reader : RowReader) (read rows : List LogRow) → IsBehind bytes reader read
+        → AreRowsOf bytes rows → (later : List LogRow) × (rows ≡ read ++ later) }
+{}

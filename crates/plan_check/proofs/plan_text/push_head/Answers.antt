@@ -1,6 +1,0 @@
-use Rattle.std.proofs.Common.{arith, append_assoc}
-use Rattle.std.proofs.lemmas.Grind.{common_steps}
-use Rattle.plan_check.proofs.plan_text.push_head.Goals as goal
-
-pub returns : goal.returns
-returns c = grind (arith, common_steps, append_assoc)

@@ -1,5 +1,0 @@
-use Rattle.planner_policies.proofs.RowSets.{has-without}
-use Rattle.planner_policies.proofs.row_set.without.Goals as goal
-
-pub returns : goal.returns
-returns c = record { rows = λ i. rw c.one.ensures.number (has-without c.args.set c.args.row i c.requires.known c.ranges.set.fits) }

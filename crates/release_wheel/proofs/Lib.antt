@@ -1,0 +1,9 @@
+mod Releasing
+mod RowCycles
+mod RowDues
+mod RowFilling
+mod RowLines
+mod RowRoom
+mod RowSets
+mod RowSums
+mod RowTaking

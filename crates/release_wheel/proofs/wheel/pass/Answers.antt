@@ -1,0 +1,52 @@
+use Rattle.std.proofs.Common.{◌≡◌, ℕ, true, false, ◌<◌, sym, subst, ◌∙◌, ⊎_elim, arith}
+use Rattle.std.proofs.lemmas.Bool.{both_ways, cases_Bool}
+use Rattle.requirement_table.specs.Slots.{contains_slot}
+use Rattle.release_wheel.specs.declared.wheel.Wheel.{Wheel}
+use Rattle.planner_policies.specs.Due.{IsPlanned}
+use Rattle.planner_policies.specs.Plan.{Ranking, planning_of}
+use Rattle.release_wheel.specs.Wheel.{IsKept, IsReady}
+use Rattle.release_wheel.proofs.RowCycles.{planned-all, quiet-cost, quiet-released, quiet-slots, turned-quiet}
+use Rattle.release_wheel.proofs.wheel.pass.Goals as goal
+
+turns-on : (ranking : Ranking) (w : Wheel) → IsKept ranking w → w.cycle < w.quiet → w.turns ≡ true
+turns-on ranking w kept less =
+    ⊎_elim
+    (λ (on : w.turns ≡ true). on)
+    (λ (off : w.turns ≡ false). absurd (let none = kept.plain off in omega arith))
+    (cases_Bool w.turns)
+
+pub returns-clause-planned : goal.returns-clause-planned
+returns-clause-planned c = λ window.
+    let w = c.args.wheel.now in
+    let ranking = c.args.ranked.now in
+    let kept = c.requires.kept in
+    let less = c.requires.quiet in
+    let on = turns-on ranking w kept less in
+    let turned = (kept.turned on).turned in
+    let ready : IsReady ranking w.slots w = record { released = quiet-released w turned less; of_ranking = (kept.turned on).of_ranking; well = c.requires.well; valid = kept.valid } in
+    let cost = quiet-cost w turned less in
+    let number = c.empty.ensures.number in
+    let P : ℕ → Type 0 = λ width. IsPlanned (planning_of ranking window w.cycle w.slots) w.cycle (contains_slot w.slots) c.empty.result width c.empty-wheel.result in
+    subst P cost
+    (planned-all ranking w.slots window w ready c.empty.result (omega arith) (λ slot. c.empty.ensures.slots slot ∙ sym (quiet-slots w slot turned less)) (omega arith)
+    c.empty-wheel.result c.empty-wheel.ensures.number)
+
+pub returns-clause-kept : goal.returns-clause-kept
+returns-clause-kept c =
+    let w = c.args.wheel.now in
+    let ranking = c.args.ranked.now in
+    let kept = c.requires.kept in
+    let less = c.requires.quiet in
+    let near = c.requires.cycle in
+    record {
+      near = omega arith;
+      valid = λ slot in'. absurd (both_ways (contains_slot c.empty-wheel.result slot) (c.empty-wheel.ensures.slots slot) in');
+      plain = kept.plain;
+      turned = λ on.
+          let was = kept.turned on in
+          let of = was.of_ranking in
+          record {
+            turned = turned-quiet w c.empty-wheel.result was.turned less c.empty-wheel.ensures.number;
+            of_ranking = record { policy = of.policy; same = of.same; order = of.order };
+          };
+    }

@@ -1,0 +1,94 @@
+use Rattle.std.proofs.Common.{◌≡◌, ◌+◌, ◌^◌, ◌<◌, ℕ, Bool, true, List, IsPermutation, sym, subst, ap, ◌∙◌, arith, length}
+use Rattle.std.proofs.lemmas.Bool.{both_ways}
+use Rattle.std.proofs.lemmas.List.Sorted.{length_permutation}
+use Rattle.requirement_table.specs.declared.entries.Placed.{Placed}
+use Rattle.requirement_table.specs.Slots.{contains_slot}
+use Rattle.requirement_table.specs.Table.{IsWellPlaced}
+use Rattle.release_wheel.specs.declared.wheel.Wheel.{Wheel}
+use Rattle.planner_policies.specs.Due.{IsPlanned}
+use Rattle.planner_policies.specs.Plan.{IsValid, Ranking, planning_of}
+use Rattle.planner_policies.specs.Ranked.{AreRanked}
+use Rattle.release_wheel.specs.Wheel.{HasRoomFor, IsKept, IsOfRanking, IsPlannedOn, IsReleased, IsSameTable}
+use Rattle.planner_policies.proofs.Shared.{left-valid}
+use Rattle.release_wheel.proofs.wheel.step.Goals as goal
+
+room-of : (ranking : Ranking) (old new : Wheel) (before : ℕ → Bool) → IsOfRanking ranking old → IsSameTable old new → IsReleased before new → HasRoomFor ranking new
+room-of ranking old new before of table released =
+    let size = length_permutation ranking.placed old.entries.items of.same in
+    let same = ap length table.entries in
+    record {
+      rows = omega arith;
+      few = released.room.few;
+      nexts = released.room.nexts;
+      lasts = released.room.lasts;
+      places = released.room.places;
+    }
+
+of-on : (ranking : Ranking) (old new : Wheel) → IsOfRanking ranking old → IsSameTable old new → IsOfRanking ranking new
+of-on ranking old new of table =
+    let P : List Placed → Type 0 = λ entries. IsPermutation ranking.placed entries in
+    let Q : List Placed → Type 0 = λ entries. AreRanked ranking.policy entries in
+    record { policy = table.policy ∙ of.policy; same = subst P (sym table.entries) of.same; order = subst Q (sym table.entries) of.order }
+
+-- what is planned when the releases are made, from before them on
+planned-on : (ranking : Ranking) (window pending : ℕ) (old released new : Wheel) (mask width : ℕ) → released.cycle ≡ old.cycle → IsSameTable old released
+    → IsPlannedOn ranking window pending released new mask width → IsPlannedOn ranking window pending old new mask width
+planned-on ranking window pending old released new mask width cycle table on =
+    let P : ℕ → Type 0 = λ at. IsPlanned (planning_of ranking window at pending) at (contains_slot pending) mask width new.slots in
+    let same = on.table in
+    record {
+      planned = subst P cycle on.planned;
+      next = on.next ∙ ap (λ at. at + 1) cycle;
+      turned = on.turned;
+      table = record {
+        entries = same.entries ∙ table.entries;
+        policy = same.policy ∙ table.policy;
+        turns = same.turns ∙ table.turns;
+      };
+    }
+
+kept-on : (ranking : Ranking) (window : ℕ) (old new : Wheel) (mask width : ℕ) → IsWellPlaced ranking.placed → IsKept ranking old → old.turns ≡ true
+    → old.cycle < 2 ^ 42 → IsPlannedOn ranking window old.slots old new mask width → IsKept ranking new
+kept-on ranking window old new mask width well kept turns near on =
+    let plan = planning_of ranking window old.cycle old.slots in
+    let P : ℕ → Type 0 = λ at. IsValid ranking.placed at new.slots in
+    let Q : ℕ → Type 0 = λ slots. IsValid ranking.placed (old.cycle + 1) slots in
+    let planned = on.planned in
+    let next = on.next in
+    record {
+      near = omega arith;
+      valid = subst P (sym next) (subst Q (sym planned.left) (left-valid plan old.cycle old.slots well kept.valid planned.none_missed));
+      plain = λ off. absurd (both_ways new.turns off (on.table.turns ∙ turns));
+      turned = λ _. record { turned = on.turned; of_ranking = of-on ranking old new (kept.turned turns).of_ranking on.table };
+    }
+
+pub returns-then-wheel-clause-planned : goal.returns-then-wheel-clause-planned
+returns-then-wheel-clause-planned c = c.pass.ensures.planned c.args.w
+
+pub plan_plainly-requires-in-None-clause-room : goal.plan_plainly-requires-in-None-clause-room
+plan_plainly-requires-in-None-clause-room c = λ _.
+    let old = c.args.wheel.now in
+    let ranking = c.args.ranked.now in
+    let P : Wheel → Type 0 = λ w. HasRoomFor ranking w in
+    subst P (sym (c.take.ensures.none c.in-None.is))
+    (room-of ranking old c.release.new.wheel (contains_slot old.slots) (c.requires.kept.turned c.if-not-wheel.false).of_ranking c.release.ensures.table
+    c.release.ensures.released)
+
+pub returns-in-Some-clause-planned : goal.returns-in-Some-clause-planned
+returns-in-Some-clause-planned c =
+    let old = c.args.wheel.now in
+    (planned-on c.args.ranked.now c.args.w old.slots old c.release.new.wheel c.take.new.wheel c.in-Some.plan.mask c.in-Some.plan.width
+    c.release.ensures.cycle c.release.ensures.table c.in-Some.ensures.planned).planned
+
+pub returns-in-Some-clause-next : goal.returns-in-Some-clause-next
+returns-in-Some-clause-next c = c.in-Some.ensures.planned.next ∙ ap (λ at. at + 1) c.release.ensures.cycle
+
+pub returns-in-Some-clause-kept : goal.returns-in-Some-clause-kept
+returns-in-Some-clause-kept c =
+    let old = c.args.wheel.now in
+    let ranking = c.args.ranked.now in
+    let mask = c.in-Some.plan.mask in
+    let width = c.in-Some.plan.width in
+    kept-on ranking c.args.w old c.take.new.wheel mask width c.placed.ensures.well_placed c.requires.kept c.if-not-wheel.false c.requires.cycle
+    (planned-on ranking c.args.w old.slots old c.release.new.wheel c.take.new.wheel mask width c.release.ensures.cycle c.release.ensures.table
+    c.in-Some.ensures.planned)

@@ -1,0 +1,21 @@
+use Rattle.std.proofs.Common.{refl, sym, ◌%◌, get_or, ◌∙◌, ap}
+use Rattle.requirement_table.specs.Slots.{contains_slot}
+use Rattle.release_wheel.proofs.RowCycles.{planned-all, turned-all}
+use Rattle.release_wheel.proofs.wheel.take_all.Goals as goal
+
+pub returns : goal.returns
+returns c =
+    let w = c.args.wheel.now in
+    let pending = c.args.state.now.pending in
+    let slots = c.empty-wheel.result in
+    record {
+      planned = record {
+        planned = planned-all c.args.ranked.now pending c.args.w w c.requires.ready c.joined.result c.known.ensures.below c.joined.ensures.slots c.requires.fits
+            slots c.empty-wheel.ensures.number;
+        next = refl;
+        turned = turned-all (contains_slot pending) w slots c.quiet_until-wheel.result 18446744073709551615 c.requires.ready.released
+            c.empty-wheel.ensures.number c.quiet_until-wheel.ensures.none_always
+            (λ at from less. ap (λ places. get_or places (at % 64) 0) (sym c.as_slice.ensures.value) ∙ c.quiet_until-wheel.ensures.empty at from less);
+        table = record { entries = refl; policy = refl; turns = refl };
+      };
+    }

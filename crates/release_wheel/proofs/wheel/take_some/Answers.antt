@@ -1,0 +1,15 @@
+use Rattle.std.proofs.Common.{◌&&◌, not, ap, ◌∙◌}
+use Rattle.requirement_table.specs.Slots.{contains_slot}
+use Rattle.release_wheel.proofs.RowCycles.{some-on}
+use Rattle.release_wheel.proofs.wheel.take_some.Goals as goal
+
+pub returns-clause-planned : goal.returns-clause-planned
+returns-clause-planned c =
+    let w = c.args.wheel.now in
+    let pending = c.args.state.now.pending in
+    let result = c.take_due-took.result in
+    let part = c.take_due-took.ensures.took in
+    some-on c.args.ranked.now pending c.args.w w c.requires.ready part.line part.whole part.due result.left result.mask result.width
+    c.cut-pending.result part.due_is part.left_is part.mask_is part.width_is part.fits c.known.ensures.below
+    (λ slot. c.cut-pending.ensures.slots slot ∙ ap (λ b. b && not (contains_slot result.mask slot)) (c.joined.ensures.slots slot))
+    c.in_ok-soonest.soonest result.left_cost c.in_ok-soonest.ensures.in_time part.left_cost_is
