@@ -17,3 +17,4 @@ mod Row
 mod Same
 mod States
 mod Places
+mod Stretched

@@ -5,6 +5,7 @@ use Rattle.requirement_table.specs.Slots.{contains_slot, set_of, most_slots}
 use Rattle.requirement_table.proofs.Shared.{set_of-contains_slot, set_of-same}
 use Rattle.planner_policies.specs.declared.state.PlanState.{PlanState}
 use Rattle.planner_policies.specs.Plan.{HasNoMiss, HasNoMissIn, IsMissAt, IsMissIn, IsValid, Planning, Ranking, Standing, going_from, is_missed_at, is_missed_in, left_after, mask_at, pending_at, pending_before, planned_at, planned_in, planning_of}
+use Rattle.release_wheel.specs.Passed.{IsPassed}
 use Rattle.admission.specs.Course.{state_at, state_in}
 use Rattle.admission.specs.declared.decision.Decision.{Decision}
 use Rattle.admission.specs.declared.verdict.Verdict.TheVariants.{Miss}
@@ -87,6 +88,32 @@ module _ (ranking : Ranking) (window from pending : ℕ) where
       (ap (λ (s : Standing). s.cycle) next)
       (ap (λ (s : Standing). s.pending) next ∙ ap (λ (r : Ranking). remains_from r window (state_in old)) same)
       (subst (λ (r : Ranking). IsValid r.placed new.cycle new.pending) (ap (λ (s : Standing). s.ranking) next ∙ same) valid)
+
+  -- the state may be written with no cycle more
+  pub planned-here : (n : ℕ) (masks : List ℕ) (state : PlanState) → IsPlannedUpTo plan n masks state
+      → IsPlannedUpTo plan (n + 0) masks (record { cycle = state.cycle + 0; pending = state.pending })
+  planned-here n masks state planned =
+      let up : n ≡ n + 0 = omega arith in
+      let same : state ≡ record { cycle = state.cycle + 0; pending = state.pending }
+      = state-parts state (record { cycle = state.cycle + 0; pending = state.pending }) (omega arith) refl in
+      subst (λ k. IsPlannedUpTo plan k masks (record { cycle = state.cycle + 0; pending = state.pending })) up
+      (subst (λ (s : PlanState). IsPlannedUpTo plan n masks s) same planned)
+
+  -- a planner of the ranking passed the next cycle
+  pub planned-empty : (n : ℕ) (masks : List ℕ) (here : Standing) (k : ℕ) → here.ranking ≡ ranking
+      → IsPlannedUpTo plan (n + k) masks (record { cycle = here.cycle + k; pending = here.pending })
+      → IsPassed (planning_of here.ranking window (here.cycle + k) here.pending) → IsValid here.ranking.placed (here.cycle + k + 1) here.pending
+      → IsPlannedUpTo plan (n + (k + 1)) (masks ++ 0 ∷ []) (record { cycle = here.cycle + (k + 1); pending = here.pending })
+  planned-empty n masks here k same planned passed valid =
+      let quiet : IsPassed (planning_of ranking window (here.cycle + k) here.pending)
+      = subst (λ (r : Ranking). IsPassed (planning_of r window (here.cycle + k) here.pending)) same passed in
+      let up : n + k + 1 ≡ n + (k + 1) = omega arith in
+      let on : here.cycle + k + 1 ≡ here.cycle + (k + 1) = omega arith in
+      let held : IsValid ranking.placed (here.cycle + (k + 1)) here.pending
+      = subst (λ c. IsValid ranking.placed c here.pending) on (subst (λ (r : Ranking). IsValid r.placed (here.cycle + k + 1) here.pending) same valid) in
+      subst (λ m. IsPlannedUpTo plan m (masks ++ 0 ∷ []) (record { cycle = here.cycle + (k + 1); pending = here.pending })) up
+      (planned-next (n + k) 0 masks (record { cycle = here.cycle + k; pending = here.pending })
+      (record { cycle = here.cycle + (k + 1); pending = here.pending }) planned (sym quiet.planned) (sym on) quiet.left held)
 
   -- a state in which nothing is missed
   pub none-more : (n : ℕ) (state : PlanState) → state ≡ state_at plan n

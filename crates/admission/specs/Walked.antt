@@ -1,12 +1,14 @@
 -- The walk over the planning of a list.
-use Rattle.std.specs.Prelude.{◌≡◌, ℕ, ◌^◌, ◌<◌, ◌≤◌, List, Option}
+use Rattle.std.specs.Prelude.{◌≡◌, ℕ, ◌+◌, ◌^◌, ◌<◌, ◌≤◌, List, Option}
 use Rattle.requirement_table.specs.declared.entries.Placed.{Placed}
 use Rattle.requirement_table.specs.Slots.{most_slots}
 use Rattle.requirement_table.specs.Table.{IsWellPlaced, not_over}
 use Rattle.planner_policies.specs.declared.state.PlanState.{PlanState}
 use Rattle.planner_policies.specs.Plan.{IsValid, Ranking, Standing, planning_of}
+use Rattle.recurrence_check.specs.Stretch.{further}
 use Rattle.release_wheel.specs.Passed.{IsPassed}
 use Rattle.admission_rules.specs.declared.Rules.{Rules}
+use Rattle.admission.specs.Course.{key_in_period}
 use Rattle.admission.specs.Period.{IsPeriodUpTo}
 use Rattle.admission.specs.Recurrence.{bound_of}
 use Rattle.admission.specs.Verdict.{ranking_by}
@@ -32,3 +34,9 @@ pub record IsOn (ranking : Ranking) (window : ℕ) (here : Standing) (state : Pl
   pub onward : state.cycle ≤ here.cycle
   pub valid : (c : ℕ) → state.cycle ≤ c → c ≤ here.cycle → IsValid ranking.placed c state.pending
   pub passed : (c : ℕ) → state.cycle ≤ c → c < here.cycle → IsPassed (planning_of ranking window c state.pending)
+
+-- the states in so many cycles behind that of this state, with the same slots pending, have keys with one mark. Their
+-- places go up from that of this key; or none of these states has a key
+abbrev pub AreKeys : ℕ → Option ℕ → PlanState → ℕ → Option (ℕ × ℕ) → Type 0
+AreKeys bound period state steps key = (k : ℕ) → k < steps
+    → key_in_period bound period (record { cycle = state.cycle + 1 + k; pending = state.pending }) ≡ further key k

@@ -1,12 +1,13 @@
 //! What is decided of a change.
 
-ghost use Rattle.std.specs.Prelude.{◌≡◌, ◌+◌, ◌<◌, ◌≤◌, [], None, IfErr, IfOk, IfSome};
+ghost use Rattle.std.specs.Prelude.{◌≡◌, ◌+◌, ◌<◌, ◌≤◌, ℕ, [], None, IfErr, IfOk, IfSome};
 ghost use Rattle.profile.specs.Limits.{cycles_end, greatest_horizon, openings_end};
 ghost use Rattle.requirement_table.specs.Slots.{contains_slot};
 ghost use Rattle.requirement_table.specs.Table.{IsWellPlaced};
 ghost use Rattle.change_protocol.specs.Applied.{applied};
 ghost use Rattle.change_protocol.specs.Malformed.{IsFaultOf};
 ghost use Rattle.planner_policies.specs.Plan.{HasNoMiss, HasNoMissIn, IsMissIn, IsValid, NeverMisses, going_from, planning_of};
+ghost use Rattle.release_wheel.specs.Passed.{IsPassed};
 ghost use Rattle.admission.specs.Course.{state_in};
 ghost use Rattle.admission.specs.Verdict.{IsDecision, IsDecisionOnPlan, IsInTime, IsMalformed, IsMissDecision};
 ghost use Rattle.admission.specs.Verdict.{IsPlannedUpTo, IsRules, IsSafe, IsTakenWhereDue, plan_from};
@@ -202,14 +203,70 @@ pub fn plan_cycles(
     let mut masks = Vec::new(alloc);
     walk.first.pending.known();
     let mut planner = walk.entries.planner(alloc, &walk.first)?;
-    for _ in 0..cycles {
+    let mut count = 0;
+    while count < cycles {
         let planned = match planner.step(walk.window) {
             Ok(planned) => planned,
             Err(_) => unreachable!(),
         };
         masks.push(planned.mask)?;
+        count += 1;
+        count += plan_empty(walk, &mut planner, &mut masks, count, cycles)?;
     }
     Ok((masks, planner))
+}
+
+/// Plans the cycles behind so many in which nothing is planned, as far as they are known, and no more than `cycles` with
+/// those before. The answer is how many they are.
+fn plan_empty(
+    walk: &PlanWalk,
+    planner: &mut Planner,
+    masks: &mut Vec<Mask>,
+    count: u64,
+    cycles: u64,
+) -> Result<u64, AllocError>
+    requires below { count ≤ cycles }
+    requires near { planner.old.cycle + cycles < cycles_end }
+    requires entries { planner.old.ranking ≡ walk.now.entries }
+    requires planned { let first = walk.now.first in
+        IsPlannedUpTo (planning_of walk.now.entries walk.now.window first.cycle first.pending)
+        count masks.old.items (state_in planner.old) }
+    ensures planned { let first = walk.now.first in
+        IfOk result (λ more. IsPlannedUpTo (planning_of walk.now.entries walk.now.window first.cycle first.pending)
+        (count + more) masks.new.items (state_in planner.new)) }
+    ensures within { IfOk result (λ more. count + more ≤ cycles) }
+    ensures entries { planner.new.ranking ≡ walk.now.entries }
+{
+    let here = planner.state().cycle;
+    pass_until(planner, here + (cycles - count));
+    let more = planner.state().cycle - here;
+    for _ in 0..more {
+        masks.push(Mask::empty())?;
+    }
+    Ok(more)
+}
+
+/// Passes cycles in which nothing is pending, as far as they are known, and no further than to the cycle `end`.
+fn pass_until(planner: &mut Planner, end: u64)
+    requires onward { planner.old.cycle ≤ end }
+    requires end { end < cycles_end }
+    ensures standing { planner.new ≡ record planner.old { cycle = planner.new.cycle } }
+    ensures onward { planner.old.cycle ≤ planner.new.cycle }
+    ensures end { planner.new.cycle ≤ end }
+    ensures valid { (c : ℕ) → planner.old.cycle ≤ c → c ≤ planner.new.cycle
+        → IsValid planner.old.ranking.placed c planner.old.pending }
+    ensures passed { (window c : ℕ) → planner.old.cycle ≤ c → c < planner.new.cycle
+        → IsPassed (planning_of planner.old.ranking window c planner.old.pending) }
+{
+    planner.pass();
+    let behind = planner.state();
+    if behind.cycle > end {
+        let state = PlanState {
+            cycle: end,
+            pending: behind.pending,
+        };
+        planner.seek(&state);
+    }
 }
 
 /// What is missed in the cycle that is planned next.

@@ -1,14 +1,16 @@
 //! The planning of a list as a walk from state to state.
 
-ghost use Rattle.std.specs.Prelude.{◌≡◌, ℕ, ◌<◌, ◌≤◌, true, Some};
+ghost use Rattle.std.specs.Prelude.{◌≡◌, ◌+◌, ◌^◌, ◌<◌, ◌≤◌, ℕ, IfSome, Some, true};
 ghost use Rattle.profile.specs.Limits.{openings_end};
 ghost use Rattle.requirement_table.specs.Slots.{contains_slot};
 ghost use Rattle.admission.specs.Course.{is_held_from};
 ghost use Rattle.admission.specs.WalkLaws.{GoesOn};
+ghost use Rattle.admission.specs.Walked.{AreKeys};
+ghost use Rattle.recurrence_check.specs.Keys.{row_places};
 
 use crate::entries::Entries;
 use planner_policies::PlanState;
-use recurrence_check::{Keyed, Walk};
+use recurrence_check::{Keyed, Stretch, Walk};
 use release_wheel::Planner;
 use std::alloc::{AllocError, Global};
 
@@ -110,6 +112,44 @@ impl Walk for PlanWalk {
         kept walk.entries walk.window walk.bound walk.period walk.goes_on one other same };
 }
 
+/// Places from this one on are not passed at once.
+const PLACES: u64 = 100_000;
+
+impl PlanWalk {
+    /// As many states behind a state as have no key, or keys whose places go up. Before all of them the same slots are
+    /// pending. So they end before the bound, or with the period.
+    fn known_behind(&self, state: &PlanState) -> Stretch
+        requires next { state.now.cycle + 1 < 2 ^ 64 }
+        ensures keys { AreKeys self.now.bound self.now.period state.now result.steps result.key }
+        ensures short { IfSome result.key (λ key. key.1 + result.steps ≤ row_places) }
+    {
+        let Some(period) = self.period else {
+            return Stretch {
+                steps: u64::MAX,
+                key: None,
+            };
+        };
+        let next = state.cycle + 1;
+        if next < self.bound {
+            return Stretch {
+                steps: self.bound - next,
+                key: None,
+            };
+        }
+        let place = next % period;
+        if place >= PLACES {
+            return Stretch {
+                steps: 0,
+                key: None,
+            };
+        }
+        Stretch {
+            steps: period.min(PLACES) - place,
+            key: Some((state.pending.bits(), place)),
+        }
+    }
+}
+
 impl Keyed for PlanWalk {
     ghost use Rattle.admission.specs.Course.{key_in_period};
     ghost use Rattle.admission.specs.WalkLaws.{keyed};
@@ -122,6 +162,23 @@ impl Keyed for PlanWalk {
         let period = self.period?;
         let settled = self.bound <= state.cycle;
         settled.then_some((state.pending.bits(), state.cycle % period))
+    }
+
+    fn pass(&self, here: &mut PlanPlace, most: u64) -> Stretch {
+        let ahead = here.planner.state().cycle;
+        if ahead <= here.state.cycle {
+            return Stretch {
+                steps: 0,
+                key: None,
+            };
+        }
+        let known = self.known_behind(&here.state);
+        let steps = known.steps.min(most).min(ahead - here.state.cycle);
+        here.state.cycle += steps;
+        Stretch {
+            steps,
+            key: known.key,
+        }
     }
 
     ghost keyed = { λ walk one other _ _ _ _. keyed walk.bound walk.period one other };

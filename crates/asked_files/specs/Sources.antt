@@ -83,7 +83,8 @@ source_of (Refusal.Log number) = Source.Log
 source_of (Refusal.Streams fault) = Source.Streams
 
 -- these files have a text of this one's format under its name, within its limit. The owners of requests and the number
--- of slots for streams are those of a system
+-- of slots for streams are those of a system. Requests, plans, wishes and streams are the last file of each command, so
+-- nothing is said of them by a contract on the files before another one
 abbrev pub IsLegible : NamedFiles → Source → List ℕ → Type 0
 IsLegible files Source.System name = (system : System) × (system_in files name ≡ Ok system)
 IsLegible files Source.Steps name = (steps : List Step) × (steps_in files name ≡ Ok steps)

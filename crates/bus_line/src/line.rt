@@ -31,26 +31,32 @@ pub fn run_until<S: Stations>(
     ensures fixed { S.fixed stations.new ≡ S.fixed stations.old }
 {
     let mut free = from;
-    while let Some(next) = next_frame(stations, free, until) {
+    let mut contenders = Contenders::new();
+    while let Some(next) = next_frame(stations, &mut contenders, free, until) {
         stations.sent(&next);
         free = next.start + u64::from(next.len);
-        out.push(next).unwrap();
+        out.push_reserved(next);
     }
     free
 }
 
-/// The frame that is sent next on a bus that is free from `free` on, if one starts before `until`.
-fn next_frame<S: Stations>(stations: &S, free: u64, until: u64) -> Option<TimedFrame>
+/// The frame that is sent next on a bus that is free from `free` on, if one starts before `until`. The list of contenders
+/// is lent: what it holds does not matter.
+fn next_frame<S: Stations>(
+    stations: &S,
+    contenders: &mut Contenders,
+    free: u64,
+    until: u64,
+) -> Option<TimedFrame>
     requires time { until < times_end }
     ensures long { IfSome result (λ next. shortest_frame ≤ next.len) }
     ensures next { MatchOption result
         (NothingOffered (offers_of S.line (S.state stations.now)) [] free until)
         (IsNext (offers_of S.line (S.state stations.now)) [] free until) }
 {
-    let mut contenders = Contenders::new();
     let mut at = free;
     while at < until {
-        stations.offers(at, &mut contenders);
+        stations.offers(at, contenders);
         if let Some(place) = arbitrate(contenders.ids()) {
             let frame = stations.frame(at, contenders.ids()[place]);
             return Some(TimedFrame {

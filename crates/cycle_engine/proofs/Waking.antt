@@ -1,5 +1,5 @@
 -- When the nodes of a bus offer something next.
-use Rattle.std.proofs.Common.{◌≡◌, ◌≢◌, ℕ, zero, suc, ◌+◌, ◌<◌, List, [], ◌∷◌, ◌++◌, length, take, get_or, Option, None, Some, IsSome, refl, sym, ap, ◌∙◌, subst, arith}
+use Rattle.std.proofs.Common.{◌≡◌, ◌≢◌, ℕ, zero, suc, ◌+◌, ◌<◌, List, [], ◌∷◌, ◌++◌, length, take, get_or, Option, None, Some, IsSome, is_some, false, refl, sym, ap, ◌∙◌, subst, arith}
 use Rattle.std.specs.Prelude.{filter_map}
 use Rattle.std.specs.List.{cons_option}
 use Rattle.std.proofs.lemmas.Bool.{false≢true}
@@ -78,3 +78,9 @@ pub IsWake-soon : (nodes : List NodeView) (place : ℕ) (node : NodeView) (at ne
     → IsWake (offered_by_nodes (states_of nodes)) at (Some next)
 IsWake-soon nodes place node at next inside is soon own =
     (own.0.0, some-offered nodes place next node inside is own.0.1, λ later behind before. absurd (omega arith))
+
+-- a node that offers nothing any more leaves the sooner time as it was
+pub sooner-none : (next own : Option ℕ) → is_some own ≡ false → next ≡ sooner next own
+sooner-none None None none = refl
+sooner-none (Some one) None none = refl
+sooner-none next (Some own) none = absurd (false≢true (sym none))

@@ -1,7 +1,7 @@
 //! The run of one cycle on the bus.
 
 ghost use Rattle.std.specs.Prelude.{◌≡◌, ℕ, ◌+◌, ◌*◌, ◌/◌, ◌^◌, ◌<◌, ◌≤◌, ◌++◌, All, IfOk, IfSome, List, OnErr, OnOk};
-ghost use Rattle.std.specs.Prelude.{length};
+ghost use Rattle.std.specs.Prelude.{length, vec_capacity};
 ghost use Rattle.profile.specs.Limits.{cycles_end, shortest_frame};
 ghost use Rattle.can_frame.specs.declared.data_frame.TimedFrame.{TimedFrame};
 ghost use Rattle.requirement_table.specs.declared.entries.Placed.{Placed};
@@ -15,6 +15,7 @@ ghost use Rattle.cycle_engine.specs.Nodes.{states_of};
 
 use crate::nodes::Nodes;
 use crate::segment::Segment;
+use can_frame::TimedFrame;
 use can_frame::laws::wire_lengths;
 use node_model::laws::{hears_a_cycle, offers_in_range, offers_its_part, stays_a_node};
 use requirement_table::Order;
@@ -88,6 +89,38 @@ pub fn run_cycle_in(order: &Order, nodes: &mut Nodes, segment: &mut Segment)
         → IsBus nodes.old.layout owners requests placed (past ++ segment.new)
         (order.now.cycle + 1) (states_of nodes.new.nodes) }
 {
+    nodes.are_known();
+    run_cycle_into(order, nodes, &mut segment.frames);
+}
+
+/// The same into a list of frames that has room for those of a cycle of these nodes: one for every 47 bit times, and
+/// one. The frames of the cycle take the place of those of the list.
+pub fn run_cycle_into(order: &Order, nodes: &mut Nodes, frames: &mut Vec<TimedFrame>)
+    requires cycle { order.now.cycle < cycles_end }
+    requires next { All (λ node. node.next ≡ order.now.cycle) (states_of nodes.old.nodes) }
+    requires learned { IfSome order.now.learned IsWellPlaced }
+    requires window { order.now.l ≤ nodes.old.layout.window }
+    requires slots { order.now.mask < 2 ^ nodes.old.layout.slots }
+    requires spare { CanLearn order.now.learned nodes.old.nodes }
+    requires room { nodes.old.layout.cycle / shortest_frame + 1 ≤ vec_capacity frames.old }
+    ensures layout { nodes.new.layout ≡ nodes.old.layout }
+    ensures heard { states_of nodes.new.nodes
+        ≡ heard_by frames.new.items (learnt_by order.now.learned (states_of nodes.old.nodes)) }
+    ensures next { All (λ node. node.next ≡ order.now.cycle + 1) (states_of nodes.new.nodes) }
+    ensures spare { KeepSpare nodes.old.nodes nodes.new.nodes }
+    ensures capacity { vec_capacity frames.old ≤ vec_capacity frames.new }
+    ensures few { length frames.new.items ≤ nodes.old.layout.cycle / shortest_frame + 1 }
+    ensures runs { (owners : List Owner) (requests : List Request) (placed : List Placed) (past : List TimedFrame)
+        → IsBefore nodes.old.layout owners requests placed past order.now
+        (learnt_by order.now.learned (states_of nodes.old.nodes))
+        → Follows (offered_in nodes.old.layout requests (opening_of order.now placed)) past
+        (order.now.cycle * nodes.old.layout.cycle) ((order.now.cycle + 1) * nodes.old.layout.cycle) frames.new.items }
+    ensures stand { (owners : List Owner) (requests : List Request) (placed : List Placed) (past : List TimedFrame)
+        → IsBefore nodes.old.layout owners requests placed past order.now
+        (learnt_by order.now.learned (states_of nodes.old.nodes))
+        → IsBus nodes.old.layout owners requests placed (past ++ frames.new.items)
+        (order.now.cycle + 1) (states_of nodes.new.nodes) }
+{
     wire_lengths();
     offers_its_part();
     hears_a_cycle();
@@ -96,6 +129,6 @@ pub fn run_cycle_in(order: &Order, nodes: &mut Nodes, segment: &mut Segment)
     order.mask.known();
     nodes.are_known();
     nodes.learn(&order.learned);
-    segment.frames.clear();
-    nodes.run(order, &mut segment.frames);
+    frames.clear();
+    nodes.run(order, frames);
 }

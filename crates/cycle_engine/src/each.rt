@@ -212,10 +212,12 @@ pub fn wake(nodes: &[Node], at: u64) -> Option<u64>
     let mut next = None;
     for node in nodes {
         let own = node.next_offer(at);
-        if is_right_behind(own, at) {
-            return own;
+        if own.is_some() {
+            if is_right_behind(own, at) {
+                return own;
+            }
+            next = sooner(next, own);
         }
-        next = sooner(next, own);
     }
     next
 }

@@ -14,6 +14,6 @@ mod segment;
 mod stations;
 mod sync_window;
 
-pub use cycle::{run_cycle, run_cycle_in};
+pub use cycle::{run_cycle, run_cycle_in, run_cycle_into};
 pub use nodes::Nodes;
 pub use segment::Segment;

@@ -253,7 +253,7 @@ impl Stations for NodeStations {
         let first = self.first_place(sent.frame.id());
         let slots = self.layout.slots();
         each::hear(self.nodes.as_mut_slice(), slots, first, sent);
-        self.due = due_after(&self.due, sent.frame.id());
+        take_due(&mut self.due, sent.frame.id());
         self.soonest = next_offers::find_behind(self.nodes.as_slice(), sent);
     }
 }
@@ -279,14 +279,21 @@ fn wake_of_trigger(due: &Option<Due>, at: u64) -> Option<u64>
     Some(due.at.max(at + 1))
 }
 
-/// The trigger frames that are left behind a frame with an identifier.
-fn due_after(due: &Option<Due>, id: u16) -> Option<Due>
-    ensures left { due_list result ≡ triggers_after id (due_list due.now) }
+/// Takes the first of the trigger frames away where it has the identifier of a frame that was sent.
+fn take_due(due: &mut Option<Due>, id: u16)
+    ensures left { due_list due.new ≡ triggers_after id (due_list due.old) }
 {
-    let due = due.as_ref()?;
-    if due.next.id() != id {
-        return Some(*due);
+    if let Some(first) = due {
+        if first.next.id() == id {
+            *due = behind(first);
+        }
     }
+}
+
+/// The trigger frames that are left once the first of them was sent.
+fn behind(due: &Due) -> Option<Due>
+    ensures left { due_list result ≡ due_from due.now.at (cons_option due.now.second []) }
+{
     match due.second {
         Some(second) => Some(Due {
             at: due.at,

@@ -82,12 +82,11 @@ fn send_slots(
         }
         let frame = each::due_frame(nodes, slot);
         let len = fronts[usize::from(slot)].wire_len(&frame);
-        out.push(TimedFrame {
+        out.push_reserved(TimedFrame {
             start: at,
             len,
             frame,
-        })
-        .unwrap();
+        });
         at += u64::from(len);
         left.known();
         left = without_least(left);

@@ -10,9 +10,9 @@ use std::process::ExitCode;
 use std::sync::Wait;
 use std::thread::Threads;
 
-/// The room for output that is gathered, in bytes. A row of the log has about forty, so some 1,600 rows go with one
+/// The room for output that is gathered, in bytes. A row of the log has about forty, so some 800 rows go with one
 /// call of the system.
-const GATHERED: usize = 65_536;
+const GATHERED: usize = 32_768;
 
 fn main(rt: HostRuntime) -> ExitCode {
     ExitCode::from(call(&rt, &rt).code())

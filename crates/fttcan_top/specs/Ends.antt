@@ -43,10 +43,11 @@ module _ (asked_for : Asked) (IsPart : Asked → Option (List ℕ) → Option (L
   IsCarried (Err Memory) = (new ≡ old) ⊎ IsPart asked_for old new
   IsCarried (Err _) = ⊥
 
--- Which files a call with this status had fetched, where `told` are the files, where they are told, `rose` says that
+-- How many fetches a call with this status had made, where `told` are the files, where they are told, `rose` says that
 -- the shelf's count of faults rose, `sources` are the files that its words name, `before` and `behind` the counts of
--- fetches, and `refusal` is why a file was refused. Where it was done, or its output failed, it had fetched them all.
--- Where a file was refused or could not be read, these are the first ones up to that file, and all before it were read
+-- fetches, and `refusal` is why a file was refused. Where it was done, or its output failed, they are as many as these
+-- files. Where a file was refused or could not be read, they are as many as the files up to that one, and where the
+-- files are told all before it have texts of their formats
 module _ (told : Option NamedFiles) (rose : Type 0) (sources : List NamedSource) (before behind : ℕ) where
   abbrev pub HasFetched : Status → Refusal → Type 0
   HasFetched Status.Done refusal = behind ≡ count_behind before sources

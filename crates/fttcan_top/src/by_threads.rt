@@ -94,8 +94,8 @@ pub fn live<T: Threads + Wait + Sync, S: Shelf, O: Sink, R: Sink, G: Gate>(
         × TellsFront asked_for (O.told_bytes out.old) (O.told_bytes out.new)) }
     ensures nothing { IsStopped result → O.told_bytes out.new ≡ O.told_bytes out.old }
 
-    // What was put to `err`, and which files were fetched: all that the words name, or the first ones up to the one
-    // that is refused or could not be read.
+    // What was put to `err`, and how many fetches were made: as many as the words name files, or as many as the first of
+    // them up to the one that is refused or could not be read.
     ensures message { (refusal : Refusal)
         × (result ≡ Status.Input → ForSome (S.told_files shelf.old)
         (λ files. IsLiveAsked (map string_bytes words.now) files (Err (Stop.Input refusal))))

@@ -13,7 +13,8 @@ pub enum Status {
     Refused,
     /// The words are those of no command.
     Words,
-    /// A file is too long, or its text breaks a rule of its format.
+    /// A file is too long, or its text breaks a rule of its format; or a plan to be checked begins later than in cycle 0,
+    /// or with slots pending.
     Input,
     /// A file could not be read.
     Read,

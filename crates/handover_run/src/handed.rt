@@ -48,7 +48,7 @@ impl Handed {
         ensures begun { IfOk result (IsHanded (setting_of system.now requests.now) [] []) }
     {
         let mut handed = Handed {
-            bus: Bus::begin(alloc, system, requests, false)?,
+            bus: Bus::begin(alloc, system, requests, false, &[])?,
             standby: Some(Standby::new(alloc, system.rules)?),
             at,
             quiet: true,

@@ -1,12 +1,13 @@
 //! Runs the cases of the libraries below the commands. They are about files, sinks, streams, values that a reader makes,
-//! rows that are read back, the turn lock, the shared master, and its runs by threads. The program prints one line for
-//! each table: `ok NAME`, or `FAILED NAME:` and the first case that differs.
+//! rows that are read back or audited, the turn lock, the shared master, and its runs by threads. The program prints one
+//! line for each table: `ok NAME`, or `FAILED NAME:` and the first case that differs.
 //!
 //! A table is a file of cases, which were worked out by hand; what it tells is the same for every schedule of its
 //! threads. With no words the program takes each table of the folder that it runs in. With words, each of them is the
 //! name of a table.
 #![tactic(auto)]
 
+mod audits;
 mod desk;
 mod inputs;
 mod locks;

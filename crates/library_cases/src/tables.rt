@@ -1,6 +1,6 @@
 //! The tables, and what each of them asks.
 
-use crate::{inputs, locks, logs, lone, masters, shelves, sinks, streams};
+use crate::{audits, inputs, locks, logs, lone, masters, shelves, sinks, streams};
 use case_tables::{difference, parts_of, table_of};
 use std::alloc::{AllocError, Global};
 use std::io;
@@ -36,6 +36,8 @@ enum Table {
     LastRows,
     /// The rows of one event are written, and then those of another.
     Events,
+    /// The rows of a log are audited.
+    Audits,
     /// Passes try for the turn of a lock.
     Locks,
     /// The calls of a shared master by one thread.
@@ -45,7 +47,7 @@ enum Table {
 }
 
 /// The tables, each with the name of its file.
-const TABLES: [(&str, Table); 16] = [
+const TABLES: [(&str, Table); 17] = [
     ("memory_shelf", Table::MemoryShelf),
     ("file_shelf", Table::FileShelf),
     ("memory_sink", Table::MemorySink),
@@ -59,6 +61,7 @@ const TABLES: [(&str, Table); 16] = [
     ("rows", Table::Rows),
     ("last_rows", Table::LastRows),
     ("events", Table::Events),
+    ("audits", Table::Audits),
     ("locks", Table::Locks),
     ("masters", Table::Masters),
     ("lone", Table::Lone),
@@ -95,6 +98,7 @@ fn told<T: Threads + Wait + Sync>(
         Table::Rows => Ok(logs::second_rows(alloc, given)?),
         Table::LastRows => Ok(logs::last_rows(alloc, given)?),
         Table::Events => Ok(logs::events(alloc)?),
+        Table::Audits => Ok(audits::audited(alloc, given)?),
         Table::Locks => Ok(locks::told(rt, threads, given)?),
         Table::Masters => Ok(masters::told(alloc, given)?),
         Table::Lone => Ok(lone::told(alloc, threads, given)?),

@@ -38,5 +38,5 @@ pub fn put(history: &mut Vec<Event>, event: Event)
     ensures events { history.new.items ≡ history.old.items ++ event ∷ [] }
     ensures room { vec_capacity history.old ≤ vec_capacity history.new }
 {
-    history.push(event).unwrap();
+    history.push_reserved(event);
 }

@@ -1,7 +1,7 @@
 //! A look ahead to a node's next offer.
 
 ghost use Rattle.std.specs.Prelude.{◌≡◌, ◌<◌, ◌≤◌, true, IfSome};
-ghost use Rattle.node_model.specs.Ahead.{IsQuietAt, IsTold, next_time};
+ghost use Rattle.node_model.specs.Ahead.{IsOfferedAt, IsQuietAt, IsTold, next_time};
 
 use async_window::Offer;
 
@@ -52,13 +52,20 @@ impl Ahead {
     pub fn offer_at(&self, at: u64) -> Option<Option<u16>>
         ensures told { IfSome result (IsTold self.now at) }
     {
-        if self.is_quiet(at) {
-            return Some(None);
+        match self.found_at(at) {
+            Some(id) => Some(Some(id)),
+            None => { if self.is_quiet(at) { Some(None) } else { None } }
         }
+    }
+
+    /// The identifier that the look found, where by it that one is offered at a time.
+    fn found_at(&self, at: u64) -> Option<u16>
+        ensures found { IfSome result (IsOfferedAt self.now at) }
+    {
         match self.next {
             Some(next) => {
                 if next.from <= at && at <= next.offer.until {
-                    Some(Some(next.offer.id))
+                    Some(next.offer.id)
                 } else {
                     None
                 }

@@ -50,9 +50,19 @@ fn mark_slots(opened: &mut Option<Open>, heard: Mask)
 {
     if let Some(open_cycle) = opened {
         open_cycle.heard.known();
-        open_cycle.heard = both(open_cycle.heard, heard);
-        open_cycle.due = without_all(open_cycle.due, heard);
+        if heard.bits() != 0 {
+            mark_in(open_cycle, heard);
+        }
     }
+}
+
+/// Marks slots in an open cycle.
+fn mark_in(open_cycle: &mut Open, heard: Mask)
+    ensures opened { opened_of open_cycle.new ≡ with_all_heard heard (opened_of open_cycle.old) }
+    ensures due { (entries : List Placed) → KnowsDue entries open_cycle.old → KnowsDue entries open_cycle.new }
+{
+    open_cycle.heard = both(open_cycle.heard, heard);
+    open_cycle.due = without_all(open_cycle.due, heard);
 }
 
 /// The slots that stand in two sets.

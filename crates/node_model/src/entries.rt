@@ -10,7 +10,9 @@ ghost use Rattle.node_model.specs.Node.{entries_of, identifiers_of};
 ghost use Rattle.node_model.specs.Kept.{AreReady, AreSlotsOf, HaveInstances, IsReady, carried_by};
 
 use async_window::Owner;
-use requirement_table::{MOST_SLOTS, Mask, Placed, drop_over, exists, first_over, is_over};
+use requirement_table::{
+    MOST_SLOTS, Mask, Placed, drop_over, exists, first_over, is_over_in_range,
+};
 use std::alloc::{AllocError, Global};
 
 /// The identifiers that `owners` gives to a node.
@@ -26,21 +28,25 @@ pub fn identifiers_of(alloc: Global, number: u8, owners: &[Owner]) -> Result<Vec
     Ok(ids)
 }
 
-/// Replaces a node's entries by those of a list that are its own, without memory.
-pub fn keep_own(number: u8, placed: &[Placed], entries: &mut Vec<Placed>)
+/// Replaces a node's entries by those of a list that are its own, without memory. The answer is the set of their slots.
+pub fn keep_own(number: u8, placed: &[Placed], entries: &mut Vec<Placed>) -> Mask
     requires well_placed { IsWellPlaced placed.now }
     requires room { length placed.now ≤ vec_capacity entries.old }
     ensures own { entries.new.items ≡ entries_of number placed.now }
+    ensures slots { AreSlotsOf entries.new.items result }
     ensures well_placed { IsWellPlaced entries.new.items }
     ensures few { length entries.new.items ≤ length placed.now }
     ensures capacity { vec_capacity entries.old ≤ vec_capacity entries.new }
 {
     entries.clear();
+    let mut slots = Mask::empty();
     for p in placed {
         if p.entry.node == number {
-            entries.push(*p).unwrap();
+            slots = slots.with(p.entry.slot);
+            entries.push_reserved(*p);
         }
     }
+    slots
 }
 
 /// What the frame of an instance carries: the low `length` bytes of the instance's number.
@@ -164,28 +170,17 @@ fn ready_in(ready: &ReadySlots, slot: u8, cycle: u64) -> Option<Content>
 
 /// Replaces a list by those of some entries that are not over by a cycle, without memory.
 fn keep_not_over(entries: &[Placed], cycle: u64, left: &mut Vec<Placed>)
+    requires well_placed { IsWellPlaced entries.now }
     requires room { length entries.now ≤ vec_capacity left.old }
     ensures left { left.new.items ≡ not_over cycle entries.now }
     ensures capacity { vec_capacity left.old ≤ vec_capacity left.new }
 {
     left.clear();
     for p in entries {
-        if !is_over(p, cycle) {
-            left.push(*p).unwrap();
+        if !is_over_in_range(p, cycle) {
+            left.push_reserved(*p);
         }
     }
-}
-
-/// The slots of some entries.
-pub fn slots_of(entries: &[Placed]) -> Mask
-    requires well_placed { IsWellPlaced entries.now }
-    ensures slots { AreSlotsOf entries.now result }
-{
-    let mut slots = Mask::empty();
-    for p in entries {
-        slots = slots.with(p.entry.slot);
-    }
-    slots
 }
 
 /// The slots of which an instance may be sent in a cycle. What these instances' frames carry is noted by slot.

@@ -158,8 +158,7 @@ impl Node {
         ensures spare { self.old.spare ≤ self.new.spare }
     {
         self.ahead = None;
-        entries::keep_own(self.number, placed, &mut self.entries);
-        self.own = entries::slots_of(self.entries.as_slice());
+        self.own = entries::keep_own(self.number, placed, &mut self.entries);
         let from = cycle::sends_from(&self.opened, self.next);
         self.remaining.keep(self.entries.as_slice(), from);
         self.opened = cycle::after_learning(
@@ -295,7 +294,9 @@ impl Node {
         self.search_ahead(at)
     }
 
-    /// The same by a search. Right behind a trigger nothing is offered, so that nothing is looked for there first.
+    /// The same by a search. Right behind a trigger nothing is offered, so that nothing is looked for there first. A node
+    /// that offers nothing more in its cycle makes no call.
+    #[inline(always)]
     fn search_ahead(&self, at: u64) -> Option<Ahead>
         ensures ahead { IfSome result (IsAhead self.now.state) }
     {
@@ -312,6 +313,7 @@ impl Node {
     }
 
     /// The look ahead behind a time, where the time of the next offer is known.
+    #[inline(never)]
     fn ahead_to(&self, since: u64, from: u64) -> Option<Ahead>
         requires next { IsNextOffer self.now.state since (Some from) }
         ensures ahead { IfSome result (IsAhead self.now.state) }
@@ -420,10 +422,20 @@ impl Node {
     {
         match self.foreseen(at) {
             Some(offered) => offered,
-            None => match self.find_offer(at) {
-                Some(offer) => Some(offer.id),
-                None => None,
-            },
+            None => self.offer_afresh(at),
+        }
+    }
+
+    /// The same with no use of a look ahead. It is seldom called, and no part of the loops that ask each node.
+    #[inline(never)]
+    fn offer_afresh(&self, at: u64) -> Option<u16>
+        requires time { at < times_end }
+        ensures offer { result ≡ node_offer self.now.state at }
+        ensures known { IsNode self.now.state }
+    {
+        match self.find_offer(at) {
+            Some(offer) => Some(offer.id),
+            None => None,
         }
     }
 
@@ -469,6 +481,7 @@ impl Node {
     }
 
     /// The least time behind `at`, in the cycle of `at`, at which `offer` is something while nothing is heard.
+    #[inline(never)]
     pub fn wake(&self, at: u64) -> Option<u64>
         requires time { at < times_end }
         ensures next { IsNextInCycle self.now.state.layout.cycle at

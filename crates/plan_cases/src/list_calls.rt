@@ -1,7 +1,7 @@
 //! Calls about the whole table.
 
 use crate::numbers;
-use planner_policies::{Fill, PlanState, Policy, rank, valid};
+use planner_policies::{Fill, PlanState, Policy, plan_cycle, rank, valid};
 use profile::CYCLES_END;
 use requirement_table::{
     Placed, PlacedList, drop_over, first_over, is_over, not_over, released_in, well_placed,
@@ -20,6 +20,10 @@ pub fn answer(
         ("released_in", [cycle]) => released(alloc, placed, *cycle),
         ("ranked", [cycle]) => ranked(alloc, placed, *cycle),
         ("valid", [cycle, slots @ ..]) => validity(alloc, placed, *cycle, slots),
+        ("planned", [window, cycle, slots @ ..]) => {
+            let window = (window % 0x1_0000_0000) as u32;
+            planned(alloc, placed, window, *cycle, slots)
+        }
         _ => Ok(String::new(alloc)),
     }
 }
@@ -75,4 +79,32 @@ fn validity(
     };
     let is = valid(&rank(alloc, placed, Policy::Rm, Fill::Prefix)?, &state);
     format!(in alloc; "{is}")
+}
+
+/// The slots that are planned in a cycle before which these slots are pending, and the next cycle with those that are
+/// left, or the instance that is missed.
+fn planned(
+    alloc: Global,
+    placed: &[Placed],
+    window: u32,
+    cycle: u64,
+    slots: &[u64],
+) -> Result<String, AllocError> {
+    if !well_placed(placed) || cycle >= CYCLES_END {
+        return Ok(String::new(alloc));
+    }
+    let pending = numbers::set(slots);
+    let state = PlanState { cycle, pending };
+    let ranked = rank(alloc, placed, Policy::Rm, Fill::Prefix)?;
+    if !valid(&ranked, &state) {
+        return Ok(String::new(alloc));
+    }
+    match plan_cycle(&ranked, window, &state) {
+        Ok((mask, next)) => {
+            let planned = numbers::slots(alloc, mask)?;
+            let left = numbers::slots(alloc, next.pending)?;
+            format!(in alloc; "{planned:?} {} {left:?}", next.cycle)
+        }
+        Err(miss) => format!(in alloc; "{miss:?}"),
+    }
 }

@@ -3,7 +3,7 @@
 ghost use Rattle.std.specs.Prelude.{◌≡◌, ◌+◌, ◌<◌, Some, None, nat_lt, nat_eq, if◌then◌else◌};
 
 use profile::GREATEST_HORIZON;
-use recurrence_check::{Keyed, Repeat, Walk, WalkEnd, lasso, lasso_keyed};
+use recurrence_check::{Keyed, Repeat, Stretch, Walk, WalkEnd, lasso, lasso_keyed};
 use std::alloc::{AllocError, Global};
 
 /// The values 0, 1, 2 and so on up to `top`, and then again those from `back` to `top`. The walk
@@ -111,6 +111,13 @@ impl Keyed for Values {
 
     fn key(&self, state: &Place) -> Option<(u128, u64)> {
         Some((u128::from(state.value), 0))
+    }
+
+    fn pass(&self, _here: &mut Place, _most: u64) -> Stretch {
+        Stretch {
+            steps: 0,
+            key: None,
+        }
     }
 
     ghost keyed = { λ walk one other _ _ _ _. (

@@ -5,7 +5,7 @@ use Rattle.std.proofs.lemmas.Bool.{eqb-true, eq-eqb}
 use Rattle.std.proofs.lemmas.Fmt.{decimal_injective}
 use Rattle.std.proofs.lemmas.List.{length-append}
 use Rattle.text_fields.specs.MaskText.{mask_digits}
-use Rattle.text_fields.proofs.Shared.{length-mask, mask-injective}
+use Rattle.text_fields.proofs.Shared.{length-mask, mask-injective, same_last, same_split}
 use Rattle.std.proofs.lemmas.Bool.{cases_lt}
 use Rattle.std.proofs.Common.{inl, inr}
 use Rattle.plan_check.specs.declared.plan_runs.Run.{Run}
@@ -13,7 +13,7 @@ use Rattle.plan_check.specs.declared.plan_runs.Version.{Version}
 use Rattle.plan_check.specs.declared.plan_runs.Version.TheVariants.{One, Two}
 use Rattle.plan_check.specs.PlanText.{Follows, HasNoSpace, IsOfVersion, MayFollow, first_line, is_other, mask_bound, run_line}
 use Rattle.plan_check.proofs.Runs.{mask-small, run_with}
-use Rattle.plan_check.proofs.Spaces.{decimal-space, mask-space, same_last, same_space}
+use Rattle.plan_check.proofs.Spaces.{decimal-space, mask-space}
 
 pub neither : (text : List ℕ) → ((after : List ℕ) → text ≡ codes "fttcan plan 2" ++ 10 ∷ after → ⊥) → ((after : List ℕ) → text ≡ codes "fttcan plan 1" ++ 10 ∷ after → ⊥)
     → (version : Version) (after : List ℕ) → text ≡ first_line version ++ 10 ∷ after → ⊥
@@ -34,13 +34,14 @@ counted-parts m n = append_assoc (mask_digits m) (32 ∷ []) (decimal n)
 pub counted-same : (line digits behind : List ℕ) (m n : ℕ) → line ≡ digits ++ 32 ∷ behind → HasNoSpace digits → line ≡ (mask_digits m ++ 32 ∷ []) ++ decimal n
     → (digits ≡ mask_digits m) × (behind ≡ decimal n)
 counted-same line digits behind m n split front is =
-    same_space digits (mask_digits m) behind (decimal n) front (mask-space m) (sym split ∙ is ∙ counted-parts m n)
+    same_split 32 digits (mask_digits m) behind (decimal n) front (mask-space m) (sym split ∙ is ∙ counted-parts m n)
 
 -- the same where it is split at its last space
 pub counted-last : (line digits behind : List ℕ) (m n : ℕ) → n < 2 ^ 42 → line ≡ digits ++ 32 ∷ behind → HasNoSpace behind → line ≡ (mask_digits m ++ 32 ∷ []) ++ decimal n
     → (digits ≡ mask_digits m) × (behind ≡ decimal n)
 counted-last line digits behind m n small split last is =
-    same_last digits (mask_digits m) behind (decimal n) last (decimal-space n small) (sym split ∙ is ∙ counted-parts m n)
+    same_last 32 digits (mask_digits m) behind (decimal n) last (decimal-space n small)
+    (sym split ∙ is ∙ counted-parts m n)
 
 -- a line gives one run
 pub run-same : (version : Version) (r s : Run) → IsOfVersion version r → IsOfVersion version s → run_line version r ≡ run_line version s → r ≡ s

@@ -27,10 +27,11 @@ request_row number stream Waits = waits_row stream.slot number
 request_row number stream (Taken release) = waits_row stream.slot number
 request_row number stream (Sent release cycle) = ride_row stream.slot number release cycle
 
--- the rows of requests, in the order of the file; the first of them has this number
+-- the rows of all requests, in the order of the file; the first of them has this number. A request of which nothing is
+-- noted waits
 abbrev pub request_rows : ℕ → List Stream → List Fate → List ℕ
 request_rows number [] fates = []
-request_rows number (stream ∷ streams) [] = []
+request_rows number (stream ∷ streams) [] = waits_row stream.slot number ++ request_rows (number + 1) streams []
 request_rows number (stream ∷ streams) (fate ∷ fates) =
     request_row number stream fate ++ request_rows (number + 1) streams fates
 

@@ -21,6 +21,7 @@ use replay_run::{Bus, refuses_nothing};
 use sporadic_poll::laws::{one_ride, rides_of_openings};
 use sporadic_poll::{Rides, Stream};
 use std::alloc::{AllocError, Global};
+use steps_file::Step;
 use system_file::System;
 
 /// A master and the nodes of its bus, after some calls, and the requests that the instances of polled slots carry.
@@ -38,12 +39,18 @@ pub struct Polled {
 }
 
 impl Polled {
-    /// A run of no calls yet, on the bus of a system, where polled slots are to carry these requests.
+    /// A run of no calls yet, on the bus of a system, where polled slots are to carry these requests. Where there is
+    /// memory for it, the history has room for the openings and looks of these steps.
     ///
     /// # Errors
     ///
     /// Only where memory runs out.
-    pub fn begin(alloc: Global, system: &System, streams: Vec<Stream>) -> Result<Polled, AllocError>
+    pub fn begin(
+        alloc: Global,
+        system: &System,
+        streams: Vec<Stream>,
+        steps: &[Step],
+    ) -> Result<Polled, AllocError>
         requires system { IsSystem system.now }
         requires streams { AreLegal system.now.rules.slots streams.items }
         ensures begun { IfOk result (IsPolled (setting_of system.now []) streams.items []) }
@@ -51,7 +58,7 @@ impl Polled {
     {
         beginning();
         Ok(Polled {
-            bus: Bus::begin(alloc, system, &[], false)?,
+            bus: Bus::begin(alloc, system, &[], false, steps)?,
             rides: Rides::new(alloc, streams, system.rules.slots)?,
             layout: system.layout,
             frames: Vec::with_capacity(alloc, MOST_FRAMES)?,

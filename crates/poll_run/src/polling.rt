@@ -184,7 +184,7 @@ fn log_polled<L: Listener>(
     rides_of_openings();
     opened_cycles();
     in_ranges(system, &[]);
-    let mut polled = Polled::begin(alloc, system, streams)?;
+    let mut polled = Polled::begin(alloc, system, streams, steps)?;
     log_calls(alloc, &mut polled, steps, listener)?;
     listener.hear_end(alloc, polled.bus.master.next())?;
     Ok(polled)

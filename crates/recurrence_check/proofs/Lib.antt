@@ -4,3 +4,4 @@ mod Listed
 mod Noted
 mod Walking
 mod Places
+mod Stretched

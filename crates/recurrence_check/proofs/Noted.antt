@@ -141,6 +141,13 @@ module _ {State : Type 0} (course : Course State) (key_of : State → Option (�
     ];
   }
 
+  -- a table in which the same stands
+  pub Noted-same : (old new : ℕ × ℕ → Option ℕ) (n : ℕ) → Noted old n → ((q : ℕ × ℕ) → new q ≡ old q) → Noted new n
+  Noted-same old new n noted same = record {
+    some_state = λ key k found. noted.some_state key k (sym (same key) ∙ found);
+    each = λ key k stands. same key ∙ noted.each key k stands;
+  }
+
   Noted-next : (old new : ℕ × ℕ → Option ℕ) (n : ℕ) (next : State) (key : Option (ℕ × ℕ)) → key ≡ key_of next
       → Noted old n → state_after course n ≡ Some next → Meets old new key n None → Noted new (n + 1)
   Noted-next old new n next None key_is noted next_is met =

@@ -1,7 +1,8 @@
 -- The table whose first marks stand in a row by their places.
-use Rattle.std.proofs.Common.{◌≡◌, ◌≢◌, ℕ, zero, suc, ◌<◌, ◌≤◌, if◌then◌else◌, List, [], ◌∷◌, length, get_or, slice_index_or, Some, None, refl, sym, ◌∙◌, ap, arith, subst, inl, inr}
+use Rattle.std.proofs.Common.{◌≡◌, ◌≢◌, ℕ, zero, suc, ◌+◌, ◌<◌, ◌≤◌, if◌then◌else◌, List, [], ◌∷◌, ◌++◌, length, get_or, slice_index_or, Some, None, refl, sym, ◌∙◌, ap, arith, subst, inl, inr}
 use Rattle.std.specs.Prelude.{Option}
 use Rattle.std.proofs.lemmas.Bool.{cases_eq, eq-eqb, ne_eqb}
+use Rattle.std.proofs.lemmas.List.{get_or_past, length-append}
 use Rattle.recurrence_check.specs.Keys.{IsSparse, Meets, at_place, table}
 use Rattle.recurrence_check.proofs.Noted.{key_cases}
 
@@ -118,3 +119,41 @@ module _ (row new : List (Option (ℕ × ℕ))) (others : ℕ × ℕ → Option 
       | inr elsewhere ↦ sparse.first key under (sym (at-other key.1 elsewhere) ∙ nothing)
     ];
   }
+
+-- what stands in a list with one more item
+pub get_or-last : {A : Type 0} (xs : List A) (x d : A) (n : ℕ) → length xs ≡ n → get_or (xs ++ x ∷ []) n d ≡ x
+get_or-last [] x d zero is = refl
+get_or-last [] x d (suc n) is = absurd (omega arith)
+get_or-last (y ∷ ys) x d zero is = absurd (omega arith)
+get_or-last (y ∷ ys) x d (suc n) is = get_or-last ys x d n (omega arith)
+
+pub get_or-front : {A : Type 0} (xs : List A) (x d : A) (n : ℕ) → n ≢ length xs → get_or (xs ++ x ∷ []) n d ≡ get_or xs n d
+get_or-front [] x d zero apart = absurd (apart refl)
+get_or-front [] x d (suc n) apart = refl
+get_or-front (y ∷ ys) x d zero apart = refl
+get_or-front (y ∷ ys) x d (suc n) apart = get_or-front ys x d n (λ same. apart (omega arith))
+
+pub long-pushed : (row new : List (Option (ℕ × ℕ))) (last : Option (ℕ × ℕ)) (n : ℕ) → length row ≡ n → new ≡ row ++ last ∷ []
+    → length new ≡ n + 1
+long-pushed row new last n long pushed = subst (λ xs. length xs ≡ n + 1) (sym pushed) (simp length-append (omega (arith, long)))
+
+-- the mark is put down behind the end of the row
+module _ (row new : List (Option (ℕ × ℕ))) (others : ℕ × ℕ → Option ℕ) (mark place steps : ℕ) (sparse : IsSparse row others)
+    (long : length row ≡ place) (near : place < 100000) (pushed : new ≡ row ++ Some (mark, steps) ∷ []) where
+  at_end : slice_index_or new place None ≡ Some (mark, steps)
+  at_end = subst (λ xs. slice_index_or xs place None ≡ Some (mark, steps)) (sym pushed) (get_or-last row (Some (mark, steps)) None place long)
+
+  before_end : (q : ℕ) → q ≢ place → slice_index_or new q None ≡ slice_index_or row q None
+  before_end q apart =
+      subst (λ xs. slice_index_or xs q None ≡ slice_index_or row q None) (sym pushed)
+      (get_or-front row (Some (mark, steps)) None q (λ same. apart (same ∙ long)))
+
+  nothing-there : slice_index_or row place None ≡ None
+  nothing-there = get_or_past row place None (omega (arith, long))
+
+  pub meets-pushed : Meets (table row others) (table new others) (Some (mark, place)) steps None
+  meets-pushed = meets-new row new others mark place steps sparse nothing-there near at_end before_end
+
+  pub sparse-pushed : IsSparse new others
+  sparse-pushed = sparse-new row new others mark place steps sparse nothing-there near at_end before_end
+      (omega (arith, long-pushed row new (Some (mark, steps)) place long pushed))

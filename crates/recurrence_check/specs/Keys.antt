@@ -1,5 +1,7 @@
 -- A table of the steps to states, by their keys.
-use Rattle.std.specs.Prelude.{◌≡◌, ◌≢◌, ℕ, ◌<◌, ◌≤◌, length, nat_eq, if◌then◌else◌, List, Option, Some, None, slice_index_or}
+use Rattle.std.specs.Prelude.{◌≡◌, ◌≢◌, ℕ, zero, suc, ◌+◌, ◌<◌, ◌≤◌, length, nat_eq, if◌then◌else◌, List, Option, Some, None, slice_index_or}
+use Rattle.recurrence_check.specs.Stretch.{further}
+use Rattle.recurrence_check.specs.declared.by_keys.Met.{Met}
 
 -- the key was looked up in the table, which had `before` under it, and where that was nothing the key now stands there
 -- with these steps; no key stands nowhere
@@ -8,6 +10,21 @@ Meets old new None steps before = (before ≡ None) × ((key : ℕ × ℕ) → n
 Meets old new (Some key) steps before =
     (before ≡ old key)
     × (before ≡ None → (new key ≡ Some steps) × ((other : ℕ × ℕ) → key ≢ other → new other ≡ old other))
+
+-- the keys of so many states were put down one after the other, from these steps on. None of them stood there before
+abbrev pub MeetsRun : (ℕ × ℕ → Option ℕ) → (ℕ × ℕ → Option ℕ) → Option (ℕ × ℕ) → ℕ → ℕ → Type 0
+MeetsRun old new key steps zero = (q : ℕ × ℕ) → new q ≡ old q
+MeetsRun old new key steps (suc n) =
+    (mid : ℕ × ℕ → Option ℕ) × MeetsRun old mid key steps n × Meets mid new (further key n) (steps + n) None
+
+-- this is the first of so many states whose key stood in the table; where there is none, all their keys were put down
+abbrev pub MeetsAll : (ℕ × ℕ → Option ℕ) → (ℕ × ℕ → Option ℕ) → Option (ℕ × ℕ) → ℕ → ℕ → Option Met → Type 0
+MeetsAll old new key steps count None = MeetsRun old new key steps count
+MeetsAll old new key steps count (Some met) =
+    (met.behind < count)
+    × (mid : ℕ × ℕ → Option ℕ)
+    × MeetsRun old mid key steps met.behind
+    × Meets mid new (further key met.behind) (steps + met.behind) (Some met.first)
 
 -- what stands under a mark at a place whose first mark, and its steps, are these: other marks stand elsewhere
 abbrev pub at_place : Option (ℕ × ℕ) → ℕ → Option ℕ → Option ℕ

@@ -1,3 +1,4 @@
 pub mod Course
 pub mod Ends
 pub mod Keys
+pub mod Stretch

@@ -3,15 +3,16 @@
 
 ghost use Rattle.std.specs.Prelude.{◌≡◌, ◌≢◌, ◌+◌, ◌<◌, ◌≤◌, ℕ, IfOk, IfErr, Result, length};
 ghost use Rattle.std.specs.BTreeMap.{get};
-ghost use Rattle.std.specs.Prelude.{None, OnOk, Some, slice_index_or};
+ghost use Rattle.std.specs.Vec.{vec_capacity, vec_len};
+ghost use Rattle.std.specs.Prelude.{IfSome, None, OnOk, Option, Some, slice_index_or};
 ghost use Rattle.profile.specs.Limits.{greatest_horizon};
 ghost use Rattle.recurrence_check.specs.Course.{IsLeastRepeat};
 ghost use Rattle.recurrence_check.specs.Ends.{IsAnswer, IsEnd};
-ghost use Rattle.recurrence_check.specs.Keys.{IsSparse, Meets, row_places, table};
+ghost use Rattle.recurrence_check.specs.Keys.{IsSparse, Meets, MeetsAll, MeetsRun, row_places, table};
 ghost use Rattle.recurrence_check.specs.declared.walk_end.Repeat.{Repeat};
 ghost use Rattle.recurrence_check.specs.declared.walk_end.WalkEnd.{WalkEnd};
 
-use crate::walk::Keyed;
+use crate::walk::{Keyed, Stretch};
 use crate::walk_end::{Repeat, WalkEnd};
 use std::alloc::{AllocError, Global};
 use std::collections::BTreeMap;
@@ -47,18 +48,121 @@ pub fn lasso_keyed<W: Keyed>(alloc: Global, walk: &W, horizon: u64) -> Result<Re
     let mut here = walk.begin(alloc)?;
     let first = walk.state(&here);
     meet(&mut row, &mut others, walk.key(&first), 0)?;
-    for walked in 0..horizon {
+    let mut walked = 0;
+    while walked < horizon {
         let Some(next) = walk.step(&mut here) else {
             return Err(WalkEnd::Broken { at: walked });
         };
-        if let Some(first) = meet(&mut row, &mut others, walk.key(&next), walked + 1)? {
+        walked += 1;
+        if let Some(first) = meet(&mut row, &mut others, walk.key(&next), walked)? {
             return Ok(Repeat {
                 first,
-                length: walked + 1 - first,
+                length: walked - first,
             });
         }
+        let Stretch { steps, key } = walk.pass(&mut here, horizon - walked);
+        if let Some(met) = meet_all(&mut row, &mut others, key, walked + 1, steps)? {
+            return Ok(Repeat {
+                first: met.first,
+                length: walked + 1 + met.behind - met.first,
+            });
+        }
+        walked += steps;
     }
     Err(WalkEnd::NoRepeat { walked: horizon })
+}
+
+/// A state of a stretch that has the key of an earlier state.
+#[derive(Clone, Copy)]
+struct Met {
+    /// The steps to the earlier state.
+    first: u64,
+    /// How many states of the stretch stand before this one.
+    behind: u64,
+}
+
+/// The first of so many states whose key was put down before. The keys of those before it are put down, and all keys
+/// where there is none. `steps` are those to the first of the states, and `key` is its key. Each later one has the same
+/// mark, and a place that is one further.
+#[inline(always)]
+fn meet_all(
+    row: &mut Vec<Option<(u128, u64)>>,
+    others: &mut BTreeMap<Key, u64>,
+    key: Option<Key>,
+    steps: u64,
+    count: u64,
+) -> Result<Option<Met>, WalkEnd>
+    requires sparse { IsSparse row.old.items (get ⟦<Key as Ord>⟧.cmp others.old) }
+    requires short { IfSome key (λ key. key.1 + count ≤ row_places) }
+    requires steps { steps + count ≤ row_places + 1 }
+    ensures met { IfOk result (λ met. MeetsAll
+        (table row.old.items (get ⟦<Key as Ord>⟧.cmp others.old))
+        (table row.new.items (get ⟦<Key as Ord>⟧.cmp others.new)) key steps count met) }
+    ensures sparse { IfOk result (λ met. met ≡ None
+        → IsSparse row.new.items (get ⟦<Key as Ord>⟧.cmp others.new)) }
+    ensures memory { IfErr result (λ end. end ≡ WalkEnd.Memory) }
+{
+    let Some((mark, place)) = key else {
+        return Ok(None);
+    };
+    if row.len() <= place as usize {
+        append(row, mark, place, steps, count)?;
+        return Ok(None);
+    }
+    meet_each(row, others, mark, place, steps, count)
+}
+
+/// Does what `meet_all` does, with one key after the other.
+fn meet_each(
+    row: &mut Vec<Option<(u128, u64)>>,
+    others: &mut BTreeMap<Key, u64>,
+    mark: u128,
+    place: u64,
+    steps: u64,
+    count: u64,
+) -> Result<Option<Met>, WalkEnd>
+    requires sparse { IsSparse row.old.items (get ⟦<Key as Ord>⟧.cmp others.old) }
+    requires short { place + count ≤ row_places }
+    requires steps { steps + count ≤ row_places + 1 }
+    ensures met { IfOk result (λ met. MeetsAll
+        (table row.old.items (get ⟦<Key as Ord>⟧.cmp others.old))
+        (table row.new.items (get ⟦<Key as Ord>⟧.cmp others.new)) (Some (mark, place)) steps count met) }
+    ensures sparse { IfOk result (λ met. met ≡ None
+        → IsSparse row.new.items (get ⟦<Key as Ord>⟧.cmp others.new)) }
+    ensures memory { IfErr result (λ end. end ≡ WalkEnd.Memory) }
+{
+    for behind in 0..count {
+        if let Some(first) = meet(row, others, Some((mark, place + behind)), steps + behind)? {
+            return Ok(Some(Met { first, behind }));
+        }
+    }
+    Ok(None)
+}
+
+/// Puts the mark down at so many places, of which the first is behind the end of the row. At each place the steps are one
+/// more. The row then ends with these places.
+fn append(
+    row: &mut Vec<Option<(u128, u64)>>,
+    mark: u128,
+    place: u64,
+    steps: u64,
+    count: u64,
+) -> Result<(), WalkEnd>
+    requires behind { length row.old.items ≤ place }
+    requires short { place + count ≤ row_places }
+    requires steps { steps + count ≤ row_places + 1 }
+    ensures met { IfOk result (λ _. (others : ℕ × ℕ → Option ℕ) → IsSparse row.old.items others
+        → MeetsRun (table row.old.items others) (table row.new.items others) (Some (mark, place)) steps count) }
+    ensures sparse { IfOk result (λ _. (others : ℕ × ℕ → Option ℕ) → IsSparse row.old.items others
+        → IsSparse row.new.items others) }
+    ensures memory { IfErr result (λ end. end ≡ WalkEnd.Memory) }
+{
+    reach(row, place)?;
+    make_room(row, count)?;
+    for behind in 0..count {
+        row.push_reserved(Some((mark, steps + behind)));
+    }
+    Ok(())
 }
 
 /// The steps to the earlier state with this key, which is put down with these steps where there is no earlier one. At
@@ -103,8 +207,7 @@ fn meet(
     }
 }
 
-/// Puts the mark and the steps down at a place behind the end of the row, which then ends with it. A full row grows by
-/// an eighth, so that it takes little more memory than it needs.
+/// Puts the mark and the steps down at a place behind the end of the row, which then ends with it.
 fn lengthen(
     row: &mut Vec<Option<(u128, u64)>>,
     mark: u128,
@@ -120,10 +223,21 @@ fn lengthen(
     ensures memory { IfErr result (λ end. end ≡ WalkEnd.Memory) }
 {
     reach(row, place)?;
-    if row.len() == row.capacity() {
-        row.reserve_exact(row.len() / 8 + 16)?;
-    }
+    make_room(row, 1)?;
     row.push_reserved(Some((mark, steps)));
+    Ok(())
+}
+
+/// Makes room for so many more in the row. A row without it grows by an eighth, or by as many as they are, so that it
+/// takes little more memory than it needs.
+fn make_room(row: &mut Vec<Option<(u128, u64)>>, count: u64) -> Result<(), AllocError>
+    requires short { length row.old.items + count ≤ row_places }
+    ensures room { OnOk result (vec_len row.new + count ≤ vec_capacity row.new) }
+    ensures same { row.new.items ≡ row.old.items }
+{
+    if row.capacity() - row.len() < count as usize {
+        row.reserve_exact((row.len() / 8 + 16).max(count as usize))?;
+    }
     Ok(())
 }
 

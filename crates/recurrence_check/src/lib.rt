@@ -10,5 +10,5 @@ mod walk_end;
 
 pub use by_keys::lasso_keyed;
 pub use compared::lasso;
-pub use walk::{Keyed, Walk};
+pub use walk::{Keyed, Stretch, Walk};
 pub use walk_end::{Repeat, WalkEnd};

@@ -3,6 +3,8 @@
 ghost use Rattle.std.specs.Prelude.{◌≡◌, ◌+◌, ◌*◌, ◌<◌, ◌≤◌, ◌↔◌, ℕ, IfOk, IfSome, IsTrue, Option, Some};
 ghost use Rattle.profile.specs.Limits.{greatest_horizon};
 ghost use Rattle.recurrence_check.specs.Course.{Course, GoOnAlike};
+ghost use Rattle.recurrence_check.specs.Keys.{row_places};
+ghost use Rattle.recurrence_check.specs.Stretch.{IsStretch};
 
 use std::alloc::{AllocError, Global};
 
@@ -82,6 +84,16 @@ pub trait Walk {
         → GoOnAlike (course walk).alike ((course walk).next one) ((course walk).next other) };
 }
 
+/// States that stand one behind the other, in front of a place, and are passed at once.
+#[derive(Clone, Copy, Debug)]
+pub struct Stretch {
+    /// How many states they are.
+    pub steps: u64,
+    /// The key of the first one. Each later one has the same mark, and a place that is one further. `None` where no state
+    /// has a key.
+    pub key: Option<(u128, u64)>,
+}
+
 /// A walk whose states have keys that tell which of them are the same.
 pub trait Keyed: Walk {
     ghost key_of: { Self → Self.State → Option (ℕ × ℕ) };
@@ -89,6 +101,17 @@ pub trait Keyed: Walk {
     /// The key of a state; `None` where it is the same as no state, itself included.
     fn key(&self, state: &Self::State) -> Option<(u128, u64)>
         ensures key { result ≡ key_of self.now state.now };
+
+    /// Leads a place over states whose keys are known at once: `most` of them, or fewer. Where none is passed, the walk
+    /// goes on by a step. The places of the keys stay below 100,000.
+    fn pass(&self, here: &mut Self::Here, most: u64) -> Stretch
+        requires on { Self.is_on self.now here.old }
+        requires good { Self.is_good self.now (Self.state_of here.old) }
+        ensures stretch { IsStretch (Self.course self.now) (Self.is_good self.now) (Self.number self.now)
+            (key_of self.now) (Self.state_of here.old) (Self.state_of here.new) result.steps result.key }
+        ensures most { result.steps ≤ most }
+        ensures short { IfSome result.key (λ key. key.1 + result.steps ≤ row_places) }
+        ensures on { Self.is_on self.now here.new };
 
     ghost keyed: { (walk : Self) (one other : Self.State)
         → Self.is_good walk one → Self.is_good walk other

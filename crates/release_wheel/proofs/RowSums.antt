@@ -1,5 +1,7 @@
 -- What rows of a set cost together, and which slots they have.
-use Rattle.std.proofs.Common.{◌≡◌, ◌≢◌, ℕ, zero, suc, ◌+◌, ◌*◌, ◌<◌, ◌≤◌, ◌&&◌, ◌||◌, Bool, true, false, nat_eq, if◌then◌else◌, List, get_or, length, refl, sym, ap, ◌∙◌, ⊎_elim, arith}
+use Rattle.std.proofs.Common.{◌≡◌, ◌≢◌, ℕ, zero, suc, ◌+◌, ◌*◌, ◌^◌, ◌<◌, ◌≤◌, ◌&&◌, ◌||◌, Bool}
+use Rattle.std.proofs.Common.{true, false, nat_eq, if◌then◌else◌, List, get_or}
+use Rattle.std.proofs.Common.{length, refl, sym, ap, ◌∙◌, ⊎_elim, arith}
 use Rattle.std.proofs.lemmas.Bool.{cases_eq, eq-eqb, ne_eqb}
 use Rattle.requirement_table.specs.declared.entries.Placed.{Placed}
 use Rattle.requirement_table.specs.Instance.{worst}
@@ -33,6 +35,18 @@ costs-bound w room =
     let second = room.always_cost in
     let few = room.few in
     omega arith
+
+-- and there is room for what one more costs
+pub one-more : (n more : ℕ) (w : Wheel) → HasRoom n w → more ≤ 135
+    → (w.cost + more < 2 ^ 32) × (w.always_cost + more < 2 ^ 32)
+one-more n more w room small =
+    let one = cost-bound w.entries.items n w.waiting room.in_range in
+    let other = cost-bound w.entries.items n w.always room.in_range in
+    let first = room.cost in
+    let second = room.always_cost in
+    let few = room.few in
+    let within = room.within in
+    (omega arith, omega arith)
 
 -- one more row
 pub cost-with : (entries : List Placed) (n set more row : ℕ) → row < n → has_row set row ≡ false

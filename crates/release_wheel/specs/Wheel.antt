@@ -66,7 +66,7 @@ due_of_row policy p last = record {
   last = last;
 }
 
--- the least release at or after a cycle, as if there were no end
+-- the least release at or after a cycle. Where it is not below the entry's end, it may be one before that cycle
 pub record IsNext (p : Placed) (c next : ℕ) : Type 0 where
   pub number : ℕ
   pub is : next ≡ release_of p number

@@ -1,5 +1,6 @@
 -- A run between two of its steps, the rows of which something hears.
-use Rattle.std.specs.Prelude.{◌≡◌, ℕ, ◌+◌, ◌*◌, ◌≤◌, List, [], ◌∷◌, ◌++◌, Option, Some, None, Vec, is_some, length, map, vec_len, vec_capacity}
+use Rattle.std.specs.Prelude.{◌≡◌, ℕ, ◌+◌, ◌*◌, ◌/◌, ◌≤◌, List, [], ◌∷◌, ◌++◌, Option, Some, None, Vec, is_some, length, map, vec_len, vec_capacity}
+use Rattle.profile.specs.Limits.{shortest_frame}
 use Rattle.can_frame.specs.DataFrame.{DataFrame}
 use Rattle.can_frame.specs.declared.data_frame.TimedFrame.{TimedFrame}
 use Rattle.requirement_table.specs.declared.entries.Order.{Order}
@@ -55,10 +56,12 @@ abbrev pub HasRoom : {B : Type 0} → Option (Vec TimedFrame B) → Type 0
 HasRoom None = Unit {0}
 HasRoom (Some kept) = vec_len kept + 2128 ≤ vec_capacity kept
 
--- all memory is taken that the next cycle needs: for its event, for what the nodes may have to learn, and for its frames
+-- all memory is taken that the next cycle needs: for its event, for what the nodes may have to learn, for its frames, and
+-- for them where frames are kept
 pub record IsReady (bus : Bus) : Type 0 where
   pub event : 1 ≤ bus.master.spare
   pub entries : length (placed_of bus.master.history) ≤ bus.spare
+  pub room : bus.nodes.layout.cycle / shortest_frame + 1 ≤ vec_capacity bus.room
   pub frames : HasRoom bus.trace
 
 -- the frames of a cycle that was opened behind this history, which begin with the trigger frames that are due

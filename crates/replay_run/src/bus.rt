@@ -16,16 +16,19 @@ ghost use Rattle.replay_run.specs.Progress.{BeginWithTriggers, BringsOn, CanGo, 
 ghost use Rattle.replay_run.specs.Progress.{RunsNext, setting_of};
 ghost use Rattle.replay_run.specs.Written.{KeepsFrames};
 
+use crate::counting::count_plain_calls;
+use crate::cycle_frames::CycleFrames;
 use async_window::Request;
 use can_frame::TimedFrame;
 use change_protocol::{Act, Change};
 use cycle_engine::laws::{next_cycle, numbers_are_whole};
-use cycle_engine::{Nodes, Segment, run_cycle_in};
+use cycle_engine::{Nodes, run_cycle_into};
 use kept_run::laws::{beginning, calls_between, cycles_run, orders, requests_of_owners};
 use master_core::Master;
 use master_core::laws::opened_cycles;
 use profile::MOST_FRAMES;
 use std::alloc::{AllocError, Global};
+use steps_file::Step;
 use system_file::System;
 
 /// A master and the nodes of its bus, behind some calls.
@@ -38,7 +41,9 @@ pub struct Bus {
     /// The nodes can learn a list of so many entries without memory.
     spare: usize,
     /// The frames of the cycle that was run last.
-    pub segment: Segment,
+    pub segment: CycleFrames,
+    /// The room for the frames of the next cycle.
+    room: Vec<TimedFrame>,
     /// The frames on the bus, in the order of their starts, where they are kept.
     pub trace: Option<Vec<TimedFrame>>,
 }
@@ -106,6 +111,18 @@ pub fn in_ranges(system: &System, requests: &[Request])
     requests_of_owners();
 }
 
+/// A master that has answered no call. Memory for the openings and looks of some steps is taken at once, where there is
+/// any: a hint, without which the history grows as it needs.
+fn fresh_master(alloc: Global, system: &System, steps: &[Step]) -> Result<Master, AllocError>
+    requires system { IsSystem system.now }
+    ensures rules { IfOk result (λ master. master.rules ≡ system.now.rules) }
+    ensures history { IfOk result (λ master. master.history ≡ []) }
+{
+    let mut master = Master::new(alloc, system.rules)?;
+    let _ = master.reserve(alloc, count_plain_calls(steps));
+    Ok(master)
+}
+
 /// The nodes of a system before cycle 0, with these requests.
 fn fresh_nodes(alloc: Global, system: &System, requests: &[Request]) -> Result<Nodes, AllocError>
     requires system { IsSystem system.now }
@@ -124,6 +141,7 @@ fn fresh_nodes(alloc: Global, system: &System, requests: &[Request]) -> Result<N
 
 impl Bus {
     /// A run of no calls yet, on the bus of a system with these requests. The frames are kept where `keeps` says so.
+    /// Where there is memory for it, the history has room for the openings and looks of these steps, at most 65,536.
     ///
     /// # Errors
     ///
@@ -133,6 +151,7 @@ impl Bus {
         system: &System,
         requests: &[Request],
         keeps: bool,
+        steps: &[Step],
     ) -> Result<Bus, AllocError>
         requires system { IsSystem system.now }
         requires requests { AreLegal system.now.owners requests.now }
@@ -143,10 +162,11 @@ impl Bus {
         beginning();
         in_ranges(system, requests);
         Ok(Bus {
-            master: Master::new(alloc, system.rules)?,
             nodes: fresh_nodes(alloc, system, requests)?,
+            master: fresh_master(alloc, system, steps)?,
             spare: 0,
-            segment: Segment::new(alloc, &system.layout)?,
+            segment: CycleFrames::none(alloc),
+            room: Vec::new(alloc),
             trace: kept_frames(Vec::new(alloc), keeps),
         })
     }
@@ -163,6 +183,7 @@ impl Bus {
     {
         self.master.reserve(alloc, 1)?;
         make_room(&mut self.trace)?;
+        self.segment.give_room(&mut self.room, self.nodes.layout())?;
         let entries = self.master.placed().len();
         make_spare(&mut self.nodes, &mut self.spare, alloc, entries)
     }
@@ -187,7 +208,8 @@ impl Bus {
         numbers_are_whole();
         opened_cycles();
         let order = self.master.open();
-        run_cycle_in(&order, &mut self.nodes, &mut self.segment);
+        run_cycle_into(&order, &mut self.nodes, &mut self.room);
+        self.segment.exchange(&mut self.room);
         keep(&mut self.trace, self.segment.frames());
     }
 

@@ -198,7 +198,7 @@ pub fn log_steps<L: Listener>(
     promise();
     beginning();
     in_ranges(system, requests);
-    let mut bus = Bus::begin(alloc, system, requests, keeps)?;
+    let mut bus = Bus::begin(alloc, system, requests, keeps, steps)?;
     log_calls(alloc, &mut bus, steps, listener)?;
     listener.hear_end(alloc, bus.master.next())?;
     Ok(bus)

@@ -1,10 +1,10 @@
 -- Lemmas on sets of slots: what a set made of a test contains, and that a set is what it contains.
 use Rattle.std.proofs.Common.{◌≡◌, ◌≢◌, ℕ, zero, suc, ◌+◌, ◌-◌, ◌*◌, ◌/◌, ◌%◌, ◌^◌, ◌<◌, ◌≤◌, Bool, true, false, not, ◌&&◌, ◌||◌, nat_eq, nat_lt, if◌then◌else◌, bit_and, bit_or, refl, sym, ◌∙◌, ap, arith, ⊎_elim}
 use Rattle.std.specs.Int.{bit_at, bit_not, w128}
-use Rattle.std.proofs.Math.Nat.{mod-lt, two-pow-succ}
+use Rattle.std.proofs.Math.Nat.{two-pow-succ}
 use Rattle.std.proofs.lemmas.Bool.{cases_eq, cases_lt}
 use Rattle.std.proofs.lemmas.Bool.Decides.{nat_tests}
-use Rattle.std.proofs.lemmas.Nat.{and_le_l, and_mask, div-add-mod', or_lt, one_shl, pow-add, pow_below}
+use Rattle.std.proofs.lemmas.Nat.{and_le_l, or_lt, one_shl, pow-add, pow_below}
 use Rattle.std.proofs.lemmas.Nat.Bits.{bit_at-lt, bit_at-zero, bit_at_above, bit_at_cat_low, bit_at_cat_high, bit_at_lowest, bit_at_set_same, bit_at_set_other, bit_at_clear_same, bit_at_clear_other, shr_and_one, same_from_bits_below}
 use Rattle.requirement_table.specs.Slots.{contains_slot, sum_where, set_of}
 
@@ -16,19 +16,13 @@ contains_slot-none s = rw (bit_at-zero s) refl
 pub contains_slot-above : (mask n s : ℕ) → mask < 2 ^ n → n ≤ s → contains_slot mask s ≡ false
 contains_slot-above mask n s below above = rw (bit_at_above mask n s below above) refl
 
--- a slot of the low word
-pub contains_slot-low : (n s : ℕ) → s < 64 → nat_eq (bit_and (bit_and n (2 ^ 64 - 1) / 2 ^ s) 1) 1 ≡ contains_slot n s
-contains_slot-low n s low =
-    let bit = bit_at_cat_low (n / 2 ^ 64) 64 (n % 2 ^ 64) s low in
-    let whole = div-add-mod' n (2 ^ 64) in
-    rw (and_mask n 64, shr_and_one (n % 2 ^ 64) s) (ap (λ b. nat_eq b 1) (sym bit ∙ ap (λ m. bit_at m s) whole))
+-- a slot of the low word of two
+pub contains_slot-low : (high low s : ℕ) → s < 64 → nat_eq (bit_and (low / 2 ^ s) 1) 1 ≡ contains_slot (high * 2 ^ 64 + low) s
+contains_slot-low high low s below = rw (shr_and_one low s) (ap (λ b. nat_eq b 1) (sym (bit_at_cat_low high 64 low s below)))
 
 -- a slot of the high word
-pub contains_slot-high : (n s : ℕ) → 64 ≤ s → nat_eq (bit_and (n / 2 ^ 64 / 2 ^ (s - 64)) 1) 1 ≡ contains_slot n s
-contains_slot-high n s high =
-    let bit = bit_at_cat_high (n / 2 ^ 64) 64 (n % 2 ^ 64) s (mod-lt n (omega arith)) high in
-    let whole = div-add-mod' n (2 ^ 64) in
-    rw (shr_and_one (n / 2 ^ 64) (s - 64)) (ap (λ b. nat_eq b 1) (sym bit ∙ ap (λ m. bit_at m s) whole))
+pub contains_slot-high : (high low s : ℕ) → low < 2 ^ 64 → 64 ≤ s → nat_eq (bit_and (high / 2 ^ (s - 64)) 1) 1 ≡ contains_slot (high * 2 ^ 64 + low) s
+contains_slot-high high low s word above = rw (shr_and_one high (s - 64)) (ap (λ b. nat_eq b 1) (sym (bit_at_cat_high high 64 low s word above)))
 
 -- the flag of a slot of the high word, made in that word
 pub flag-high : (s : ℕ) → 64 ≤ s → s < 128 → (1 * 2 ^ (s - 64) % 2 ^ 64) * 2 ^ 64 % 2 ^ 128 ≡ 1 * 2 ^ s % 2 ^ 128

@@ -79,9 +79,9 @@ pub fn is_over(p: &Placed, cycle: u64) -> bool
         .is_some_and(|end| u128::from(end) + deadline <= u128::from(cycle) + 1)
 }
 
-/// Whether a placed entry whose fields are in range is over by `cycle`.
+/// Whether a placed entry whose fields are in range is over by `cycle`: what `is_over` answers, in numbers of one word.
 #[inline(always)]
-fn is_over_in_range(p: &Placed, cycle: u64) -> bool
+pub fn is_over_in_range(p: &Placed, cycle: u64) -> bool
     requires { IsInRange p.now }
     ensures over { result ≡ is_over cycle p.now }
 {

@@ -443,12 +443,11 @@ impl Rides {
             }
             let frame = self.polled_frame(&sent.frame, cycle, placed);
             let len = wire_len(&frame);
-            out.push(TimedFrame {
+            out.push_reserved(TimedFrame {
                 start: at,
                 len,
                 frame,
-            })
-            .unwrap();
+            });
             at += u64::from(len);
         }
     }

@@ -56,7 +56,7 @@ digit-is b is =
     )
 
 -- a digit in lower case is a digit
-lower-digit : (b : ℕ) → is_hex_digit b ≡ true → is_ascii_hexdigit b ≡ true
+pub lower-digit : (b : ℕ) → is_hex_digit b ≡ true → is_ascii_hexdigit b ≡ true
 lower-digit b is = grind (arith, nat_tests)
 
 pub lower-digits : (field : List ℕ) → list_all is_hex_digit field ≡ true → list_all is_ascii_hexdigit field ≡ true

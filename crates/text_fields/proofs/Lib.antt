@@ -13,4 +13,5 @@ mod Ranges
 mod RowByRow
 mod RowDigits
 pub mod Shared
+mod Splits
 mod TrimmedRows

@@ -3,6 +3,7 @@ pub mod CsvRows
 pub mod ByteText
 pub mod Decimal
 pub mod DecimalPairs
+pub mod DigitTable
 pub mod Hexadecimal
 pub mod HexPairs
 pub mod KeptDigits

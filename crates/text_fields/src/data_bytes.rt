@@ -5,7 +5,7 @@ ghost use Rattle.std.specs.Char.{is_ascii_hexdigit};
 ghost use Rattle.std.specs.List.{list_all};
 ghost use Rattle.text_fields.specs.ByteText.{bytes_of, bytes_written, data_of};
 
-use crate::both_cases::digit_of_both_cases;
+use crate::digits::byte_of;
 use crate::hexadecimal::all_hex_digits;
 use std::marker::Model;
 
@@ -52,7 +52,7 @@ fn bytes_written(field: &[u8]) -> Option<DataBytes>
     let mut count = 0;
     let mut left = field;
     while let [high, low, rest @ ..] = left {
-        bytes[count] = 16 * digit_of_both_cases(*high)? + digit_of_both_cases(*low)?;
+        bytes[count] = byte_of(*high, *low)?;
         count += 1;
         left = rest;
     }

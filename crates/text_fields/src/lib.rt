@@ -2,11 +2,11 @@
 //! whole lines, and rows of comma-separated fields.
 #![tactic(auto)]
 
-mod both_cases;
 mod csv_rows;
 mod data_bytes;
 mod decimal_pairs;
 mod decimals;
+mod digits;
 mod hex_pairs;
 mod hexadecimal;
 mod high_digits;

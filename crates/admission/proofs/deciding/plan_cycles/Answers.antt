@@ -1,4 +1,5 @@
-use Rattle.std.proofs.Common.{◌+◌, List, ℕ, ap, sym, subst, ◌∙◌}
+use Rattle.std.proofs.Common.{◌≡◌, ◌+◌, List, ℕ, ap, sym, subst, ◌∙◌, arith}
+use Rattle.planner_policies.specs.declared.state.PlanState.{PlanState}
 use Rattle.planner_policies.specs.Plan.{Standing, planning_of}
 use Rattle.admission.specs.Course.{state_in}
 use Rattle.admission.specs.Verdict.{IsPlannedUpTo}
@@ -11,8 +12,8 @@ planner-requires-clause-valid c =
     let walk = c.args.walk.now in
     held-from_tests walk.entries.placed walk.first.cycle walk.first.pending walk.held
 
-pub loop-init : goal.loop-init
-loop-init c =
+pub loop-count-init : goal.loop-count-init
+loop-count-init c =
     let walk = c.args.walk.now in
     let stands = c.in_ok-planner.ensures.standing in
     record {
@@ -25,27 +26,37 @@ loop-init c =
           (planned-start walk.entries walk.window walk.first.cycle walk.first.pending c.known.ensures.below
           (held-from_tests walk.entries.placed walk.first.cycle walk.first.pending walk.held)));
       entries = ap (λ (s : Standing). s.ranking) stands;
+      within = omega arith;
     }
 
 pub unreachable-requires : goal.unreachable-requires
 unreachable-requires c =
     let walk = c.args.walk.now in
-    let missed = rw c.loop.invariant.entries at c.in-Err.ensures.missed in
-    let none = none-at walk.entries walk.window walk.first.cycle walk.first.pending c.loop.counter c.args.cycles (state_in c.loop.planner)
-    c.loop.invariant.planned.state c.loop-test.true c.requires.none_missed in
+    let missed = rw c.loop-count.invariant.entries at c.in-Err.ensures.missed in
+    let none = none-at walk.entries walk.window walk.first.cycle walk.first.pending c.loop-count.count c.args.cycles (state_in c.loop-count.planner)
+    c.loop-count.invariant.planned.state c.loop-count-test.true c.requires.none_missed in
     let not = none c.in-Err.field-0.slot missed.known in
     let is = missed.missed in
     cc
 
-pub loop-preserved : goal.loop-preserved
-loop-preserved c =
+pub plan_empty-requires-clause-planned : goal.plan_empty-requires-clause-planned
+plan_empty-requires-clause-planned c =
     let walk = c.args.walk.now in
     let next = c.in-Ok.ensures.next in
-    record {
-      planned = subst
-          (λ (items : List ℕ). IsPlannedUpTo (planning_of walk.entries walk.window walk.first.cycle walk.first.pending) (c.loop.counter + 1) items (state_in c.step.new.self))
-          (sym c.in_ok-push.ensures.items)
-          (planned-step walk.entries walk.window walk.first.cycle walk.first.pending c.loop.counter c.in-Ok.planned.mask c.loop.masks.items
-          c.loop.planner c.step.new.self c.loop.invariant.planned c.loop.invariant.entries c.in-Ok.ensures.planned next c.in-Ok.ensures.next_valid);
-      entries = ap (λ (s : Standing). s.ranking) next ∙ c.loop.invariant.entries;
-    }
+    subst
+    (λ (items : List ℕ). IsPlannedUpTo (planning_of walk.entries walk.window walk.first.cycle walk.first.pending) (c.loop-count.count + 1) items (state_in c.step.new.self))
+    (sym c.in_ok-push.ensures.items)
+    (planned-step walk.entries walk.window walk.first.cycle walk.first.pending c.loop-count.count c.in-Ok.planned.mask c.loop-count.masks.items
+    c.loop-count.planner c.step.new.self c.loop-count.invariant.planned c.loop-count.invariant.entries c.in-Ok.ensures.planned next c.in-Ok.ensures.next_valid)
+
+pub plan_empty-requires-clause-entries : goal.plan_empty-requires-clause-entries
+plan_empty-requires-clause-entries c = ap (λ (s : Standing). s.ranking) c.in-Ok.ensures.next ∙ c.loop-count.invariant.entries
+
+pub plan_empty-requires-clause-near : goal.plan_empty-requires-clause-near
+plan_empty-requires-clause-near c =
+    let walk = c.args.walk.now in
+    let first = walk.near in
+    let here : c.loop-count.planner.cycle ≡ walk.first.cycle + c.loop-count.count
+    = ap (λ (s : PlanState). s.cycle) c.loop-count.invariant.planned.state in
+    let next : c.step.new.self.cycle ≡ c.loop-count.planner.cycle + 1 = ap (λ (s : Standing). s.cycle) c.in-Ok.ensures.next in
+    omega (arith, first, here, next, c.loop-count-test.true, c.requires.near)

@@ -1,5 +1,4 @@
-use Rattle.std.proofs.Common.{◌≡◌, ℕ, ◌++◌, ◌+◌, ◌||◌, drop, nat_eq, length, sym, ap, ◌∙◌, arith, append-nil, refl, subst, ◌<◌, ◌∷◌, [], cond}
-use Rattle.std.specs.Result.{IsOk}
+use Rattle.std.proofs.Common.{◌≡◌, ℕ, ◌++◌, ◌+◌, ◌||◌, drop, nat_eq, length, sym, ap, ◌∙◌, arith, append-nil, refl, subst, ◌<◌, ◌∷◌, []}
 use Rattle.std.proofs.lemmas.List.{drop_all, length-append}
 use Rattle.can_frame.specs.declared.data_frame.TimedFrame.{TimedFrame}
 use Rattle.cycle_engine.specs.Nodes.{states_of}
@@ -40,11 +39,11 @@ due_frame-frame-requires-clause-due c =
     let least = least-of c.loop-slot.left c.in-Some.slot (sym c.in-Some.ensures.least) in
     c.requires.due c.in-Some.slot least.0 (c.loop-slot.invariant.among c.in-Some.slot least.1)
 
-pub unwrap-requires : goal.unwrap-requires
-unwrap-requires c =
+pub push_reserved-requires : goal.push_reserved-requires
+push_reserved-requires c =
     let so_far = c.loop-slot.invariant in
     let begun : c.args.from < c.args.until = omega (arith, so_far.few, so_far.more, c.if-at-until.false) in
-    c.push.ensures.succeeds (omega (arith, c.requires.room begun, so_far.few, so_far.more, so_far.capacity, c.if-at-until.false))
+    omega (arith, c.requires.room begun, so_far.few, so_far.more, so_far.capacity, c.if-at-until.false)
 
 pub loop-slot-smaller : goal.loop-slot-smaller
 loop-slot-smaller c =
@@ -63,24 +62,22 @@ loop-slot-preserved c =
     let least = least-of c.loop-slot.left c.in-Some.slot (sym c.in-Some.ensures.least) in
     let first = among-first nodes c.loop-slot.left c.without_least-left.result c.in-Some.slot c.due_frame-frame.result (sym c.in-Some.ensures.least)
     without c.due_frame-frame.ensures.frame in
-    let begun : c.args.from < until = omega (arith, so_far.few, so_far.more, c.if-at-until.false) in
-    let ok : IsOk c.push.result = c.push.ensures.succeeds (omega (arith, c.requires.room begun, so_far.few, so_far.more, so_far.capacity, c.if-at-until.false)) in
     let sent : TimedFrame = record { start = c.loop-slot.at; len = c.wire_len-len.result; frame = c.due_frame-frame.result } in
-    let put = c.push.ensures.items ∙ ap (λ b. cond b (c.loop-slot.out.items ++ sent ∷ []) c.loop-slot.out.items) ok in
-    let behind : (slot : ℕ) → is_among slot (drop (length c.args.out.now.items) c.push.new.self.items)
-    ≡ (is_among slot (drop (length c.args.out.now.items) c.loop-slot.out.items) || nat_eq slot c.in-Some.slot) = λ slot. among-more c.args.out.now.items c.loop-slot.out.items c.push.new.self.items sent slot c.in-Some.slot so_far.long put
+    let put = c.push_reserved.ensures.items in
+    let behind : (slot : ℕ) → is_among slot (drop (length c.args.out.now.items) c.push_reserved.new.self.items)
+    ≡ (is_among slot (drop (length c.args.out.now.items) c.loop-slot.out.items) || nat_eq slot c.in-Some.slot) = λ slot. among-more c.args.out.now.items c.loop-slot.out.items c.push_reserved.new.self.items sent slot c.in-Some.slot so_far.long put
     (due-identifier nodes c.in-Some.slot c.due_frame-frame.result c.due_frame-frame.ensures.frame) in
     record {
-      all = subst (λ n. c.push.new.self.items ++ back_to_back later (c.loop-slot.at + n) until ≡ total) (sym c.from-at.ensures)
-          (put-more c.loop-slot.out.items c.push.new.self.items total (by_slots (due_among nodes c.loop-slot.left)) later c.due_frame-frame.result
+      all = subst (λ n. c.push_reserved.new.self.items ++ back_to_back later (c.loop-slot.at + n) until ≡ total) (sym c.from-at.ensures)
+          (put-more c.loop-slot.out.items c.push_reserved.new.self.items total (by_slots (due_among nodes c.loop-slot.left)) later c.due_frame-frame.result
           c.loop-slot.at c.wire_len-len.result until first c.if-at-until.false c.wire_len-len.ensures.value put so_far.all);
       among = λ slot has. so_far.among slot (left-before c.loop-slot.left c.without_least-left.result slot c.in-Some.slot (without slot) has);
       left = λ slot. left-more c.args.set c.loop-slot.left c.without_least-left.result slot c.in-Some.slot _ _ least.1 (behind slot) (without slot) (so_far.left slot);
       apart = λ slot. apart-more c.loop-slot.left c.without_least-left.result slot c.in-Some.slot _ _ (behind slot) (without slot) (so_far.apart slot);
       long = omega (arith, so_far.long, ap length put, length-append c.loop-slot.out.items (sent ∷ []));
-      few = omega (arith, so_far.few, c.wire_len-len.ensures.at_least, c.from-at.ensures, c.push.ensures.len);
-      more = omega (arith, so_far.more, c.push.ensures.len);
-      capacity = omega (arith, so_far.capacity, c.push.ensures.capacity);
+      few = omega (arith, so_far.few, c.wire_len-len.ensures.at_least, c.from-at.ensures, c.push_reserved.ensures.len);
+      more = omega (arith, so_far.more, c.push_reserved.ensures.len);
+      capacity = omega (arith, so_far.capacity, c.push_reserved.ensures.capacity);
     }
 
 pub returns : goal.returns

@@ -11,75 +11,48 @@ use Rattle.kept_run.proofs.Plans.{PlanLaws}
 use Rattle.kept_run.proofs.Ready.{order-right, ready-run}
 use Rattle.kept_run.proofs.Steps.{CycleLaws, opened, opened-fits, opened-runs}
 use Rattle.kept_run.proofs.laws.cycles_run.Goals as goal
+use Rattle.kept_run.proofs.laws.cycles_run.Goals.{After-valid_states}
+
+-- what the master's laws say
+master : (c : After-valid_states) → MasterLaws
+master c = record {
+  well_placed = c.legal_histories.ensures.well_placed;
+  in_time = c.legal_histories.ensures.in_time;
+  cycles = c.opened_cycles.ensures.cycles;
+  masks = c.opened_cycles.ensures.masks;
+  instances = c.opened_cycles.ensures.instances;
+}
+
+-- what the laws of planning say
+plans : (c : After-valid_states) → PlanLaws
+plans c = record {
+  good = c.keeping.ensures.good;
+  once = c.flagged_once.ensures.once;
+  planned = c.states.ensures.planned;
+  fits = c.planned_slots.ensures.fits;
+  sendable = c.planned_slots.ensures.sendable;
+  along = c.valid_states.ensures.along;
+}
+
+-- what the laws of a cycle on the bus say
+cycles : (c : After-valid_states) → CycleLaws
+cycles c = record {
+  can_trace = c.next_cycle.ensures.can_trace;
+  ended = c.next_cycle.ensures.ended;
+  runs = c.next_cycle.ensures.runs;
+  all_run = c.next_cycle.ensures.all_run;
+}
 
 pub returns-clause-fits : goal.returns-clause-fits
-returns-clause-fits c =
-    let master : MasterLaws = record {
-      well_placed = c.legal_histories.ensures.well_placed;
-      in_time = c.legal_histories.ensures.in_time;
-      cycles = c.opened_cycles.ensures.cycles;
-      masks = c.opened_cycles.ensures.masks;
-      instances = c.opened_cycles.ensures.instances;
-    } in
-    let plans : PlanLaws = record {
-      good = c.keeping.ensures.good;
-      once = c.flagged_once.ensures.once;
-      planned = c.states.ensures.planned;
-      fits = c.planned_slots.ensures.fits;
-      sendable = c.planned_slots.ensures.sendable;
-      along = c.valid_states.ensures.along;
-    } in
-    opened-fits master plans
+returns-clause-fits c = opened-fits (master c) (plans c)
 
 pub returns-clause-runs_with : goal.returns-clause-runs_with
 returns-clause-runs_with c = λ sends setting history cycle mask trace frames known whole way legal.
-    let master : MasterLaws = record {
-      well_placed = c.legal_histories.ensures.well_placed;
-      in_time = c.legal_histories.ensures.in_time;
-      cycles = c.opened_cycles.ensures.cycles;
-      masks = c.opened_cycles.ensures.masks;
-      instances = c.opened_cycles.ensures.instances;
-    } in
-    let plans : PlanLaws = record {
-      good = c.keeping.ensures.good;
-      once = c.flagged_once.ensures.once;
-      planned = c.states.ensures.planned;
-      fits = c.planned_slots.ensures.fits;
-      sendable = c.planned_slots.ensures.sendable;
-      along = c.valid_states.ensures.along;
-    } in
-    let cycles : CycleLaws = record {
-      can_trace = c.next_cycle.ensures.can_trace;
-      ended = c.next_cycle.ensures.ended;
-      runs = c.next_cycle.ensures.runs;
-      all_run = c.next_cycle.ensures.all_run;
-    } in
-    opened-runs master plans setting history cycle mask known legal cycles sends whole trace frames way
+    opened-runs (master c) (plans c) setting history cycle mask known legal (cycles c) sends whole trace frames way
 
 pub returns-clause-opened_with : goal.returns-clause-opened_with
 returns-clause-opened_with c = λ sends setting history cycle mask trace frames known whole way legal.
-    let master : MasterLaws = record {
-      well_placed = c.legal_histories.ensures.well_placed;
-      in_time = c.legal_histories.ensures.in_time;
-      cycles = c.opened_cycles.ensures.cycles;
-      masks = c.opened_cycles.ensures.masks;
-      instances = c.opened_cycles.ensures.instances;
-    } in
-    let plans : PlanLaws = record {
-      good = c.keeping.ensures.good;
-      once = c.flagged_once.ensures.once;
-      planned = c.states.ensures.planned;
-      fits = c.planned_slots.ensures.fits;
-      sendable = c.planned_slots.ensures.sendable;
-      along = c.valid_states.ensures.along;
-    } in
-    let cycles : CycleLaws = record {
-      can_trace = c.next_cycle.ensures.can_trace;
-      ended = c.next_cycle.ensures.ended;
-      runs = c.next_cycle.ensures.runs;
-      all_run = c.next_cycle.ensures.all_run;
-    } in
-    opened master plans setting history cycle mask known legal cycles sends whole trace frames way
+    opened (master c) (plans c) setting history cycle mask known legal (cycles c) sends whole trace frames way
 
 pub returns-clause-opened : goal.returns-clause-opened
 returns-clause-opened c = λ setting history cycle mask trace frames known.

@@ -1,5 +1,5 @@
 use Rattle.plan_check.proofs.LineReads.{counted-last, counted-parts}
-use Rattle.plan_check.proofs.Spaces.{no_space}
+use Rattle.text_fields.proofs.Shared.{no_split}
 use Rattle.text_fields.specs.MaskText.{mask_digits}
 use Rattle.std.specs.Fmt.{decimal}
 use Rattle.std.proofs.Common.{◌∙◌}
@@ -8,7 +8,9 @@ use Rattle.plan_check.proofs.plan_reading.counted_of.Goals as goal
 pub returns-in_err-digits-clause-none : goal.returns-in_err-digits-clause-none
 returns-in_err-digits-clause-none c =
     rw c.from_residual.ensures
-    (λ run of is. no_space c.args.line.now (mask_digits run.mask) (decimal run.count) c.in_err-digits.ensures.none (is ∙ counted-parts run.mask run.count))
+    (λ run of is.
+    no_split 32 c.args.line.now (mask_digits run.mask) (decimal run.count) c.in_err-digits.ensures.none
+    (is ∙ counted-parts run.mask run.count))
 
 pub returns-in_err-mask-clause-none : goal.returns-in_err-mask-clause-none
 returns-in_err-mask-clause-none c =

@@ -1,19 +1,15 @@
 use Rattle.std.proofs.Common.{◌+◌, ◌%◌, ◌||◌, ◌&&◌, not, Bool, ap, ◌∙◌, arith, get_or, length, rules}
 use Rattle.requirement_table.specs.Instance.{exists}
 use Rattle.release_wheel.specs.Wheel.{has_row, is_there}
-use Rattle.release_wheel.proofs.RowSums.{cost-bound}
+use Rattle.release_wheel.proofs.RowSums.{one-more}
 use Rattle.release_wheel.proofs.wheel.release_row.Goals as goal
 
 pub overflow_add-wheel : goal.overflow_add-wheel
 overflow_add-wheel c =
     let w = c.args.wheel.now in
-    let room = c.requires.room in
-    let bound = cost-bound w.entries.items (length w.entries.items) w.waiting room.in_range in
-    let few = room.few in
-    let is = room.cost in
     let one = c.cost.ensures.worst in
     let short = c.requires.in_range.entry.length in
-    omega arith
+    omega (arith, (one-more (length w.entries.items) c.cost.result w c.requires.room (omega arith)).0)
 
 pub returns : goal.returns
 returns c = record {

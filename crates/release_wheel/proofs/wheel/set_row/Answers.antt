@@ -1,34 +1,20 @@
 use Rattle.std.proofs.Common.{◌+◌, ◌%◌, ◌&&◌, ◌||◌, get_or, sym, ap, ◌∙◌, refl, arith}
 use Rattle.release_wheel.specs.Wheel.{has_row, is_there}
 use Rattle.release_wheel.proofs.RowDues.{begins-always}
-use Rattle.release_wheel.proofs.RowSums.{cost-bound, if-bound}
+use Rattle.release_wheel.proofs.RowSums.{if-bound, one-more}
 use Rattle.release_wheel.proofs.wheel.set_row.Goals as goal
 
 pub overflow_add-wheel : goal.overflow_add-wheel
 overflow_add-wheel c =
-    let w = c.args.wheel.now in
-    let room = c.requires.room in
-    let bound = cost-bound w.entries.items c.args.row w.always room.in_range in
-    let few = room.few in
-    let is = room.always_cost in
-    let row = c.requires.row in
-    let short = c.requires.in_range.entry.length in
     let one = c.cost_if.ensures.cost in
-    let small = if-bound c.begins-begun.result c.args.placed.now.entry.length short in
-    omega arith
+    let small = if-bound c.begins-begun.result c.args.placed.now.entry.length c.requires.in_range.entry.length in
+    omega (arith, (one-more c.args.row c.cost_if.result c.args.wheel.now c.requires.room (omega arith)).1)
 
 pub overflow_add-wheel-2 : goal.overflow_add-wheel-2
 overflow_add-wheel-2 c =
-    let w = c.args.wheel.now in
-    let room = c.requires.room in
-    let bound = cost-bound w.entries.items c.args.row w.waiting room.in_range in
-    let few = room.few in
-    let is = room.cost in
-    let row = c.requires.row in
-    let short = c.requires.in_range.entry.length in
     let one = c.cost_if-2.ensures.cost in
-    let small = if-bound c.waits-waits.result c.args.placed.now.entry.length short in
-    omega arith
+    let small = if-bound c.waits-waits.result c.args.placed.now.entry.length c.requires.in_range.entry.length in
+    omega (arith, (one-more c.args.row c.cost_if-2.result c.args.wheel.now c.requires.room (omega arith)).0)
 
 pub returns : goal.returns
 returns c = record {

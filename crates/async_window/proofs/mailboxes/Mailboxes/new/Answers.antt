@@ -10,17 +10,22 @@ use Rattle.async_window.proofs.Table.{few-rising}
 use Rattle.async_window.proofs.Steps.{HasPut, HasPut-none, HasPut-more, IsPlaceTable-put, rising-put}
 use Rattle.async_window.proofs.Kept.{AreKept-made, IsMade, greatest-made, known-put, mail_of-put}
 use Rattle.async_window.proofs.mailboxes.Mailboxes.new.Goals as goal
+use Rattle.async_window.proofs.mailboxes.Mailboxes.new.Goals.{In_ok-sorted}
+
+-- what is given, and the identifiers in their order
+is-made : (c : In_ok-sorted) → IsMade c.args.ids.now c.in_ok-sorted.sorted.items c.args.requests.now
+is-made c = record {
+  distinct = c.requires.distinct;
+  least = c.requires.least;
+  greatest = c.requires.greatest;
+  early = c.requires.early;
+  rising = c.in_ok-sorted.ensures.rising;
+  moved = c.in_ok-sorted.ensures.same;
+}
 
 pub places-requires-clause-small : goal.places-requires-clause-small
 places-requires-clause-small c =
-    let made : IsMade c.args.ids.now c.in_ok-sorted.sorted.items c.args.requests.now = record {
-      distinct = c.requires.distinct;
-      least = c.requires.least;
-      greatest = c.requires.greatest;
-      early = c.requires.early;
-      rising = c.in_ok-sorted.ensures.rising;
-      moved = c.in_ok-sorted.ensures.same;
-    } in
+    let made = is-made (goal.at.places-requires-clause-small c).In_ok-sorted in
     subst (λ xs. All (λ id. id < 2048) xs) (sym c.as_slice.ensures.value)
     (All-weaker (λ id. id ≤ 0x7EF) (λ id. id < 2048) (λ id low. omega arith) c.in_ok-sorted.sorted.items
     (greatest-made c.args.ids.now c.in_ok-sorted.sorted.items c.args.requests.now made))
@@ -47,14 +52,7 @@ put-requires-clause-rising c =
 
 pub put-requires-clause-greatest : goal.put-requires-clause-greatest
 put-requires-clause-greatest c =
-    let made : IsMade c.args.ids.now c.in_ok-sorted.sorted.items c.args.requests.now = record {
-      distinct = c.requires.distinct;
-      least = c.requires.least;
-      greatest = c.requires.greatest;
-      early = c.requires.early;
-      rising = c.in_ok-sorted.ensures.rising;
-      moved = c.in_ok-sorted.ensures.same;
-    } in
+    let made = is-made (goal.at.put-requires-clause-greatest c).In_ok-sorted in
     let known = known-put c.args.ids.now c.in_ok-sorted.sorted.items c.args.requests.now made c.loop-request.request-index c.loop-request.remaining c.loop-request.boxes.items c.loop-request.invariant in
     subst (λ (mail : List Mail). All (λ box. box.identifier ≤ 0x7EF) mail) (sym c.deref_mut.ensures.value) known.greatest
 
@@ -76,14 +74,7 @@ loop-request-preserved c =
 
 pub new-requires : goal.new-requires
 new-requires c =
-    let made : IsMade c.args.ids.now c.in_ok-sorted.sorted.items c.args.requests.now = record {
-      distinct = c.requires.distinct;
-      least = c.requires.least;
-      greatest = c.requires.greatest;
-      early = c.requires.early;
-      rising = c.in_ok-sorted.ensures.rising;
-      moved = c.in_ok-sorted.ensures.same;
-    } in
+    let made = is-made (goal.at.new-requires c).In_ok-sorted in
     let known = known-put c.args.ids.now c.in_ok-sorted.sorted.items c.args.requests.now made c.loop-request.request-index c.loop-request.remaining c.loop-request.boxes.items c.loop-request.invariant in
     record {
       few = subst (λ (mail : List Mail). length mail ≤ 2048) (sym c.as_slice-5.ensures.value)
@@ -95,14 +86,7 @@ new-requires c =
 
 pub invariant_of-result : goal.invariant_of-result
 invariant_of-result c =
-    let made : IsMade c.args.ids.now c.in_ok-sorted.sorted.items c.args.requests.now = record {
-      distinct = c.requires.distinct;
-      least = c.requires.least;
-      greatest = c.requires.greatest;
-      early = c.requires.early;
-      rising = c.in_ok-sorted.ensures.rising;
-      moved = c.in_ok-sorted.ensures.same;
-    } in
+    let made = is-made (goal.at.invariant_of-result c).In_ok-sorted in
     let copied : c.in_ok-to_vec.field-0.items ≡ c.args.ids.now = c.in_ok-to_vec.ensures.items_if_clones_equal (search rules) in
     subst (λ ids. AreKept ids c.loop-request.boxes.items c.in_ok-places.places.items c.in_ok-firsts.firsts.levels
     c.in_ok-firsts.firsts.nodes.items c.loop-request.remaining) (sym copied)
@@ -116,14 +100,7 @@ invariant_of-result c =
 
 pub returns : goal.returns
 returns c =
-    let made : IsMade c.args.ids.now c.in_ok-sorted.sorted.items c.args.requests.now = record {
-      distinct = c.requires.distinct;
-      least = c.requires.least;
-      greatest = c.requires.greatest;
-      early = c.requires.early;
-      rising = c.in_ok-sorted.ensures.rising;
-      moved = c.in_ok-sorted.ensures.same;
-    } in
+    let made = is-made (goal.at.returns c).In_ok-sorted in
     let copied : c.in_ok-to_vec.field-0.items ≡ c.args.ids.now = c.in_ok-to_vec.ensures.items_if_clones_equal (search rules) in
     record {
       mail = ap (λ ids. mail_of ids c.loop-request.boxes.items) copied

@@ -59,38 +59,34 @@ returns-in-Some-first c =
       known = subst IsMail c.self.view_is c.self.invariant.mail;
     }
 
-pub returns-in-None-first-clause-least : goal.returns-in-None-first-clause-least
-returns-in-None-first-clause-least c =
-    let fits : (bytes : ℕ) → bytes ≤ 8 → c.args.at + worst bytes ≤ sync_start c.args.layout.now (c.args.at / c.args.layout.now.cycle) c.args.l
+-- no first request that would fit has arrived, so none is offered
+none-found : (c : goal.In-None-first)
+    → IsLeastWith
+    (Offers c.args.layout.now c.args.l (mail_of c.self.inside.ids.items c.self.inside.boxes.items) c.args.at) None
+none-found c =
+    let fits : (bytes : ℕ) → bytes ≤ 8
+    → c.args.at + worst bytes ≤ sync_start c.args.layout.now (c.args.at / c.args.layout.now.cycle) c.args.l
     → bytes ≤ c.in-Some.bytes
-    = λ bytes few whole. c.in-Some.ensures.room.3 bytes few (subst (λ n. c.args.at + worst bytes ≤ n) (sym c.window_in-window.ensures.closed) whole) in
-    let slice : c.as_slice-boxes.result.now ≡ c.self.inside.boxes.items = c.as_slice-boxes.ensures.value in
-    let least : IsLeastWith (Offers c.args.layout.now c.args.l (mail_of c.self.inside.ids.items c.self.inside.boxes.items) c.args.at) None
-    = none-arrived c.args.layout.now c.args.l c.self.inside.ids.items c.self.inside.boxes.items c.self.inside.places.items c.self.inside.firsts.levels
-    c.self.inside.firsts.nodes.items c.self.inside.remaining c.self.invariant
+    = λ bytes few whole.
+    c.in-Some.ensures.room.3 bytes few (subst (λ n. c.args.at + worst bytes ≤ n)
+    (sym c.window_in-window.ensures.closed) whole) in
+    none-arrived c.args.layout.now c.args.l c.self.inside.ids.items c.self.inside.boxes.items c.self.inside.places.items
+    c.self.inside.firsts.levels c.self.inside.firsts.nodes.items c.self.inside.remaining c.self.invariant
     c.args.at c.in-Some.bytes fits
     (subst (λ n. (k : ℕ) (d : Mail) → k < length c.self.inside.boxes.items
     → c.args.at < arrival_within n (get_or c.self.inside.boxes.items k d).unsent) c.from.ensures
-    (subst (λ (mail : List Mail). (k : ℕ) (d : Mail) → k < length mail → c.args.at < arrival_within c.from.result (get_or mail k d).unsent) slice
-    c.in-None-first.ensures.first)) in
-    subst (λ mail. IsLeastWith (Offers c.args.layout.now c.args.l mail c.args.at) None) c.self.view_is least
+    (subst (λ (mail : List Mail). (k : ℕ) (d : Mail) → k < length mail
+    → c.args.at < arrival_within c.from.result (get_or mail k d).unsent) c.as_slice-boxes.ensures.value
+    c.in-None-first.ensures.first))
+
+pub returns-in-None-first-clause-least : goal.returns-in-None-first-clause-least
+returns-in-None-first-clause-least c =
+    subst (λ mail. IsLeastWith (Offers c.args.layout.now c.args.l mail c.args.at) None) c.self.view_is (none-found c)
 
 pub returns-in-None-first-clause-value : goal.returns-in-None-first-clause-value
 returns-in-None-first-clause-value c =
-    let fits : (bytes : ℕ) → bytes ≤ 8 → c.args.at + worst bytes ≤ sync_start c.args.layout.now (c.args.at / c.args.layout.now.cycle) c.args.l
-    → bytes ≤ c.in-Some.bytes
-    = λ bytes few whole. c.in-Some.ensures.room.3 bytes few (subst (λ n. c.args.at + worst bytes ≤ n) (sym c.window_in-window.ensures.closed) whole) in
-    let slice : c.as_slice-boxes.result.now ≡ c.self.inside.boxes.items = c.as_slice-boxes.ensures.value in
-    let least : IsLeastWith (Offers c.args.layout.now c.args.l (mail_of c.self.inside.ids.items c.self.inside.boxes.items) c.args.at) None
-    = none-arrived c.args.layout.now c.args.l c.self.inside.ids.items c.self.inside.boxes.items c.self.inside.places.items c.self.inside.firsts.levels
-    c.self.inside.firsts.nodes.items c.self.inside.remaining c.self.invariant
-    c.args.at c.in-Some.bytes fits
-    (subst (λ n. (k : ℕ) (d : Mail) → k < length c.self.inside.boxes.items
-    → c.args.at < arrival_within n (get_or c.self.inside.boxes.items k d).unsent) c.from.ensures
-    (subst (λ (mail : List Mail). (k : ℕ) (d : Mail) → k < length mail → c.args.at < arrival_within c.from.result (get_or mail k d).unsent) slice
-    c.in-None-first.ensures.first)) in
     is-offer c.args.layout.now c.args.l c.self.inside.ids.items c.self.inside.boxes.items c.self.inside.places.items c.self.inside.firsts.levels
-    c.self.inside.firsts.nodes.items c.self.inside.remaining c.self.invariant c.args.at None least
+    c.self.inside.firsts.nodes.items c.self.inside.remaining c.self.invariant c.args.at None (none-found c)
     ∙ ap (λ mail. mail_offer c.args.layout.now c.args.l mail c.args.at) c.self.view_is
 
 pub returns-in-None-clause-value : goal.returns-in-None-clause-value
@@ -103,22 +99,23 @@ returns-in-None-clause-value c =
     (subst (λ n. c.args.at + worst bytes ≤ n) (sym c.window_in-window.ensures.closed) whole)))
     ∙ ap (λ mail. mail_offer c.args.layout.now c.args.l mail c.args.at) c.self.view_is
 
+-- no first request has arrived, so none is offered
+none-here : (c : goal.Then-not-has_arrived)
+    → IsLeastWith
+    (Offers c.args.layout.now c.args.l (mail_of c.self.inside.ids.items c.self.inside.boxes.items) c.args.at) None
+none-here c =
+    none-waits c.args.layout.now c.args.l c.self.inside.ids.items c.self.inside.boxes.items c.self.inside.places.items
+    c.self.inside.firsts.levels c.self.inside.firsts.nodes.items c.self.inside.remaining c.self.invariant c.args.at
+    (subst (λ (mail : List Mail). (k : ℕ) (d : Mail) → k < length mail
+    → c.args.at < arrival_within 8 (get_or mail k d).unsent)
+    c.as_slice-boxes.ensures.value (c.if-not-has_arrived.ensures.none refl))
+
 pub returns-then-not-has_arrived-clause-least : goal.returns-then-not-has_arrived-clause-least
 returns-then-not-has_arrived-clause-least c =
-    let slice : c.as_slice-boxes.result.now ≡ c.self.inside.boxes.items = c.as_slice-boxes.ensures.value in
-    subst (λ mail. IsLeastWith (Offers c.args.layout.now c.args.l mail c.args.at) None) c.self.view_is
-    (none-waits c.args.layout.now c.args.l c.self.inside.ids.items c.self.inside.boxes.items c.self.inside.places.items c.self.inside.firsts.levels
-    c.self.inside.firsts.nodes.items c.self.inside.remaining c.self.invariant c.args.at
-    (subst (λ (mail : List Mail). (k : ℕ) (d : Mail) → k < length mail → c.args.at < arrival_within 8 (get_or mail k d).unsent) slice
-    (c.if-not-has_arrived.ensures.none refl)))
+    subst (λ mail. IsLeastWith (Offers c.args.layout.now c.args.l mail c.args.at) None) c.self.view_is (none-here c)
 
 pub returns-then-not-has_arrived-clause-value : goal.returns-then-not-has_arrived-clause-value
 returns-then-not-has_arrived-clause-value c =
-    let slice : c.as_slice-boxes.result.now ≡ c.self.inside.boxes.items = c.as_slice-boxes.ensures.value in
     is-offer c.args.layout.now c.args.l c.self.inside.ids.items c.self.inside.boxes.items c.self.inside.places.items c.self.inside.firsts.levels
-    c.self.inside.firsts.nodes.items c.self.inside.remaining c.self.invariant c.args.at None
-    (none-waits c.args.layout.now c.args.l c.self.inside.ids.items c.self.inside.boxes.items c.self.inside.places.items c.self.inside.firsts.levels
-    c.self.inside.firsts.nodes.items c.self.inside.remaining c.self.invariant c.args.at
-    (subst (λ (mail : List Mail). (k : ℕ) (d : Mail) → k < length mail → c.args.at < arrival_within 8 (get_or mail k d).unsent) slice
-    (c.if-not-has_arrived.ensures.none refl)))
+    c.self.inside.firsts.nodes.items c.self.inside.remaining c.self.invariant c.args.at None (none-here c)
     ∙ ap (λ mail. mail_offer c.args.layout.now c.args.l mail c.args.at) c.self.view_is

@@ -31,12 +31,12 @@ invariant_of-self c =
     let before = states_of c.self.inside.nodes.items in
     let triggers = due_list c.self.inside.due in
     let sending = subst (λ view. IsSending cycle_line (stationed view) sent) (sym c.self.view_is) c.requires.sending in
-    let left : due_list c.due_after-self-inside.result ≡ triggers_after sent.frame.identifier triggers =
-    c.due_after-self-inside.ensures.left ∙ ap (λ id. triggers_after id triggers) c.id-2.ensures.value in
+    let left : due_list c.take_due.new.due ≡ triggers_after sent.frame.identifier triggers =
+    c.take_due.ensures.left ∙ ap (λ id. triggers_after id triggers) c.id-2.ensures.value in
     let known = ap states_of (take_at _ _ _ (c.hear.auto.nodes ∙ c.as_mut_slice.ensures.len)) ∙ c.hear.ensures.heard
     ∙ ap (λ nodes. all_hear (states_of nodes) sent) c.as_mut_slice.ensures.value in
     record {
-      are = subst (λ nodes. AreStations (record { layout = layout; triggers = due_list c.due_after-self-inside.result; nodes = nodes })) (sym known)
+      are = subst (λ nodes. AreStations (record { layout = layout; triggers = due_list c.take_due.new.due; nodes = nodes })) (sym known)
           (subst (λ ts. AreStations (record { layout = layout; triggers = ts; nodes = all_hear before sent })) (sym left)
           (AreStations-told layout triggers before sent c.offers_in_range.ensures.in_range (λ node. c.stays_a_node.ensures.hearing node sent)
           (λ one other. c.nodes_are_apart.ensures.hearing one other sent sent) sending.offered.contends c.self.invariant.are));

@@ -3,8 +3,8 @@ use Rattle.requirement_table.specs.Slots.{most_slots}
 use Rattle.requirement_table.proofs.SlotSets.{with-below, contains_slot-with}
 use Rattle.requirement_table.proofs.slots.Mask.with.Goals as goal
 
-pub invariant_of-result : goal.invariant_of-result
-invariant_of-result c = rw c.one_bit.ensures.number (with-below most_slots _ _ (omega arith) c.self.invariant c.requires)
+pub from_bits-requires : goal.from_bits-requires
+from_bits-requires c = rw c.one_bit.ensures.number (with-below most_slots _ _ (omega arith) c.bits.ensures.below c.requires)
 
 pub returns : goal.returns
-returns c = record { slots = λ s. rw (c.self.view_is, c.one_bit.ensures.number) (contains_slot-with c.args.self c.args.slot s (omega arith)) }
+returns c = record { slots = λ s. rw (c.from_bits.ensures.number, c.bits.ensures.number, c.one_bit.ensures.number) (contains_slot-with c.args.self c.args.slot s (omega arith)) }

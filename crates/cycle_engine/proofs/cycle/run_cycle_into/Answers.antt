@@ -1,4 +1,4 @@
-use Rattle.std.proofs.Common.{◌≡◌, ◌*◌, ◌+◌, ◌++◌, [], All, ap, arith, sym, subst, ◌∙◌}
+use Rattle.std.proofs.Common.{◌≡◌, ◌*◌, ◌+◌, ◌++◌, [], All, ap, arith, rules, sym, subst, ◌∙◌}
 use Rattle.std.proofs.Math.Nat.{add-mul}
 use Rattle.bus_line.specs.Stations.{offers_of}
 use Rattle.trigger_codec.specs.Bytes.{triggers_with}
@@ -7,7 +7,7 @@ use Rattle.cycle_engine.specs.Stations.{announced, cycle_line}
 use Rattle.cycle_engine.proofs.FewFrames.{few-frames}
 use Rattle.cycle_engine.proofs.Along.{NodeLaws}
 use Rattle.cycle_engine.proofs.OneCycle.{IsRun, RunsOrder-same, cycle_next, cycle_runs, cycle_stands, learnt_by-are, learnt_by-layouts, learnt_by-next}
-use Rattle.cycle_engine.proofs.cycle.run_cycle_in.Goals as goal
+use Rattle.cycle_engine.proofs.cycle.run_cycle_into.Goals as goal
 
 pub run-requires-clause-next : goal.run-requires-clause-next
 run-requires-clause-next c =
@@ -50,6 +50,7 @@ returns c =
       heard = heard;
       next = subst (All (λ node. node.next ≡ order.cycle + 1)) (sym heard) (cycle_next laws layout order nodes frames run);
       spare = λ entries have. c.run.ensures.spare entries (c.learn.ensures.spare entries have);
+      capacity = search rules;
       few = omega (arith, few, add-mul order.cycle 1 layout.cycle);
       runs = cycle_runs laws layout order nodes frames run;
       stand = λ owners requests placed past is_before.
