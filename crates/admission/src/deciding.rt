@@ -1,12 +1,11 @@
 //! What is decided of a change.
 
-ghost use Rattle.std.specs.Prelude.{◌≡◌, ◌+◌, ◌<◌, ◌≤◌, ℕ, [], None, IfErr, IfOk, IfSome};
+ghost use Rattle.std.specs.Prelude.{◌≡◌, ◌+◌, ◌<◌, ◌≤◌, ℕ, [], None, IfOk, IfSome};
 ghost use Rattle.profile.specs.Limits.{cycles_end, greatest_horizon, openings_end};
 ghost use Rattle.requirement_table.specs.Slots.{contains_slot};
 ghost use Rattle.requirement_table.specs.Table.{IsWellPlaced};
 ghost use Rattle.change_protocol.specs.Applied.{applied};
-ghost use Rattle.change_protocol.specs.Malformed.{IsFaultOf};
-ghost use Rattle.planner_policies.specs.Plan.{HasNoMiss, HasNoMissIn, IsMissIn, IsValid, NeverMisses, going_from, planning_of};
+ghost use Rattle.planner_policies.specs.Plan.{HasNoMiss, HasNoMissIn, IsMissIn, IsValid, going_from, planning_of};
 ghost use Rattle.release_wheel.specs.Passed.{IsPassed};
 ghost use Rattle.admission.specs.Course.{state_in};
 ghost use Rattle.admission.specs.Verdict.{IsDecision, IsDecisionOnPlan, IsInTime, IsMalformed, IsMissDecision};

@@ -10,7 +10,7 @@ ghost use Rattle.recurrence_check.specs.Keys.{row_places};
 
 use crate::entries::Entries;
 use planner_policies::PlanState;
-use recurrence_check::{Keyed, Stretch, Walk};
+use recurrence_check::{Keyed, PLACES, Stretch, Walk};
 use release_wheel::Planner;
 use std::alloc::{AllocError, Global};
 
@@ -111,9 +111,6 @@ impl Walk for PlanWalk {
     ghost kept = { λ walk one other _ _ _ _ same.
         kept walk.entries walk.window walk.bound walk.period walk.goes_on one other same };
 }
-
-/// Places from this one on are not passed at once.
-const PLACES: u64 = 100_000;
 
 impl PlanWalk {
     /// As many states behind a state as have no key, or keys whose places go up. Before all of them the same slots are

@@ -1,6 +1,6 @@
 //! Calls of a master, each made again where it is refused memory.
 
-ghost use Rattle.std.specs.Prelude.{ℕ, ◌+◌, ◌≤◌, OnOk};
+ghost use Rattle.std.specs.Prelude.{◌+◌, ◌≤◌, OnOk};
 
 use crate::changes;
 use admission::{Rules, Verdict};

@@ -1,6 +1,6 @@
 //! What is asked for, from the words of a call and the bytes of the files that they name.
 
-ghost use Rattle.std.specs.Prelude.{◌≡◌, ◌+◌, ◌⊎◌, [], ◌∷◌, IfOk, IfErr, IsErrOf, OnOk, Ok, Some, None, map, option_map};
+ghost use Rattle.std.specs.Prelude.{◌≡◌, ◌⊎◌, [], ◌∷◌, IfOk, IfErr, IsErrOf, OnOk, Ok, Some, None, map, option_map};
 ghost use Rattle.std.specs.Prelude.{string_bytes, length, List, ℕ};
 ghost use Rattle.std.specs.Option.{ForSome};
 ghost use Rattle.ftt_io.specs.Counts.{Rose, next_count};

@@ -11,7 +11,6 @@ ghost use Rattle.bus_trace.specs.Log.{end_row, log_text, started_in};
 ghost use Rattle.bus_trace.specs.LogRows.{log_rows};
 ghost use Rattle.log_reader.specs.Row.{text_of_rows};
 ghost use Rattle.bus_trace.specs.Logged.{frames_of_event, is_trigger};
-ghost use Rattle.log_reader.specs.declared.row.LogRow.{LogRow};
 ghost use Rattle.log_reader.specs.declared.row.LogRow.TheVariants.{End};
 
 /// Where each trigger says the length of its cycle's synchronous window, the rows of the events of a history, each with

@@ -7,8 +7,9 @@ use Rattle.can_frame.specs.DataFrame.{DataFrame}
 use Rattle.can_frame.specs.Wire.{wire_length}
 use Rattle.can_frame.specs.declared.data_frame.TimedFrame.{TimedFrame}
 use Rattle.requirement_table.specs.Slots.{contains_slot, most_slots}
-use Rattle.node_model.specs.Node.{NodeState, least_where}
-use Rattle.node_model.proofs.Shared.{IsLeastBelow, least_where-least}
+use Rattle.slot_sets.specs.Least.{least_where}
+use Rattle.node_model.specs.Node.{NodeState}
+use Rattle.slot_sets.proofs.Shared.{IsLeastBelow, least_where-least}
 use Rattle.cycle_engine.specs.SyncWindow.{back_to_back, by_slots, due_among, due_by, due_frames}
 
 module _ {X : Type 0} where

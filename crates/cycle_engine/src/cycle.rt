@@ -1,6 +1,6 @@
 //! The run of one cycle on the bus.
 
-ghost use Rattle.std.specs.Prelude.{◌≡◌, ℕ, ◌+◌, ◌*◌, ◌/◌, ◌^◌, ◌<◌, ◌≤◌, ◌++◌, All, IfOk, IfSome, List, OnErr, OnOk};
+ghost use Rattle.std.specs.Prelude.{◌≡◌, ◌+◌, ◌*◌, ◌/◌, ◌^◌, ◌<◌, ◌≤◌, ◌++◌, All, IfOk, IfSome, List, OnErr, OnOk};
 ghost use Rattle.std.specs.Prelude.{length, vec_capacity};
 ghost use Rattle.profile.specs.Limits.{cycles_end, shortest_frame};
 ghost use Rattle.can_frame.specs.declared.data_frame.TimedFrame.{TimedFrame};

@@ -16,4 +16,4 @@ mod sync_window;
 
 pub use cycle::{run_cycle, run_cycle_in, run_cycle_into};
 pub use nodes::Nodes;
-pub use segment::Segment;
+pub use segment::{CycleFrames, Segment};

@@ -1,12 +1,14 @@
 //! The frames of one cycle.
 
-ghost use Rattle.std.specs.Prelude.{◌≡◌, ◌/◌, ◌+◌, ◌≤◌, [], IfOk, vec_capacity};
+ghost use Rattle.std.specs.Prelude.{◌≡◌, ◌/◌, ◌+◌, ◌≤◌, [], IfOk, OnOk, vec_capacity};
+ghost use Rattle.profile.specs.Limits.{shortest_frame};
 
 use can_frame::TimedFrame;
 use cycle_layout::Layout;
-use profile::MOST_FRAMES;
+use profile::{MOST_FRAMES, SHORTEST_FRAME};
 use std::alloc::{AllocError, Global};
 use std::marker::Model;
+use std::mem::swap;
 
 /// The most frames of one cycle, and one more: the longest cycle has 100,000 bit times, and the shortest frame 47.
 const ROOM: usize = MOST_FRAMES + 1;
@@ -46,5 +48,62 @@ impl Segment {
         ensures list { result.now ≡ self.now }
     {
         self.frames.as_slice()
+    }
+}
+
+/// The frames that start in one cycle, in the order of their starts. Contracts see the list.
+#[derive(Drop)]
+pub struct CycleFrames {
+    frames: Vec<TimedFrame>,
+}
+
+impl Model for CycleFrames {
+    ghost use Rattle.std.specs.Prelude.{List};
+    ghost use Rattle.can_frame.specs.declared.data_frame.TimedFrame.{TimedFrame};
+
+    ghost Value = { List TimedFrame };
+
+    ghost view = { λ s. s.frames.items };
+}
+
+impl CycleFrames {
+    /// No frames, without memory.
+    pub fn none(alloc: Global) -> CycleFrames
+        ensures empty { result ≡ [] }
+    {
+        CycleFrames {
+            frames: Vec::new(alloc),
+        }
+    }
+
+    /// The frames, without memory.
+    pub fn frames(&self) -> &[TimedFrame]
+        ensures list { result.now ≡ self.now }
+    {
+        self.frames.as_slice()
+    }
+
+    /// Exchanges the frames for those of a list, without memory.
+    pub fn exchange(&mut self, list: &mut Vec<TimedFrame>)
+        ensures taken { self.new ≡ list.old.items }
+        ensures given { list.new.items ≡ self.old }
+    {
+        swap(&mut self.frames, list);
+    }
+
+    /// Makes room in a list for the frames of a cycle of this layout, where it has none: that of the frames here, which
+    /// are dropped, or new memory.
+    pub fn give_room(
+        &mut self,
+        list: &mut Vec<TimedFrame>,
+        layout: &Layout,
+    ) -> Result<(), AllocError>
+        ensures room { OnOk result (layout.now.cycle / shortest_frame + 1 ≤ vec_capacity list.new) }
+    {
+        if list.capacity() == 0 {
+            self.exchange(list);
+        }
+        list.clear();
+        list.reserve_exact((layout.cycle() / SHORTEST_FRAME) as usize + 1)
     }
 }

@@ -1,10 +1,9 @@
 //! The nodes of a bus as stations on it, and with them the master, which offers the trigger frames of a cycle.
 
-ghost use Rattle.std.specs.Prelude.{◌≡◌, ◌≢◌, ◌+◌, ◌-◌, ◌/◌, ◌^◌, ◌<◌, ◌≤◌, [], ◌∷◌};
-ghost use Rattle.std.specs.Prelude.{All, AllPairs, Contains, OnOk, length, map, vec_capacity};
+ghost use Rattle.std.specs.Prelude.{◌≡◌, ◌+◌, ◌-◌, ◌/◌, ◌^◌, ◌<◌, ◌≤◌, [], ◌∷◌};
+ghost use Rattle.std.specs.Prelude.{All, Contains, OnOk, length, map, vec_capacity};
 ghost use Rattle.std.specs.List.{cons_option};
 ghost use Rattle.profile.specs.Limits.{cycles_end, shortest_frame, times_end};
-ghost use Rattle.cycle_layout.specs.Layout.{IsLayout};
 ghost use Rattle.requirement_table.specs.Table.{IsWellPlaced};
 ghost use Rattle.node_model.specs.Node.{learnt};
 ghost use Rattle.node_model.specs.Window.{IsInWindow};

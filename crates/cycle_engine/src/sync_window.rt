@@ -13,9 +13,10 @@ ghost use Rattle.cycle_engine.specs.SyncWindow.{IsSentBy, back_to_back, by_slots
 use crate::each;
 use can_frame::laws::wire_lengths;
 use can_frame::{KnownFront, TimedFrame};
+use node_model::Node;
 use node_model::laws::{sends_its_slots, stays_a_node};
-use node_model::{Node, least_slot, without_all, without_least};
 use requirement_table::{MOST_SLOTS, Mask};
+use slot_sets::{difference, least_slot, without_least};
 
 /// For each slot what is known of the first bits of its frames.
 pub type Fronts = [KnownFront; MOST_SLOTS as usize];
@@ -46,7 +47,7 @@ pub fn run_window(
     let due = each::due_slots(nodes);
     let left = send_slots(nodes, due, fronts, from, until, out);
     let frames = &out.as_slice()[before..];
-    let sent = without_all(due, left);
+    let sent = difference(due, left);
     due.known();
     sent.known();
     each::hear_slots(nodes, sent, frames);

@@ -1,6 +1,6 @@
 //! The calls that try again until they get the turn.
 
-ghost use Rattle.std.specs.Prelude.{◌≡◌, ◌⊎◌, ◌<◌, IfOk, OnErr};
+ghost use Rattle.std.specs.Prelude.{◌⊎◌, ◌<◌, IfOk, OnErr};
 ghost use Rattle.profile.specs.Limits.{openings_end};
 ghost use Rattle.turn_lock.specs.Passes.{IsOf};
 ghost use Rattle.master_core.specs.History.{next_of};

@@ -1,6 +1,6 @@
 //! A whole run: the shared master is made, run and closed.
 
-ghost use Rattle.std.specs.Prelude.{◌≡◌, ◌≢◌, ◌<◌, ◌≤◌, All, AllPairs, Any, IfOk, length};
+ghost use Rattle.std.specs.Prelude.{◌≡◌, ◌<◌, ◌≤◌, All, AllPairs, Any, IfOk, length};
 ghost use Rattle.profile.specs.Limits.{arrivals_end, openings_end};
 ghost use Rattle.admission.specs.Verdict.{IsRules};
 ghost use Rattle.async_window.specs.Owners.{AreOwners};

@@ -1,12 +1,10 @@
 //! The dispatcher's part of a run.
 
-ghost use Rattle.std.specs.Prelude.{◌≡◌, ℕ, ◌+◌, ◌<◌, ◌++◌, ◌∷◌, [], List, IfOk, OnErr, OnOk};
+ghost use Rattle.std.specs.Prelude.{◌≡◌, ◌+◌, ◌<◌, ◌++◌, ◌∷◌, [], List, IfOk, OnErr, OnOk};
 ghost use Rattle.profile.specs.Limits.{openings_end};
-ghost use Rattle.turn_lock.specs.Passes.{IsOf};
 ghost use Rattle.master_core.specs.declared.event.Event.{Event};
 ghost use Rattle.master_core.specs.declared.event.Event.TheVariants.{Open};
 ghost use Rattle.master_core.specs.History.{next_of};
-ghost use Rattle.master_core.specs.Orders.{IsOrder};
 ghost use Rattle.kept_run.specs.Progress.{IsOnTheWay, Setting};
 ghost use Rattle.live_master.specs.Passes.{IsPassOf};
 ghost use Rattle.cycle_engine.specs.Nodes.{CanLearn, HaveSpare, KeepSpare, states_of};

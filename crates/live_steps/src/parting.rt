@@ -1,10 +1,9 @@
 //! The steps of a file by who has them answered.
 
 ghost use Rattle.std.specs.Prelude.{◌≡◌, ℕ, ◌+◌, ◌<◌, ◌≤◌, ◌==◌, [], ◌∷◌, ◌++◌};
-ghost use Rattle.std.specs.Prelude.{if◌then◌else◌, All, length, slice_index_or, sum_by, IfOk, OnOk};
-ghost use Rattle.steps_file.specs.StepsFile.{AreLegalSteps, IsStep, count_of};
+ghost use Rattle.std.specs.Prelude.{if◌then◌else◌, All, length, slice_index_or, IfOk, OnOk};
+ghost use Rattle.steps_file.specs.StepsFile.{AreLegalSteps};
 ghost use Rattle.live_run.specs.declared.script.Script.{Script};
-ghost use Rattle.live_steps.specs.Live.{act_of, acts_of};
 ghost use Rattle.live_steps.specs.Parts.{AreParted};
 
 use change_protocol::Act;

@@ -15,12 +15,13 @@ use Rattle.requirement_table.specs.Table.{IsWellPlaced, instance_in}
 use Rattle.async_window.specs.declared.request.Owner.{Owner}
 use Rattle.async_window.specs.declared.request.Request.{Request}
 use Rattle.async_window.specs.Mailbox.{IsLeastWith, IsMail, Mail, Offers, mail_offer, without_first}
-use Rattle.node_model.specs.Node.{NodeState, Opened, after_hearing, entries_of, identifiers_of, is_due, learnt, least_where, node_offer, offer_in}
+use Rattle.slot_sets.specs.Least.{least_where}
+use Rattle.node_model.specs.Node.{NodeState, Opened, after_hearing, entries_of, identifiers_of, is_due, learnt, node_offer, offer_in}
 use Rattle.async_window.specs.Owners.{AreOwners}
 use Rattle.node_model.specs.Own.{AreApart, Stands}
 use Rattle.node_model.proofs.OtherFrames.{after_hearing-keeps}
 use Rattle.node_model.proofs.OwnEntries.{Contains-from_filter, Contains-from_map, passes-from_filter, instance-of_all}
-use Rattle.node_model.proofs.LeastSlot.{IsLeastBelow, least_where-least}
+use Rattle.slot_sets.proofs.Shared.{IsLeastBelow, least_where-least}
 use Rattle.node_model.proofs.OwnPart.{identifiers-after, value-of}
 
 -- each identifier has one owner

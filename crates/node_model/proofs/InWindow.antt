@@ -14,13 +14,14 @@ use Rattle.requirement_table.specs.Slots.{contains_slot, most_slots}
 use Rattle.requirement_table.specs.Instance.{bytes_of, instance_of}
 use Rattle.requirement_table.specs.Table.{instance_in, sendable}
 use Rattle.requirement_table.proofs.Shared.{contains_slot-set_of}
-use Rattle.node_model.specs.Node.{IsNode, NodeState, Opened, after_hearing, is_due, is_own_slot, least_where, node_frame, node_offer, offer_in, with_heard}
+use Rattle.slot_sets.specs.Least.{least_where}
+use Rattle.node_model.specs.Node.{IsNode, NodeState, Opened, after_hearing, is_due, is_own_slot, node_frame, node_offer, offer_in, with_heard}
 use Rattle.node_model.specs.Window.{IsInWindow, due_frame, is_due_slot}
 use Rattle.node_model.proofs.OtherFrames.{other-frame}
 use Rattle.node_model.proofs.HeardSlots.{hear-one, marked}
 use Rattle.node_model.proofs.Known.{own-slot}
-use Rattle.node_model.proofs.Least.{least_where-same}
-use Rattle.node_model.proofs.LeastSlot.{IsLeastBelow, least_where-least}
+use Rattle.slot_sets.proofs.Shared.{least_where-same}
+use Rattle.slot_sets.proofs.Shared.{IsLeastBelow, least_where-least}
 use Rattle.node_model.proofs.Offers.{offer-late}
 
 -- a time of the window lies in the open cycle

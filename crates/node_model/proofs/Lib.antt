@@ -1,13 +1,10 @@
 mod OwnEntries
-mod LeastSlot
 mod Standing
 mod OwnPart
 mod HeardRequest
 mod Hearing
 mod Apart
 mod StaysNode
-mod Least
-mod LeastBit
 mod Ready
 mod Sendable
 pub mod Shared
@@ -15,7 +12,6 @@ mod Known
 mod Mail
 mod Offers
 mod LookAhead
-mod WindowSets
 mod HeardSlots
 mod DueBehind
 mod InWindow

@@ -15,10 +15,11 @@ use Rattle.can_frame.specs.DataFrame.{DataFrame}
 use Rattle.async_window.specs.declared.request.Request.{Request}
 use Rattle.async_window.specs.Mailbox.{IsMail, IsNextInCycle, mail_offer, unsent_of}
 use Rattle.async_window.proofs.Shared.{IsLeastWith-same}
-use Rattle.node_model.specs.Node.{IsNextOffer, IsNode, NodeState, Opened, is_due, least_where, node_frame, node_offer, offer_in}
+use Rattle.slot_sets.specs.Least.{least_where}
+use Rattle.node_model.specs.Node.{IsNextOffer, IsNode, NodeState, Opened, is_due, node_frame, node_offer, offer_in}
 use Rattle.node_model.specs.Kept.{IsOpenAt, KnowsDue, opened_of, sends_from}
 use Rattle.node_model.specs.declared.cycle.Open.{Open}
-use Rattle.node_model.proofs.Least.{least_where-same, least_where-sound}
+use Rattle.slot_sets.proofs.Shared.{least_where-same, least_where-sound}
 use Rattle.node_model.proofs.Mail.{offered-early, offered-asynchronous, offered-request}
 
 -- the same cycle is open at another time in it

@@ -22,10 +22,11 @@ use Rattle.requirement_table.specs.Opening.{Opening, width_of}
 use Rattle.trigger_codec.specs.declared.message.Trigger.{Trigger}
 use Rattle.node_model.specs.Opening.{start_of, window_start}
 use Rattle.node_model.specs.Offered.{IsUnsent}
-use Rattle.node_model.specs.Node.{IsNode, NodeState, entries_of, identifiers_of, is_due, least_where, node_bytes, node_frame, node_offer}
+use Rattle.slot_sets.specs.Least.{least_where}
+use Rattle.node_model.specs.Node.{IsNode, NodeState, entries_of, identifiers_of, is_due, node_bytes, node_frame, node_offer}
 use Rattle.node_model.specs.Own.{OffersLeastOwn, OffersOwn, StandsIn, was_sent}
 use Rattle.node_model.proofs.OwnEntries.{instance-of_all, instance-of_own, sent_from}
-use Rattle.node_model.proofs.LeastSlot.{IsLeastBelow, least_where-least}
+use Rattle.slot_sets.proofs.Shared.{IsLeastBelow, least_where-least}
 use Rattle.node_model.proofs.Standing.{standing, opened_for, standing_in-is}
 
 -- some frames, of which one has the least identifier

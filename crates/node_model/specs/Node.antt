@@ -1,5 +1,5 @@
 -- One node: what it knows, what it does with a frame that it hears, and what it offers. Times are bit times.
-use Rattle.std.specs.Prelude.{◌≡◌, ◌≢◌, ℕ, zero, suc, ◌+◌, ◌-◌, ◌/◌, ◌%◌, ◌^◌, ◌<◌, ◌≤◌, ◌==◌, ◌&&◌, ◌||◌, not}
+use Rattle.std.specs.Prelude.{◌≡◌, ◌≢◌, ℕ, ◌+◌, ◌-◌, ◌/◌, ◌%◌, ◌^◌, ◌<◌, ◌≤◌, ◌==◌, ◌&&◌, ◌||◌, not}
 use Rattle.std.specs.Prelude.{Bool, nat_le, nat_eq, if◌then◌else◌, List, [], map, filter, min, Option}
 use Rattle.std.specs.Prelude.{Some, None, IfSome, IsSome, is_some, option_map, slice_get}
 use Rattle.std.specs.Option.{option_map_or}
@@ -12,6 +12,7 @@ use Rattle.requirement_table.specs.declared.entries.Placed.{Placed}
 use Rattle.requirement_table.specs.Slots.{contains_slot, set_of, most_slots}
 use Rattle.requirement_table.specs.Instance.{bytes_of}
 use Rattle.requirement_table.specs.Table.{instance_in, IsWellPlaced}
+use Rattle.slot_sets.specs.Least.{least_where}
 use Rattle.trigger_codec.specs.declared.message.Trigger.{Trigger}
 use Rattle.trigger_codec.specs.declared.message.Second.{Second}
 use Rattle.trigger_codec.specs.Bytes.{flags_of_both, second_of, trigger_of}
@@ -168,11 +169,6 @@ abbrev pub after_hearing : NodeState → TimedFrame → NodeState
 after_hearing node sent = let counting = record node { frames = counted node.frames } in after_frame counting sent.frame
 
 -- What a node offers
-
--- the least slot below `n` of which `p` holds
-unfoldable pub least_where : ℕ → (ℕ → Bool) → Option ℕ
-least_where zero p = None
-least_where (suc n) p = if is_some (least_where n p) then least_where n p else (if p n then Some n else None)
 
 -- whether the node is to send the slot in the open cycle: it is flagged, the node has an instance that may be sent in
 -- the cycle, and has not heard it

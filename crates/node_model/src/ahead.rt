@@ -54,7 +54,7 @@ impl Ahead {
     {
         match self.found_at(at) {
             Some(id) => Some(Some(id)),
-            None => { if self.is_quiet(at) { Some(None) } else { None } }
+            None => self.is_quiet(at).then_some(None),
         }
     }
 
@@ -62,16 +62,8 @@ impl Ahead {
     fn found_at(&self, at: u64) -> Option<u16>
         ensures found { IfSome result (IsOfferedAt self.now at) }
     {
-        match self.next {
-            Some(next) => {
-                if next.from <= at && at <= next.offer.until {
-                    Some(next.offer.id)
-                } else {
-                    None
-                }
-            }
-            None => None,
-        }
+        let next = self.next?;
+        (next.from <= at && at <= next.offer.until).then_some(next.offer.id)
     }
 }
 

@@ -7,13 +7,15 @@ ghost use Rattle.profile.specs.Limits.{first_identifier, times_end};
 ghost use Rattle.requirement_table.specs.declared.entries.Placed.{Placed};
 ghost use Rattle.requirement_table.specs.Slots.{contains_slot, most_slots};
 ghost use Rattle.requirement_table.specs.Table.{IsWellPlaced};
-ghost use Rattle.node_model.specs.Node.{least_where, opened_by, with_heard};
+ghost use Rattle.slot_sets.specs.Least.{least_where};
+ghost use Rattle.node_model.specs.Node.{opened_by, with_heard};
 ghost use Rattle.node_model.specs.Kept.{AreReady, KnowsDue, opened_of, sends_from};
 
 use crate::entries::{ReadySlots, sendable_slots};
 use async_window::Offer;
 use profile::FIRST_IDENTIFIER;
 use requirement_table::{MOST_SLOTS, Mask, Placed};
+use slot_sets::{common, difference, least_slot};
 use trigger_codec::Trigger;
 
 /// A cycle that is open for a node.
@@ -158,7 +160,7 @@ fn unheard(flags: Mask, sendable: Mask, heard: Mask) -> Mask
     ensures slots { (slot : ℕ) → slot < most_slots → contains_slot result slot
         ≡ (contains_slot flags slot && (contains_slot sendable slot && not (contains_slot heard slot))) }
 {
-    Mask::from_bits(flags.bits() & sendable.bits() & !heard.bits())
+    difference(common(flags, sendable), heard)
 }
 
 /// The slot of an identifier, where it is one of a set.
@@ -173,21 +175,4 @@ pub fn slot_among(among: Mask, id: u16) -> Option<u8>
     }
     let slot = (id - FIRST_IDENTIFIER) as u8;
     among.has(slot).then_some(slot)
-}
-
-/// The least slot of a set.
-pub fn least_slot(among: Mask) -> Option<u8>
-    ensures least { result ≡ least_where most_slots (contains_slot among) }
-{
-    let bits = among.bits();
-    (bits != 0).then_some(bits.trailing_zeros() as u8)
-}
-
-/// A set of slots without the least one of them.
-pub fn without_least(among: Mask) -> Mask
-    ensures slots { (least : ℕ) → least_where most_slots (contains_slot among) ≡ Some least
-        → (slot : ℕ) → contains_slot result slot ≡ (not (nat_eq slot least) && contains_slot among slot) }
-{
-    let bits = among.bits();
-    Mask::from_bits(bits & bits.wrapping_sub(1))
 }

@@ -1,8 +1,8 @@
 //! What a node does in the synchronous window of the cycle that is open for it, for all its slots at once.
 
-ghost use Rattle.std.specs.Prelude.{◌≡◌, ℕ, ◌^◌, ◌<◌, ◌&&◌, ◌||◌, not, Some, IfSome, List, fold, option_map, true};
+ghost use Rattle.std.specs.Prelude.{◌≡◌, ◌^◌, ◌<◌, Some, IfSome, List, fold, option_map, true};
 ghost use Rattle.requirement_table.specs.declared.entries.Placed.{Placed};
-ghost use Rattle.requirement_table.specs.Slots.{contains_slot, set_of, most_slots};
+ghost use Rattle.requirement_table.specs.Slots.{most_slots};
 ghost use Rattle.node_model.specs.Node.{after_hearing};
 ghost use Rattle.node_model.specs.Kept.{KnowsDue, opened_of};
 ghost use Rattle.node_model.specs.Window.{AreOfSlots, due_frame, is_due_slot, with_all_heard};
@@ -12,6 +12,7 @@ use crate::node::Node;
 use can_frame::{Frame, TimedFrame};
 use profile::FIRST_IDENTIFIER;
 use requirement_table::Mask;
+use slot_sets::{common, difference, union};
 
 impl Node {
     /// The frame of a slot that the node is to send in the open cycle.
@@ -50,39 +51,7 @@ fn mark_slots(opened: &mut Option<Open>, heard: Mask)
 {
     if let Some(open_cycle) = opened {
         open_cycle.heard.known();
-        if heard.bits() != 0 {
-            mark_in(open_cycle, heard);
-        }
+        open_cycle.heard = union(open_cycle.heard, heard);
+        open_cycle.due = difference(open_cycle.due, heard);
     }
-}
-
-/// Marks slots in an open cycle.
-fn mark_in(open_cycle: &mut Open, heard: Mask)
-    ensures opened { opened_of open_cycle.new ≡ with_all_heard heard (opened_of open_cycle.old) }
-    ensures due { (entries : List Placed) → KnowsDue entries open_cycle.old → KnowsDue entries open_cycle.new }
-{
-    open_cycle.heard = both(open_cycle.heard, heard);
-    open_cycle.due = without_all(open_cycle.due, heard);
-}
-
-/// The slots that stand in two sets.
-fn common(one: Mask, other: Mask) -> Mask
-    ensures slots { (slot : ℕ) → contains_slot result slot ≡ (contains_slot one slot && contains_slot other slot) }
-{
-    Mask::from_bits(one.bits() & other.bits())
-}
-
-/// The slots of two sets together.
-pub(crate) fn both(one: Mask, other: Mask) -> Mask
-    ensures slots { result ≡ set_of most_slots (λ slot. contains_slot one slot || contains_slot other slot) }
-{
-    Mask::from_bits(one.bits() | other.bits())
-}
-
-/// The slots of a set that do not stand in another one.
-pub fn without_all(one: Mask, other: Mask) -> Mask
-    ensures slots { (slot : ℕ) → slot < most_slots
-        → contains_slot result slot ≡ (contains_slot one slot && not (contains_slot other slot)) }
-{
-    Mask::from_bits(one.bits() & !other.bits())
 }

@@ -1,6 +1,6 @@
 //! The entries of a node: which of a list are its own, their slots, and the instances that may be sent in a cycle.
 
-ghost use Rattle.std.specs.Prelude.{◌≡◌, ◌<◌, ◌≤◌, ℕ, true, [], Some, ◌+◌};
+ghost use Rattle.std.specs.Prelude.{◌≡◌, ◌<◌, ◌≤◌, ℕ, [], Some, ◌+◌};
 ghost use Rattle.std.specs.Prelude.{List, is_some, length, nat_eq, option_map, slice_get, vec_capacity, ◌&&◌, ◌||◌};
 ghost use Rattle.std.specs.Prelude.{IfOk, IfSome};
 ghost use Rattle.requirement_table.specs.Slots.{contains_slot, most_slots};

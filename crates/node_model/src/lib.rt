@@ -11,6 +11,4 @@ pub mod laws;
 mod node;
 mod slots_due;
 
-pub use cycle::{least_slot, without_least};
-pub use due::without_all;
 pub use node::{Node, last_bit};

@@ -1,6 +1,6 @@
 //! A node, which offers what follows from what it learnt and heard.
 
-ghost use Rattle.std.specs.Prelude.{◌≡◌, ◌≢◌, ◌↔◌, ℕ, ◌+◌, ◌-◌, ◌*◌, ◌/◌, ◌%◌, ◌^◌, ◌<◌, ◌≤◌, not, nat_eq, min, []};
+ghost use Rattle.std.specs.Prelude.{◌≡◌, ◌≢◌, ◌↔◌, ℕ, ◌+◌, ◌-◌, ◌*◌, ◌/◌, ◌%◌, ◌^◌, ◌<◌, ◌≤◌, not, nat_eq, min};
 ghost use Rattle.std.specs.Prelude.{All, AllPairs, IfOk, IfSome};
 ghost use Rattle.std.specs.Prelude.{IsSome, MatchOption, OnErr, OnOk, Some, None, false, true, length, option_map};
 ghost use Rattle.profile.specs.Limits.{arrivals_end, cycles_end, first_identifier, least_asynchronous, times_end};
@@ -422,20 +422,10 @@ impl Node {
     {
         match self.foreseen(at) {
             Some(offered) => offered,
-            None => self.offer_afresh(at),
-        }
-    }
-
-    /// The same with no use of a look ahead. It is seldom called, and no part of the loops that ask each node.
-    #[inline(never)]
-    fn offer_afresh(&self, at: u64) -> Option<u16>
-        requires time { at < times_end }
-        ensures offer { result ≡ node_offer self.now.state at }
-        ensures known { IsNode self.now.state }
-    {
-        match self.find_offer(at) {
-            Some(offer) => Some(offer.id),
-            None => None,
+            None => match self.find_offer(at) {
+                Some(offer) => Some(offer.id),
+                None => None,
+            },
         }
     }
 

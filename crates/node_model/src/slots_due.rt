@@ -4,10 +4,10 @@ ghost use Rattle.std.specs.Prelude.{◌≡◌, ℕ, ◌<◌, ◌||◌};
 ghost use Rattle.requirement_table.specs.Slots.{contains_slot, most_slots};
 ghost use Rattle.node_model.specs.Window.{frame_due, is_due_slot};
 
-use crate::due::both;
 use crate::node::Node;
 use can_frame::Frame;
 use requirement_table::Mask;
+use slot_sets::union;
 
 impl Node {
     /// A set of slots, with those that the node is to send in the open cycle.
@@ -16,7 +16,7 @@ impl Node {
             → contains_slot result slot ≡ (contains_slot others slot || is_due_slot self.now.state slot) }
     {
         match self.opened {
-            Some(open_cycle) => both(others, open_cycle.due),
+            Some(open_cycle) => union(others, open_cycle.due),
             None => others,
         }
     }

@@ -10,9 +10,9 @@ ghost use Rattle.plan_check.specs.Places.{AreCurrent, AreSlotsBelow, IsCurrent};
 ghost use Rattle.plan_check.specs.PlanKept.{goes_round};
 
 use crate::places::{Places, goes_round};
-use crate::sets::union;
 use crate::widths::Costs;
 use requirement_table::{Mask, Placed, cost};
+use slot_sets::union;
 
 /// The most cycles of a block.
 pub const BLOCK_CYCLES: u64 = 256;

@@ -17,9 +17,10 @@ use crate::blocks::{Block, LastBlock, block_of, cycles_of_blocks, renew};
 use crate::breach::Breach;
 use crate::certificate::Certificate;
 use crate::places::{goes_round, move_places, place_at, release_at, slots_of};
-use crate::sets::{common, difference, least, symmetric_difference, union};
+use crate::sets::{least, symmetric_difference};
 use crate::widths::{Costs, width};
 use requirement_table::{MOST_SLOTS, Mask, Placed};
+use slot_sets::{common, difference, union};
 
 /// Checks that a certificate keeps the placed entries for ever within a window of `w` bit times.
 ///

@@ -9,8 +9,8 @@ use Rattle.requirement_table.specs.Instance.{Instance, MaySend, worst, worst_of}
 use Rattle.requirement_table.specs.Slots.{contains_slot, most_slots, sum_where}
 use Rattle.requirement_table.specs.Table.{IsInRange, IsWellPlaced, free_from, instance_in, is_over, worst_in}
 use Rattle.requirement_table.proofs.Shared.{MaySend-from_instance, instance_in-found, instance_in-sound, instance_of-sent, sum_where-same}
-use Rattle.node_model.specs.Node.{least_where}
-use Rattle.node_model.proofs.Shared.{IsLeastBelow, least_where-least}
+use Rattle.slot_sets.specs.Least.{least_where}
+use Rattle.slot_sets.proofs.Shared.{IsLeastBelow, least_where-least}
 use Rattle.plan_report.specs.Current.{ArePassed, IsCurrent, IsTheOne}
 use Rattle.plan_report.specs.declared.current.Current.{Current}
 use Rattle.master_core.specs.declared.event.Event.{Event}

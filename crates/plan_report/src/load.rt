@@ -11,8 +11,8 @@ ghost use Rattle.plan_report.specs.Opened.{load_of, opened_width, opened_widths}
 use crate::current::Places;
 use crate::tally::{greater, lesser};
 use master_core::Event;
-use node_model::least_slot;
 use requirement_table::{Mask, Placed, cost};
+use slot_sets::least_slot;
 
 /// The least and the greatest of some widths, where there are any, and their sum, in bit times.
 #[derive(Clone, Copy, Debug)]

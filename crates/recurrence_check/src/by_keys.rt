@@ -20,8 +20,9 @@ use std::collections::BTreeMap;
 /// The key of a state. Its second number is called its place.
 type Key = (u128, u64);
 
-/// The places that the row has room for: as many as the longest period has cycles.
-const PLACES: u64 = 100_000;
+/// The places that the row has room for: as many as the longest period has cycles. Keys of later places stand in a map,
+/// and a walk passes no stretch of them.
+pub const PLACES: u64 = 100_000;
 
 /// Does what `lasso` does, for a walk whose states have keys, and takes time for at most about
 /// `horizon` look-ups in an ordered map. Where all places are below 100,000 and none

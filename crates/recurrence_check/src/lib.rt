@@ -8,7 +8,7 @@ mod compared;
 mod walk;
 mod walk_end;
 
-pub use by_keys::lasso_keyed;
+pub use by_keys::{PLACES, lasso_keyed};
 pub use compared::lasso;
 pub use walk::{Keyed, Stretch, Walk};
 pub use walk_end::{Repeat, WalkEnd};

@@ -1,12 +1,12 @@
 -- Sets of rows: one more, one less, and the first one.
-use Rattle.std.proofs.Common.{◌≡◌, ◌≢◌, ℕ, suc, ◌+◌, ◌-◌, ◌*◌, ◌/◌, ◌%◌, ◌^◌, ◌<◌, ◌≤◌, Bool, true, false, not, ◌&&◌, ◌||◌, nat_eq, min, max, bit_and, bit_or, refl, sym, ◌∙◌, ap, arith, ⊎_elim}
+use Rattle.std.proofs.Common.{◌≡◌, ◌≢◌, ℕ, suc, ◌+◌, ◌-◌, ◌*◌, ◌/◌, ◌%◌, ◌^◌, ◌<◌, ◌≤◌, Bool, true, false, not, ◌&&◌, ◌||◌, nat_eq, bit_and, bit_or, refl, sym, ◌∙◌, ap, arith, ⊎_elim}
 use Rattle.std.specs.Int.{bit_at, bit_not, trailing_zeros, w128}
 use Rattle.std.proofs.Math.Nat.{add-mul, mod-lt}
 use Rattle.std.proofs.lemmas.Bool.{cases_eq, cases_lt, eq-eqb, eqb-true, eqb-false, ne_eqb}
-use Rattle.std.proofs.lemmas.Bool.Decides.{nat_tests}
 use Rattle.std.proofs.lemmas.Nat.{and_le_r, div-add-mod', one_shl, pow-add, pow_pos, and_mask}
-use Rattle.std.proofs.lemmas.Nat.Bits.{bit_at-lt, bit_at_lowest, bit_at-suc, bit_at-trailing_zeros, bit_at-zero, bit_at_above, bit_at_and, bit_at_not, bit_at_cat_low, bit_at_cat_high, bit_at_or, same_from_bits_below, shr_and_one}
+use Rattle.std.proofs.lemmas.Nat.Bits.{bit_at-lt, bit_at_lowest, bit_at-suc, bit_at-trailing_zeros, bit_at-zero, bit_at_cat_low, bit_at_cat_high, same_from_bits_below, shr_and_one}
 use Rattle.requirement_table.proofs.Shared.{contains_slot-with, contains_slot-without}
+use Rattle.slot_sets.proofs.Shared.{contains_slot-and}
 use Rattle.release_wheel.specs.Wheel.{has_row}
 use Rattle.planner_policies.proofs.Shared.{turned-eq}
 
@@ -24,20 +24,6 @@ pub has-without : (set row i : ℕ) → row < 128 → set < 2 ^ 128
     → has_row (bit_and set (bit_not w128 (1 * 2 ^ row % 2 ^ 128))) i ≡ (not (nat_eq row i) && has_row set i)
 has-without set row i known below =
     contains_slot-without set row i known below ∙ ap (λ b. not b && has_row set i) (turned-eq i row)
-
-bits-or : (a b : ℕ) → a < 2 → b < 2 → nat_eq (max a b) 1 ≡ (nat_eq a 1 || nat_eq b 1)
-bits-or a b small_a small_b = grind (arith, nat_tests)
-
-bits-and : (a b : ℕ) → a < 2 → b < 2 → nat_eq (min a b) 1 ≡ (nat_eq a 1 && nat_eq b 1)
-bits-and a b small_a small_b = grind (arith, nat_tests)
-
-pub has-or : (one other i : ℕ) → has_row (bit_or one other) i ≡ (has_row one i || has_row other i)
-has-or one other i =
-    ap (λ b. nat_eq b 1) (bit_at_or one other i) ∙ bits-or (bit_at one i) (bit_at other i) (bit_at-lt one i) (bit_at-lt other i)
-
-pub has-and : (one other i : ℕ) → has_row (bit_and one other) i ≡ (has_row one i && has_row other i)
-has-and one other i =
-    ap (λ b. nat_eq b 1) (bit_at_and one other i) ∙ bits-and (bit_at one i) (bit_at other i) (bit_at-lt one i) (bit_at-lt other i)
 
 bit-zero : (set i : ℕ) → has_row set i ≡ false → bit_at set i ≡ 0
 bit-zero set i none = let small = bit_at-lt set i in let no = eqb-false (bit_at set i) 1 none in omega arith
@@ -102,7 +88,7 @@ has-behind_first set row stands none i =
     let room = pow_pos row in
     let less : set - 1 ≡ 2 * h * 2 ^ row + (2 ^ row - 1) = ap (λ m. m - 1) first.is ∙ one-before h (2 ^ row) room in
     let low : 2 ^ row - 1 < 2 ^ row = omega arith in
-    has-and set (set - 1) i
+    contains_slot-and set (set - 1) i
     ∙ ⊎_elim
     (λ (before : i < row).
     let no = none i before in
@@ -143,23 +129,6 @@ not-empty set row stands =
 
 pub has-none : (row : ℕ) → has_row 0 row ≡ false
 has-none row = rw (bit_at-zero row) refl
-
--- what stands in one set and not in another
-pub has-and-not : (one other i : ℕ) → one < 2 ^ 128 → other < 2 ^ 128
-    → has_row (bit_and one (bit_not w128 other)) i ≡ (has_row one i && not (has_row other i))
-has-and-not one other i below_one below_other =
-    has-and one (bit_not w128 other) i
-    ∙ ⊎_elim
-    (λ (low : i < 128).
-    ap (λ b. has_row one i && b)
-    (ap (λ b. nat_eq b 1) (bit_at_not w128 other i below_other low) ∙ turned (bit_at other i) (bit_at-lt other i)))
-    (λ (high : 128 ≤ i).
-    let none = bit-none one i (bit_at_above one 128 i below_one high) in
-    rw none refl)
-    (cases_lt i 128)
-  where
-    turned : (b : ℕ) → b < 2 → nat_eq (1 - b) 1 ≡ not (nat_eq b 1)
-    turned b small = grind (arith, nat_tests)
 
 -- a row of a set without its first row is one of the others
 pub not-first : (set less row i : ℕ) → ((j : ℕ) → has_row less j ≡ (not (nat_eq row j) && has_row set j)) → has_row less i ≡ false

@@ -5,14 +5,14 @@
 //! an instance in each cycle from its first release on: such rows are one set, and stand at no place. Sets of rows are
 //! numbers, so a wheel turns for at most 128 rows. For more of them each cycle is planned plainly.
 
-ghost use Rattle.std.specs.Prelude.{◌≡◌, ◌≢◌, ℕ, ◌+◌, ◌%◌, ◌^◌, ◌<◌, ◌≤◌, Bool, true, false, not, ◌||◌, ◌&&◌};
+ghost use Rattle.std.specs.Prelude.{◌≡◌, ◌≢◌, ℕ, ◌+◌, ◌%◌, ◌^◌, ◌<◌, ◌≤◌, Bool, true, not, ◌||◌, ◌&&◌};
 ghost use Rattle.std.specs.Prelude.{get_or, if◌then◌else◌, is_none, length, min, nat_eq, IfSome, IfOk, IfErr, None};
 ghost use Rattle.profile.specs.Limits.{cycles_end};
 ghost use Rattle.planner_policies.specs.declared.Fill.TheVariants.{Prefix, Skip};
 ghost use Rattle.planner_policies.specs.declared.Policy.TheVariants.{Edf};
 ghost use Rattle.planner_policies.specs.Due.{IsPlanned, IsWholeLine, is_held_in};
 ghost use Rattle.planner_policies.specs.Plan.{IsMissIn, IsValid, planning_of};
-ghost use Rattle.requirement_table.specs.Instance.{Exists, MaySend, deadline_of, exists, worst};
+ghost use Rattle.requirement_table.specs.Instance.{MaySend, deadline_of, exists, worst};
 ghost use Rattle.requirement_table.specs.Slots.{contains_slot, most_slots};
 ghost use Rattle.requirement_table.specs.Table.{IsInRange, IsWellPlaced};
 ghost use Rattle.release_wheel.specs.Passed.{IsPassed};
@@ -31,6 +31,7 @@ use planner_policies::{
 };
 use profile::CYCLES_END;
 use requirement_table::{Mask, Placed, cost, current_instance, exists};
+use slot_sets::{difference, union};
 use std::alloc::{AllocError, Global};
 
 /// The places of a wheel.
@@ -532,20 +533,6 @@ fn put_on(places: &mut Vec<u128>, place: usize, row: usize, wanted: bool)
     places[place] = with(places[place], row);
 }
 
-/// The slots of either set.
-fn joined(one: Mask, other: Mask) -> Mask
-    ensures slots { (s : ℕ) → contains_slot result s ≡ (contains_slot one s || contains_slot other s) }
-{
-    Mask::from_bits(one.bits() | other.bits())
-}
-
-/// The slots of one set that are not in the other.
-fn cut(one: Mask, other: Mask) -> Mask
-    ensures slots { (s : ℕ) → contains_slot result s ≡ (contains_slot one s && not (contains_slot other s)) }
-{
-    Mask::from_bits(one.bits() & !other.bits())
-}
-
 /// Plans all that is pending, which fits the window together.
 fn take_all(wheel: &mut Wheel, ranked: &Ranked, state: &PlanState, w: u32) -> CyclePlan
     requires cycle { wheel.old.cycle < cycles_end }
@@ -554,7 +541,7 @@ fn take_all(wheel: &mut Wheel, ranked: &Ranked, state: &PlanState, w: u32) -> Cy
     ensures planned { IsPlannedOn ranked.now w state.now.pending wheel.old wheel.new result.mask result.width }
 {
     let plan = CyclePlan {
-        mask: joined(wheel.slots, wheel.always_slots),
+        mask: union(wheel.slots, wheel.always_slots),
         width: wheel.cost + wheel.always_cost,
     };
     plan.mask.known();
@@ -621,7 +608,7 @@ fn take_some(wheel: &mut Wheel, ranked: &Ranked, state: &PlanState, w: u32) -> O
 {
     let took = take_due(wheel, ranked, state, w);
     let soonest = in_time(wheel, took.left)?;
-    let pending = cut(joined(wheel.slots, wheel.always_slots), took.mask);
+    let pending = difference(union(wheel.slots, wheel.always_slots), took.mask);
     pending.known();
     wheel.cycle += 1;
     wheel.quiet = 0;

@@ -1,6 +1,6 @@
 //! The run of a steps file on a bus, whose rows something hears while it goes on.
 
-ghost use Rattle.std.specs.Prelude.{◌≡◌, ◌+◌, ◌∷◌, ◌≤◌, ◌<◌, [], List, ℕ, OnOk, OnErr, IfOk, IfErr, is_some};
+ghost use Rattle.std.specs.Prelude.{◌≡◌, ◌+◌, ◌∷◌, ◌≤◌, ◌<◌, [], OnOk, OnErr, IfOk, IfErr, is_some};
 ghost use Rattle.std.specs.List.{flat_map};
 ghost use Rattle.profile.specs.Limits.{most_cycles};
 ghost use Rattle.can_frame.specs.declared.data_frame.TimedFrame.{TimedFrame};

@@ -1,6 +1,6 @@
 //! The audit of a log: of its rows, and of its text.
 
-ghost use Rattle.std.specs.Prelude.{◌≡◌, IfNone, IfOk, IfSome, List, MatchResult, ℕ};
+ghost use Rattle.std.specs.Prelude.{IfNone, IfOk, IfSome, List, MatchResult, ℕ};
 ghost use Rattle.async_window.specs.declared.request.Request.{Request};
 ghost use Rattle.requests_file.specs.RequestsFile.{AreLegal};
 ghost use Rattle.steps_file.specs.StepsFile.{AreLegalSteps};

@@ -1,6 +1,6 @@
 //! An audit row by row.
 
-ghost use Rattle.std.specs.Prelude.{◌≡◌, ◌<◌, ◌≤◌, ◌++◌, ◌∷◌, [], IfOk, List, OnOk, false, length, sum_by, true};
+ghost use Rattle.std.specs.Prelude.{◌≡◌, ◌<◌, [], IfOk, List, false, length, sum_by, true};
 ghost use Rattle.async_window.specs.declared.request.Request.{Request};
 ghost use Rattle.master_core.specs.History.{next_of};
 ghost use Rattle.requests_file.specs.RequestsFile.{AreLegal};
@@ -8,7 +8,6 @@ ghost use Rattle.steps_file.specs.StepsFile.{AreLegalSteps, count_of};
 ghost use Rattle.system_file.specs.SystemFile.{IsSystem};
 ghost use Rattle.system_file.specs.declared.system.System.{System};
 ghost use Rattle.log_reader.specs.declared.row.LogRow.{LogRow};
-ghost use Rattle.trace_audit.specs.Audit.{CanStand};
 ghost use Rattle.trace_audit.specs.Auditing.{AnswersAll, CanAudit, IsAuditing, Takes, is_end};
 
 use crate::event_rows::is_at;

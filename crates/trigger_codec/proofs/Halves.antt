@@ -1,12 +1,12 @@
 -- The two parts of a set of slots, as what the first trigger frame flags and what the second one flags.
-use Rattle.std.proofs.Common.{◌≡◌, ℕ, ◌+◌, ◌-◌, ◌*◌, ◌/◌, ◌%◌, ◌^◌, ◌<◌, ◌≤◌, Bool, true, false, nat_eq, nat_le, nat_lt, ◌&&◌, ◌||◌, bit_or, max, sym, ap, ◌∙◌, arith, ⊎_elim}
+use Rattle.std.proofs.Common.{◌≡◌, ℕ, ◌+◌, ◌-◌, ◌*◌, ◌/◌, ◌%◌, ◌^◌, ◌<◌, ◌≤◌, Bool, true, false, nat_eq, nat_le, nat_lt, ◌&&◌, ◌||◌, sym, ap, ◌∙◌, arith, ⊎_elim}
 use Rattle.std.specs.Int.{bit_at, byte_at}
 use Rattle.std.proofs.Math.Nat.{div-div-eq-div-mul}
 use Rattle.std.proofs.lemmas.Bool.{cases_lt}
 use Rattle.std.proofs.lemmas.Bool.Decides.{nat_tests}
-use Rattle.std.proofs.lemmas.Nat.Bits.{bit_at_cat_low, bit_at_cat_high, bit_at-zero, bit_at-lt, bit_at_or}
-use Rattle.std.proofs.lemmas.Nat.{or_lt, pow-add, pow_pos}
-use Rattle.requirement_table.specs.Slots.{contains_slot, most_slots, set_of}
+use Rattle.std.proofs.lemmas.Nat.Bits.{bit_at_cat_low, bit_at_cat_high, bit_at-zero}
+use Rattle.std.proofs.lemmas.Nat.{pow-add, pow_pos}
+use Rattle.requirement_table.specs.Slots.{contains_slot}
 use Rattle.requirement_table.proofs.Shared.{contains_slot-set_of, set_of-contains_slot, set_of-from_slots, set_of-same}
 use Rattle.trigger_codec.specs.Bytes.{flags_of_both, low_slots, high_slots, trigger_bytes, second_bytes, flags_in, second_flags_in}
 use Rattle.trigger_codec.proofs.Flags.{bit_at-low, bit_at-shifted}
@@ -86,20 +86,3 @@ both-parts mask below =
 -- the first part is all, where all slots are below 40
 pub first-part : (mask : ℕ) → mask < 2 ^ 40 → low_slots mask ≡ mask
 first-part mask below = sym (set_of-contains_slot 40 mask below)
-
--- the slots of two sets together
-either-bits : (a b : ℕ) → a < 2 → b < 2 → nat_eq (max a b) 1 ≡ (nat_eq a 1 || nat_eq b 1)
-either-bits a b small few = grind (arith, nat_tests)
-
-contains_slot-either : (a b slot : ℕ) → contains_slot (bit_or a b) slot ≡ (contains_slot a slot || contains_slot b slot)
-contains_slot-either a b slot =
-    ap (λ bit. nat_eq bit 1) (bit_at_or a b slot) ∙ either-bits (bit_at a slot) (bit_at b slot) (bit_at-lt a slot) (bit_at-lt b slot)
-
-pub set_of-either : (result one other a b : ℕ) → result ≡ bit_or a b → a ≡ one → b ≡ other → a < 2 ^ most_slots → b < 2 ^ most_slots
-    → result ≡ set_of most_slots (λ slot. contains_slot one slot || contains_slot other slot)
-set_of-either result one other a b is a_is b_is low small =
-    is ∙ set_of-from_slots most_slots (bit_or a b) (λ slot. contains_slot one slot || contains_slot other slot) (or_lt most_slots a b low small)
-    (λ slot within.
-    contains_slot-either a b slot
-    ∙ ap (λ mask. contains_slot mask slot || contains_slot b slot) a_is
-    ∙ ap (λ mask. contains_slot one slot || contains_slot mask slot) b_is)

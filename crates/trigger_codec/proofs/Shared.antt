@@ -1,4 +1,4 @@
 -- What proofs of the crates above may take from here: lemmas about the definitions of this crate. What its code does is
 -- known by its clauses alone.
-pub use Rattle.trigger_codec.proofs.Halves.{both-parts, first-part, set_of-either}
+pub use Rattle.trigger_codec.proofs.Halves.{both-parts, first-part}
 pub use Rattle.trigger_codec.proofs.Told.{second_of-second, trigger_of-first}

@@ -13,6 +13,7 @@ use crate::trigger_fault::TriggerFault;
 use can_frame::Frame;
 use profile::LONGEST_WINDOW;
 use requirement_table::Mask;
+use slot_sets::union;
 
 /// The identifier of the first trigger frame of a cycle: the least there is, so it wins every
 /// arbitration.
@@ -146,7 +147,7 @@ pub fn decode_second(frame: &Frame) -> Result<Second, TriggerFault>
 pub fn flags_of_both(first: Mask, second: Mask) -> Mask
     ensures flags { result ≡ flags_of_both first second }
 {
-    Mask::from_bits(first.bits() | second.bits())
+    union(first, second)
 }
 
 /// Byte 0 of both trigger frames: the cycle modulo 256.

@@ -38,7 +38,7 @@ hear_slots-requires c =
         all = subst (All (λ one. (first_identifier ≤ one.frame.identifier) × (one.frame.identifier < first_identifier + most_slots))) (sym same)
             (due-ids nodes c.args.from c.args.until);
         each = λ slot. elim (cases_lt slot most_slots) [
-          | inl within ↦ sent-slots _ _ _ slot _ (c.without_all-sent.ensures.slots slot within) (all slot) (apart slot)
+          | inl within ↦ sent-slots _ _ _ slot _ (c.difference-sent.ensures.slots slot) (all slot) (apart slot)
           | inr beyond ↦ sent-none _ _ _ slot _ (contains_slot-above _ most_slots slot c.known-2.ensures.below beyond) (contains_slot-above _ most_slots slot c.known.ensures.below beyond) (all slot)
         ];
       };

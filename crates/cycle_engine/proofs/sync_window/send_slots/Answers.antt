@@ -3,7 +3,7 @@ use Rattle.std.proofs.lemmas.List.{drop_all, length-append}
 use Rattle.can_frame.specs.declared.data_frame.TimedFrame.{TimedFrame}
 use Rattle.cycle_engine.specs.Nodes.{states_of}
 use Rattle.cycle_engine.specs.SyncWindow.{back_to_back, by_slots, due_among, is_among}
-use Rattle.node_model.proofs.Shared.{without-less}
+use Rattle.slot_sets.proofs.Shared.{without-less}
 use Rattle.requirement_table.specs.Slots.{contains_slot}
 use Rattle.cycle_engine.proofs.Sent.{among-more, apart-more, due-identifier, left-before, left-more}
 use Rattle.cycle_engine.proofs.BySlots.{among-first, among-none, least-of, put-late, put-more}

@@ -10,7 +10,7 @@ use Rattle.plan_check.proofs.checking.check_cycle.Goals as goal
 all-held : (c : After-least-2) → NoSlot (unreleased_in c.args.released c.args.held c.args.mask)
 all-held c =
     none-same (contains_slot c.difference.result) (unreleased_in c.args.released c.args.held c.args.mask)
-    (λ slot known. c.difference.ensures.slots slot known
+    (λ slot known. c.difference.ensures.slots slot
     ∙ ap (λ waits. contains_slot c.args.mask slot && not waits) (c.union-waiting.ensures.slots slot))
     c.in_default.ensures.least
 
@@ -22,7 +22,7 @@ are-missed : (c : After-least-2) → (slot : ℕ) → slot < most_slots
     → contains_slot c.common.result slot ≡ missed_in c.args.released c.args.ends c.args.held c.args.mask slot
 are-missed c =
     ends-missed c.args.released c.args.ends c.args.held c.args.mask c.union-waiting.result c.difference-left.result
-    c.common.result c.union-waiting.ensures.slots c.difference-left.ensures.slots c.common.ensures.slots
+    c.common.result c.union-waiting.ensures.slots (λ slot _. c.difference-left.ensures.slots slot) c.common.ensures.slots
 
 pub returns-in-Some-least-clause-breach : goal.returns-in-Some-least-clause-breach
 returns-in-Some-least-clause-breach c =
@@ -45,5 +45,5 @@ returns-in-None-clause-good c =
 
 pub returns-in-None-clause-held : goal.returns-in-None-clause-held
 returns-in-None-clause-held c = λ slot known.
-    c.difference-left.ensures.slots slot known
+    c.difference-left.ensures.slots slot
     ∙ ap (λ waits. waits && not (contains_slot c.args.mask slot)) (c.union-waiting.ensures.slots slot)

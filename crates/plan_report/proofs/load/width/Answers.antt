@@ -1,7 +1,7 @@
 use Rattle.std.proofs.Common.{sym, arith}
 use Rattle.requirement_table.specs.Slots.{contains_slot}
 use Rattle.requirement_table.specs.Table.{worst_in}
-use Rattle.node_model.proofs.Shared.{without-less}
+use Rattle.slot_sets.proofs.Shared.{without-less}
 use Rattle.bus_trace.proofs.Shared.{width-le}
 use Rattle.plan_report.proofs.Widths.{least-in, sum-empty, sum-without}
 use Rattle.plan_report.proofs.load.width.Goals as goal

@@ -10,7 +10,7 @@ returns c =
     let slots = c.empty-wheel.result in
     record {
       planned = record {
-        planned = planned-all c.args.ranked.now pending c.args.w w c.requires.ready c.joined.result c.known.ensures.below c.joined.ensures.slots c.requires.fits
+        planned = planned-all c.args.ranked.now pending c.args.w w c.requires.ready c.union.result c.known.ensures.below c.union.ensures.slots c.requires.fits
             slots c.empty-wheel.ensures.number;
         next = refl;
         turned = turned-all (contains_slot pending) w slots c.quiet_until-wheel.result 18446744073709551615 c.requires.ready.released

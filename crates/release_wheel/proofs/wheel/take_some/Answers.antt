@@ -10,6 +10,6 @@ returns-clause-planned c =
     let result = c.take_due-took.result in
     let part = c.take_due-took.ensures.took in
     some-on c.args.ranked.now pending c.args.w w c.requires.ready part.line part.whole part.due result.left result.mask result.width
-    c.cut-pending.result part.due_is part.left_is part.mask_is part.width_is part.fits c.known.ensures.below
-    (λ slot. c.cut-pending.ensures.slots slot ∙ ap (λ b. b && not (contains_slot result.mask slot)) (c.joined.ensures.slots slot))
+    c.difference-pending.result part.due_is part.left_is part.mask_is part.width_is part.fits c.known.ensures.below
+    (λ slot. c.difference-pending.ensures.slots slot ∙ ap (λ b. b && not (contains_slot result.mask slot)) (c.union.ensures.slots slot))
     c.in_ok-soonest.soonest result.left_cost c.in_ok-soonest.ensures.in_time part.left_cost_is

@@ -13,4 +13,4 @@ returns-in-Some c =
     sym (ap (λ (v : NodeView). v.state.opened) c.self.view_is) ∙ ap (option_map opened_of) is in
     let knows = subst (λ (v : NodeView). KnowsDue v.state.entries o) c.self.view_is
     (subst (λ x. IfSome x (KnowsDue c.self.inside.entries.items)) is c.self.invariant.due) in
-    record { slots = with-due c.args.self.now.state o c.args.others c.both.result open_cycle knows c.both.ensures.slots }
+    record { slots = with-due c.args.self.now.state o c.args.others c.union.result open_cycle knows c.union.ensures.set }

@@ -1,0 +1,6 @@
+use Rattle.std.proofs.Common.{arith, ◌∙◌}
+use Rattle.slot_sets.proofs.LeastWhere.{least_where-word}
+use Rattle.slot_sets.proofs.sets.least_slot.Goals as goal
+
+pub returns : goal.returns
+returns c = record { least = c.then_some.ensures ∙ least_where-word 96 c.args.among c.bits-bits.result c.bits-bits.ensures.number (omega arith) (omega arith) (omega arith) }

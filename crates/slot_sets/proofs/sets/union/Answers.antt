@@ -1,0 +1,22 @@
+use Rattle.std.proofs.Common.{◌||◌, ap, ◌∙◌}
+use Rattle.std.proofs.lemmas.Nat.{or_lt}
+use Rattle.requirement_table.specs.Slots.{contains_slot, set_of, most_slots}
+use Rattle.slot_sets.proofs.Together.{contains_slot-or, set_of-or}
+use Rattle.slot_sets.proofs.sets.union.Goals as goal
+
+pub from_bits-requires : goal.from_bits-requires
+from_bits-requires c = or_lt most_slots c.bits.result c.bits-2.result c.bits.ensures.below c.bits-2.ensures.below
+
+pub returns : goal.returns
+returns c = record {
+  set =
+      c.from_bits.ensures.number
+      ∙ set_of-or c.bits.result c.bits-2.result c.bits.ensures.below c.bits-2.ensures.below
+      ∙ ap (λ set. set_of most_slots (λ slot. contains_slot set slot || contains_slot c.bits-2.result slot)) c.bits.ensures.number
+      ∙ ap (λ set. set_of most_slots (λ slot. contains_slot c.args.one slot || contains_slot set slot)) c.bits-2.ensures.number;
+  slots = λ slot.
+      ap (λ set. contains_slot set slot) c.from_bits.ensures.number
+      ∙ contains_slot-or c.bits.result c.bits-2.result slot
+      ∙ ap (λ set. contains_slot set slot || contains_slot c.bits-2.result slot) c.bits.ensures.number
+      ∙ ap (λ set. contains_slot c.args.one slot || contains_slot set slot) c.bits-2.ensures.number;
+}
