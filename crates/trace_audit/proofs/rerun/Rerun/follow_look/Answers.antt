@@ -15,11 +15,11 @@ returns-in_ok-rows-in-Some-Look-clause-on c = λ system requests trace next agai
     let old = c.args.self.now in
     let new = c.look.new.self in
     let event = Look c.args.caller (next_of old.master.history) in
-    let next : act_in c.args.caller c.args.steps.now c.take-place.result ≡ Some act.Look =
+    let found : act_in c.args.caller c.args.steps.now c.take-place.result ≡ Some act.Look =
     sym c.in-Some-Look.ensures.act ∙ ap Some c.in-Some-Look.field-0-is in
     let taken : IsNextAct c.args.steps.now old.master.history c.args.caller act.Look =
-    sym (c.take-place.ensures.act old.master.history c.requires.ahead) ∙ next in
-    let ahead = c.take-place.ensures.ahead old.master.history event c.requires.ahead (ap is_some next) (λ caller. refl) in
+    sym (c.take-place.ensures.act old.master.history c.requires.ahead) ∙ found in
+    let ahead = c.take-place.ensures.ahead old.master.history event c.requires.ahead (ap is_some found) (λ caller. refl) in
     let history = c.in_ok-look-in-Some-Look.ensures.event in
     called-on system c.args.steps.now requests trace old new (row.Look c.args.caller next) again
     (record { under_way = c.calls_between.ensures.under_way; ready = c.calls_between.ensures.ready })
