@@ -23,7 +23,7 @@ def faulty_line(text):
         return 0
     except ValueError as fault:
         line = re.search(r"line (\d+)", str(fault))
-        return int(line[1]) if line else len(text.splitlines()) + 1
+        return int(line[1]) if line else len(text.splitlines())
     return None
 
 
@@ -67,7 +67,7 @@ def right_row(text, line):
         return None
     for candidate in rows_meant(rows[line - 1].strip()):
         later = faulty_line("\n".join([*rows[:line - 1], candidate, *rows[line:]]))
-        if later is None or later > line:
+        if candidate != rows[line - 1].strip() and (later is None or later > line):
             return candidate
     return None
 
