@@ -85,9 +85,10 @@ class Reader:
         word = self.known.value("GenMsgSendType", head.number)
         sending = Sending(True, False, False) if word is None else sending_of(word)
         signals = [(head.number, name) for name in head.signals]
-        words = [(self.known.value("GenSigSendType", it), self.known.is_own("GenSigSendType", it)) for it in signals]
-        # Of a message that has a send type, only what a signal says by itself counts.
-        told = [sending_of(it) for it, is_own in words if it is not None and (is_own or sending == SILENT)]
+        # A message that has a send type does not become cyclic by a default.
+        told = [sending_of(self.known.value("GenSigSendType", it) or "none")._replace(
+            **({} if sending == SILENT or self.known.is_own("GenSigSendType", it) else {"is_cyclic": False}))
+                for it in signals]
         return Sending(*(any(it) for it in zip(sending, *told)))
 
     def cycle(self, head, sending):
