@@ -75,13 +75,18 @@ fn until(near: &Option<Near>) -> u64
     }
 }
 
-/// Takes no entries as near any more.
-pub fn forget(near: &mut Option<Near>)
-    ensures none { IsForgotten near.new }
+/// Goes to a valid state of all entries, without memory. Those that are near are looked for when a cycle is planned.
+pub fn go_to(near: &mut Option<Near>, wheel: &mut Wheel, ranked: &Ranked, state: &PlanState)
+    requires cycle { state.now.cycle ≤ cycles_end }
+    requires valid { IsValid ranked.now.placed state.now.cycle state.now.pending }
+    ensures standing { IsStanding ranked.now near.new wheel.new }
+    ensures cycle { wheel.new.cycle ≡ state.now.cycle }
+    ensures slots { wheel.new.slots ≡ state.now.pending }
 {
     if let Some(near) = near {
         near.until = 0;
     }
+    fill(wheel, ranked, state);
 }
 
 /// Plans the cycle of the wheel within a window of `w` bit times, by the entries that are near, and goes on to the next
@@ -153,6 +158,7 @@ fn come_near(near: &mut Option<Near>, wheel: &mut Wheel, ranked: &Ranked)
 fn refill(near: &mut Near, wheel: &mut Wheel, ranked: &Ranked)
     requires cycle { wheel.old.cycle ≤ cycles_end }
     requires valid { IsValid ranked.now.placed wheel.old.cycle wheel.old.slots }
+    requires reached { near.old.until ≤ wheel.old.cycle }
     ensures rows { HasRows ranked.now (Some near.new) wheel.new }
     ensures kept { IsKept (at_wheel (Some near.new) ranked.now wheel.new.cycle) wheel.new }
     ensures cycle { wheel.new.cycle ≡ wheel.old.cycle }
@@ -169,7 +175,6 @@ fn refill(near: &mut Near, wheel: &mut Wheel, ranked: &Ranked)
         near.until = until;
         fill(wheel, &near.ranked, &state);
     } else {
-        near.until = 0;
         fill(wheel, ranked, &state);
     }
 }

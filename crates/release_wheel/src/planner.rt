@@ -8,9 +8,9 @@ ghost use Rattle.planner_policies.specs.Plan.{HasNoMissIn, IsMissIn, IsValid, go
 ghost use Rattle.planner_policies.specs.Plan.{planning_of};
 ghost use Rattle.release_wheel.specs.Passed.{IsPassed};
 
-use crate::near::{Near, forget, near_of, pass_near, step_near};
+use crate::near::{Near, go_to, near_of, pass_near, step_near};
 use crate::row_set::MOST_ROWS;
-use crate::wheel::{Wheel, fill, wheel_of};
+use crate::wheel::{Wheel, wheel_of};
 use planner_policies::{Miss, PlanState, Ranked};
 use requirement_table::Mask;
 use requirement_table::laws::entries_that_are_over;
@@ -140,8 +140,7 @@ impl Planner {
           pending = state.now.pending;
         } }
     {
-        forget(&mut self.near);
-        fill(&mut self.wheel, &self.ranked, state);
+        go_to(&mut self.near, &mut self.wheel, &self.ranked, state);
     }
 
     /// Drops the entries that are over by `cycle`, in place and without memory. That cycle is not after the one that is
@@ -162,7 +161,6 @@ impl Planner {
         if self.ranked.rows().len() <= MOST_ROWS {
             self.near = None;
         }
-        forget(&mut self.near);
-        fill(&mut self.wheel, &self.ranked, &state);
+        go_to(&mut self.near, &mut self.wheel, &self.ranked, &state);
     }
 }
