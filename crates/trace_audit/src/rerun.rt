@@ -73,18 +73,19 @@ impl Rerun {
         requires requests { AreLegal system.now.owners requests.now }
         ensures again { IfOk result (IsAgain system.now requests.now []) }
         ensures empty { IfOk result (λ rerun. rerun.master.history ≡ []) }
-        ensures ahead { IfOk result (λ rerun. IsAhead steps.now [] rerun.ahead) }
+        ensures ahead { IfOk result (λ rerun. IsAhead steps.now rerun.master.history rerun.ahead) }
     {
         beginning();
         requests_of_owners();
         let nodes = fresh_nodes(alloc, system, requests)?;
         let master = Master::new(alloc, system.rules)?;
         let states = States::of(alloc, master.state())?;
+        let ahead = Ahead::of(steps);
         Ok(Rerun {
             master,
             nodes,
             states,
-            ahead: Ahead::of(steps),
+            ahead,
         })
     }
 

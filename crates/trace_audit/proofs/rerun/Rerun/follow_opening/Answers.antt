@@ -21,7 +21,7 @@ returns-clause-on c = λ system requests trace cycle mask l again.
     let history = c.args.self.now.master.history in
     let next = c.next.ensures.next in
     let sum = c.requires.ahead.cycles in
-    let test = c.if-next-ahead.false in
+    let test = c.if-next-self.false in
     let few : next_of history < sum_by count_of c.args.steps.now = grind (arith, nat_tests) in
     let rows = c.in_ok-rows.ensures.rows (Open o.cycle o.mask) (record { before = history; is = o.history }) in
     opened-on system c.args.steps.now requests trace c.args.self.now c.open.new.self (row.Open cycle mask l)
