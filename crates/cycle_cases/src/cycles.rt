@@ -9,7 +9,7 @@ use crate::layouts::layout;
 use crate::requests::{are_in_order, requests};
 use async_window::{Owner, Request};
 use can_frame::TimedFrame;
-use case_lines::{Fault, Table, length, push_behind, small, text_of_trace};
+use cases::{Fault, Table, fields_of, length, push_behind, small, text_of_trace};
 use cycle_engine::{Nodes, Segment, run_cycle, run_cycle_in};
 use cycle_layout::Layout;
 use requirement_table::{Mask, Order, Placed, PlacedList, released_in, well_placed};
@@ -40,8 +40,9 @@ impl Table for Cycles {
 
     ghost IsReady = { λ _. ⊤ };
 
-    fn answer(&mut self, alloc: Global, fields: &[&str]) -> Result<String, Fault> {
-        match fields {
+    fn answer(&mut self, alloc: Global, given: &str) -> Result<String, Fault> {
+        let fields = fields_of(alloc, given)?;
+        match fields.as_slice() {
             ["layout", cycle, turnaround, window] => {
                 self.renew(alloc, layout(cycle, turnaround, window, 40)?)
             }

@@ -14,7 +14,7 @@ mod requests;
 mod triggers;
 mod values;
 
-use case_lines::show;
+use cases::show;
 use cycles::Cycles;
 use layouts::Layouts;
 use mailboxes::Mail;
@@ -23,9 +23,10 @@ use std::io;
 use triggers::Triggers;
 
 fn main(rt: HostRuntime) -> io::Result<()> {
-    show(&rt, "layouts.txt", Layouts)?;
-    show(&rt, "triggers.txt", Triggers)?;
-    show(&rt, "mailboxes.txt", Mail::new())?;
-    show(&rt, "one_node.txt", OneNode::new())?;
-    show(&rt, "cycles.txt", Cycles::new(rt.alloc()))
+    show(&rt, "layouts", Layouts)?;
+    show(&rt, "triggers", Triggers)?;
+    show(&rt, "mailboxes", Mail::new())?;
+    show(&rt, "one_node", OneNode::new())?;
+    show(&rt, "cycles", Cycles::new(rt.alloc()))?;
+    Ok(())
 }
