@@ -107,7 +107,7 @@ fn are_owned(requests: &[Request]) -> bool
 }
 
 /// The list, where it is to be learnt.
-fn list_if(alloc: Global, placed: &[Placed], wanted: bool) -> Result<Option<PlacedList>, Fault>
+pub fn list_if(alloc: Global, placed: &[Placed], wanted: bool) -> Result<Option<PlacedList>, Fault>
     requires well_placed { IsWellPlaced placed.now }
     ensures well_placed { IfOk result (λ list. IfSome list IsWellPlaced) }
     ensures same { IfOk result (λ list. IfSome list (λ some. some ≡ placed.now)) }
@@ -120,7 +120,7 @@ fn list_if(alloc: Global, placed: &[Placed], wanted: bool) -> Result<Option<Plac
 }
 
 /// Whether the slots of a set are below a layout's number of slots.
-fn fits(mask: Mask, layout: &Layout) -> bool
+pub fn fits(mask: Mask, layout: &Layout) -> bool
     ensures slots { result ≡ true → mask < 2 ^ layout.now.slots }
 {
     mask.known();

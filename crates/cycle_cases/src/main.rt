@@ -10,6 +10,7 @@ mod entries;
 mod layouts;
 mod mailboxes;
 mod one_node;
+mod polled;
 mod requests;
 mod triggers;
 mod values;
@@ -19,6 +20,7 @@ use cycles::Cycles;
 use layouts::Layouts;
 use mailboxes::Mail;
 use one_node::OneNode;
+use polled::Polled;
 use std::io;
 use triggers::Triggers;
 
@@ -28,5 +30,6 @@ fn main(rt: HostRuntime) -> io::Result<()> {
     show(&rt, "mailboxes", Mail::new())?;
     show(&rt, "one_node", OneNode::new())?;
     show(&rt, "cycles", Cycles::new(rt.alloc()))?;
+    show(&rt, "polled", Polled)?;
     Ok(())
 }
