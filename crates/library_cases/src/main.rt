@@ -1,6 +1,6 @@
-//! Runs the cases of the libraries below the commands. They are about files, sinks, streams, values that a reader makes,
-//! rows that are read back or audited, the turn lock, the shared master, and tables of cases. The program prints one line
-//! for each table: `ok NAME:` and how many cases it has, or `FAILED NAME:` and the first case that fails.
+//! Runs the cases of the libraries below the commands. They are about files, sinks, streams, values that a reader
+//! makes, rows that are read back or audited, the turn lock, and the shared master. The program prints one line for
+//! each table: `ok NAME:` and how many cases it has, or `FAILED NAME:` and the first case that fails.
 //!
 //! A table is a file of cases, which were worked out by hand; what it tells is the same for every schedule of its
 //! threads. With no words the program takes each table of the folder that it runs in. With words, each of them is the
@@ -14,7 +14,6 @@ mod locks;
 mod logs;
 mod marks;
 mod masters;
-mod nested;
 mod shelves;
 mod sinks;
 mod streams;

@@ -1,6 +1,6 @@
 //! The tables, and what each of them asks.
 
-use crate::{audits, inputs, locks, logs, masters, nested, shelves, sinks, streams};
+use crate::{audits, inputs, locks, logs, masters, shelves, sinks, streams};
 use cases::{Fault, Table, show};
 use std::alloc::{AllocError, Global};
 use std::io;
@@ -10,8 +10,6 @@ use std::thread::Threads;
 /// What is asked in the cases of a table.
 #[derive(Clone, Copy)]
 enum Topic {
-    /// The cases of a table are compared.
-    Tables,
     /// Files are fetched from memory.
     MemoryShelf,
     /// Files of the system are fetched.
@@ -47,8 +45,7 @@ enum Topic {
 }
 
 /// The tables, each with the name of its file.
-const TABLES: [(&str, Topic); 17] = [
-    ("tables", Topic::Tables),
+const TABLES: [(&str, Topic); 16] = [
     ("memory_shelf", Topic::MemoryShelf),
     ("file_shelf", Topic::FileShelf),
     ("memory_sink", Topic::MemorySink),
@@ -85,7 +82,6 @@ fn told<T: Threads + Wait + Sync>(
 ) -> io::Result<String> {
     let alloc = rt.alloc();
     match topic {
-        Topic::Tables => nested::told(alloc, given),
         Topic::MemoryShelf => Ok(shelves::fetched_from_memory(alloc, given)?),
         Topic::FileShelf => Ok(shelves::fetched_from_files(rt, given)?),
         Topic::MemorySink => Ok(sinks::put_to_memory(alloc, given)?),
