@@ -1,11 +1,7 @@
 //! Cases of the crates that make up a cycle on the bus, as tables of text: what is called, and what it is to answer. For
-//! each table one line is printed.
-//!
-//! The last run of `cycles.txt` is that of a plain program, not in this repository, that walks bit time by bit time. All
-//! other values were worked out by hand.
+//! each table one line is printed. All values were worked out by hand.
 #![tactic(auto)]
 
-mod cycles;
 mod entries;
 mod layouts;
 mod mailboxes;
@@ -16,7 +12,6 @@ mod triggers;
 mod values;
 
 use cases::show;
-use cycles::Cycles;
 use layouts::Layouts;
 use mailboxes::Mail;
 use one_node::OneNode;
@@ -29,7 +24,6 @@ fn main(rt: HostRuntime) -> io::Result<()> {
     show(&rt, "triggers", Triggers)?;
     show(&rt, "mailboxes", Mail::new())?;
     show(&rt, "one_node", OneNode::new())?;
-    show(&rt, "cycles", Cycles::new(rt.alloc()))?;
     show(&rt, "polled", Polled)?;
     Ok(())
 }

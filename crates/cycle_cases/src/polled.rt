@@ -1,15 +1,14 @@
 //! Runs of a bus with one node and one polled slot.
 
-ghost use Rattle.std.specs.Prelude.{◌≡◌, ◌+◌, ◌^◌, ◌<◌, ◌≤◌, All, OnOk};
+ghost use Rattle.std.specs.Prelude.{◌≡◌, ◌+◌, ◌^◌, ◌<◌, ◌≤◌, true, All, IfOk, IfSome, OnOk};
 ghost use Rattle.requirement_table.specs.Table.{IsWellPlaced};
 ghost use Rattle.sporadic_poll.specs.PolledNodes.{AreNext};
 
-use crate::cycles::{fits, list_if};
 use can_frame::TimedFrame;
 use cases::{Fault, Table, fields_of, small};
 use cycle_layout::Layout;
 use profile::FIRST_IDENTIFIER;
-use requirement_table::{Entry, Mask, Order, Placed, released_in, well_placed};
+use requirement_table::{Entry, Mask, Order, Placed, PlacedList, released_in, well_placed};
 use sporadic_poll::{PolledNodes, Stream, read_streams, run_polled};
 use std::alloc::Global;
 
@@ -55,6 +54,25 @@ impl Table for Polled {
             }
             _ => Err(Fault::Unread),
         }
+    }
+}
+
+/// Whether the slots of a set are slots of the bus.
+fn fits(mask: Mask) -> bool
+    ensures slots { result ≡ true → mask < 2 ^ 40 }
+{
+    mask.bits() < 1 << 40
+}
+
+/// The list, where it is to be learnt.
+fn list_if(alloc: Global, placed: &[Placed], wanted: bool) -> Result<Option<PlacedList>, Fault>
+    requires well_placed { IsWellPlaced placed.now }
+    ensures well_placed { IfOk result (λ list. IfSome list IsWellPlaced) }
+{
+    if wanted {
+        Ok(Some(PlacedList::of(Vec::from_slice(alloc, placed)?)))
+    } else {
+        Ok(None)
     }
 }
 
@@ -127,7 +145,7 @@ fn run(alloc: Global, streams: &[Stream], entry: Entry, count: u8) -> Result<Str
     let mut nodes = PolledNodes::new(alloc, layout, 1, streams)?;
     for cycle in 0..u64::from(count) {
         let mask = released_in(&placed, cycle);
-        if !fits(mask, &layout) {
+        if !fits(mask) {
             return Err(Fault::Unread);
         }
         let frames = one_cycle(alloc, &mut nodes, &placed, mask, cycle, entry.length)?;
