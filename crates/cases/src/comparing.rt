@@ -1,5 +1,8 @@
 //! A table, and what its cases answer.
 
+ghost use Rattle.std.specs.Prelude.{ℕ, IfOk, IsSome};
+ghost use Rattle.cases.specs.Remarks.{IsNoCase};
+
 use crate::fields::Fault;
 use crate::reading::{Case, Read, Reader};
 use std::alloc::{AllocError, Global};
@@ -62,7 +65,7 @@ pub fn compared<T: Table>(
     Ok(format!(in alloc; "ok {name}: {cases} cases")?)
 }
 
-/// Why what was read fails, where it does. A case that passes is counted.
+/// Why what was read fails, where it does: what is no case always does. A case that passes is counted.
 fn failure<T: Table>(
     alloc: Global,
     read: &Read,
@@ -71,6 +74,7 @@ fn failure<T: Table>(
 ) -> io::Result<Option<String>>
     requires ready { T.IsReady table.old }
     ensures ready { T.IsReady table.new }
+    ensures fails { IfOk result (λ failure. (line : ℕ) → IsNoCase line read.now → IsSome failure) }
 {
     match read {
         Read::Nothing => Ok(None),

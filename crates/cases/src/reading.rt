@@ -1,5 +1,8 @@
 //! Reading the cases of a table, line by line.
 
+ghost use Rattle.std.specs.Prelude.{◌≡◌, true, None, IfOk};
+ghost use Rattle.cases.specs.Remarks.{IsRemark, IsNothing, IsPassedOver};
+
 use std::alloc::{AllocError, Global};
 
 /// The line before a case of several lines.
@@ -56,8 +59,10 @@ impl Reader {
         }
     }
 
-    /// Reads the next line, and tells what it ends.
-    pub fn next(&mut self, alloc: Global, line: &str) -> Result<Read, AllocError> {
+    /// Reads the next line, and tells what it ends. Outside of a case of several lines nothing but a remark is passed over.
+    pub fn next(&mut self, alloc: Global, line: &str) -> Result<Read, AllocError>
+        ensures passed { IfOk result (λ read. IsNothing read → self.old.block ≡ None → IsPassedOver line.now) }
+    {
         self.lines = self.lines.saturating_add(1);
         if line == FENCE {
             let read = self.end();
@@ -74,8 +79,10 @@ impl Reader {
         }
     }
 
-    /// What the end of the table ends.
-    pub fn end(&mut self) -> Read {
+    /// What the end of the table ends. No case of several lines is passed over.
+    pub fn end(&mut self) -> Read
+        ensures passed { IsNothing result → self.old.block ≡ None }
+    {
         let Some(
             Block {
                 line,
@@ -118,9 +125,21 @@ fn put_line(text: &mut String, line: &str) -> Result<(), AllocError> {
     Ok(())
 }
 
-/// What a line outside of a case of several lines is: a case, or a remark, which is empty or begins with `#`.
-fn one_line(alloc: Global, number: u64, line: &str) -> Result<Read, AllocError> {
-    if line.is_empty() || line.starts_with('#') {
+/// Whether a line outside of a case of several lines is a remark: it is empty, or begins with `#`.
+fn is_remark(line: &str) -> bool
+    ensures remark { result ≡ true → IsRemark line.now }
+{
+    match line.as_bytes() {
+        [] => true,
+        [first, ..] => *first == b'#',
+    }
+}
+
+/// What a line outside of a case of several lines is. Nothing but a remark is passed over.
+fn one_line(alloc: Global, number: u64, line: &str) -> Result<Read, AllocError>
+    ensures passed { IfOk result (λ read. IsNothing read → IsRemark line.now) }
+{
+    if is_remark(line) {
         return Ok(Read::Nothing);
     }
     let Some((given, wanted)) = line.split_once(EQUALS) else {
