@@ -35,7 +35,8 @@ class Bounds(namedtuple("Bounds", "name low high cycle")):
 
 
 def bounds_of(name, row, system, cycles):
-    """The bounds of a field of a steps file. The row has its fields by their names; so many cycles were opened above."""
+    """The bounds of a field of a steps file. The row has its fields by their names; so many cycles were opened
+    above."""
     horizon = 10_000 if system is None else system.horizon
     longest = min(horizon, 65_535)
     period = row.get("PERIOD", b"")
@@ -107,8 +108,9 @@ def why_no_number(field, bounds):
         return f"a sign is not taken. {meant(text.removeprefix('+'), bounds)}"
     if not re.fullmatch(r"[0-9]+", text):
         return f"digits alone are taken. {bounds.take()}"
-    if len(text) <= 20 and FIRST_SLOT <= int(text) and bounds.name == "SLOT" and bounds.has(int(text) - FIRST_SLOT):
-        return f"it is {int(text):#05x}, the identifier of slot {int(text) - FIRST_SLOT}. Write {int(text) - FIRST_SLOT}."
+    slot = int(text) - FIRST_SLOT if len(text) <= 20 else -1
+    if bounds.name == "SLOT" and slot >= 0 and bounds.has(slot):
+        return f"it is {int(text):#05x}, the identifier of slot {slot}. Write {slot}."
     return (f"it is above {bounds.high}. " if bounds.high is not None else "it is too great. ") + bounds.take()
 
 
