@@ -158,8 +158,11 @@ FILES = [
           "add,1,0,0,0,8,0,10000,1,0"),
     steps("a period in milliseconds", "add,1,0,0,0,8,0,10ms,10,0", "10 ms at 500 kbit/s are 10.", ADD),
     steps("a period of a spreadsheet", "add,1,0,0,0,8,0,1E+01,10,0", "Write 10.", ADD),
-    steps("a period above its range", "add,1,0,0,0,8,0,100000,10,0", "Take 1 to 10000: no longer one repeats within "
+    steps("a period above its range", "add,1,0,0,0,8,0,100000,10,0", "Take 10 to 10000: no longer one repeats within "
           "the horizon.", "add,1,0,0,0,8,0,10000,10,0"),
+    steps("a period below its deadline", "add,1,0,0,0,8,0,3.0,10,0", "Write 3, and a DEADLINE of 1 to 3.",
+          "add,1,0,0,0,8,0,3,3,0"),
+    steps("a START of a spreadsheet", "add,1,1E+09,0,0,8,0,10,10,0", "Take 0, which is the next cycle", ADD),
     steps("a deadline above its range", "add,1,0,0,0,8,0,10,70000,0", "DEADLINE is '70000': it is above 10. Take 1 to "
           "10.",
           ADD),
