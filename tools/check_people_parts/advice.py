@@ -41,7 +41,8 @@ def check_files(tools, name, wrong, part, right):
     out, err, status = tools.call("fttlint", *options_of(right))
     _, refused, ended = tools.ask(*command_of(right))
     is_right = is_right and " mistake: " not in out and ended == 0
-    tools.case(f"advice: {name}", is_right, f"{told}\nwith the advice: {status} {out}{err}the program: {ended} {refused}")
+    tools.case(f"advice: {name}", is_right,
+               f"{told}\nwith the advice: {status} {out}{err}the program: {ended} {refused}")
 
 
 def check_words(tools, wrong, part, right):
@@ -54,12 +55,13 @@ def check_words(tools, wrong, part, right):
     out, err, status = tools.call("fttlint", "--words", *right.split())
     _, refused, ended = tools.ask(*right.split())
     is_right = is_right and status == 0 and ended == 0
-    tools.case(f"advice: the words {wrong}", is_right, f"{told}\nwith the advice: {out}{err}the program: {ended} {refused}")
+    tools.case(f"advice: the words {wrong}", is_right,
+               f"{told}\nwith the advice: {out}{err}the program: {ended} {refused}")
 
 
 def check_messages(tools, name, wrong, part, right):
-    """Messages that fttmodel refuses, and those that the advice makes of them. A list is that of a bus of 500 kbit/s with
-    cycles of 1 ms, if it has no words of its own."""
+    """Messages that fttmodel refuses, and those that the advice makes of them. A list is that of a bus of 500 kbit/s
+    with cycles of 1 ms, if it has no words of its own."""
     told, statuses = "", []
     for text, words in (wrong, right):
         tools.put("messages.csv", text)

@@ -1,5 +1,5 @@
-"""The DBC files of tools/people-cases/dbc: what fttmodel makes of each has to be what the file beside it says, which was
-worked out by hand.
+"""The DBC files of tools/people-cases/dbc: what fttmodel makes of each has to be what the file beside it says, which
+was worked out by hand.
 
 A file NAME.txt has these rows: `options WORD..`, `status STATUS`, `slot SLOT NAME SENDER LENGTH PHASE PERIOD MILLIS`,
 `async ID NAME SENDER MILLIS` with - for no period, and `says TEXT`.

@@ -52,8 +52,8 @@ LATE = "add,1,9995,1,0,8,0,10,10,0"
 
 FILES = [
     # Files in the wrong place, or in the wrong form.
-    ("steps in place of the system", {"system": STEPS, "steps": SYSTEM}, "looks like a steps file. The words are SYSTEM "
-     "STEPS", {"system": SYSTEM, "steps": STEPS}),
+    ("steps in place of the system", {"system": STEPS, "steps": SYSTEM}, "looks like a steps file. The words are "
+     "SYSTEM STEPS", {"system": SYSTEM, "steps": STEPS}),
     ("UTF-16", {"steps": STEPS.encode("utf-16")}, "the file is UTF-16. Save it as UTF-8", {"steps": STEPS}),
     ("a workbook", {"steps": b"PK\x03\x04\x14\x00\x06\x00,"}, "the file is an Excel workbook. Save it as text",
      {"steps": STEPS}),
@@ -73,13 +73,16 @@ FILES = [
         "window = 190", "window = 135")),
     system("a cycle of 300", "= 500", "= 300", "bus.cycle is 300. Take 400 to 100000.", "= 400", base=SYSTEM.replace(
         "window = 190", "window = 135")),
-    system("a cycle below the rest", "= 500", "= 300", "bus.cycle is 300. Take 475 to 100000.", "= 475", base=SYSTEM.replace(
+    system("a cycle below the rest", "= 500", "= 300", "bus.cycle is 300. Take 475 to 100000.", "= 475",
+           base=SYSTEM.replace(
         "window = 190", "window = 320")),
     system("a window above its range", "= 190", "= 20000", "bus.window is 20000. Take 55 to 345.", "= 345"),
-    system("a turnaround above its range", "turnaround = 20", "turnaround = 2000", "Take 0 to 175.", "turnaround = 175"),
+    system("a turnaround above its range", "turnaround = 20", "turnaround = 2000", "Take 0 to 175.",
+           "turnaround = 175"),
     system("a window that is too wide", "= 190", "= 400", "Take a cycle of at least 555, or a window of at most 345.",
            "= 345"),
-    system("a cycle that is too short", "= 500", "= 444", "bus.window is 300: with the trigger's 135 and the turnaround's "
+    system("a cycle that is too short", "= 500", "= 444", "bus.window is 300: with the trigger's 135 and the "
+           "turnaround's "
            "20 it is 455, above the cycle of 444. Take a cycle of at least 455", "= 455", base=SYSTEM.replace(
                "window = 190", "window = 300")),
     system("31 nodes", "nodes = 6", "nodes = 31", "Take 1 to 30.", "nodes = 30"),
@@ -88,8 +91,8 @@ FILES = [
     system("a node more", "node = 2", "node = 40", "nodes count from 0: take 0 to 5.", "node = 5"),
     system("an identifier below 0x200", "0x300", "0x18e", "take one of these, such as 0x200.", "0x200"),
     system("an identifier above 0x7ef", "0x300", "0x7f0", "take one of these, such as 0x200.", "0x200"),
-    system("an identifier twice", "node = 2\n", "node = 2\n[[async]]\nid = 768\nnode = 1\n", "Give each identifier to one "
-           "node, such as 0x200.", "node = 2\n[[async]]\nid = 0x200\nnode = 1\n"),
+    system("an identifier twice", "node = 2\n", "node = 2\n[[async]]\nid = 768\nnode = 1\n", "Give each identifier to "
+           "one node, such as 0x200.", "node = 2\n[[async]]\nid = 0x200\nnode = 1\n"),
     system("an identifier in quotes", "0x300", '"0x300"', "Write an integer without quotes: 0x300.", "0x300"),
     system("an identifier without 0x", "0x300", "30e", "Write id = 0x30e", "0x30e"),
     system("one bracket", "[[async]]", "[async]", "Write [[async]], with two brackets on each side.", "[[async]]"),
@@ -98,16 +101,16 @@ FILES = [
     system("no system at all", SYSTEM, "", "bus is missing. Write [bus], and its keys below.", SYSTEM),
     system("a misspelt key", "cycle", "cyle", "Is it bus.cycle?", "cycle"),
     system("turn_around", "turnaround", "turn_around", "Is it bus.turnaround?", "turnaround"),
-    system("turnaround and turn_around", "turnaround = 20", "turnaround = 20\nturn_around = 20", "'bus.turnaround' stands "
-           "there too. Take this one away, or write # in front.", "turnaround = 20\n# turn_around = 20"),
-    system("a bit rate", "[bus]\n", "[bus]\nbitrate = 500\n", "KBITS is a word of the tools, as in fttmodel KBITS CYCLE_US "
-           "..; here all times are in bit times. Take the key away.", "[bus]\n"),
+    system("turnaround and turn_around", "turnaround = 20", "turnaround = 20\nturn_around = 20", "'bus.turnaround' "
+           "stands there too. Take this one away, or write # in front.", "turnaround = 20\n# turn_around = 20"),
+    system("a bit rate", "[bus]\n", "[bus]\nbitrate = 500\n", "KBITS is a word of the tools, as in fttmodel KBITS "
+           "CYCLE_US ..; here all times are in bit times. Take the key away.", "[bus]\n"),
     system("a key that is none", "[bus]\n", '[bus]\nname = "door"\n', "Take it away, or write # in front.",
            '[bus]\n# name = "door"\n'),
     system("a key above its table", "[bus]", "horizon = 5000\n[bus]", "It belongs below [plan].",
            "[plan]\nhorizon = 5000\n[bus]"),
-    system("a key in another table", "nodes = 6", 'nodes = 6\npolicy = "dm"', "'bus.policy' is no key. It belongs below "
-           "[plan].", 'nodes = 6\n[plan]\npolicy = "dm"'),
+    system("a key in another table", "nodes = 6", 'nodes = 6\npolicy = "dm"', "'bus.policy' is no key. It belongs "
+           "below [plan].", 'nodes = 6\n[plan]\npolicy = "dm"'),
     system("no equals sign", "turnaround = 20", "turnaround 20", "Write turnaround = 20", "turnaround = 20"),
     system("a colon", "turnaround = 20", "turnaround: 20", "Write turnaround = 20", "turnaround = 20"),
     system("a unit", "turnaround = 20", "turnaround = 20 bits", "Write turnaround = 20", "turnaround = 20"),
@@ -132,36 +135,46 @@ FILES = [
     steps("capitals", ADD.upper(), "Write it in lower case: add.", ADD),
     steps("a misspelt word", ADD + "cycel,3", "Is it cycle?", ADD + "cycle,3"),
     steps("a loose and", "and,add,0,0,8,0,10,10,0", "write add,OPERATOR,START in place of and,add.", ADD),
-    steps("no priority", ADD[:-3], "PRIORITY is missing: add,OPERATOR,START,SLOT,NODE,LENGTH,PHASE,PERIOD,DEADLINE,PRIORITY.",
+    steps("no priority", ADD[:-3], "PRIORITY is missing: "
+          "add,OPERATOR,START,SLOT,NODE,LENGTH,PHASE,PERIOD,DEADLINE,PRIORITY.",
           ADD),
     steps("a field too many", ADD.strip() + ",7", "'7' and what follows is too much. Take it away.", ADD),
     steps("padding", ADD + "look,1,,,", "Take the 3 commas at its end away.", ADD + "look,1"),
     steps("spaces for commas", ADD.replace(",", " "), "Write commas between them.", ADD),
     # The steps file: numbers.
     steps("too many cycles at once", "cycle,30000", "COUNT is '30000': it is above 20000. Take 0 to 20000.", "cycle,0"),
-    ("too many cycles", {"steps": "cycle,2\ncycle,19999\n"}, "Take at most 19998 here", {"steps": "cycle,2\ncycle,19998\n"}),
+    ("too many cycles", {"steps": "cycle,2\ncycle,19999\n"}, "Take at most 19998 here",
+     {"steps": "cycle,2\ncycle,19998\n"}),
     ("a row of too many cycles", {"steps": "cycle,2\ncycle,30000\n"}, "it is above 19998. Take 0 to 19998.",
      {"steps": "cycle,2\ncycle,19998\n"}),
     steps("cycles with a point", ADD + "cycle,2.5", "COUNT is a whole number of elementary cycles. Write 2.",
           ADD + "cycle,2"),
-    steps("a period with a point", "add,1,0,0,0,8,0,2.5,2,0", "PERIOD is a whole number of elementary cycles. Write 2. For "
+    steps("a period with a point", "add,1,0,0,0,8,0,2.5,2,0", "PERIOD is a whole number of elementary cycles. Write "
+          "2. For "
           "milliseconds multiply by the bit rate in kbit/s, and divide by bus.cycle: 2.5 ms at 500 kbit/s are 2.",
           "add,1,0,0,0,8,0,2,2,0"),
-    steps("a period below 1", "add,1,0,0,0,8,0,0.34,1,0", "PERIOD is a whole number of elementary cycles. Take 1 to 10000",
+    steps("a period below 1", "add,1,0,0,0,8,0,0.34,1,0", "PERIOD is a whole number of elementary cycles. Take 1 to "
+          "10000",
           "add,1,0,0,0,8,0,10000,1,0"),
     steps("a period in milliseconds", "add,1,0,0,0,8,0,10ms,10,0", "10 ms at 500 kbit/s are 10.", ADD),
     steps("a period of a spreadsheet", "add,1,0,0,0,8,0,1E+01,10,0", "Write 10.", ADD),
-    steps("a period above its range", "add,1,0,0,0,8,0,100000,10,0", "Take 1 to 10000: no longer one repeats within the "
-          "horizon.", "add,1,0,0,0,8,0,10000,10,0"),
-    steps("a deadline above its range", "add,1,0,0,0,8,0,10,70000,0", "DEADLINE is '70000': it is above 10. Take 1 to 10.",
+    steps("a period above its range", "add,1,0,0,0,8,0,100000,10,0", "Take 10 to 10000: no longer one repeats within "
+          "the horizon.", "add,1,0,0,0,8,0,10000,10,0"),
+    steps("a period below its deadline", "add,1,0,0,0,8,0,3.0,10,0", "Write 3, and a DEADLINE of 1 to 3.",
+          "add,1,0,0,0,8,0,3,3,0"),
+    steps("a START of a spreadsheet", "add,1,1E+09,0,0,8,0,10,10,0", "Take 0, which is the next cycle", ADD),
+    steps("a deadline above its range", "add,1,0,0,0,8,0,10,70000,0", "DEADLINE is '70000': it is above 10. Take 1 to "
+          "10.",
           ADD),
     steps("a phase above its range", "add,1,0,0,0,8,70000,10,10,0", "PHASE is '70000': it is above 9. Take 0 to 9.",
           "add,1,0,0,0,8,9,10,10,0"),
     steps("an empty field", "add,1,0,0,0,,0,10,10,0", "LENGTH is '': it is empty. Take 0 to 8.", ADD),
     steps("a sign", "add,1,+0,0,0,8,0,10,10,0", "a sign is not taken. Write 0.", ADD),
     steps("a comment behind a number", ADD + "cycle,3 # three", "a row has no comment. Write 3.", ADD + "cycle,3"),
-    steps("a START of 23 digits", "add,1,12345678901234567890123,0,0,8,0,10,10,0", "Take 0, which is the next cycle", ADD),
-    steps("a START of 2^40", "add,1,1099511627776,0,0,8,0,10,10,0", "Take 0, which is the next cycle, or a little more.",
+    steps("a START of 23 digits", "add,1,12345678901234567890123,0,0,8,0,10,10,0", "Take 0, which is the next cycle",
+          ADD),
+    steps("a START of 2^40", "add,1,1099511627776,0,0,8,0,10,10,0", "Take 0, which is the next cycle, or a little "
+          "more.",
           ADD),
     steps("operator 0", "add,0,0,0,0,8,0,10,10,0", "Number the operators from 1 to 8.", ADD),
     steps("operator 9", "add,9,0,0,0,8,0,10,10,0", "Number the operators from 1 to 8.", ADD),
@@ -175,6 +188,9 @@ FILES = [
           "add,1,0,5,0,8,0,10,10,0"),
     steps("slot 300", "add,1,0,300,0,8,0,10,10,0", "it is above 39. Take 0 to 39.", "add,1,0,39,0,8,0,10,10,0"),
     steps("slot 200", "add,1,0,200,0,8,0,10,10,0", "The slots are 0 to 39.", "add,1,0,39,0,8,0,10,10,0"),
+    ("slot 300 beside a broken system", {"system": SYSTEM.replace("cycle", "cyle"),
+                                         "steps": "add,1,0,300,0,8,0,9,9,0\n"},
+     "it is above 39. Take 0 to 39.", {"steps": "add,1,0,39,0,8,0,9,9,0\n"}),
     ("slot 300 of 96", {"system": WIDE, "steps": "add,1,0,400,0,8,0,10,10,0\n"}, "it is above 95. Take 0 to 95.",
      {"system": WIDE, "steps": "add,1,0,95,0,8,0,10,10,0\n"}),
     ("slot 95", {"steps": "add,1,0,95,0,8,0,10,10,0\n"}, "With bus.slots = 96 they are 0 to 95.",
@@ -182,7 +198,8 @@ FILES = [
     ("slot 95 of a short cycle", {"system": SYSTEM.replace("500", "470"), "steps": "add,1,0,95,0,8,0,10,10,0\n"},
      "With bus.slots = 96 they are 0 to 95, and bus.cycle has to be at least 480.",
      {"system": WIDE.replace("500", "480"), "steps": "add,1,0,95,0,8,0,10,10,0\n"}),
-    steps("a slot by its name", "add,1,0,battery,0,8,0,10,10,0", "Take 0 to 39. The names.csv of fttmodel has it.", ADD),
+    steps("a slot by its name", "add,1,0,battery,0,8,0,10,10,0", "Take 0 to 39. The names.csv of fttmodel has it.",
+          ADD),
     steps("a node as many as nodes", "add,1,0,0,6,8,0,10,10,0", "take 0 to 5.", "add,1,0,0,5,8,0,10,10,0"),
     steps("node 300", "add,1,0,0,300,8,0,10,10,0", "it is above 5. Take 0 to 5.", "add,1,0,0,5,8,0,10,10,0"),
     steps("length 9", "add,1,0,0,0,9,0,10,10,0", "A frame has 0 to 8 bytes: take these", ADD),
@@ -192,7 +209,8 @@ FILES = [
     steps("deadline 0", "add,1,0,0,0,8,0,10,0,0", "Take 1 to the PERIOD, 10.", ADD),
     steps("a deadline above the period", "add,1,0,0,0,8,0,10,11,0", "above the PERIOD. Take 1 to 10.", ADD),
     # The steps file: changes.
-    steps("a START that has passed", "cycle,3\n" + ADD, "Take at least START 3", "cycle,3\n" + ADD.replace(",0,", ",3,", 1)),
+    steps("a START that has passed", "cycle,3\n" + ADD, "Take at least START 3", "cycle,3\n" + ADD.replace(",0,",
+                                                                                                           ",3,", 1)),
     steps("a START that has passed, put higher", "cycle,3\n" + ADD, "or put the row higher.", ADD + "cycle,3"),
     steps("a slot twice in two changes", ADD + ADD, "Take another slot, such as 1, or write change.",
           ADD + "add,1,0,1,0,8,0,10,10,0"),
@@ -201,7 +219,8 @@ FILES = [
           ADD + "and,add,1,0,8,0,10,10,0"),
     steps("a slot removed and added in one change", ADD + "remove,1,0,0\nand,add,0,0,8,0,10,10,0",
           "For both, write change in place of the two.", ADD + "change,1,0,0,0,8,0,10,10,0"),
-    steps("a slot that is not free yet", "add,1,0,0,0,8,0,4,3,0\nremove,1,10,0\nadd,1,11,0,0,8,0,4,3,0", "Take START 12.",
+    steps("a slot that is not free yet", "add,1,0,0,0,8,0,4,3,0\nremove,1,10,0\nadd,1,11,0,0,8,0,4,3,0",
+          "Take START 12.",
           "add,1,0,0,0,8,0,4,3,0\nremove,1,10,0\nadd,1,12,0,0,8,0,4,3,0"),
     steps("an entry that has not begun", "add,1,9,0,0,8,0,4,3,0\nremove,1,5,0", "Take at least START 9.",
           "add,1,9,0,0,8,0,4,3,0\nremove,1,9,0"),
@@ -209,8 +228,8 @@ FILES = [
     steps("no live entry at all", "remove,1,10,7\n" + ADD, "or leave the row out.", ADD),
     steps("a change of no entry", ADD + "change,1,10,7,0,8,0,10,10,0", "To add one, write add.",
           ADD + "add,1,10,7,0,8,0,10,10,0"),
-    steps("17 operations", SEVENTEEN + "and,add,16,0,0,0,40,40,0", "begin another one here, with add,OPERATOR,0 in place of "
-          "and,add.", SEVENTEEN + "add,1,0,16,0,0,0,40,40,0"),
+    steps("17 operations", SEVENTEEN + "and,add,16,0,0,0,40,40,0", "begin another one here, with add,OPERATOR,0 in "
+          "place of and,add.", SEVENTEEN + "add,1,0,16,0,0,0,40,40,0"),
     ("a common period after the horizon", {"steps": FAR + "\ncycle,20\n"}, "Take horizon = 10403, or",
      {"system": SYSTEM + "[plan]\nhorizon = 10403\n", "steps": FAR + "\ncycle,20\n"}),
     steps("a START after the horizon", LATE, "Take horizon = 10005, or a START of at most 9990",
@@ -229,11 +248,11 @@ FILES = [
     requests("an identifier of a slot", "170,0x105,", "Take one that the system owns: 0x300.", "170,0x300,"),
     requests("the trigger's identifier", "170,0,", "which the master sends. Take one that the system owns: 0x300.",
              "170,0x300,"),
-    ("hexadecimal digits alone", {"requests": "170,20e,\n"}, "Hexadecimal digits need 0x in front: 0x20e. No node owns it. "
-     "Write [[async]] with id = 0x20e and node in the system file.",
+    ("hexadecimal digits alone", {"requests": "170,20e,\n"}, "Hexadecimal digits need 0x in front: 0x20e. No node "
+     "owns it. Write [[async]] with id = 0x20e and node in the system file.",
      {"requests": "170,0x20e,\n", "system": SYSTEM + "[[async]]\nid = 0x20e\nnode = 0\n"}),
-    ("no owner at all", {"system": SYSTEM[:SYSTEM.index("\n[[")], "requests": "170,0x105,\n"}, "The system owns none. Write "
-     "[[async]] with id = 0x200 and node in the system file.",
+    ("no owner at all", {"system": SYSTEM[:SYSTEM.index("\n[[")], "requests": "170,0x105,\n"}, "The system owns none. "
+     "Write [[async]] with id = 0x200 and node in the system file.",
      {"system": SYSTEM.replace("0x300", "0x200"), "requests": "170,0x200,\n"}),
     requests("blanks in the data", "170,0x300,00 ff", "Write 00ff.", "170,0x300,00ff"),
     requests("0x in the data", "170,0x300,0x00ff", "Write 00ff.", "170,0x300,00ff"),
@@ -247,16 +266,19 @@ FILES = [
     streams("slot 0x102", "200,0x102,", "0x102 is the identifier of slot 2. Write 2.", "200,2,"),
     streams("slot 258 of the streams", "200,258,", "it is 0x102, the identifier of slot 2. Write 2.", "200,2,"),
     streams("slot 40 of the streams", "200,40,", "The slots are 0 to 39.", "200,39,"),
-    streams("eight bytes", "200,2,0011223344556677", "at most 7 bytes: 14 digits. Part it.", "200,2,00112233445566\n200,2,77"),
-    streams("fifteen digits", "200,2,001122334455667", "at most 7 bytes: 14 digits. Part it.", "200,2,00112233445566\n200,2,07"),
-    streams("AT with a point in streams", "1.5,2,", "Take 100 to 1099511627775. For milliseconds multiply by the bit rate in "
-            "kbit/s: 1.5 ms at 500 kbit/s are 750.", "750,2,"),
+    streams("eight bytes", "200,2,0011223344556677", "at most 7 bytes: 14 digits. Part it.",
+            "200,2,00112233445566\n200,2,77"),
+    streams("fifteen digits", "200,2,001122334455667", "at most 7 bytes: 14 digits. Part it.",
+            "200,2,00112233445566\n200,2,07"),
+    streams("AT with a point in streams", "1.5,2,", "Take 100 to 1099511627775. For milliseconds multiply by the bit "
+            "rate in kbit/s: 1.5 ms at 500 kbit/s are 750.", "750,2,"),
     streams("two fields", "200,2", "Write the comma before the data also where there are none.", "200,2,"),
     # Plans.
     ("a plan with CRLF", {"plan": PLAN.replace("\n", "\r\n")}, "Save the file with line feeds alone.", {"plan": PLAN}),
     ("a plan with a byte order mark", {"plan": "\ufeff" + PLAN}, "Save the file without it.", {"plan": PLAN}),
     plan("a lost line feed", "end\n", "end", "'end' has no line feed behind it. Add one.", "end\n"),
-    plan("a log for a plan", PLAN, "submit,1,0,accepted,0,4\nend,0\n", "The plan is what `fttcan admit SYSTEM STEPS` writes.",
+    plan("a log for a plan", PLAN, "submit,1,0,accepted,0,4\nend,0\n", "The plan is what `fttcan admit SYSTEM STEPS` "
+         "writes.",
          PLAN),
     plan("leading zeros in a plan", "from 0", "from 00", "has leading zeros. Write 0.", "from 0"),
     plan("FROM too great", "from 0", "from 9999999999999", "Take 0: check takes a plan from cycle 0 on.", "from 0"),
@@ -265,12 +287,12 @@ FILES = [
     plan("a mask in 24 digits", "0000000001 1", "000000000000000000000001 1", "Write ten digits: 0000000001.",
          "0000000001 1"),
     plan("a mask with 0x", "0000000001 1", "0x00000001 1", "in the set: 0000000001.", "0000000001 1"),
-    plan("a mask of 12 digits of version 1", "0000000001\n", "000000000001\n", "Write ten lower-case hexadecimal digits: "
-         "0000000001.", "0000000001\n", base=OLD_PLAN),
-    plan("a count of 0", "0000000000 9", "0000000001 0\n0000000000 9", "mask of the line above. Add the two counts, in one "
-         "line.", "0000000000 9"),
-    plan("a count of 0 in front", "0000000001 1", "0000000000 0\n0000000001 1", "COUNT is 0. Take the line away, or take 1 to "
-         "10", "0000000001 1"),
+    plan("a mask of 12 digits of version 1", "0000000001\n", "000000000001\n", "Write ten lower-case hexadecimal "
+         "digits: 0000000001.", "0000000001\n", base=OLD_PLAN),
+    plan("a count of 0", "0000000000 9", "0000000001 0\n0000000000 9", "mask of the line above. Add the two counts, "
+         "in one line.", "0000000000 9"),
+    plan("a count of 0 in front", "0000000001 1", "0000000000 0\n0000000001 1", "COUNT is 0. Take the line away, or "
+         "take 1 to 10", "0000000001 1"),
     plan("a count that is too great", " 9\n", " 10\n", "COUNT is 10. Take 1 to 9", " 9\n"),
     plan("text behind the end", "end\n", "end\n\n", "text stands behind end. Take it away.", "end\n"),
 ]
@@ -317,7 +339,8 @@ MESSAGES = [
     messages("a decimal comma", f'{HEAD}\na,x,8,"5,5"\n', "Write milliseconds in digits, with a point: 2.5.",
              f"{HEAD}\na,x,8,5.5\n"),
     messages("a unit of milliseconds", f"{HEAD}\na,x,8,5ms\n", "Write milliseconds in digits", f"{HEAD}\na,x,8,5\n"),
-    messages("a name twice", f"{HEAD}\na,x,8,10\na,y,8,10\n", "Give each message its own.", f"{HEAD}\na,x,8,10\nb,y,8,10\n"),
+    messages("a name twice", f"{HEAD}\na,x,8,10\na,y,8,10\n", "Give each message its own.",
+             f"{HEAD}\na,x,8,10\nb,y,8,10\n"),
     messages("nine data bytes", f"{HEAD}\na,x,9,10\n", "Part longer messages into frames of at most 8 bytes.",
              f"{HEAD}\na,x,8,10\nb,x,1,10\n"),
     messages("UTF-16 messages", ONE.encode("utf-16"), "the file is UTF-16. Save it as UTF-8", ONE),
@@ -326,16 +349,18 @@ MESSAGES = [
              f"{HEAD},deadline\na,x,8,10,10\n"),
     messages("a period of 0 cycles", f"{HEAD}\na,x,8,0.5\n", "Take a shorter cycle, or a longer time.", ONE),
     messages("a deadline of an asynchronous message", f"{HEAD},deadline,kind,id\na,x,2,50,20,async,0x300\n",
-             "or write sync: a slot that polls it, of 3 bytes, keeps it where its period and its deadline are 20 ms together, "
-             "such as 10 and 10.", f"{HEAD},deadline,kind,id\na,x,3,10,10,sync,0x300\n"),
+             "or write sync: a slot that polls it, of 3 bytes, keeps it where its period and its deadline are 20 ms "
+             "together, such as 10 and 10.", f"{HEAD},deadline,kind,id\na,x,3,10,10,sync,0x300\n"),
     bus("41 messages", "500 1000 messages.csv made", "Take --slots 96", "500 1000 messages.csv made --slots 96", MANY),
-    bus("a rate in bit/s", "500000 1000 messages.csv made", "KBITS is 500000, and CAN ends at 1000 kbit/s. If this is in "
-        "bit/s, write 500.", "500 1000 messages.csv made"),
+    bus("a rate in bit/s", "500000 1000 messages.csv made", "KBITS is 500000, and CAN ends at 1000 kbit/s. If this is "
+        "in bit/s, write 500.", "500 1000 messages.csv made"),
     bus("a rate of CAN FD", "2000 1000 messages.csv made", "CAN ends at 1000 kbit/s.", "1000 1000 messages.csv made"),
-    bus("a cycle that is too short", "500 500 messages.csv made", "Take 800 to 200000 us.", "500 800 messages.csv made"),
+    bus("a cycle that is too short", "500 500 messages.csv made", "Take 800 to 200000 us.",
+        "500 800 messages.csv made"),
     bus("a window of all time", "500 1000 messages.csv made --window 400", "Take at most 365",
         "500 1000 messages.csv made --window 365"),
-    bus("a folder that is a file", "500 1000 messages.csv messages.csv", "OUT is a folder, and a file of this name is there.",
+    bus("a folder that is a file", "500 1000 messages.csv messages.csv", "OUT is a folder, and a file of this name is "
+        "there.",
         "500 1000 messages.csv made"),
     # 1000 kbit/s and 1000 us: 2.7 + 13.5 + 54 %
     bus("a bus that is too full", "500 1000 messages.csv made", "the bus is asked for 140.4 % of its time",

@@ -11,9 +11,10 @@ UNITS = {name: "elementary cycles" for name in ("COUNT", "START", "PHASE", "PERI
     "AT": "bit times", "LENGTH": "data bytes"}
 
 
-class Bounds(namedtuple("Bounds", "name low high cycle")):
+class Bounds(namedtuple("Bounds", "name low high cycle deadline", defaults=(0,))):
     """The numbers that a field may have where the rest of the row is right; without a greatest one `low` alone is
-    named. `cycle` has the bit times of a cycle, or None where they are not known."""
+    named. `cycle` has the bit times of a cycle, or None where they are not known; `deadline` the DEADLINE that stands
+    behind a PERIOD."""
 
     def has(self, number):
         """Whether the field may have this number."""
@@ -23,10 +24,11 @@ class Bounds(namedtuple("Bounds", "name low high cycle")):
         """What to take."""
         if self.name == "START":
             return f"Take {self.low}, which is the next cycle, or a little more."
-        if self.high in (None, self.low):
-            return f"Take {self.low}."
+        low = max(self.low, self.deadline)
+        if self.high in (None, low):
+            return f"Take {low}."
         more = ": no longer one repeats within the horizon" if self.name == "PERIOD" and self.high < 65_535 else ""
-        return f"Take {self.low} to {self.high}{more}."
+        return f"Take {low} to {self.high}{more}."
 
     def kind(self):
         """What the number counts, in words."""
@@ -34,18 +36,24 @@ class Bounds(namedtuple("Bounds", "name low high cycle")):
         return f"{self.name} is a whole number" + (f" of {unit}" if unit else "")
 
 
+def whole(field, high):
+    """The number of a field where it is at most so great; 0 else."""
+    return int(field) if re.fullmatch(rb"0*[0-9]{1,5}", field) and int(field) <= high else 0
+
+
 def bounds_of(name, row, system, cycles):
-    """The bounds of a field of a steps file. The row has its fields by their names; so many cycles were opened above."""
+    """The bounds of a field of a steps file. The row has its fields by their names; so many cycles were opened
+    above."""
     horizon = 10_000 if system is None else system.horizon
     longest = min(horizon, 65_535)
-    period = row.get("PERIOD", b"")
-    period = int(period) if re.fullmatch(rb"0*[1-9][0-9]{0,4}", period) and int(period) <= longest else None
-    high = {"COUNT": max(20_000 - cycles, 0), "OPERATOR": 8, "START": None, "SLOT": 39 if system is None else
+    period, phase, deadline = (whole(row.get(it, b""), longest) for it in ("PERIOD", "PHASE", "DEADLINE"))
+    # The first repeat needs a period behind the first release, before the horizon.
+    latest = max(cycles + horizon - phase - period, cycles)
+    high = {"COUNT": max(20_000 - cycles, 0), "OPERATOR": 8, "START": latest, "SLOT": 39 if system is None else
             system.slots - 1, "NODE": None if system is None else system.nodes - 1, "LENGTH": 8, "PHASE":
-            None if period is None else period - 1, "PERIOD": longest, "DEADLINE": period or longest,
-            "PRIORITY": 255}[name]
+            period - 1 if period else None, "PERIOD": longest, "DEADLINE": period or longest, "PRIORITY": 255}[name]
     low = {"OPERATOR": 1, "START": cycles, "PERIOD": 1, "DEADLINE": 1}.get(name, 0)
-    return Bounds(name, low, high, None if system is None else system.cycle)
+    return Bounds(name, low, high, None if system is None else system.cycle, deadline if name == "PERIOD" else 0)
 
 
 def by_rate(millis, bounds):
@@ -54,7 +62,8 @@ def by_rate(millis, bounds):
     if unit == "bit times" and bits.denominator == 1 and bounds.has(int(bits)):
         return (f" For milliseconds multiply by the bit rate in kbit/s: {float(millis):g} ms at {EXAMPLE_RATE} kbit/s "
                 f"are {int(bits)}.")
-    if unit == "elementary cycles" and bounds.cycle and bounds.has(bits // bounds.cycle):
+    if unit == "elementary cycles" and bounds.cycle and bounds.has(bits // bounds.cycle) and (
+            bits // bounds.cycle >= bounds.deadline):
         return (f" For milliseconds multiply by the bit rate in kbit/s, and divide by bus.cycle: {float(millis):g} ms "
                 f"at {EXAMPLE_RATE} kbit/s are {bits // bounds.cycle}.")
     return ""
@@ -63,7 +72,7 @@ def by_rate(millis, bounds):
 def meant(text, bounds):
     """What to do where a text most likely means this number: write it, where it is in the bounds."""
     if re.fullmatch(r"[0-9]{1,20}", text) and bounds.has(int(text)):
-        return f"Write {int(text)}."
+        return f"Write {int(text)}" + (f", and a DEADLINE of 1 to {int(text)}." if int(text) < bounds.deadline else ".")
     return bounds.take()
 
 
@@ -107,9 +116,11 @@ def why_no_number(field, bounds):
         return f"a sign is not taken. {meant(text.removeprefix('+'), bounds)}"
     if not re.fullmatch(r"[0-9]+", text):
         return f"digits alone are taken. {bounds.take()}"
-    if len(text) <= 20 and FIRST_SLOT <= int(text) and bounds.name == "SLOT" and bounds.has(int(text) - FIRST_SLOT):
-        return f"it is {int(text):#05x}, the identifier of slot {int(text) - FIRST_SLOT}. Write {int(text) - FIRST_SLOT}."
-    return (f"it is above {bounds.high}. " if bounds.high is not None else "it is too great. ") + bounds.take()
+    slot = int(text) - FIRST_SLOT if len(text) <= 20 else -1
+    if bounds.name == "SLOT" and slot >= 0 and bounds.has(slot):
+        return f"it is {int(text):#05x}, the identifier of slot {slot}. Write {slot}."
+    is_known = bounds.high is not None and bounds.name != "START"
+    return (f"it is above {bounds.high}. " if is_known else "it is too great. ") + bounds.take()
 
 
 def why_no_slot(slot, system):

@@ -100,8 +100,8 @@ def why_no_key(path, table, known, places):
     front = f"{front}." if front else ""
     word = OTHER_KEYS.get(key.lower())
     if word is not None:
-        return (f"{word} is a word of the tools, as in fttmodel KBITS CYCLE_US ..; here all times are in bit times. Take "
-                "the key away.")
+        return (f"{word} is a word of the tools, as in fttmodel KBITS CYCLE_US ..; here all times are in bit times. "
+                "Take the key away.")
     near = close(key, known)
     if near is not None and near in table:
         return f"{shown(front + near)} stands there too. Take this one away, or write # in front."

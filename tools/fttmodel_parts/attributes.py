@@ -7,8 +7,8 @@ QUOTED = r'"(?:\\.|[^"\\])*"'
 VALUE = rf'((?:{QUOTED}|[^";])*?)\s*;'
 DEFINED = re.compile(rf'^[ \t]*BA_DEF_\s+(?:(BO_|SG_|BU_|EV_)\s+)?"([^"]+)"\s+{VALUE}', re.MULTILINE)
 DEFAULT = re.compile(rf'^[ \t]*BA_DEF_DEF_\s+"([^"]+)"\s+{VALUE}', re.MULTILINE)
-OWN = re.compile(rf'^[ \t]*BA_\s+"([^"]+)"\s+(?:BO_\s+([0-9]+)\s+|SG_\s+([0-9]+)\s+(\w+)\s+|BU_\s+(\w+)\s+|(EV_)\s+\w+\s+)?'
-                 rf'{VALUE}', re.MULTILINE)
+OWNER = r"(?:BO_\s+([0-9]+)\s+|SG_\s+([0-9]+)\s+(\w+)\s+|BU_\s+(\w+)\s+|(EV_)\s+\w+\s+)?"
+OWN = re.compile(rf'^[ \t]*BA_\s+"([^"]+)"\s+{OWNER}{VALUE}', re.MULTILINE)
 SENDERS = re.compile(r"^[ \t]*BO_TX_BU_\s+([0-9]+)\s*:\s*([^;]*);", re.MULTILINE)
 TIME = re.compile(r"[0-9]{1,12}(\.[0-9]{0,12})?([eE][+-]?[0-9]{1,2})?")
 

@@ -102,8 +102,8 @@ class Reader:
         if not sending.is_fast:
             if sending.is_cyclic and quick and (not least or quick < least) and self.known.is_own(
                     "GenMsgCycleTimeFast", head.number):
-                self.warn(head, f"has a GenMsgCycleTimeFast of {decimal(quick)} ms, which its send type does not ask for: "
-                          "it is not taken.")
+                self.warn(head, f"has a GenMsgCycleTimeFast of {decimal(quick)} ms, which its send type does not ask "
+                          "for: it is not taken.")
             return least
         return min((it for it in (least, quick) if it), default=Fraction(0))
 
@@ -121,8 +121,8 @@ class Reader:
         is_own = any(self.known.is_own(it, head.number) for it in self.periods) or any(
             self.known.is_own("GenSigCycleTime", (head.number, it)) for it in head.signals)
         if cycle and is_own:
-            self.warn(head, f"has a cycle time of {decimal(cycle)} ms, and gets no slot: it is sent on events ({word}). "
-                      "Give it a cyclic send type for a slot.")
+            self.warn(head, f"has a cycle time of {decimal(cycle)} ms, and gets no slot: it is sent on events "
+                      f"({word}). Give it a cyclic send type for a slot.")
 
     def message(self, head):
         """The message of a row BO_."""
@@ -132,18 +132,18 @@ class Reader:
         diagnosis = next((it for it in DIAGNOSIS if self.known.is_yes(it, head.number)), None)
         word = diagnosis or self.known.value("GenMsgSendType", head.number) or "no send type"
         kind, why, offset = "async", f"by its send type, {word}", Fraction(0)
+        period = self.known.time("GenMsgDelayTime", head.number)
         if diagnosis or not sending.is_cyclic:
             self.event(head, word, name, cycle)
-            period = self.known.time("GenMsgDelayTime", head.number)
         elif not cycle:
-            why, period = f"without a period ({' or '.join(self.periods)})", self.known.time("GenMsgDelayTime", head.number)
+            why = f"without a period ({' or '.join(self.periods)})"
         else:
             kind, why, period = "sync", "", cycle
             offset = self.known.time("GenMsgStartDelayTime", head.number)
             if sending.is_event:
                 self.too.append(f"{name} ({word})")
-        return Message(head.line, name, self.sender(head), head.length, period or None, None, offset, head.number, kind, 0,
-                       why)
+        return Message(head.line, name, self.sender(head), head.length, period or None, None, offset, head.number, kind,
+                       0, why)
 
     def close(self, messages, kbits):
         """Tells what is said of all messages together."""
@@ -167,8 +167,8 @@ def read(path, text, kbits, words, mistakes):
     text = attributes.plain(text)
     known = attributes.Attributes(text, (*TIMES, words.period_attribute), mistakes)
     if words.period_attribute and words.period_attribute not in known.of_messages:
-        raise Refused(f"--period-attribute is '{words.period_attribute}': the file has no attribute of messages of this "
-                      f"name. It has {', '.join(sorted(known.of_messages)) or 'none'}.")
+        raise Refused(f"--period-attribute is '{words.period_attribute}': the file has no attribute of messages of "
+                      f"this name. It has {', '.join(sorted(known.of_messages)) or 'none'}.")
     reader, messages, left = Reader(known, words.period_attribute), [], []
     for head in heads_of(text, mistakes):
         why = why_left_out(head, known.value("VFrameFormat", head.number) or "")
