@@ -159,7 +159,7 @@ class Tables:
                 except (ValueError, KeyError) as fault:
                     raise Refused(f"{place}: this is no first row of a table. Give files that --csv has "
                                   "written.") from fault
-            elif self.grid is None:
+            elif line == 1:
                 raise Refused(f"{place}: this is no row of a table: a row {FRONT} with the grid stands in front of each. "
                               "Give files that --csv has written.")
             elif row != self.grid.header():
