@@ -125,7 +125,8 @@ def starts_of(frames, kbits, has_starts, note):
         first = time if not starts else first
         start = round(time - first)
         if start < free - 1:
-            raise NoLog(f"line {frame.line}: " + overlap(frame, start, frames[len(starts) - 1], free, kbits, has_starts))
+            why = overlap(frame, start, frames[len(starts) - 1], free, kbits, has_starts)
+            raise NoLog(f"line {frame.line}: {why}")
         moved += start < free
         starts.append(max(start, free))
         free = starts[-1] + frame.length
@@ -138,9 +139,10 @@ def overlap(frame, start, before, free, kbits, has_starts):
     """Why a frame can't start so early, and what may be wrong with the words."""
     times = "ends of frames? Then leave --starts out" if has_starts else "starts of frames? Then --starts says so"
     if frame.micros < before.micros:
-        return f"the time goes back by {float(before.micros - frame.micros):g} us. Is the recording in order, and of one bus?"
-    return (f"the frame would start at bit time {start}, and the one of line {before.line} ends at {free}: no bus sends "
-            f"two at once. Is {float(kbits):g} kbit/s the right rate? Are the times {times}")
+        return (f"the time goes back by {float(before.micros - frame.micros):g} us. Is the recording in order, and of "
+                "one bus?")
+    return (f"the frame would start at bit time {start}, and the one of line {before.line} ends at {free}: no bus "
+            f"sends two at once. Is {float(kbits):g} kbit/s the right rate? Are the times {times}")
 
 
 def cycles_in(frames, starts):
@@ -188,8 +190,9 @@ def length_in(cycles, given, note):
            if abs(later - start - given * (number - before)) > 1]
     if off:
         line, many, distance = off[0]
-        note(f"--cycle is {given}, and {len(off)} of {len(triggers) - 1} triggers come at another time: the first in line "
-             f"{line}, {distance} bit times and {some(many, 'cycle')} after the one before. Are the rate and --cycle right?")
+        note(f"--cycle is {given}, and {len(off)} of {len(triggers) - 1} triggers come at another time: the first in "
+             f"line {line}, {distance} bit times and {some(many, 'cycle')} after the one before. Are the rate and "
+             "--cycle right?")
     return given
 
 

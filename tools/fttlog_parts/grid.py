@@ -134,8 +134,8 @@ class Tables:
             self.grid, self.all = grid, set(grid.points((1, 1)))
         other = grid.differs(self.grid)
         if other or grid.part[1] != self.grid.part[1]:
-            raise Refused(f"{place}: this is another grid than above: {other or f'{grid.part[1]} parts'}. Join parts of one "
-                          "grid.")
+            other = other or f"{grid.part[1]} parts"
+            raise Refused(f"{place}: this is another grid than above: {other}. Join parts of one grid.")
         self.parts[grid.part[0]] = self.parts.get(grid.part[0], 0) + 1
 
     def row(self, row, place):
@@ -160,8 +160,8 @@ class Tables:
                     raise Refused(f"{place}: this is no first row of a table. Give files that --csv has "
                                   "written.") from fault
             elif line == 1:
-                raise Refused(f"{place}: this is no row of a table: a row {FRONT} with the grid stands in front of each. "
-                              "Give files that --csv has written.")
+                raise Refused(f"{place}: this is no row of a table: a row {FRONT} with the grid stands in front of "
+                              "each. Give files that --csv has written.")
             elif row != self.grid.header():
                 self.row(row, place)
 
@@ -187,8 +187,8 @@ def joined(paths):
     holes = tables.holes()
     if holes:
         more = f", and {len(holes) - 5} more parts are not whole" if len(holes) > 5 else ""
-        raise Refused(f"the grid has holes: {listed(holes[:5])}{more}. Give the tables of all parts; --resume goes on with "
-                      "a table that is not whole.")
+        raise Refused(f"the grid has holes: {listed(holes[:5])}{more}. Give the tables of all parts; --resume goes on "
+                      "with a table that is not whole.")
     for number, many in sorted(tables.parts.items()):
         if many > 1:
             print(f"fttsearch: part {number}/{tables.grid.part[1]} stands here {many} times, with the same answers",
@@ -198,8 +198,8 @@ def joined(paths):
 
 
 class Output:
-    """A file that is written to, from its beginning. It is opened at once, and keeps what it has until `begin`. For - it
-    is standard output. A file that is still empty at the end, and was not there before, is taken away."""
+    """A file that is written to, from its beginning. It is opened at once, and keeps what it has until `begin`. For -
+    it is standard output. A file that is still empty at the end, and was not there before, is taken away."""
 
     def __init__(self, path):
         self.path, self.is_new, self.file = path, path != "-" and not os.path.exists(path), sys.stdout
@@ -262,8 +262,8 @@ class Told:
 
 
 class Table:
-    """A table whose rows are written as the answers come: in the order of the grid, each as soon as those in front of it
-    are there."""
+    """A table whose rows are written as the answers come: in the order of the grid, each as soon as those in front of
+    it are there."""
 
     def __init__(self, path, grid, is_resumed):
         self.output, self.grid, self.points = Output(path), grid, grid.points()
@@ -276,8 +276,8 @@ class Table:
         """Takes the rows of an earlier call, without a last one that it has not ended."""
         whole = old[:old.rfind(b"\n") + 1]
         if old and not old.startswith(FRONT.encode() + b","):
-            raise Refused(f"{self.output.path}: this is no table that can be gone on with: its first row is no {FRONT}. "
-                          "Write to another file.")
+            raise Refused(f"{self.output.path}: this is no table that can be gone on with: its first row is no "
+                          f"{FRONT}. Write to another file.")
         tables = Tables()
         tables.take(self.output.path, whole.decode("utf-8", "surrogateescape"))
         other = tables.grid and tables.grid.differs(self.grid, True)
