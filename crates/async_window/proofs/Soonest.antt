@@ -10,12 +10,13 @@ use Rattle.std.proofs.lemmas.Option.{get_or_from_slice_get, slice_get_within}
 use Rattle.stuff_bound.specs.Stuffing.{worst}
 use Rattle.cycle_layout.specs.Layout.{CycleLayout, IsLayout, async_open, sync_start}
 use Rattle.async_window.specs.declared.request.Request.{Request}
-use Rattle.async_window.specs.Mailbox.{Mail, Offers, IsLeastWith, IsNextInCycle, StaysUntil, least_of, mail_offer, unsent_of}
+use Rattle.async_window.specs.Mailbox.{Mail, Offers, SomeWaits, IsLeastWith, IsNextInCycle, StaysUntil, least_of, mail_offer, unsent_of}
 use Rattle.async_window.specs.Tournament.{IsSoonest, IsTournament, never, arrival_within, first_bytes, node_value}
 use Rattle.async_window.specs.Sorted.{AreKept, AreShort, mail_of}
-use Rattle.async_window.proofs.Offered.{IsLeastWith-either, IsLeastWith-one, IsLeastWith-same, IsLeastWith-some, Offers-among, Offers-least}
+use Rattle.async_window.proofs.Offered.{IsLeastWith-either, IsLeastWith-one, IsLeastWith-same, IsLeastWith-some, Offers-least}
 use Rattle.async_window.proofs.Table.{unsent_of-at}
 use Rattle.async_window.proofs.Trees.{top-all, top-some}
+use Rattle.async_window.proofs.Unsent.{first-among}
 
 -- a first request that has arrived and is short enough
 arrival-some : (bytes at : ℕ) (unsent : List Request) (request : Request) → slice_get unsent 0 ≡ Some request → request.at ≤ at
@@ -41,6 +42,67 @@ first_bytes-is : (unsent : List Request) (request : Request) → slice_get unsen
 first_bytes-is [] request first = let none : ⊥ = cc (first) in absurd none
 first_bytes-is (r ∷ later) request first = let same : r ≡ request = cc (first) in ap (λ (x : Request). length x.frame.bytes) same
 
+module _ (ids : List ℕ) (boxes : List Mail) (table : List ℕ) (levels : ℕ) (nodes : List (List ℕ)) (remaining : ℕ)
+    (kept : AreKept ids boxes table levels nodes remaining) where
+  -- the first unsent request of an identifier is that of a mailbox
+  pub record IsFirstOf (id place : ℕ) (request : Request) : Type 0 where
+    pub within : place < length boxes
+    pub same : (d : Mail) → (get_or boxes place d).identifier ≡ id
+    pub first : (d : Mail) → slice_get (get_or boxes place d).unsent 0 ≡ Some request
+    pub short : length request.frame.bytes ≤ 8
+
+  pub first-of : (id : ℕ) (request : Request) → slice_get (unsent_of (mail_of ids boxes) id) 0 ≡ Some request
+      → (place : ℕ) × IsFirstOf id place request
+  first-of id request is =
+      let first : slice_get (unsent_of boxes id) 0 ≡ Some request = ap (λ xs. slice_get xs 0) (sym (kept.same id)) ∙ is in
+      let among = first-among boxes id request first in
+      let place : ℕ = among.0 in
+      let within : place < length boxes = omega (arith, among.1, length-map boxes (λ (x : Mail). x.identifier)) in
+      let same : (d : Mail) → (get_or boxes place d).identifier ≡ id
+      = λ d. sym (get_or-map (λ (x : Mail). x.identifier) boxes place d id within) ∙ among.2 in
+      let here : (d : Mail) → slice_get (get_or boxes place d).unsent 0 ≡ Some request
+      = λ d. ap (λ xs. slice_get xs 0) (sym (unsent_of-at boxes place d id kept.known.distinct within (same d))) ∙ first in
+      let box : Mail = record { identifier = id; unsent = [] } in
+      let some : 0 < length (get_or boxes place box).unsent = slice_get_within (get_or boxes place box).unsent 0 request (here box) in
+      let short : AreShort (get_or boxes place box).unsent = kept.short place box within in (
+        place,
+        record {
+          within = within;
+          same = same;
+          first = here;
+          short = subst (λ (x : Request). length x.frame.bytes ≤ 8) (get_or_from_slice_get (get_or boxes place box).unsent 0 request request (here box))
+              (short 0 request some);
+        },
+      )
+
+  -- what a mailbox has first is the first unsent request of its identifier
+  at_box : (place : ℕ) (d : Mail) → place < length boxes
+      → unsent_of (mail_of ids boxes) (get_or boxes place d).identifier ≡ (get_or boxes place d).unsent
+  at_box place d within =
+      let id : ℕ = (get_or boxes place d).identifier in
+      kept.same id ∙ unsent_of-at boxes place d id kept.known.distinct within refl
+
+  -- a request waits exactly where the first one of a mailbox has arrived
+  pub waits-at : (at place : ℕ) (d : Mail) → at < never → place < length boxes
+      → arrival_within 8 (get_or boxes place d).unsent ≤ at → SomeWaits (mail_of ids boxes) at
+  waits-at at place d time within low =
+      let first = arrival-from 8 at (get_or boxes place d).unsent time low in
+      record {
+        identifier = (get_or boxes place d).identifier;
+        request = first.0;
+        waits = record { first = ap (λ xs. slice_get xs 0) (at_box place d within) ∙ first.1; arrived = first.2 };
+      }
+
+  pub never-waits : (at : ℕ) → ((place : ℕ) (d : Mail) → place < length boxes → at < arrival_within 8 (get_or boxes place d).unsent)
+      → SomeWaits (mail_of ids boxes) at → ⊥
+  never-waits at far some =
+      let found = first-of some.identifier some.request some.waits.first in
+      let box : Mail = record { identifier = some.identifier; unsent = [] } in
+      let low : arrival_within 8 (get_or boxes found.0 box).unsent ≤ at
+      = arrival-some 8 at (get_or boxes found.0 box).unsent some.request (found.1.first box) some.waits.arrived found.1.short in
+      let high : at < arrival_within 8 (get_or boxes found.0 box).unsent = far found.0 box found.1.within in
+      absurd (omega arith)
+
 module _ (layout : CycleLayout) (l : ℕ) (ids : List ℕ) (boxes : List Mail) (table : List ℕ) (levels : ℕ) (nodes : List (List ℕ))
     (remaining : ℕ) (kept : AreKept ids boxes table levels nodes remaining) where
   -- a mailbox whose first request has arrived and may start is offered
@@ -48,9 +110,7 @@ module _ (layout : CycleLayout) (l : ℕ) (ids : List ℕ) (boxes : List Mail) (
       → arrival_within bytes (get_or boxes place d).unsent ≤ at → async_open layout (at / layout.cycle) ≤ at
       → at + worst bytes ≤ sync_start layout (at / layout.cycle) l → Offers layout l (mail_of ids boxes) at (get_or boxes place d).identifier
   offers-at at bytes place d time within low opened whole =
-      let id : ℕ = (get_or boxes place d).identifier in
-      let unsent : unsent_of (mail_of ids boxes) id ≡ (get_or boxes place d).unsent
-      = kept.same id ∙ unsent_of-at boxes place d id kept.known.distinct within refl in
+      let unsent = at_box ids boxes table levels nodes remaining kept place d within in
       let first = arrival-from bytes at (get_or boxes place d).unsent time low in (
         first.0,
         record {
@@ -71,27 +131,15 @@ module _ (layout : CycleLayout) (l : ℕ) (ids : List ℕ) (boxes : List Mail) (
 
   pub offered-by : (at id : ℕ) → Offers layout l (mail_of ids boxes) at id → (place : ℕ) × (request : Request) × IsOfferOf at id place request
   offered-by at id may =
-      let first : slice_get (unsent_of boxes id) 0 ≡ Some may.0 = ap (λ xs. slice_get xs 0) (sym (kept.same id)) ∙ may.1.waiting.first in
-      let among = Offers-among layout l at boxes id
-      (may.0, record { waiting = record { first = first; arrived = may.1.waiting.arrived }; allowed = may.1.allowed }) in
-      let place : ℕ = among.0 in
-      let within : place < length boxes = omega (arith, among.1, length-map boxes (λ (x : Mail). x.identifier)) in
-      let same : (d : Mail) → (get_or boxes place d).identifier ≡ id
-      = λ d. sym (get_or-map (λ (x : Mail). x.identifier) boxes place d id within) ∙ among.2 in
-      let here : (d : Mail) → slice_get (get_or boxes place d).unsent 0 ≡ Some may.0
-      = λ d. ap (λ xs. slice_get xs 0) (sym (unsent_of-at boxes place d id kept.known.distinct within (same d))) ∙ first in
-      let box : Mail = record { identifier = id; unsent = [] } in
-      let some : 0 < length (get_or boxes place box).unsent = slice_get_within (get_or boxes place box).unsent 0 may.0 (here box) in
-      let short : AreShort (get_or boxes place box).unsent = kept.short place box within in (
-        place,
+      let found = first-of ids boxes table levels nodes remaining kept id may.0 may.1.waiting.first in (
+        found.0,
         may.0,
         record {
-          within = within;
-          same = same;
-          first = here;
+          within = found.1.within;
+          same = found.1.same;
+          first = found.1.first;
           arrived = may.1.waiting.arrived;
-          short = subst (λ (x : Request). length x.frame.bytes ≤ 8) (get_or_from_slice_get (get_or boxes place box).unsent 0 may.0 may.0 (here box))
-              (short 0 may.0 some);
+          short = found.1.short;
           opened = may.1.allowed.opened;
           whole = may.1.allowed.whole;
         },

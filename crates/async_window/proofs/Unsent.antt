@@ -1,6 +1,6 @@
 -- Mail by its first mailbox: what an identifier has left, and what a step that touches one identifier leaves.
 use Rattle.std.proofs.Common.{◌≡◌, ◌≢◌, ℕ, zero, suc, ◌+◌, ◌^◌, ◌<◌, ◌≤◌, true, false, cond, eqb, Some, List, [], ◌∷◌, ◌++◌, length, get_or, drop, map, All, AllPairs, Contains, inl, inr, refl, sym, ap, ◌∙◌, arith}
-use Rattle.std.specs.List.{find}
+use Rattle.std.specs.List.{find, slice_get}
 use Rattle.std.specs.Option.{option_map_or}
 use Rattle.std.proofs.lemmas.Bool.{eqb-true, eq-eqb, ne_eqb}
 use Rattle.std.proofs.lemmas.Bool.Decides.{eqb_tells}
@@ -24,6 +24,20 @@ unsent_of-here box mail id same = unsent_of-cons box mail id ∙ ap (λ b. cond 
 
 pub unsent_of-later : (box : Mail) (mail : List Mail) (id : ℕ) → box.identifier ≢ id → unsent_of (box ∷ mail) id ≡ unsent_of mail id
 unsent_of-later box mail id other = unsent_of-cons box mail id ∙ ap (λ b. cond b box.unsent (unsent_of mail id)) (ne_eqb box.identifier id other)
+
+-- what has an unsent request is the identifier of a mailbox
+pub first-among : (mail : List Mail) (id : ℕ) (request : Request) → slice_get (unsent_of mail id) 0 ≡ Some request
+    → Contains (map (λ box. box.identifier) mail) id
+first-among [] id request first = let none : ⊥ = cc (first) in absurd none
+first-among (box ∷ mail) id request first =
+    elim (eqb_tells box.identifier id) [
+      | inl here ↦ (0, omega arith, here.1)
+      | inr later ↦
+          let behind : slice_get (unsent_of mail id) 0 ≡ Some request
+          = ap (λ xs. slice_get xs 0) (sym (unsent_of-later box mail id later.1)) ∙ first in
+          let among = first-among mail id request behind in
+          (suc among.0, omega arith, among.2)
+    ]
 
 -- a first request that is taken away: the identifier stays
 abbrev pub without_head : Mail → Mail

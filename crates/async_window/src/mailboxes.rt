@@ -6,7 +6,7 @@ ghost use Rattle.std.specs.Prelude.{if◌then◌else◌, is_some, length, map, m
 ghost use Rattle.std.specs.Option.{option_map_or, option_to_list};
 ghost use Rattle.profile.specs.Limits.{arrivals_end, greatest_identifier, least_asynchronous, times_end};
 ghost use Rattle.cycle_layout.specs.Layout.{CycleLayout};
-ghost use Rattle.async_window.specs.Mailbox.{IsLeastWith, IsMail, IsNextInCycle, Mail, Offers, StaysUntil};
+ghost use Rattle.async_window.specs.Mailbox.{IsLeastWith, IsMail, IsNextInCycle, Mail, Offers, SomeWaits, StaysUntil};
 ghost use Rattle.async_window.specs.Mailbox.{least_of, left, mail_after, mail_offer, unsent_of, without_first};
 ghost use Rattle.async_window.specs.Adding.{with_request};
 ghost use Rattle.async_window.specs.Sorted.{IsPlaceTable};
@@ -143,8 +143,10 @@ impl Mailboxes {
         }
     }
 
-    /// Whether a first unsent request has arrived at a time. Where none has, nothing is offered up to that time.
+    /// Whether a first unsent request has arrived at a time, in bit times below 2^60. Where none has, nothing is offered
+    /// up to that time.
     pub fn has_arrived(&self, at: u64) -> bool
+        ensures waits { at < times_end → (result ≡ true) ↔ SomeWaits self.now at }
         ensures none { result ≡ false → (layout : CycleLayout) (l later : ℕ) → later ≤ at
             → mail_offer layout l self.now later ≡ None }
     {

@@ -122,6 +122,8 @@ impl Tournament {
         requires tournament { IsTournament self.now.levels self.now.nodes.items boxes.now }
         ensures none { result ≡ false → (place : ℕ) (d : Mail) → place < length boxes.now
             → at < arrival_within 8 (slice_index_or boxes.now place d).unsent }
+        ensures some { result ≡ true → at < never → (place : ℕ) × (place < length boxes.now)
+            × ((d : Mail) → arrival_within 8 (slice_index_or boxes.now place d).unsent ≤ at) }
     {
         self.soonest(boxes, LENGTHS - 1) <= at
     }

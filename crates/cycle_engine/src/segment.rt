@@ -1,6 +1,6 @@
 //! The frames of one cycle.
 
-ghost use Rattle.std.specs.Prelude.{◌≡◌, ◌/◌, ◌+◌, ◌≤◌, [], IfOk, OnOk, vec_capacity};
+ghost use Rattle.std.specs.Prelude.{◌≡◌, ◌/◌, ◌+◌, ◌<◌, ◌≤◌, [], IfOk, OnOk, vec_capacity};
 ghost use Rattle.profile.specs.Limits.{shortest_frame};
 
 use can_frame::TimedFrame;
@@ -91,14 +91,17 @@ impl CycleFrames {
         swap(&mut self.frames, list);
     }
 
-    /// Makes room in a list for the frames of a cycle of this layout, where it has none: that of the frames here, which
-    /// are dropped, or new memory.
+    /// Makes room in a list for the frames of a cycle of this layout, and drops what the list has. A list without memory
+    /// gets that of the frames here, which are dropped. They stay where the list has memory, also if it gets more.
     pub fn give_room(
         &mut self,
         list: &mut Vec<TimedFrame>,
         layout: &Layout,
     ) -> Result<(), AllocError>
         ensures room { OnOk result (layout.now.cycle / shortest_frame + 1 ≤ vec_capacity list.new) }
+        ensures cleared { list.new.items ≡ [] }
+        ensures stay { 0 < vec_capacity list.old → self.new ≡ self.old }
+        ensures dropped { vec_capacity list.old ≡ 0 → self.new ≡ [] }
     {
         if list.capacity() == 0 {
             self.exchange(list);

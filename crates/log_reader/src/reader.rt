@@ -1,7 +1,7 @@
 //! The rows of a log, one after the other.
 
 ghost use Rattle.std.specs.Prelude.{◌≡◌, ℕ, List, [], IfErr, IfNone, IfOk, IfSome};
-ghost use Rattle.log_reader.specs.LogReading.{IsBehind, ReadsRow};
+ghost use Rattle.log_reader.specs.LogReading.{CountsAtFault, IsBehind, ReadsRow};
 ghost use Rattle.log_reader.specs.Row.{AreRowsOf, IsLogFault};
 ghost use Rattle.log_reader.specs.declared.row.LogRow.{LogRow};
 
@@ -44,7 +44,7 @@ impl<'a> LogReader<'a> {
         }
     }
 
-    /// How many records were read.
+    /// How many records were read. After the end that is all of them, and after a fault of a row the number of its record.
     pub fn count(&self) -> u64
         ensures count { result ≡ self.now.count }
     {
@@ -63,6 +63,8 @@ impl<'a> LogReader<'a> {
             → IsBehind bytes self.old rows → AreRowsOf bytes rows)) }
         ensures faulty { IfErr result (λ fault. (bytes : List ℕ) (rows : List LogRow)
             → IsBehind bytes self.old rows → IsLogFault bytes fault) }
+        ensures count_at_end { IfOk result (λ found. IfNone found (self.new.count ≡ self.old.count)) }
+        ensures count_at_fault { IfErr result (CountsAtFault self.old.count self.new.count) }
     {
         if !read_next(&mut self.records, &mut self.fields)? {
             return Ok(None);

@@ -18,4 +18,5 @@ mod SlotSets
 mod Spaces
 mod Taken
 mod TextLines
+mod Unbroken
 mod WordSums

@@ -118,7 +118,8 @@ module _ (placed : List Placed) (window : ℕ) (certificate : CertificateView) (
     good-up_to zero n below = absurd (omega arith)
     good-up_to (suc bound) n below = good-at n (λ m early. good-up_to bound m (omega arith))
 
-    goods : (n : ℕ) → IsGoodAt placed window certificate n
+    -- each cycle is good, also those in which the list is gone through again
+    pub goods : (n : ℕ) → IsGoodAt placed window certificate n
     goods n = good-up_to (suc n) n (omega arith)
 
     -- where it is taken there is no breach

@@ -1,11 +1,12 @@
 //! The table of a planning, in key order.
 
-ghost use Rattle.std.specs.Prelude.{◌≡◌, All, IfOk, IsPermutation};
-ghost use Rattle.requirement_table.specs.Table.{IsInRange, IsWellPlaced, not_over};
+ghost use Rattle.std.specs.Prelude.{◌≡◌, All, IfOk, IsPermutation, [], true};
+ghost use Rattle.requirement_table.specs.Table.{IsInRange, IsWellPlaced, near_of, not_over};
 ghost use Rattle.planner_policies.specs.Ranked.{AreRanked};
 
 use crate::{Fill, Policy};
-use requirement_table::{Placed, drop_over};
+use requirement_table::laws::entries_that_are_near;
+use requirement_table::{Placed, drop_over, put_near};
 use std::alloc::{AllocError, Global};
 use std::marker::Model;
 
@@ -73,6 +74,39 @@ fn put_in_order(rows: &mut Vec<Placed>, policy: Policy)
 }
 
 impl Ranked {
+    /// No entries, with room for so many, and the policy and the filling of this list.
+    pub fn empty_with_room(&self, alloc: Global, count: usize) -> Result<Ranked, AllocError>
+        ensures empty { IfOk result (λ ranked. ranked ≡ record self.now { placed = [] }) }
+    {
+        Ok(Ranked {
+            placed: Vec::with_capacity(alloc, count)?,
+            rows: Vec::with_capacity(alloc, count)?,
+            policy: self.policy,
+            fill: self.fill,
+        })
+    }
+
+    /// Takes the entries of `all` that are not over by the cycle `since` and begin before the cycle `until`, with the
+    /// policy and the filling, in place and without memory. The answer is whether there is room for them; where there is
+    /// none, no entry is left.
+    pub fn take_near(&mut self, all: &Ranked, since: u64, until: u64) -> bool
+        ensures near { result ≡ true
+            → self.new ≡ record all.now { placed = near_of since until all.now.placed } }
+    {
+        entries_that_are_near();
+        self.policy = all.policy;
+        self.fill = all.fill;
+        let rows = all.rows();
+        if put_near(&mut self.placed, all.placed(), since, until)
+            && put_near(&mut self.rows, rows, since, until)
+        {
+            return true;
+        }
+        self.placed.clear();
+        self.rows.clear();
+        false
+    }
+
     /// The policy.
     pub fn policy(&self) -> Policy
         ensures value { result ≡ self.now.policy }

@@ -1,9 +1,9 @@
+mod NearPlans
 mod Releasing
 mod RowCycles
 mod RowDues
 mod RowFilling
 mod RowLines
-mod RowRoom
 mod RowSets
 mod RowSums
 mod RowTaking

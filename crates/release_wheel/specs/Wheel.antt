@@ -5,6 +5,7 @@ use Rattle.std.specs.Prelude.{◌≡◌, ℕ, zero, suc, ◌+◌, ◌-◌, ◌%�
 use Rattle.std.specs.Prelude.{nat_eq, ◌∷◌, [], sum_by}
 use Rattle.std.specs.Prelude.{if◌then◌else◌, List, IsPermutation, None, Some, get_or, length, min, not, set}
 use Rattle.std.specs.Int.{bit_at}
+use Rattle.std.specs.Vec.{vec_capacity}
 use Rattle.profile.specs.Limits.{cycles_end}
 use Rattle.requirement_table.specs.declared.entries.Placed.{Placed}
 use Rattle.requirement_table.specs.Instance.{Exists, MaySend, deadline_of, exists, release_of, worst}
@@ -330,12 +331,12 @@ pub record AreInTime (w : Wheel) (left soonest : ℕ) : Type 0 where
   pub later : (row : ℕ) → has_row left row ≡ true → w.cycle < get_or w.lasts.items row 0
   pub soonest_is : (row : ℕ) → has_row left row ≡ true → soonest ≤ get_or w.lasts.items row 0
 
--- a wheel has room for the rows of a ranking
-pub record HasRoomFor (ranking : Ranking) (w : Wheel) : Type 0 where
-  pub rows : length ranking.placed ≤ length w.entries.items
-  pub few : length w.entries.items ≤ 128
-  pub nexts : length w.nexts.items ≡ length w.entries.items
-  pub lasts : length w.lasts.items ≡ length w.entries.items
+-- a wheel has room for so many rows
+pub record HasRoomFor (count : ℕ) (w : Wheel) : Type 0 where
+  pub few : count ≤ 128
+  pub entries : count ≤ vec_capacity w.entries
+  pub nexts : count ≤ vec_capacity w.nexts
+  pub lasts : count ≤ vec_capacity w.lasts
   pub places : length w.places.items ≡ 64
 
 -- the first `n` rows are filled in

@@ -5,6 +5,7 @@
 //! 2^42.
 #![tactic(auto)]
 
+mod near;
 mod planner;
 mod row_set;
 mod wheel;

@@ -8,7 +8,9 @@ ghost use Rattle.planner_policies.specs.Plan.{HasNoMissIn, IsMissIn, IsValid, go
 ghost use Rattle.planner_policies.specs.Plan.{planning_of};
 ghost use Rattle.release_wheel.specs.Passed.{IsPassed};
 
-use crate::wheel::{Wheel, fill, pass_quiet, step, wheel_of};
+use crate::near::{Near, go_to, near_of, pass_near, step_near};
+use crate::row_set::MOST_ROWS;
+use crate::wheel::{Wheel, wheel_of};
 use planner_policies::{Miss, PlanState, Ranked};
 use requirement_table::Mask;
 use requirement_table::laws::entries_that_are_over;
@@ -29,18 +31,20 @@ pub struct CyclePlan {
 #[derive(Drop, Debug)]
 pub struct Planner {
     ranked: Ranked,
+    /// The entries that begin soon, where there are more than the wheel has room for.
+    near: Option<Near>,
     wheel: Wheel,
 }
 
 impl Model for Planner {
     ghost use Rattle.planner_policies.specs.Plan.{Standing};
-    ghost use Rattle.release_wheel.specs.Wheel.{IsKept};
+    ghost use Rattle.release_wheel.specs.Near.{IsStanding};
 
     ghost Value = { Standing };
 
     ghost view = { λ p. record { ranking = p.ranked; cycle = p.wheel.cycle; pending = p.wheel.slots } };
 
-    ghost invariant = { λ p. IsKept p.ranked p.wheel };
+    ghost invariant = { λ p. IsStanding p.ranked p.near p.wheel };
 }
 
 impl Planner {
@@ -51,8 +55,13 @@ impl Planner {
         ensures standing { IfOk result (λ planner. planner
             ≡ record { ranking = ranked; cycle = state.now.cycle; pending = state.now.pending }) }
     {
+        let near = near_of(alloc, &ranked)?;
         let wheel = wheel_of(alloc, &ranked, state)?;
-        Ok(Planner { ranked, wheel })
+        Ok(Planner {
+            ranked,
+            near,
+            wheel,
+        })
     }
 
     /// The state before the cycle that is planned next.
@@ -105,7 +114,7 @@ impl Planner {
         ensures missed_cycle { IfErr result (λ miss. miss.cycle ≡ self.old.cycle) }
         ensures same { OnErr result (self.new ≡ self.old) }
     {
-        step(&mut self.wheel, &self.ranked, w)
+        step_near(&mut self.near, &mut self.wheel, &self.ranked, w)
     }
 
     /// Passes cycles in which nothing is pending, from the one that is planned next on: as many of them as are known,
@@ -118,7 +127,7 @@ impl Planner {
         ensures passed { (window c : ℕ) → self.old.cycle ≤ c → c < self.new.cycle
             → IsPassed (planning_of self.old.ranking window c self.old.pending) }
     {
-        pass_quiet(&mut self.wheel, &self.ranked);
+        pass_near(&self.near, &mut self.wheel, &self.ranked);
     }
 
     /// Goes to another valid state of the same entries, without memory.
@@ -131,7 +140,7 @@ impl Planner {
           pending = state.now.pending;
         } }
     {
-        fill(&mut self.wheel, &self.ranked, state);
+        go_to(&mut self.near, &mut self.wheel, &self.ranked, state);
     }
 
     /// Drops the entries that are over by `cycle`, in place and without memory. That cycle is not after the one that is
@@ -149,6 +158,9 @@ impl Planner {
             cycle: self.wheel.cycle,
             pending: self.wheel.slots,
         };
-        fill(&mut self.wheel, &self.ranked, &state);
+        if self.ranked.rows().len() <= MOST_ROWS {
+            self.near = None;
+        }
+        go_to(&mut self.near, &mut self.wheel, &self.ranked, &state);
     }
 }

@@ -3,10 +3,10 @@
 //! A row is a placed entry, by its place in the order of the policy. The wheel has 64 places. A row whose next release
 //! is in cycle c stands at place c % 64, so a cycle looks at the rows of one place. A row of period 1 without an end has
 //! an instance in each cycle from its first release on: such rows are one set, and stand at no place. Sets of rows are
-//! numbers, so a wheel turns for at most 128 rows. For more of them each cycle is planned plainly.
+//! numbers, so a wheel turns for at most 128 rows. Where it has no room for its rows each cycle is planned plainly.
 
 ghost use Rattle.std.specs.Prelude.{◌≡◌, ◌≢◌, ℕ, ◌+◌, ◌%◌, ◌^◌, ◌<◌, ◌≤◌, Bool, true, not, ◌||◌, ◌&&◌};
-ghost use Rattle.std.specs.Prelude.{get_or, if◌then◌else◌, is_none, length, min, nat_eq, IfSome, IfOk, IfErr, None};
+ghost use Rattle.std.specs.Prelude.{get_or, if◌then◌else◌, is_none, length, min, nat_eq, IfSome, IfOk, IfErr, None, vec_capacity};
 ghost use Rattle.profile.specs.Limits.{cycles_end};
 ghost use Rattle.planner_policies.specs.declared.Fill.TheVariants.{Prefix, Skip};
 ghost use Rattle.planner_policies.specs.declared.Policy.TheVariants.{Edf};
@@ -30,7 +30,7 @@ use planner_policies::{
     Fill, Miss, PlanState, Policy, Ranked, is_held, plan_of_line, plan_with_width,
 };
 use profile::CYCLES_END;
-use requirement_table::{Mask, Placed, cost, current_instance, exists};
+use requirement_table::{Entry, Mask, Placed, cost, current_instance, exists};
 use slot_sets::{difference, union};
 use std::alloc::{AllocError, Global};
 
@@ -39,6 +39,21 @@ const PLACES: usize = 64;
 
 /// So few rows have a line that is made in a moment.
 const FEWEST: usize = 16;
+
+/// What stands in a row until it is filled in.
+const NO_ENTRY: Placed = Placed {
+    entry: Entry {
+        slot: 0,
+        node: 0,
+        length: 0,
+        phase: 0,
+        period: 0,
+        deadline: 0,
+        priority: 0,
+    },
+    origin: 0,
+    end: None,
+};
 
 /// Where a planning stands, and the rows that it looks at.
 #[derive(Drop, Debug)]
@@ -74,7 +89,7 @@ pub struct Wheel {
     pub soonest: u64,
 }
 
-/// The wheel of these entries at a valid state. All memory is taken here.
+/// The wheel of these entries at a valid state. All memory is taken here: for 128 rows where there are more entries.
 pub fn wheel_of(alloc: Global, ranked: &Ranked, state: &PlanState) -> Result<Wheel, AllocError>
     requires cycle { state.now.cycle < cycles_end }
     requires valid { IsValid ranked.now.placed state.now.cycle state.now.pending }
@@ -82,16 +97,15 @@ pub fn wheel_of(alloc: Global, ranked: &Ranked, state: &PlanState) -> Result<Whe
     ensures cycle { IfOk result (λ wheel. wheel.cycle ≡ state.now.cycle) }
     ensures slots { IfOk result (λ wheel. wheel.slots ≡ state.now.pending) }
 {
-    let entries = ranked.rows().to_vec(alloc)?;
-    let count = entries.len();
-    let turns = count <= MOST_ROWS;
+    let rows = ranked.rows();
+    let count = rows.len().min(MOST_ROWS);
     let mut wheel = Wheel {
         policy: ranked.policy(),
         cycle: state.cycle,
         slots: state.pending,
-        turns,
+        turns: false,
         quiet: 0,
-        entries,
+        entries: rows[..count].to_vec(alloc)?,
         nexts: vec![in alloc; 0; count]?,
         lasts: vec![in alloc; 0; count]?,
         places: vec![in alloc; 0; PLACES]?,
@@ -106,29 +120,40 @@ pub fn wheel_of(alloc: Global, ranked: &Ranked, state: &PlanState) -> Result<Whe
     Ok(wheel)
 }
 
-/// Goes to a valid state of these entries, without memory: there are not more of them than before.
+/// Goes to a valid state of these entries, without memory. Where the wheel has no room for them its rows are not kept.
 pub fn fill(wheel: &mut Wheel, ranked: &Ranked, state: &PlanState)
     requires cycle { state.now.cycle ≤ cycles_end }
     requires valid { IsValid ranked.now.placed state.now.cycle state.now.pending }
-    requires room { wheel.old.turns ≡ true → HasRoomFor ranked.now wheel.old }
-    requires policy { wheel.old.turns ≡ true → wheel.old.policy ≡ ranked.now.policy }
     ensures kept { IsKept ranked.now wheel.new }
     ensures cycle { wheel.new.cycle ≡ state.now.cycle }
     ensures slots { wheel.new.slots ≡ state.now.pending }
 {
+    wheel.policy = ranked.policy();
     wheel.cycle = state.cycle;
     wheel.slots = state.pending;
     wheel.quiet = 0;
+    wheel.turns = has_room(wheel, ranked.rows().len());
     if wheel.turns {
         fill_rows(wheel, ranked);
     }
+}
+
+/// Whether the wheel has room for so many rows.
+fn has_room(wheel: &Wheel, count: usize) -> bool
+    ensures room { result ≡ true → HasRoomFor count wheel.now }
+{
+    count <= MOST_ROWS
+        && count <= wheel.entries.capacity()
+        && count <= wheel.nexts.capacity()
+        && count <= wheel.lasts.capacity()
+        && wheel.places.as_slice().len() == PLACES
 }
 
 /// Fills in all rows.
 fn fill_rows(wheel: &mut Wheel, ranked: &Ranked)
     requires cycle { wheel.old.cycle ≤ cycles_end }
     requires valid { IsValid ranked.now.placed wheel.old.cycle wheel.old.slots }
-    requires room { HasRoomFor ranked.now wheel.old }
+    requires room { HasRoomFor (length ranked.now.placed) wheel.old }
     requires policy { wheel.old.policy ≡ ranked.now.policy }
     requires quiet { wheel.old.quiet ≡ 0 }
     ensures turned { IsTurnedFor ranked.now wheel.new }
@@ -143,18 +168,14 @@ fn fill_rows(wheel: &mut Wheel, ranked: &Ranked)
 
 /// Makes room for so many rows, and leaves none.
 fn clear(wheel: &mut Wheel, count: usize)
-    requires count { count ≤ length wheel.old.entries.items }
-    requires few { length wheel.old.entries.items ≤ 128 }
-    requires nexts { length wheel.old.nexts.items ≡ length wheel.old.entries.items }
-    requires lasts { length wheel.old.lasts.items ≡ length wheel.old.entries.items }
-    requires places { length wheel.old.places.items ≡ 64 }
+    requires room { HasRoomFor count wheel.old }
     ensures room { HasRoom 0 wheel.new }
     ensures size { length wheel.new.entries.items ≡ count }
     ensures same { IsSameState wheel.old wheel.new }
 {
-    wheel.entries.truncate(count);
-    wheel.nexts.truncate(count);
-    wheel.lasts.truncate(count);
+    resize(&mut wheel.entries, count, NO_ENTRY);
+    resize(&mut wheel.nexts, count, 0);
+    resize(&mut wheel.lasts, count, 0);
     empty_places(&mut wheel.places);
     wheel.always = 0;
     wheel.always_slots = Mask::empty();
@@ -162,6 +183,17 @@ fn clear(wheel: &mut Wheel, count: usize)
     wheel.waiting = 0;
     wheel.cost = 0;
     wheel.soonest = u64::MAX;
+}
+
+/// Makes a list so long, without memory.
+fn resize<T: Copy + Drop>(list: &mut Vec<T>, count: usize, item: T)
+    requires room { count ≤ vec_capacity list.old }
+    ensures size { length list.new.items ≡ count }
+{
+    list.truncate(count);
+    while list.len() < count {
+        list.push_reserved(item);
+    }
 }
 
 /// Takes all rows off the places.
@@ -345,9 +377,11 @@ fn pass(wheel: &mut Wheel, ranked: &Ranked) -> CyclePlan
     }
 }
 
-/// Passes the cycles in which nothing is pending, from the next one on, as far as they are known.
-pub fn pass_quiet(wheel: &mut Wheel, ranked: &Ranked)
+/// Passes the cycles in which nothing is pending, from the next one on, as far as they are known, and no further than to
+/// the cycle `until`.
+pub fn pass_quiet(wheel: &mut Wheel, ranked: &Ranked, until: u64)
     requires kept { IsKept ranked.now wheel.old }
+    ensures until { wheel.old.cycle ≤ until → wheel.new.cycle ≤ until }
     ensures onward { wheel.old.cycle ≤ wheel.new.cycle }
     ensures slots { wheel.new.slots ≡ wheel.old.slots }
     ensures valid { (c : ℕ) → wheel.old.cycle ≤ c → c ≤ wheel.new.cycle
@@ -360,7 +394,7 @@ pub fn pass_quiet(wheel: &mut Wheel, ranked: &Ranked)
     if wheel.slots.bits() != 0 {
         return;
     }
-    let end = wheel.quiet.min(CYCLES_END);
+    let end = wheel.quiet.min(until).min(CYCLES_END);
     while wheel.cycle < end {
         pass(wheel, ranked);
     }
@@ -389,8 +423,6 @@ fn plan_plainly(
 ) -> Result<CyclePlan, Miss>
     requires cycle { state.now.cycle < cycles_end }
     requires valid { IsValid ranked.now.placed state.now.cycle state.now.pending }
-    requires room { wheel.old.turns ≡ true → HasRoomFor ranked.now wheel.old }
-    requires policy { wheel.old.turns ≡ true → wheel.old.policy ≡ ranked.now.policy }
     ensures planned { let plan = planning_of ranked.now w state.now.cycle state.now.pending in IfOk result
         (λ r. IsPlanned plan state.now.cycle (contains_slot state.now.pending) r.mask r.width wheel.new.slots) }
     ensures next { IfOk result (λ _. wheel.new.cycle ≡ state.now.cycle + 1) }

@@ -123,7 +123,15 @@ fn fresh_master(alloc: Global, system: &System, steps: &[Step]) -> Result<Master
 }
 
 /// The nodes of a system before cycle 0, with these requests.
-fn fresh_nodes(alloc: Global, system: &System, requests: &[Request]) -> Result<Nodes, AllocError>
+///
+/// # Errors
+///
+/// Only where memory runs out.
+pub fn fresh_nodes(
+    alloc: Global,
+    system: &System,
+    requests: &[Request],
+) -> Result<Nodes, AllocError>
     requires system { IsSystem system.now }
     requires requests { AreLegal system.now.owners requests.now }
     ensures ready { IfOk result (AreReady (setting_of system.now requests.now) [] []) }

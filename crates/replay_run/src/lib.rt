@@ -19,7 +19,7 @@ mod replaying;
 pub use accepted::{all_accepted, refuses_nothing};
 pub use answering::answer;
 pub use asked::asked_table;
-pub use bus::{Bus, in_ranges};
+pub use bus::{Bus, fresh_nodes, in_ranges};
 pub use cut::Cut;
 pub use driver::{Driven, drive};
 pub use listener::{Listener, ToSink};

@@ -1,5 +1,5 @@
 -- Entries that are over send nothing and release nothing any more.
-use Rattle.std.proofs.Common.{◌≡◌, ℕ, ◌+◌, ◌-◌, ◌<◌, ◌≤◌, Bool, true, false, not, cond, ◌&&◌, ◌||◌, nat_eq, nat_le, Option, Some, None, IfSome, option_map, is_some, List, [], ◌∷◌, filter, All, slice_get, if◌then◌else◌, refl, sym, ap, ◌∙◌, arith}
+use Rattle.std.proofs.Common.{get_or, ◌≡◌, ℕ, ◌+◌, ◌-◌, ◌<◌, ◌≤◌, Bool, true, false, not, cond, ◌&&◌, ◌||◌, nat_eq, nat_le, Option, Some, None, IfSome, option_map, is_some, List, [], ◌∷◌, filter, All, slice_get, if◌then◌else◌, refl, sym, ap, ◌∙◌, arith}
 use Rattle.std.specs.List.{filter_map, cons_option, list_any}
 use Rattle.std.specs.Option.{option_map_or}
 use Rattle.std.proofs.lemmas.Bool.{leb-true}
@@ -7,7 +7,7 @@ use Rattle.std.proofs.lemmas.List.Elements.{All-filter, All-head, All-tail}
 use Rattle.std.proofs.lemmas.List.Kept.{AllPairs-filter}
 use Rattle.requirement_table.specs.declared.entries.Placed.{Placed}
 use Rattle.requirement_table.specs.Instance.{instance_of, release_of, released_by}
-use Rattle.requirement_table.specs.Table.{GoesBefore, IsInRange, IsWellPlaced, instance_in, is_over, not_over, releases_in, sendable}
+use Rattle.requirement_table.specs.Table.{GoesBefore, IsInRange, IsWellPlaced, instance_in, is_over, near_of, not_over, releases_in, sendable}
 use Rattle.requirement_table.proofs.Latest.{IsReleasedIn-from_released_by, MaySend-from_instance}
 
 pub not_over-well_placed : (c : ℕ) (placed : List Placed) → IsWellPlaced placed → IsWellPlaced (not_over c placed)
@@ -84,3 +84,44 @@ pub releases_in-not_over : (since : ℕ) (placed : List Placed) (slot c : ℕ) �
 releases_in-not_over since placed slot c well later =
     any-kept (is_over since) (λ p. nat_eq p.entry.slot slot && is_some (released_by p c)) placed
     (λ i d within over. over-silent slot since c _ later (well.in_range i d within) over)
+
+-- an entry that begins later has nothing to send or to release before
+later-none : (slot until c : ℕ) (p : Placed) → c < until → nat_le until p.origin ≡ true → sendable slot c p ≡ None
+later-none slot until c p before later =
+    let begins = leb-true until p.origin later in
+    let none : instance_of p c ≡ None = none_of (instance_of p c) (λ k is.
+    let sends = MaySend-from_instance p k c is in
+    let released = sends.released in
+    omega arith) in
+    none_both (nat_eq p.entry.slot slot) _ (none_mapped (λ k. record { placed = p; number = k }) (instance_of p c) none)
+
+later-silent : (slot until c : ℕ) (p : Placed) → c < until → nat_le until p.origin ≡ true → (nat_eq p.entry.slot slot && is_some (released_by p c)) ≡ false
+later-silent slot until c p before later =
+    let begins = leb-true until p.origin later in
+    let none : released_by p c ≡ None = none_of (released_by p c) (λ k is.
+    let released = (IsReleasedIn-from_released_by p k c is).release in
+    omega arith) in
+    rw none (elim (nat_eq p.entry.slot slot) as (λ b. b && false ≡ false) [ true ↦ refl | false ↦ refl ])
+
+pub near_of-well_placed : (since until : ℕ) (placed : List Placed) → IsWellPlaced placed → IsWellPlaced (near_of since until placed)
+near_of-well_placed since until placed well =
+    let left = not_over-well_placed since placed well in
+    record {
+      in_range = All-filter (λ p. not (nat_le until p.origin)) IsInRange (not_over since placed) left.in_range;
+      in_order = AllPairs-filter GoesBefore (λ p. not (nat_le until p.origin)) (not_over since placed) left.in_order;
+    }
+
+-- between two cycles the entries that are not over by the first and begin before the second have the same instances
+pub instance_in-near_of : (since until : ℕ) (placed : List Placed) (slot c : ℕ) → since ≤ c → c < until
+    → instance_in (near_of since until placed) slot c ≡ instance_in placed slot c
+instance_in-near_of since until placed slot c from before =
+    ap (λ found. slice_get found 0)
+    (filter_map-kept (λ p. nat_le until p.origin) (sendable slot c) (not_over since placed) (λ p later. later-none slot until c p before later))
+    ∙ instance_in-not_over since placed slot c from
+
+pub releases_in-near_of : (since until : ℕ) (placed : List Placed) (slot c : ℕ) → IsWellPlaced placed → since ≤ c → c < until
+    → releases_in (near_of since until placed) c slot ≡ releases_in placed c slot
+releases_in-near_of since until placed slot c well from before =
+    any-kept (λ p. nat_le until p.origin) (λ p. nat_eq p.entry.slot slot && is_some (released_by p c)) (not_over since placed)
+    (λ i d within later. later-silent slot until c (get_or (not_over since placed) i d) before later)
+    ∙ releases_in-not_over since placed slot c well from

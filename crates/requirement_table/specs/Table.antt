@@ -42,6 +42,10 @@ is_over c p = option_map_or (λ from. nat_le from c) (free_from p) false
 abbrev pub not_over : ℕ → List Placed → List Placed
 not_over c placed = filter (λ p. not (is_over c p)) placed
 
+-- those of them whose origin is before the cycle `until`: none of the others releases an instance before it
+abbrev pub near_of : ℕ → ℕ → List Placed → List Placed
+near_of since until placed = filter (λ p. not (nat_le until p.origin)) (not_over since placed)
+
 -- of two entries in one slot the earlier one has an end and is free before the later one's origin
 abbrev pub GoesBefore : Placed → Placed → Type 0
 GoesBefore p q = p.entry.slot ≡ q.entry.slot → IsFreeAt p q.origin

@@ -8,7 +8,7 @@ ghost use Rattle.requirement_table.specs.Instance.{Exists, IsLastCycle, IsReleas
 ghost use Rattle.requirement_table.specs.Instance.{instance_of, release_of, released_by};
 ghost use Rattle.requirement_table.specs.Flags.{HasWaiting, HasWaitingBefore, IsFlaggedOnce, IsGoodCycle, waits};
 ghost use Rattle.requirement_table.specs.Slots.{contains_slot, set_of};
-ghost use Rattle.requirement_table.specs.Table.{IsWellPlaced, held_before, instance_in, not_over};
+ghost use Rattle.requirement_table.specs.Table.{IsWellPlaced, held_before, instance_in, near_of, not_over};
 ghost use Rattle.requirement_table.specs.Table.{released_in, releases_in};
 
 /// A set of slots made of a test contains the slots below `n` that pass it, and no other.
@@ -83,4 +83,15 @@ pub fn entries_that_are_over()
         → instance_in (not_over since placed) slot c ≡ instance_in placed slot c }
     ensures releases { (since : ℕ) (placed : List Placed) (slot c : ℕ) → IsWellPlaced placed → since ≤ c
         → releases_in (not_over since placed) c slot ≡ releases_in placed c slot }
+{}
+
+/// The entries that are not over by a cycle and begin before a later one are well placed where the whole list is, and
+/// between these cycles they have the same instances to release and to send.
+pub fn entries_that_are_near()
+    ensures well_placed { (since until : ℕ) (placed : List Placed)
+        → IsWellPlaced placed → IsWellPlaced (near_of since until placed) }
+    ensures instances { (since until : ℕ) (placed : List Placed) (slot c : ℕ) → since ≤ c → c < until
+        → instance_in (near_of since until placed) slot c ≡ instance_in placed slot c }
+    ensures releases { (since until : ℕ) (placed : List Placed) (slot c : ℕ) → IsWellPlaced placed → since ≤ c → c < until
+        → releases_in (near_of since until placed) c slot ≡ releases_in placed c slot }
 {}

@@ -13,7 +13,7 @@ mod slots;
 pub use entries::{Entry, Order, Placed, PlacedList};
 pub use instances::{Payload, Sendable, cost, current, current_instance, due, exists, releases};
 pub use lists::{
-    copy_with_room, drop_over, first_over, is_over, is_over_in_range, not_over, released_in,
-    well_placed,
+    copy_with_room, drop_over, first_over, is_over, is_over_in_range, not_over, put_near,
+    released_in, well_placed,
 };
 pub use slots::{MOST_SLOTS, Mask};

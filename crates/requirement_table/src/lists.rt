@@ -1,10 +1,10 @@
 //! Lists of placed entries.
 
 ghost use Rattle.std.specs.Prelude.{◌≡◌, ℕ, ◌+◌, ◌-◌, ◌^◌, ◌<◌, ◌≤◌, ◌↔◌};
-ghost use Rattle.std.specs.Prelude.{IsTrue, true, false, Some, IsSomeAnd, IfOk, vec_capacity};
+ghost use Rattle.std.specs.Prelude.{All, IsTrue, true, false, Some, IsSomeAnd, IfOk, length, vec_capacity};
 ghost use Rattle.std.specs.List.{list_any};
 ghost use Rattle.requirement_table.specs.Table.{IsEntry, IsInRange, IsWellPlaced};
-ghost use Rattle.requirement_table.specs.Table.{free_from, is_over, not_over, released_in};
+ghost use Rattle.requirement_table.specs.Table.{free_from, is_over, near_of, not_over, released_in};
 
 use crate::entries::{Entry, Placed};
 use crate::instances::releases;
@@ -94,6 +94,26 @@ pub fn drop_over(placed: &mut Vec<Placed>, cycle: u64)
     ensures capacity { vec_capacity placed.new ≡ vec_capacity placed.old }
 {
     placed.retain(|p| !is_over(p, cycle));
+}
+
+/// Puts the entries that are not over by the cycle `since` and whose origin is before the cycle `until` into a list, in
+/// their order, in place of what it has and without memory. The answer is whether it has room for them.
+pub fn put_near(list: &mut Vec<Placed>, placed: &[Placed], since: u64, until: u64) -> bool
+    requires in_range { All IsInRange placed.now }
+    ensures list { result ≡ true → list.new.items ≡ near_of since until placed.now }
+    ensures full { result ≡ false → vec_capacity list.old < length (near_of since until placed.now) }
+    ensures capacity { vec_capacity list.new ≡ vec_capacity list.old }
+{
+    list.clear();
+    for p in placed {
+        if p.origin < until && !is_over_in_range(p, since) {
+            if list.len() == list.capacity() {
+                return false;
+            }
+            list.push_reserved(*p);
+        }
+    }
+    true
 }
 
 /// The least cycle by which one of these entries is over, or the greatest number where none ends.

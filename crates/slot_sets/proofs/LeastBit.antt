@@ -1,5 +1,5 @@
 -- A set of slots without the least one of them: a number and one less have the same bits above the lowest 1.
-use Rattle.std.proofs.Common.{◌≡◌, ℕ, zero, suc, ◌+◌, ◌-◌, ◌*◌, ◌/◌, ◌%◌, ◌^◌, ◌<◌, ◌&&◌, true, not, nat_eq, Some, bit_and, min, inl, inr, sym, ap, ◌∙◌, subst, arith}
+use Rattle.std.proofs.Common.{◌≡◌, ℕ, zero, suc, ◌+◌, ◌-◌, ◌*◌, ◌/◌, ◌%◌, ◌^◌, ◌<◌, ◌&&◌, true, not, nat_eq, None, Some, bit_and, min, inl, inr, sym, ap, ◌∙◌, subst, arith}
 use Rattle.std.specs.Int.{bit_at}
 use Rattle.std.proofs.lemmas.Bool.{cases_eq, cases_lt}
 use Rattle.std.proofs.lemmas.Bool.Decides.{nat_tests}
@@ -82,3 +82,10 @@ some-least n t least = elim (cases_lt 0 n) [
       let off = bit_at-zero t in
       absurd (grind (arith, nat_tests))
 ]
+
+-- a set with no slot is the empty one
+pub none-least : (n : ℕ) → n < 2 ^ most_slots → least_where most_slots (contains_slot n) ≡ None → n ≡ 0
+none-least n below least =
+    let found : IsLeastBelow most_slots (contains_slot n) None = subst (IsLeastBelow most_slots (contains_slot n)) least (least_where-least most_slots (contains_slot n)) in
+    let none : (k : ℕ) → k < most_slots → n / 2 ^ k % 2 ≡ 0 = λ k within. let lacks = found k within in let small = bit_at-lt n k in grind (arith, nat_tests) in
+    omega (arith, below, low-none most_slots n none)

@@ -1,5 +1,5 @@
 -- How an event that is done again brings a run on.
-use Rattle.std.proofs.Common.{◌≡◌, ◌++◌, ℕ, false, List, [], ◌∷◌, All, sym, ap, ◌∙◌, subst, append-nil}
+use Rattle.std.proofs.Common.{◌≡◌, ◌++◌, ℕ, false, List, [], ◌∷◌, All, refl, sym, ap, ◌∙◌, subst, append-nil}
 use Rattle.std.specs.Prelude.{Err, IfNone, IfOk, IfSome, None, Ok, Option, Result, Some}
 use Rattle.std.proofs.lemmas.List.Elements.{All-cons, All-nil}
 use Rattle.can_frame.specs.declared.data_frame.TimedFrame.{TimedFrame}
@@ -23,9 +23,11 @@ use Rattle.bus_trace.specs.EventRows.{told_at}
 use Rattle.bus_trace.specs.LogRows.{events_told}
 use Rattle.log_reader.specs.declared.row.LogRow.{LogRow}
 use Rattle.trace_audit.specs.Again.{Asks, IsAgain, IsBroughtOn, IsOpenedWith}
+use Rattle.trace_audit.specs.Ahead.{IsAhead}
 use Rattle.trace_audit.specs.States.{KeepsStates, state_of}
 use Rattle.trace_audit.specs.declared.rerun.Rerun.{Rerun}
 use Rattle.trace_audit.proofs.Rows.{TraceLaws, called-told, opened-told}
+use Rattle.trace_audit.proofs.Taking.{ahead-opened}
 
 -- a state by its parts
 pub state-is : (rules : Rules) (history : List Event) (state : PlanState) → state.cycle ≡ (state_of rules history).cycle
@@ -43,9 +45,9 @@ module _ (system : System) (steps : List Step) (requests : List Request) (trace 
   pub called-on : CallsBetween → (event : Event) → is_open event ≡ false → Asks steps old.master.history line event
       → new.master.rules ≡ old.master.rules → new.nodes ≡ old.nodes
       → new.master.history ≡ old.master.history ++ event ∷ [] → IsLegal new.master.rules new.master.history
-      → KeepsStates new.master.rules new.master.history new.states
+      → KeepsStates new.master.rules new.master.history new.states → IsAhead steps (old.master.history ++ event ∷ []) new.ahead
       → (rows : List LogRow) → rows ≡ told_at 0 event [] → IsBroughtOn system steps requests trace old line new rows
-  called-on laws event closed asks rules nodes history legal states rows rows_are =
+  called-on laws event closed asks rules nodes history legal states ahead rows rows_are =
       let same_rules : new.master.rules ≡ system.rules = rules ∙ again.same_rules in
       let whole : IsLegal system.rules (old.master.history ++ event ∷ []) =
       subst (IsLegal system.rules) history (subst (λ r. IsLegal r new.master.history) same_rules legal) in
@@ -64,6 +66,7 @@ module _ (system : System) (steps : List Step) (requests : List Request) (trace 
         history = history;
         frames = [];
         again = subst (λ t. IsAgain system requests t new) (sym (append-nil trace)) now;
+        ahead = subst (λ h. IsAhead steps h new.ahead) (sym history) ahead;
         width = 0;
         rows_are = rows_are;
         told = ap (λ t. events_told t [] new.master.history) (append-nil trace) ∙ ap (events_told trace []) history
@@ -101,14 +104,18 @@ module _ (system : System) (requests : List Request) (trace : List TimedFrame) (
 module _ (system : System) (steps : List Step) (requests : List Request) (trace : List TimedFrame) (old new : Rerun) (line : LogRow) where
   pub opened-on : (width : ℕ) (frames : List TimedFrame) (opened : IsOpenedWith system requests trace old new width frames)
       → Asks steps old.master.history line (Open opened.cycle opened.mask)
+      → IsAhead steps old.master.history old.ahead → new.ahead ≡ old.ahead
       → (rows : List LogRow) → rows ≡ told_at width (Open opened.cycle opened.mask) frames
       → IsBroughtOn system steps requests trace old line new rows
-  opened-on width frames opened asks rows rows_are = record {
+  opened-on width frames opened asks ahead same rows rows_are = record {
     event = Open opened.cycle opened.mask;
     asks = asks;
     history = opened.history;
     frames = frames;
     again = opened.again;
+    ahead = subst (λ a. IsAhead steps new.master.history a) (sym same)
+        (subst (λ h. IsAhead steps h old.ahead) (sym opened.history)
+        (ahead-opened steps old.master.history old.ahead (Open opened.cycle opened.mask) (λ caller. refl) ahead));
     width = width;
     rows_are = rows_are;
     told = opened.told ∙ ap (λ l. events_told trace [] old.master.history ++ l) (sym rows_are);

@@ -1,5 +1,5 @@
 -- An event is determined by the row that asks for it, the events before it and the steps.
-use Rattle.std.proofs.Common.{◌≡◌, ◌+◌, ◌≤◌, ◌++◌, ℕ, true, false, List, [], ◌∷◌, All, Option, Some, map, refl, sym, ap, ◌∙◌, subst, arith}
+use Rattle.std.proofs.Common.{◌≡◌, ◌+◌, ◌≤◌, ◌++◌, ℕ, Bool, true, false, List, [], ◌∷◌, All, Option, None, Some, map, refl, sym, ap, ◌∙◌, subst, arith}
 use Rattle.std.specs.Prelude.{count_by, slice_get, sum_by}
 use Rattle.std.proofs.lemmas.List.Elements.{All-cons, All-nil}
 use Rattle.can_frame.specs.declared.data_frame.TimedFrame.{TimedFrame}
@@ -149,6 +149,34 @@ inner-no_event (row.Look caller next) is = absurd (cc)
 inner-no_event (row.Open cycle mask l) is = absurd (cc)
 inner-no_event (row.Frame timed) is = refl
 inner-no_event (row.End next) is = refl
+
+-- whether an act, where there is one, is a change
+abbrev pub is_ask : Option Act → Bool
+is_ask None = false
+is_ask (Some act.Look) = false
+is_ask (Some (act.Ask change)) = true
+
+-- whether it is a look
+abbrev pub is_look : Option Act → Bool
+is_look None = false
+is_look (Some act.Look) = true
+is_look (Some (act.Ask change)) = false
+
+module _ (rules : Rules) (steps : List Step) (before : List Event) (caller : ℕ) (found : Option Act)
+    (is : found ≡ slice_get (acts_of caller steps) (count_by (is_called_by caller) before)) where
+  -- where the next act of an operator is no change, no event is one that the row of a change asks for
+  pub no-ask : is_ask found ≡ false → (from : ℕ) (told : LogVerdict) (event : Event) → IsRight rules before event
+      → Asks steps before (row.Submit caller from told) event → ⊥
+  no-ask other from told (Submit number change since verdict trail) right asks = let asked = ap is_ask (is ∙ asks.2) in absurd (cc)
+  no-ask other from told (Look number cycle) right asks = absurd asks
+  no-ask other from told (Open cycle mask) right asks = absurd asks
+
+  -- where it is no look, no event is one that the row of a look asks for
+  pub no-look : is_look found ≡ false → (next : ℕ) (event : Event) → IsRight rules before event
+      → Asks steps before (row.Look caller next) event → ⊥
+  no-look other next (Submit number change since verdict trail) right asks = absurd asks
+  no-look other next (Look number cycle) right asks = let asked = ap is_look (is ∙ asks.1) in absurd (cc)
+  no-look other next (Open cycle mask) right asks = absurd asks
 
 -- where no right answer is planned from a cycle, no right event is a change from there
 pub no-change : (rules : Rules) (steps : List Step) (before : List Event) (caller from : ℕ) (change : Change)

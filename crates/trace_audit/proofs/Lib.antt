@@ -9,4 +9,5 @@ mod Readings
 mod Rows
 mod Settling
 mod Standing
+mod Taking
 mod Whole

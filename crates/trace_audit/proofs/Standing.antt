@@ -23,6 +23,7 @@ use Rattle.bus_trace.specs.LogRows.{events_told, log_rows}
 use Rattle.log_reader.specs.declared.row.LogRow.{LogRow}
 use Rattle.log_reader.specs.declared.row.LogRow.TheVariants as row
 use Rattle.trace_audit.specs.Again.{Asks, IsAgain, IsBroughtOn}
+use Rattle.trace_audit.specs.Ahead.{IsAhead}
 use Rattle.trace_audit.specs.Audit.{CanStand}
 use Rattle.trace_audit.specs.Auditing.{IsAuditing, is_inner, left_of}
 use Rattle.trace_audit.specs.Reading.{IsHistoryOf, IsReadFrom, is_event_row}
@@ -125,6 +126,7 @@ module _ (system : System) (steps : List Step) (requests : List Request) (rows :
       record {
         trace = auditing.trace;
         again = auditing.again;
+        ahead = auditing.ahead;
         read = history-stays system.rules steps rows line history quiet auditing.read;
         only = λ other read legal. auditing.only other (history-stood system.rules steps rows line other quiet read) legal;
         opened = auditing.opened;
@@ -201,6 +203,7 @@ module _ (system : System) (steps : List Step) (requests : List Request) (rows :
         record {
           trace = trace;
           again = subst (IsAgain system requests trace) (sym same_run) on.again;
+          ahead = subst (λ r. IsAhead steps r.master.history r.ahead) (sym same_run) on.ahead;
           read = subst (IsHistoryOf system.rules steps (rows ++ line ∷ [])) (sym history_is)
               (history-push system.rules steps rows line history on.event is_event auditing.read read);
           only = λ other other_read legal. new-only other other_read legal ∙ ap (λ r. r.master.history) (sym same_run);

@@ -18,6 +18,7 @@ use Rattle.bus_trace.specs.Logged.{IsNear}
 use Rattle.bus_trace.specs.LogRows.{events_told}
 use Rattle.log_reader.specs.declared.row.LogRow.{LogRow}
 use Rattle.log_reader.specs.declared.row.LogRow.TheVariants as row
+use Rattle.trace_audit.specs.Ahead.{IsAhead}
 use Rattle.trace_audit.specs.Reading.{IsNextAct}
 use Rattle.trace_audit.specs.States.{KeepsStates}
 use Rattle.trace_audit.specs.declared.rerun.Rerun.{Rerun}
@@ -62,6 +63,7 @@ pub record IsAnsweredWith (old new : Rerun) (caller : ℕ) (change : Change) (fr
   pub history : new.master.history ≡ old.master.history ++ Submit caller change from verdict trail ∷ []
   pub legal : IsLegal new.master.rules new.master.history
   pub states : KeepsStates new.master.rules new.master.history new.states
+  pub ahead : new.ahead ≡ old.ahead
   pub rows_are : rows ≡ told_at 0 (Submit caller change from verdict trail) []
 
 -- the row asks for the event, after the events before it: it is of the row's kind and has the row's caller. A change or a
@@ -74,7 +76,8 @@ Asks steps before (row.Look caller next) (Look number cycle) = (number ≡ calle
 Asks steps before (row.Open number slots l) (Open cycle mask) = next_of before < sum_by count_of steps
 Asks steps before line event = ⊥
 
--- the run has one event more, which the row asks for, and these are the rows of the event
+-- the run has one event more, which the row asks for and the steps no longer have before it, and these are the rows of the
+-- event
 pub record IsBroughtOn (system : System) (steps : List Step) (requests : List Request) (trace : List TimedFrame)
     (old : Rerun) (line : LogRow) (new : Rerun) (rows : List LogRow) : Type 0 where
   pub event : Event
@@ -82,6 +85,7 @@ pub record IsBroughtOn (system : System) (steps : List Step) (requests : List Re
   pub history : new.master.history ≡ old.master.history ++ event ∷ []
   pub frames : List TimedFrame
   pub again : IsAgain system requests (trace ++ frames) new
+  pub ahead : IsAhead steps new.master.history new.ahead
   pub width : ℕ
   pub rows_are : rows ≡ told_at width event frames
   pub told : events_told (trace ++ frames) [] new.master.history ≡ events_told trace [] old.master.history ++ rows

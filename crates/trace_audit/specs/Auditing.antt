@@ -13,6 +13,7 @@ use Rattle.log_reader.specs.declared.row.LogRow.TheVariants as row
 use Rattle.live_master.specs.Callers.{is_called_by}
 use Rattle.live_steps.specs.Live.{acts_of}
 use Rattle.trace_audit.specs.Again.{IsAgain}
+use Rattle.trace_audit.specs.Ahead.{IsAhead}
 use Rattle.trace_audit.specs.Audit.{AllStand, CanStand}
 use Rattle.trace_audit.specs.Reading.{IsHistoryOf}
 use Rattle.trace_audit.specs.declared.auditor.Auditor.{Auditor}
@@ -38,6 +39,7 @@ pub record IsAuditing (system : System) (steps : List Step) (requests : List Req
     (auditor : Auditor) : Type 0 where
   pub trace : List TimedFrame
   pub again : IsAgain system requests trace auditor.rerun
+  pub ahead : IsAhead steps auditor.rerun.master.history auditor.rerun.ahead
   pub read : IsHistoryOf system.rules steps rows auditor.rerun.master.history
   pub only : (other : List Event) → IsHistoryOf system.rules steps rows other → IsLegal system.rules other
       → other ≡ auditor.rerun.master.history

@@ -1,4 +1,5 @@
 pub mod Again
+pub mod Ahead
 pub mod Audit
 pub mod Auditing
 pub mod FaultText

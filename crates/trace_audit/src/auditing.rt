@@ -23,9 +23,9 @@ use system_file::System;
 /// Audits the rows of a log against a system, steps and requests as they are read. It trusts nothing of the log's
 /// maker: each event of the rows is done again, and the frames of each cycle are those that the nodes send.
 ///
-/// It takes time for the events and their cycles, as a replay does, and for the plans of the changes; and memory for
-/// the requests, the table, the history, the rows of the last event, and the states of the plan since a change was
-/// accepted last.
+/// It takes time for the events and their cycles, as a replay does, and for the plans of the changes. Each step is passed
+/// once for each operator. It takes memory for the requests, the table, the history, the rows of the last event, and the
+/// states of the plan since a change was accepted last.
 ///
 /// # Errors
 ///

@@ -61,11 +61,12 @@ impl Auditor {
         requests: &[Request],
     ) -> Result<Auditor, AllocError>
         requires system { IsSystem system.now }
+        requires steps { AreLegalSteps steps.now }
         requires requests { AreLegal system.now.owners requests.now }
         ensures auditing { IfOk result (IsAuditing system.now steps.now requests.now []) }
     {
         Ok(Auditor {
-            rerun: Rerun::begin(alloc, system, requests)?,
+            rerun: Rerun::begin(alloc, system, steps, requests)?,
             rows: Vec::new(alloc),
             came: 0,
         })

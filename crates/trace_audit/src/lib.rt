@@ -4,6 +4,7 @@
 //! Cycles are elementary cycles, counted from 0; times are bit times.
 #![tactic(auto)]
 
+mod ahead;
 mod audit_fault;
 mod auditing;
 mod auditor;

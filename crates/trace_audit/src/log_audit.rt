@@ -44,6 +44,7 @@ impl LogAudit {
         requests: &[Request],
     ) -> Result<LogAudit, AllocError>
         requires system { IsSystem system.now }
+        requires steps { AreLegalSteps steps.now }
         requires requests { AreLegal system.now.owners requests.now }
         ensures heard { IfOk result (IsHeard system.now steps.now requests.now []) }
     {

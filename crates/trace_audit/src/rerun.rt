@@ -10,21 +10,21 @@ ghost use Rattle.requests_file.specs.RequestsFile.{AreLegal};
 ghost use Rattle.steps_file.specs.StepsFile.{AreLegalSteps, count_of};
 ghost use Rattle.system_file.specs.SystemFile.{IsSystem};
 ghost use Rattle.system_file.specs.declared.system.System.{System};
-ghost use Rattle.kept_run.specs.Progress.{AreReady};
 ghost use Rattle.master_core.specs.declared.event.Event.{Event};
 ghost use Rattle.master_core.specs.declared.event.Event.TheVariants.{Submit, Look};
 ghost use Rattle.master_core.specs.History.{IsLegal, IsRight, IsRightAnswer, next_of};
-ghost use Rattle.replay_run.specs.Progress.{setting_of};
 ghost use Rattle.bus_trace.specs.EventRows.{told_at};
 ghost use Rattle.log_reader.specs.declared.row.LogRow.TheVariants as row;
 ghost use Rattle.log_reader.specs.declared.row.LogVerdict.{LogVerdict};
+ghost use Rattle.trace_audit.specs.Ahead.{IsAhead};
 ghost use Rattle.trace_audit.specs.Again.{Asks, CanGoOn, EndsIn, EndsNear, IsAgain, IsAnsweredWith};
 ghost use Rattle.trace_audit.specs.Again.{IsBroughtOn, IsOpenedWith};
 ghost use Rattle.trace_audit.specs.States.{KeepsStates};
 
+use crate::ahead::Ahead;
 use crate::event_rows::rows_of;
 use crate::states::{States, keep_answered};
-use crate::step_acts::{act_at, calls_of, cycles_of};
+use crate::step_acts::act_at;
 use async_window::Request;
 use bus_trace::laws::frames_by_cycle;
 use can_frame::TimedFrame;
@@ -37,6 +37,7 @@ use kept_run::laws::{
 use log_reader::LogRow;
 use master_core::laws::legal_histories;
 use master_core::{Master, plan_apart};
+use replay_run::fresh_nodes;
 use replay_run::laws::legal_runs;
 use std::alloc::{AllocError, Global};
 use steps_file::Step;
@@ -51,45 +52,40 @@ pub struct Rerun {
     pub nodes: Nodes,
     /// The states of the plan from which a change can be planned.
     pub states: States,
-}
-
-/// The nodes of a system before cycle 0, with these requests.
-fn fresh_nodes(alloc: Global, system: &System, requests: &[Request]) -> Result<Nodes, AllocError>
-    requires system { IsSystem system.now }
-    requires requests { AreLegal system.now.owners requests.now }
-    ensures ready { IfOk result (AreReady (setting_of system.now requests.now) [] []) }
-{
-    beginning();
-    let System {
-        layout,
-        rules,
-        owners,
-    } = system;
-    let nodes = Nodes::new(alloc, *layout, rules.nodes, owners.as_slice(), requests)?;
-    Ok(nodes)
+    /// What it has before it in the steps.
+    pub ahead: Ahead,
 }
 
 impl Rerun {
-    /// A run of no events yet, on the bus of a system with these requests.
+    /// A run of no events yet, on the bus of a system with these requests, which has all of these steps before it.
     ///
     /// # Errors
     ///
     /// Only where memory runs out.
-    pub fn begin(alloc: Global, system: &System, requests: &[Request]) -> Result<Rerun, AllocError>
+    pub fn begin(
+        alloc: Global,
+        system: &System,
+        steps: &[Step],
+        requests: &[Request],
+    ) -> Result<Rerun, AllocError>
         requires system { IsSystem system.now }
+        requires steps { AreLegalSteps steps.now }
         requires requests { AreLegal system.now.owners requests.now }
         ensures again { IfOk result (IsAgain system.now requests.now []) }
         ensures empty { IfOk result (λ rerun. rerun.master.history ≡ []) }
+        ensures ahead { IfOk result (λ rerun. IsAhead steps.now rerun.master.history rerun.ahead) }
     {
         beginning();
         requests_of_owners();
         let nodes = fresh_nodes(alloc, system, requests)?;
         let master = Master::new(alloc, system.rules)?;
         let states = States::of(alloc, master.state())?;
+        let ahead = Ahead::of(steps);
         Ok(Rerun {
             master,
             nodes,
             states,
+            ahead,
         })
     }
 
@@ -111,6 +107,7 @@ impl Rerun {
         requires few { next_of self.old.master.history ≤ most_cycles }
         ensures rules { self.new.master.rules ≡ self.old.master.rules }
         ensures nodes { self.new.nodes ≡ self.old.nodes }
+        ensures ahead { self.new.ahead ≡ self.old.ahead }
         ensures legal { IfOk result (λ asked. asked ≡ true → IsLegal self.new.master.rules self.new.master.history) }
         ensures event { IfOk result (λ asked. asked ≡ true → (verdict : Verdict) × (trail : List ℕ)
             × (self.new.master.history
@@ -143,6 +140,7 @@ impl Rerun {
         requires states { KeepsStates self.old.master.rules self.old.master.history self.old.states }
         ensures rules { self.new.master.rules ≡ self.old.master.rules }
         ensures nodes { self.new.nodes ≡ self.old.nodes }
+        ensures ahead { self.new.ahead ≡ self.old.ahead }
         ensures legal { IsLegal self.new.master.rules self.new.master.history }
         ensures event { OnOk result (self.new.master.history
             ≡ self.old.master.history ++ Look caller (next_of self.old.master.history) ∷ []) }
@@ -164,6 +162,7 @@ impl Rerun {
         ensures opened { IfOk result (λ opened. (system : System) (requests : List Request) (trace : List TimedFrame)
             → IsAgain system requests trace self.old
             → IsOpenedWith system requests trace self.old self.new opened.0 opened.1) }
+        ensures ahead { self.new.ahead ≡ self.old.ahead }
     {
         legal_runs();
         orders();
@@ -225,6 +224,7 @@ impl Rerun {
     ) -> Result<Option<Vec<LogRow>>, AllocError>
         requires steps { AreLegalSteps steps.now }
         requires going { CanGoOn self.old }
+        requires ahead { IsAhead steps.now self.old.master.history self.old.ahead }
         requires few { next_of self.old.master.history ≤ sum_by count_of steps.now }
         ensures on { (system : System) (requests : List Request) (trace : List TimedFrame) (told : LogVerdict)
             → IsAgain system requests trace self.old → IfOk result (λ rows. IfSome rows
@@ -235,7 +235,7 @@ impl Rerun {
             → Asks steps.now self.old.master.history (row.Submit caller from told) event → ⊥)) }
     {
         calls_between();
-        let place = calls_of(self.master.history(), caller);
+        let place = self.ahead.take(steps, caller);
         match act_at(steps, caller, place) {
             Some(Act::Ask { change }) => self.answer(alloc, caller, change, from),
             Some(Act::Look) => Ok(None),
@@ -252,6 +252,7 @@ impl Rerun {
     ) -> Result<Option<Vec<LogRow>>, AllocError>
         requires steps { AreLegalSteps steps.now }
         requires going { CanGoOn self.old }
+        requires ahead { IsAhead steps.now self.old.master.history self.old.ahead }
         requires few { next_of self.old.master.history ≤ sum_by count_of steps.now }
         ensures on { (system : System) (requests : List Request) (trace : List TimedFrame) (next : ℕ)
             → IsAgain system requests trace self.old → IfOk result (λ rows. IfSome rows
@@ -261,7 +262,7 @@ impl Rerun {
             → Asks steps.now self.old.master.history (row.Look caller next) event → ⊥)) }
     {
         calls_between();
-        let place = calls_of(self.master.history(), caller);
+        let place = self.ahead.take(steps, caller);
         match act_at(steps, caller, place) {
             Some(Act::Look) => {
                 self.look(alloc, caller)?;
@@ -281,6 +282,7 @@ impl Rerun {
     ) -> Result<Option<Vec<LogRow>>, AllocError>
         requires steps { AreLegalSteps steps.now }
         requires going { CanGoOn self.old }
+        requires ahead { IsAhead steps.now self.old.master.history self.old.ahead }
         requires few { next_of self.old.master.history ≤ sum_by count_of steps.now }
         ensures on { (system : System) (requests : List Request) (trace : List TimedFrame) (cycle mask l : ℕ)
             → IsAgain system requests trace self.old → IfOk result (λ rows. IfSome rows
@@ -290,7 +292,7 @@ impl Rerun {
             → IsRight self.old.master.rules self.old.master.history event
             → Asks steps.now self.old.master.history (row.Open cycle mask l) event → ⊥)) }
     {
-        if self.master.next() >= cycles_of(steps) {
+        if self.master.next() >= self.ahead.cycles {
             return Ok(None);
         }
         let (width, segment) = self.open(alloc)?;
@@ -312,6 +314,7 @@ impl Rerun {
     ) -> Result<Option<Vec<LogRow>>, AllocError>
         requires steps { AreLegalSteps steps.now }
         requires going { CanGoOn self.old }
+        requires ahead { IsAhead steps.now self.old.master.history self.old.ahead }
         requires few { next_of self.old.master.history ≤ sum_by count_of steps.now }
         ensures on { (system : System) (requests : List Request) (trace : List TimedFrame)
             → IsAgain system requests trace self.old → IfOk result (λ rows.

@@ -1,9 +1,12 @@
 //! What the steps of a file ask of each operator, and what a history has of it.
 
-ghost use Rattle.std.specs.Prelude.{◌≡◌, ◌≤◌, IfSome, count_by, length, option_map, slice_get, sum_by};
+ghost use Rattle.std.specs.Prelude.{◌≡◌, ◌≤◌, IfSome, Some, count_by, drop, is_some, length, option_map};
+ghost use Rattle.std.specs.Prelude.{slice_get, sum_by, true};
 ghost use Rattle.steps_file.specs.StepsFile.{AreLegalSteps, count_of};
 ghost use Rattle.live_master.specs.Callers.{is_called_by};
+ghost use Rattle.steps_file.specs.declared.steps.Step.{Step};
 ghost use Rattle.live_steps.specs.Live.{act_of, acts_of};
+ghost use Rattle.trace_audit.specs.Ahead.{act_in};
 
 use change_protocol::Act;
 use master_core::Event;
@@ -63,23 +66,30 @@ fn act_of(step: &Step, operator: u8) -> Option<&Act>
     }
 }
 
-/// The act of this operator that stands behind so many others of it in the steps of a file.
+/// What the step at a place asks of this operator, if anything; nothing behind all steps.
 pub fn act_at(steps: &[Step], operator: u8, place: usize) -> Option<&Act>
     requires steps { AreLegalSteps steps.now }
-    ensures act { option_map (λ act. act.now) result ≡ slice_get (acts_of operator steps.now) place }
+    ensures act { option_map (λ act. act.now) result ≡ act_in operator steps.now place }
     ensures some { IfSome result (λ act. 1 ≤ operator) }
     ensures few { IfSome result (λ act. operator ≤ 8) }
 {
-    let mut left = place;
-    for step in steps {
-        if let Some(act) = act_of(step, operator) {
-            if left == 0 {
-                return Some(act);
-            }
-            left -= 1;
-        }
+    match steps.get(place) {
+        Some(step) => act_of(step, operator),
+        None => None,
     }
-    None
+}
+
+/// The place of the first step from a place on that asks something of this operator; one behind all steps, where none
+/// does.
+pub fn place_of_act(steps: &[Step], operator: u8, from: usize) -> usize
+    ensures acts { acts_of operator (drop result steps.now) ≡ acts_of operator (drop from steps.now) }
+    ensures first { (step : Step) → slice_get steps.now result ≡ Some step → is_some (act_of operator step) ≡ true }
+{
+    let mut place = from;
+    while place < steps.len() && act_of(&steps[place], operator).is_none() {
+        place += 1;
+    }
+    place
 }
 
 /// How many acts the steps have of this operator.

@@ -1,14 +1,14 @@
 use Rattle.std.proofs.Common.{◌≡◌, ◌+◌, ℕ, suc, refl, sym, subst, ◌∙◌, arith, get_or, length}
 use Rattle.std.proofs.lemmas.List.Sorted.{length_permutation}
 use Rattle.planner_policies.specs.Plan.{IsValid}
-use Rattle.release_wheel.specs.Wheel.{IsFilledTo, no_entry}
+use Rattle.release_wheel.specs.Wheel.{HasRoomFor, IsFilledTo, no_entry}
 use Rattle.release_wheel.proofs.RowFilling.{filled-more, filled-whole}
 use Rattle.release_wheel.proofs.wheel.fill_rows.Goals as goal
 
-pub clear-requires-clause-count : goal.clear-requires-clause-count
-clear-requires-clause-count c =
-    let rows = c.requires.room.rows in
-    omega (arith, length_permutation c.args.ranked.now.placed c.rows-rows.result.now c.rows-rows.ensures.same)
+pub clear-requires : goal.clear-requires
+clear-requires c =
+    let P : ℕ → Type 0 = λ n. HasRoomFor n c.args.wheel.now in
+    record { room = subst P (sym (length_permutation c.args.ranked.now.placed c.rows-rows.result.now c.rows-rows.ensures.same)) c.requires.room }
 
 pub loop-row-preserved : goal.loop-row-preserved
 loop-row-preserved c =

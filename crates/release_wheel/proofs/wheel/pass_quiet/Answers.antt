@@ -30,6 +30,7 @@ loop-wheel-init c =
       valid = λ n from to.
           let here : w.cycle ≡ n = omega arith in
           subst (λ m. IsValid c.args.ranked.now.placed m w.slots) here kept.valid;
+      until = λ from. from;
       passed = λ window n from to. absurd (omega arith);
     }
 
@@ -67,6 +68,7 @@ loop-wheel-preserved c =
           subst (λ m. IsValid ranking.placed m slots) here (subst (λ q. IsValid ranking.placed c.pass.new.wheel.cycle q) still kept.valid))
           (λ (before : n ≤ l.wheel.cycle). inv.valid n from before)
           (cases_lt l.wheel.cycle n);
+      until = λ from. let more = c.loop-wheel-test.true in let end = c.min-end.ensures in omega arith;
       passed = λ window n from to.
           ⊎_elim
           (λ (less : n < l.wheel.cycle). inv.passed window n from less)
@@ -82,6 +84,9 @@ loop-wheel-preserved c =
 
 pub returns-clause-onward : goal.returns-clause-onward
 returns-clause-onward c = c.loop-wheel.invariant.onward
+
+pub returns-clause-until : goal.returns-clause-until
+returns-clause-until c = c.loop-wheel.invariant.until
 
 pub returns-clause-slots : goal.returns-clause-slots
 returns-clause-slots c = c.loop-wheel.invariant.slots

@@ -13,6 +13,7 @@ invariant-loop-wheel l = record {
   empty : l.fn.wheel.slots ≡ 0;
   onward : l.fn.wheel.cycle ≤ l.wheel.cycle;
   valid : (c : ℕ) → l.fn.wheel.cycle ≤ c → c ≤ l.wheel.cycle → IsValid l.ranked.placed c l.fn.wheel.slots;
+  until : l.fn.wheel.cycle ≤ l.until → l.wheel.cycle ≤ l.until;
   passed : (window c : ℕ) → l.fn.wheel.cycle ≤ c → c < l.wheel.cycle
       → IsPassed (planning_of l.ranked window c l.fn.wheel.slots);
 }

@@ -8,21 +8,9 @@ use Rattle.release_wheel.specs.declared.wheel.Wheel.{Wheel}
 use Rattle.planner_policies.specs.Due.{IsPlanned}
 use Rattle.planner_policies.specs.Plan.{IsValid, Ranking, planning_of}
 use Rattle.planner_policies.specs.Ranked.{AreRanked}
-use Rattle.release_wheel.specs.Wheel.{HasRoomFor, IsKept, IsOfRanking, IsPlannedOn, IsReleased, IsSameTable}
+use Rattle.release_wheel.specs.Wheel.{IsKept, IsOfRanking, IsPlannedOn, IsReleased, IsSameTable}
 use Rattle.planner_policies.proofs.Shared.{left-valid}
 use Rattle.release_wheel.proofs.wheel.step.Goals as goal
-
-room-of : (ranking : Ranking) (old new : Wheel) (before : ℕ → Bool) → IsOfRanking ranking old → IsSameTable old new → IsReleased before new → HasRoomFor ranking new
-room-of ranking old new before of table released =
-    let size = length_permutation ranking.placed old.entries.items of.same in
-    let same = ap length table.entries in
-    record {
-      rows = omega arith;
-      few = released.room.few;
-      nexts = released.room.nexts;
-      lasts = released.room.lasts;
-      places = released.room.places;
-    }
 
 of-on : (ranking : Ranking) (old new : Wheel) → IsOfRanking ranking old → IsSameTable old new → IsOfRanking ranking new
 of-on ranking old new of table =
@@ -64,15 +52,6 @@ kept-on ranking window old new mask width well kept turns near on =
 
 pub returns-then-wheel-clause-planned : goal.returns-then-wheel-clause-planned
 returns-then-wheel-clause-planned c = c.pass.ensures.planned c.args.w
-
-pub plan_plainly-requires-in-None-clause-room : goal.plan_plainly-requires-in-None-clause-room
-plan_plainly-requires-in-None-clause-room c = λ _.
-    let old = c.args.wheel.now in
-    let ranking = c.args.ranked.now in
-    let P : Wheel → Type 0 = λ w. HasRoomFor ranking w in
-    subst P (sym (c.take.ensures.none c.in-None.is))
-    (room-of ranking old c.release.new.wheel (contains_slot old.slots) (c.requires.kept.turned c.if-not-wheel.false).of_ranking c.release.ensures.table
-    c.release.ensures.released)
 
 pub returns-in-Some-clause-planned : goal.returns-in-Some-clause-planned
 returns-in-Some-clause-planned c =

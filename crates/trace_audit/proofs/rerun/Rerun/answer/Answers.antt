@@ -31,5 +31,6 @@ returns-clause-answered c =
       history = is;
       legal = c.in_ok-ask.ensures.legal c.if-not-branch.false;
       states = c.in_ok-ask.ensures.states c.if-not-branch.false;
+      ahead = c.ask.ensures.ahead;
       rows_are = c.in_ok-rows.ensures.rows event (record { before = history; is = is });
     }

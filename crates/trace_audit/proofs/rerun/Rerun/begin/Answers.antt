@@ -2,6 +2,7 @@ use Rattle.std.proofs.Common.{◌≡◌, [], ◌∷◌, sym, subst, ap, ◌∙�
 use Rattle.kept_run.specs.Progress.{AreReady, IsUnderWay}
 use Rattle.replay_run.specs.Progress.{setting_of}
 use Rattle.replay_run.proofs.Shared.{owner-of}
+use Rattle.trace_audit.specs.Ahead.{IsAhead}
 use Rattle.trace_audit.specs.States.{KeepsStates, state_of}
 use Rattle.trace_audit.proofs.Bringing.{state-is}
 use Rattle.trace_audit.proofs.Settling.{keeps-first}
@@ -35,3 +36,7 @@ returns-clause-again c =
           (c.in_ok-states.ensures.since ∙ ap (λ s. s.cycle) first)
           (c.in_ok-states.ensures.one ∙ ap (λ s. s ∷ []) first));
     }
+
+pub returns-clause-ahead : goal.returns-clause-ahead
+returns-clause-ahead c =
+    subst (λ h. IsAhead c.args.steps.now h c.of-ahead.result) (sym c.in_ok-master.ensures.history) c.of-ahead.ensures.ahead

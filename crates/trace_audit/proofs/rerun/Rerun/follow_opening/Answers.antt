@@ -20,10 +20,10 @@ returns-clause-on c = λ system requests trace cycle mask l again.
     let o = c.in_ok-width.ensures.opened system requests trace again in
     let history = c.args.self.now.master.history in
     let next = c.next.ensures.next in
-    let sum = c.cycles_of.ensures.sum in
-    let test = c.if-next-cycles_of.false in
+    let sum = c.requires.ahead.cycles in
+    let test = c.if-next-self.false in
     let few : next_of history < sum_by count_of c.args.steps.now = grind (arith, nat_tests) in
     let rows = c.in_ok-rows.ensures.rows (Open o.cycle o.mask) (record { before = history; is = o.history }) in
     opened-on system c.args.steps.now requests trace c.args.self.now c.open.new.self (row.Open cycle mask l)
-    c.in_ok-width.width c.in_ok-width.segment o few c.in_ok-rows.rows.items
+    c.in_ok-width.width c.in_ok-width.segment o few c.requires.ahead c.open.ensures.ahead c.in_ok-rows.rows.items
     (rows ∙ ap (told_at c.in_ok-width.width (Open o.cycle o.mask)) c.frames.ensures.list)

@@ -1,0 +1,257 @@
+-- Lists of entries with the same instances in a cycle plan it alike. Those that are near have the instances of all entries
+-- until others begin.
+use Rattle.std.proofs.Common.{◌≡◌, ℕ, zero, suc, ◌+◌, ◌-◌, ◌<◌, ◌≤◌, Bool, true, false, nat_lt, if◌then◌else◌, Option, None, Some, List, refl, sym, ap, ◌∙◌, subst, Result, Ok, Err, IfOk, IfErr, arith}
+use Rattle.std.proofs.lemmas.Bool.{lt-ltb, ltb-true}
+use Rattle.requirement_table.specs.declared.entries.Placed.{Placed}
+use Rattle.requirement_table.specs.Slots.{contains_slot, most_slots, set_of}
+use Rattle.requirement_table.specs.Table.{IsWellPlaced, instance_in, near_of, releases_in, width_in, worst_in}
+use Rattle.requirement_table.proofs.Shared.{instance_in-near_of, releases_in-near_of, set_of-same, sum_where-same}
+use Rattle.planner_policies.specs.declared.Fill.{Fill}
+use Rattle.planner_policies.specs.declared.Policy.{Policy}
+use Rattle.planner_policies.specs.declared.state.Miss.{Miss}
+use Rattle.planner_policies.specs.Due.{IsPlanned}
+use Rattle.planner_policies.specs.Plan.{HasNoMissIn, IsMissIn, IsValid, Planning, Ranking, is_missed_in, left_after, planned_in, planning_of}
+use Rattle.planner_policies.proofs.Shared.{AreAlike, alike-from_same, left-alike, left-valid, missed-alike, planned-alike, sum_where-costs}
+use Rattle.release_wheel.specs.declared.near.Near.{Near}
+use Rattle.release_wheel.specs.declared.planner.CyclePlan.{CyclePlan}
+use Rattle.release_wheel.specs.declared.wheel.Wheel.{Wheel}
+use Rattle.release_wheel.specs.Near.{HasRows, IsAlike, IsForgotten, IsStanding, at_wheel, until_of}
+use Rattle.release_wheel.specs.Passed.{IsPassed}
+use Rattle.release_wheel.specs.Wheel.{IsKept}
+
+pub alike-itself : (all : Ranking) (c : ℕ) → IsAlike all all c
+alike-itself all c = record { policy = refl; fill = refl; instances = λ slot. refl; releases = λ slot. refl }
+
+-- the entries that are not over by a cycle and begin before another one, between these two
+pub alike-near : (all near : Ranking) (since until c : ℕ) → IsWellPlaced all.placed → near ≡ record all { placed = near_of since until all.placed }
+    → since ≤ c → c < until → IsAlike all near c
+alike-near all near since until c well is from before =
+    subst (λ some. IsAlike all some c) (sym is) (record {
+      policy = refl;
+      fill = refl;
+      instances = λ slot. instance_in-near_of since until all.placed slot c from before;
+      releases = λ slot. releases_in-near_of since until all.placed slot c well from before;
+    })
+
+-- a state is valid for both
+pub valid-alike : (all some : Ranking) (c slots : ℕ) → IsAlike all some c → IsValid all.placed c slots → IsValid some.placed c slots
+valid-alike all some c slots alike valid slot waits =
+    let held = valid slot waits in
+    record { instance = held.instance; found = alike.instances slot ∙ held.found; before = held.before }
+
+module _ (all : Ranking) (placed : List Placed) (window c slots : ℕ)
+    (instances : (slot : ℕ) → instance_in placed slot c ≡ instance_in all.placed slot c)
+    (releases : (slot : ℕ) → releases_in placed c slot ≡ releases_in all.placed c slot) where
+  abbrev plan : Planning
+  plan = planning_of all window c slots
+
+  abbrev part : Planning
+  part = record plan { placed = placed }
+
+  abbrev before : ℕ → Bool
+  before = contains_slot slots
+
+  alike : AreAlike all.policy all.placed placed c c
+  alike = alike-from_same all.policy all.placed placed c c refl (λ slot known. instances slot) (λ slot known. releases slot)
+
+  planned-slot : (slot : ℕ) → slot < most_slots → planned_in part c before slot ≡ planned_in plan c before slot
+  planned-slot = planned-alike plan placed c slots c c before before alike (λ slot known. refl)
+
+  left-slot : (slot : ℕ) → slot < most_slots → left_after part c before slot ≡ left_after plan c before slot
+  left-slot = left-alike plan placed c slots c c before before alike (λ slot known. refl)
+
+  missed-slot : (slot : ℕ) → slot < most_slots → is_missed_in part c before slot ≡ is_missed_in plan c before slot
+  missed-slot = missed-alike plan placed c slots c c before before alike (λ slot known. refl)
+
+  planned-set : set_of most_slots (planned_in part c before) ≡ set_of most_slots (planned_in plan c before)
+  planned-set = set_of-same most_slots (planned_in part c before) (planned_in plan c before) planned-slot
+
+  left-set : set_of most_slots (left_after part c before) ≡ set_of most_slots (left_after plan c before)
+  left-set = set_of-same most_slots (left_after part c before) (left_after plan c before) left-slot
+
+  none-missed : HasNoMissIn part c before → HasNoMissIn plan c before
+  none-missed none slot known = sym (missed-slot slot known) ∙ none slot known
+
+  same-width : width_in placed c (planned_in part c before) ≡ width_in all.placed c (planned_in plan c before)
+  same-width =
+      sum_where-same most_slots (planned_in part c before) (planned_in plan c before) (worst_in placed c) planned-slot
+      ∙ sum_where-costs most_slots (planned_in plan c before) (worst_in placed c) (worst_in all.placed c) alike.cost
+
+  planned-here : (mask width next : ℕ) → IsPlanned part c before mask width next → IsPlanned plan c before mask width next
+  planned-here mask width next planned = record {
+    planned = planned.planned ∙ planned-set;
+    width_is = planned.width_is ∙ same-width;
+    fits = planned.fits;
+    left = planned.left ∙ left-set;
+    none_missed = none-missed planned.none_missed;
+  }
+
+  missed-here : (slot release : ℕ) → IsMissIn part c before slot release → IsMissIn plan c before slot release
+  missed-here slot release miss =
+      let known = miss.known in
+      record {
+        known = known;
+        missed = sym (missed-slot slot known) ∙ miss.missed;
+        least = λ other less. sym (missed-slot other (omega arith)) ∙ miss.least other less;
+        instance = miss.instance;
+        found = sym (instances slot) ∙ miss.found;
+        released = miss.released;
+      }
+
+  passed-here : IsPassed part → IsPassed plan
+  passed-here passed = record {
+    planned = sym planned-set ∙ passed.planned;
+    none_missed = none-missed passed.none_missed;
+    left = passed.left ∙ left-set;
+  }
+
+-- what is known of the planning of one list is known of the other
+module _ (all some : Ranking) (window c slots : ℕ) (alike : IsAlike all some c) where
+  same : some ≡ record all { placed = some.placed }
+  same =
+      let with_policy : Policy → Ranking = λ policy. record { placed = some.placed; policy = policy; fill = some.fill } in
+      let with_fill : Fill → Ranking = λ fill. record { placed = some.placed; policy = all.policy; fill = fill } in
+      ap with_policy alike.policy ∙ ap with_fill alike.fill
+
+  pub planned-all : (mask width next : ℕ) → IsPlanned (planning_of some window c slots) c (contains_slot slots) mask width next
+      → IsPlanned (planning_of all window c slots) c (contains_slot slots) mask width next
+  planned-all mask width next planned =
+      let P : Ranking → Type 0 = λ r. IsPlanned (planning_of r window c slots) c (contains_slot slots) mask width next in
+      planned-here all some.placed window c slots alike.instances alike.releases mask width next (subst P same planned)
+
+  pub missed-all : (slot release : ℕ) → IsMissIn (planning_of some window c slots) c (contains_slot slots) slot release
+      → IsMissIn (planning_of all window c slots) c (contains_slot slots) slot release
+  missed-all slot release miss =
+      let P : Ranking → Type 0 = λ r. IsMissIn (planning_of r window c slots) c (contains_slot slots) slot release in
+      missed-here all some.placed window c slots alike.instances alike.releases slot release (subst P same miss)
+
+  pub passed-all : IsPassed (planning_of some window c slots) → IsPassed (planning_of all window c slots)
+  passed-all passed =
+      let P : Ranking → Type 0 = λ r. IsPassed (planning_of r window c slots) in
+      passed-here all some.placed window c slots alike.instances alike.releases (subst P same passed)
+
+-- cycles that are passed leave the state valid
+pub valid-passed : (all : Ranking) (from slots : ℕ) → IsWellPlaced all.placed → IsValid all.placed from slots → (n : ℕ)
+    → ((c : ℕ) → from ≤ c → c < from + n → IsPassed (planning_of all 0 c slots)) → IsValid all.placed (from + n) slots
+valid-passed all from slots well valid zero passed = subst (λ c. IsValid all.placed c slots) (omega arith) valid
+valid-passed all from slots well valid (suc n) passed =
+    let so = valid-passed all from slots well valid n (λ c onward less. passed c onward (omega arith)) in
+    let last = passed (from + n) (omega arith) (omega arith) in
+    let next = left-valid (planning_of all 0 (from + n) slots) (from + n) slots well so last.none_missed in
+    subst (λ c. IsValid all.placed c slots) (omega arith) (subst (λ left. IsValid all.placed (from + n + 1) left) (sym last.left) next)
+
+-- the wheel has the rows of the entries that are near before the cycle before which they begin
+pub at-near : (all : Ranking) (near : Near) (c : ℕ) → c < near.until → at_wheel (Some near) all c ≡ near.ranked
+at-near all near c before = ap (λ b. if b then near.ranked else all) (lt-ltb c near.until before)
+
+-- those whose rows it has plan as all entries do
+pub alike-at : (all : Ranking) (near : Option Near) (w : Wheel) → IsWellPlaced all.placed → HasRows all near w → (c : ℕ) → w.cycle ≤ c
+    → (w.cycle < until_of near → c < until_of near) → IsAlike all (at_wheel near all w.cycle) c
+alike-at all None w well rows c from before = alike-itself all c
+alike-at all (Some near) w well rows c from before = pick (nat_lt w.cycle near.until) refl
+  where
+    pick : (b : Bool) → nat_lt w.cycle near.until ≡ b → IsAlike all (if b then near.ranked else all) c
+    pick false is = alike-itself all c
+    pick true is =
+        let less = ltb-true w.cycle near.until is in
+        let at = rows less in
+        let since = at.since in
+        alike-near all near.ranked near.since near.until c well at.entries (omega arith) (before less)
+
+pub kept-at : (all : Ranking) (near : Option Near) (w : Wheel) → HasRows all near w → w.cycle < until_of near → IsKept (at_wheel near all w.cycle) w
+kept-at all None w rows before = rows
+kept-at all (Some near) w rows before = subst (λ r. IsKept r w) (sym (at-near all near w.cycle before)) (rows before).kept
+
+-- a wheel that goes on keeps its rows
+pub rows-onward : (all : Ranking) (near : Option Near) (old new : Wheel) → HasRows all near old → old.cycle ≤ new.cycle
+    → IsKept (at_wheel near all old.cycle) new → HasRows all near new
+rows-onward all None old new rows onward kept = kept
+rows-onward all (Some near) old new rows onward kept = λ before.
+    let less : old.cycle < near.until = omega arith in
+    let at = rows less in
+    let since = at.since in
+    record { since = omega arith; entries = at.entries; kept = subst (λ r. IsKept r new) (at-near all near old.cycle less) kept }
+
+-- a wheel of all entries, where none are taken as near
+pub rows-of-all : (all : Ranking) (near : Option Near) (w : Wheel) → IsForgotten near → IsKept all w → HasRows all near w
+rows-of-all all None w none kept = kept
+rows-of-all all (Some near) w none kept = λ before. let is = none near refl in absurd (omega arith)
+
+-- a cycle is planned by the rows that the wheel has, from a wheel that stands where it stood
+module _ (all some : Ranking) (near : Option Near) (window : ℕ) (old mid new : Wheel) (r : Result CyclePlan Miss) (well : IsWellPlaced all.placed)
+    (cycle : mid.cycle ≡ old.cycle) (slots : mid.slots ≡ old.slots) (is : some ≡ at_wheel near all mid.cycle) (rows : HasRows all near mid) where
+  alike-here : IsAlike all some mid.cycle
+  alike-here = subst (λ q. IsAlike all q mid.cycle) (sym is) (alike-at all near mid well rows mid.cycle (omega arith) (λ before. before))
+
+  planned-old : (mask width next : ℕ) → IsPlanned (planning_of some window mid.cycle mid.slots) mid.cycle (contains_slot mid.slots) mask width next
+      → IsPlanned (planning_of all window old.cycle old.slots) old.cycle (contains_slot old.slots) mask width next
+  planned-old mask width next planned =
+      let P : ℕ → Type 0 = λ c. IsPlanned (planning_of all window c mid.slots) c (contains_slot mid.slots) mask width next in
+      let Q : ℕ → Type 0 = λ s. IsPlanned (planning_of all window old.cycle s) old.cycle (contains_slot s) mask width next in
+      subst Q slots (subst P cycle (planned-all all some window mid.cycle mid.slots alike-here mask width next planned))
+
+  missed-old : (slot release : ℕ) → IsMissIn (planning_of some window mid.cycle mid.slots) mid.cycle (contains_slot mid.slots) slot release
+      → IsMissIn (planning_of all window old.cycle old.slots) old.cycle (contains_slot old.slots) slot release
+  missed-old slot release miss =
+      let P : ℕ → Type 0 = λ c. IsMissIn (planning_of all window c mid.slots) c (contains_slot mid.slots) slot release in
+      let Q : ℕ → Type 0 = λ s. IsMissIn (planning_of all window old.cycle s) old.cycle (contains_slot s) slot release in
+      subst Q slots (subst P cycle (missed-all all some window mid.cycle mid.slots alike-here slot release miss))
+
+  pub stepped-planned : IfOk r (λ p. IsPlanned (planning_of some window mid.cycle mid.slots) mid.cycle (contains_slot mid.slots) p.mask p.width new.slots)
+      → IfOk r (λ p. IsPlanned (planning_of all window old.cycle old.slots) old.cycle (contains_slot old.slots) p.mask p.width new.slots)
+  stepped-planned = pick r
+    where
+      pick : (r' : Result CyclePlan Miss)
+          → IfOk r' (λ p. IsPlanned (planning_of some window mid.cycle mid.slots) mid.cycle (contains_slot mid.slots) p.mask p.width new.slots)
+          → IfOk r' (λ p. IsPlanned (planning_of all window old.cycle old.slots) old.cycle (contains_slot old.slots) p.mask p.width new.slots)
+      pick (Ok p) planned = planned-old p.mask p.width new.slots planned
+      pick (Err miss) planned = planned
+
+  pub stepped-missed : IfErr r (λ miss. IsMissIn (planning_of some window mid.cycle mid.slots) mid.cycle (contains_slot mid.slots) miss.slot miss.release)
+      → IfErr r (λ miss. IsMissIn (planning_of all window old.cycle old.slots) old.cycle (contains_slot old.slots) miss.slot miss.release)
+  stepped-missed = pick r
+    where
+      pick : (r' : Result CyclePlan Miss)
+          → IfErr r' (λ miss. IsMissIn (planning_of some window mid.cycle mid.slots) mid.cycle (contains_slot mid.slots) miss.slot miss.release)
+          → IfErr r' (λ miss. IsMissIn (planning_of all window old.cycle old.slots) old.cycle (contains_slot old.slots) miss.slot miss.release)
+      pick (Ok p) missed = missed
+      pick (Err miss) missed = missed-old miss.slot miss.release missed
+
+-- where a planner stands that stood there, when a cycle is planned or missed
+module _ (all : Ranking) (near : Option Near) (window : ℕ) (mid new : Wheel) (well : IsWellPlaced all.placed) (valid : IsValid all.placed mid.cycle mid.slots) where
+  pub onward-after : (r : Result CyclePlan Miss) → IfOk r (λ _. new.cycle ≡ mid.cycle + 1) → IfErr r (λ _. new.cycle ≡ mid.cycle) → mid.cycle ≤ new.cycle
+  onward-after (Ok p) next same = omega arith
+  onward-after (Err miss) next same = omega arith
+
+  pub valid-after : (r : Result CyclePlan Miss)
+      → IfOk r (λ p. IsPlanned (planning_of all window mid.cycle mid.slots) mid.cycle (contains_slot mid.slots) p.mask p.width new.slots)
+      → IfOk r (λ _. new.cycle ≡ mid.cycle + 1) → IfErr r (λ _. new.cycle ≡ mid.cycle) → IfErr r (λ _. new.slots ≡ mid.slots)
+      → IsValid all.placed new.cycle new.slots
+  valid-after (Ok p) planned next same_cycle same_slots =
+      let left = left-valid (planning_of all window mid.cycle mid.slots) mid.cycle mid.slots well valid planned.none_missed in
+      subst (λ s. IsValid all.placed new.cycle s) (sym planned.left)
+      (subst (λ c. IsValid all.placed c (set_of most_slots (left_after (planning_of all window mid.cycle mid.slots) mid.cycle (contains_slot mid.slots)))) (sym next) left)
+  valid-after (Err miss) planned next same_cycle same_slots =
+      subst (λ s. IsValid all.placed new.cycle s) (sym same_slots) (subst (λ c. IsValid all.placed c mid.slots) (sym same_cycle) valid)
+
+-- cycles are passed by the rows that the wheel has
+module _ (all some : Ranking) (near : Option Near) (old new : Wheel) (well : IsWellPlaced all.placed) (standing : IsStanding all near old)
+    (is : some ≡ at_wheel near all old.cycle) (before : old.cycle < until_of near) (onward : old.cycle ≤ new.cycle) (within : new.cycle ≤ until_of near)
+    (slots : new.slots ≡ old.slots) (kept : IsKept some new)
+    (passed : (window c : ℕ) → old.cycle ≤ c → c < new.cycle → IsPassed (planning_of some window c old.slots)) where
+  pub near-passed : (window c : ℕ) → old.cycle ≤ c → c < new.cycle → IsPassed (planning_of all window c old.slots)
+  near-passed window c from less =
+      let alike : IsAlike all some c = subst (λ q. IsAlike all q c) (sym is) (alike-at all near old well standing.rows c from (λ _. omega arith)) in
+      passed-all all some window c old.slots alike (passed window c from less)
+
+  pub near-valid : (c : ℕ) → old.cycle ≤ c → c ≤ new.cycle → IsValid all.placed c old.slots
+  near-valid c from to =
+      subst (λ at. IsValid all.placed at old.slots) (omega arith)
+      (valid-passed all old.cycle old.slots well standing.valid (c - old.cycle) (λ at onward less. near-passed 0 at onward (omega arith)))
+
+  pub near-standing : IsStanding all near new
+  near-standing = record {
+    end = kept.near;
+    valid = subst (λ s. IsValid all.placed new.cycle s) (sym slots) (near-valid new.cycle onward (omega arith));
+    rows = rows-onward all near old new standing.rows onward (subst (λ r. IsKept r new) is kept);
+  }
