@@ -1,6 +1,6 @@
 //! Bits as text. A list of none is `-`.
 
-use case_lines::Fault;
+use cases::Fault;
 use std::alloc::Global;
 
 /// The bits of a field of `0` and `1`.

@@ -2,10 +2,11 @@
 
 use crate::bits::{bits, text_of_bits};
 use can_frame::{Frame, crc, read_wire, wire, wire_len};
-use case_lines::{Fault, Table, bytes, hexadecimal, text_of_frame};
+use cases::{Fault, Table, bytes, fields_of, hexadecimal, text_of_frame};
 use std::alloc::Global;
 
-/// Rows of an identifier and data bytes. The answer is the CRC sequence, the wire length and the wire.
+/// Frames of an identifier and data bytes. The answer is the CRC sequence, the wire length and, where `wire` asks for it,
+/// the wire.
 #[derive(Drop)]
 pub struct Frames;
 
@@ -14,29 +15,41 @@ impl Table for Frames {
 
     ghost IsReady = { λ _. ⊤ };
 
-    fn answer(&mut self, alloc: Global, fields: &[&str]) -> Result<String, Fault> {
-        match fields {
-            [id, data, ..] => match Frame::new(hexadecimal(id)?, bytes(alloc, data)?.as_slice()) {
-                Ok(frame) => described(alloc, &frame),
-                Err(_) => Err(Fault::Unread),
-            },
+    fn answer(&mut self, alloc: Global, given: &str) -> Result<String, Fault> {
+        let fields = fields_of(alloc, given)?;
+        match fields.as_slice() {
+            ["wire", id, data] => described(alloc, &frame(alloc, id, data)?, true),
+            ["length", id, data] => described(alloc, &frame(alloc, id, data)?, false),
             _ => Err(Fault::Unread),
         }
     }
 }
 
-/// The CRC sequence, the wire length and the wire of a frame. A wire that is not read back as the frame, or is not so
-/// long, is told.
-fn described(alloc: Global, frame: &Frame) -> Result<String, Fault> {
+/// The frame of two fields.
+fn frame(alloc: Global, id: &str, data: &str) -> Result<Frame, Fault> {
+    match Frame::new(hexadecimal(id)?, bytes(alloc, data)?.as_slice()) {
+        Ok(frame) => Ok(frame),
+        Err(_) => Err(Fault::Unread),
+    }
+}
+
+/// The CRC sequence and the wire length of a frame, and its wire where that is asked for. A wire that is not read back as
+/// the frame, or is not so long, is told.
+fn described(alloc: Global, frame: &Frame, with_wire: bool) -> Result<String, Fault> {
     let bits = wire(alloc, frame)?;
     let text = text_of_bits(alloc, bits.as_slice())?;
+    let length = wire_len(frame);
     if read_wire(alloc, bits.as_slice()) != Ok(*frame) {
         return Ok(format!(in alloc; "not read back: {text}")?);
     }
-    if bits.len() != wire_len(frame) as usize {
+    if bits.len() != length as usize {
         return Ok(format!(in alloc; "{} bits: {text}", bits.len())?);
     }
-    Ok(format!(in alloc; "{:04x},{},{text}", crc(frame), wire_len(frame))?)
+    let crc = crc(frame);
+    if with_wire {
+        return Ok(format!(in alloc; "{crc:04x} {length} {text}")?);
+    }
+    Ok(format!(in alloc; "{crc:04x} {length}")?)
 }
 
 /// Calls that make a frame, or read one from the bits of a wire.
@@ -48,8 +61,9 @@ impl Table for Wires {
 
     ghost IsReady = { λ _. ⊤ };
 
-    fn answer(&mut self, alloc: Global, fields: &[&str]) -> Result<String, Fault> {
-        match fields {
+    fn answer(&mut self, alloc: Global, given: &str) -> Result<String, Fault> {
+        let fields = fields_of(alloc, given)?;
+        match fields.as_slice() {
             ["new", id, data] => made(alloc, hexadecimal(id)?, bytes(alloc, data)?.as_slice()),
             ["read", wire] => read(alloc, bits(alloc, wire)?.as_slice()),
             _ => Err(Fault::Unread),

@@ -6,7 +6,7 @@ use crate::bits::bits;
 use crate::recordings::read;
 use crate::scripted::{Scripted, Station};
 use bus_line::run_until;
-use case_lines::{Fault, Table, hexadecimal, parts, push_behind, text_of_trace, time};
+use cases::{Fault, Table, fields_of, hexadecimal, parts, push_behind, text_of_trace, time};
 use profile::SHORTEST_FRAME;
 use std::alloc::Global;
 
@@ -28,8 +28,9 @@ impl Table for Line {
 
     ghost IsReady = { λ _. ⊤ };
 
-    fn answer(&mut self, alloc: Global, fields: &[&str]) -> Result<String, Fault> {
-        match fields {
+    fn answer(&mut self, alloc: Global, given: &str) -> Result<String, Fault> {
+        let fields = fields_of(alloc, given)?;
+        match fields.as_slice() {
             ["stations", low, middle, high] => {
                 self.stations = Scripted::of(
                     station(alloc, low)?,

@@ -1,7 +1,7 @@
 //! Recorded lines, read back.
 
 use bus_line::{LineFault, line_bits, read_line};
-use case_lines::{Fault, text_of_trace};
+use cases::{Fault, text_of_trace};
 use std::alloc::Global;
 
 /// So many bits, and more, are no line.

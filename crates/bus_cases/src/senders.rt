@@ -3,7 +3,7 @@
 ghost use Rattle.std.specs.Prelude.{◌<◌, All};
 
 use arbitration::{Contenders, arbitrate};
-use case_lines::{Fault, Table, hexadecimal, push_behind};
+use cases::{Fault, Table, fields_of, hexadecimal, push_behind};
 use std::alloc::Global;
 
 /// Senders that begin together. They are the same list for all lines, which is cleared for each.
@@ -26,8 +26,9 @@ impl Table for Senders {
 
     ghost IsReady = { λ _. ⊤ };
 
-    fn answer(&mut self, alloc: Global, fields: &[&str]) -> Result<String, Fault> {
-        match fields {
+    fn answer(&mut self, alloc: Global, given: &str) -> Result<String, Fault> {
+        let fields = fields_of(alloc, given)?;
+        match fields.as_slice() {
             ["arbitrate", ids @ ..] => {
                 self.contenders.clear();
                 contend(&mut self.contenders, ids)?;

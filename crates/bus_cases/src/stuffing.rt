@@ -3,7 +3,7 @@
 ghost use Rattle.std.specs.Prelude.{◌+◌, ◌≤◌, IfOk};
 
 use crate::bits::{bits, text_of_bits};
-use case_lines::{Fault, Table, bytes, length, small};
+use cases::{Fault, Table, bytes, fields_of, length, small};
 use std::alloc::Global;
 use stuff_bound::{Run, Sender, bound, stuff, stuffed_len, stuffed_len_bytes, unstuff};
 
@@ -16,8 +16,9 @@ impl Table for Stuffing {
 
     ghost IsReady = { λ _. ⊤ };
 
-    fn answer(&mut self, alloc: Global, fields: &[&str]) -> Result<String, Fault> {
-        match fields {
+    fn answer(&mut self, alloc: Global, given: &str) -> Result<String, Fault> {
+        let fields = fields_of(alloc, given)?;
+        match fields.as_slice() {
             ["stuff", plain] => stuffed(alloc, bits(alloc, plain)?.as_slice()),
             ["unstuff", wire] => unstuffed(alloc, bits(alloc, wire)?.as_slice()),
             ["run", sent] => run_behind(alloc, bits(alloc, sent)?.as_slice()),

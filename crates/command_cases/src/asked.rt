@@ -1,7 +1,7 @@
 //! The cases that are asked for.
 
-use crate::tables::{TABLES, Table};
-use case_tables::words;
+use crate::tables::{TABLES, Topic};
+use cases::words;
 use std::{fs, io};
 
 /// Where the files of the tables stand.
@@ -11,7 +11,7 @@ const TABLES_FOLDER: &str = "tables";
 #[derive(Clone, Copy)]
 pub enum Kind {
     Call,
-    Cases(Table),
+    Cases(Topic),
 }
 
 /// The paths that the words of this call name, without the `.txt` of a table, or all of them where there are no words:
@@ -30,9 +30,9 @@ pub fn kind_of(path: &str) -> Kind {
     let Some((folder, last)) = path.split_once('/') else {
         return Kind::Call;
     };
-    for (name, table) in TABLES {
+    for (name, topic) in TABLES {
         if folder == TABLES_FOLDER && last == name {
-            return Kind::Cases(table);
+            return Kind::Cases(topic);
         }
     }
     Kind::Call

@@ -1,5 +1,5 @@
 //! Runs the cases of whole calls. It prints one line for each: `ok NAME`, or `FAILED NAME:` and the first thing that
-//! differs.
+//! differs. The line of a table has the number of its cases too.
 //!
 //! A call is a folder with input files, the words of a call, and what it is to write: a file `expected.log` or
 //! `expected.err`. A table is a file of cases, which were worked out by hand: replays over streams, plans that are cut
@@ -14,17 +14,19 @@ mod asked;
 mod calling;
 mod fault;
 mod folder;
+mod gates;
 mod prefixes;
 mod replays;
 mod runs;
 mod tables;
 
 use asked::{Kind, asked_cases, kind_of};
-use case_tables::tell;
+use cases::show;
 use std::io;
 use std::process::ExitCode;
 use std::sync::Wait;
 use std::thread::Threads;
+use tables::Asked;
 
 fn main(rt: HostRuntime) -> ExitCode {
     match run_cases(&rt, &rt) {
@@ -34,15 +36,25 @@ fn main(rt: HostRuntime) -> ExitCode {
     }
 }
 
-/// Why the cases of this path fail, in words; nothing where they pass.
-fn failure<T: Threads + Wait + Sync>(
-    rt: &HostRuntime,
-    threads: &T,
-    path: &str,
-) -> io::Result<Option<String>> {
+/// Prints the line of a path, and tells whether its cases have passed.
+fn shown<T: Threads + Wait + Sync>(rt: &HostRuntime, threads: &T, path: &str) -> io::Result<bool> {
     match kind_of(path) {
-        Kind::Call => Ok(calling::failure(rt, path)?),
-        Kind::Cases(table) => tables::failure(rt, threads, table, path),
+        Kind::Call => tell(rt, path, calling::failure(rt, path)?),
+        Kind::Cases(topic) => show(rt, path, Asked { rt, threads, topic }),
+    }
+}
+
+/// Prints the line of a call's folder: `ok PATH`, or `FAILED PATH:` and why it fails. Tells whether it has passed.
+fn tell(rt: &HostRuntime, path: &str, failure: Option<String>) -> io::Result<bool> {
+    match failure {
+        None => {
+            println!(rt; "ok {path}")?;
+            Ok(true)
+        }
+        Some(reason) => {
+            println!(rt; "FAILED {path}: {reason}")?;
+            Ok(false)
+        }
     }
 }
 
@@ -51,8 +63,7 @@ fn failure<T: Threads + Wait + Sync>(
 fn run_cases<T: Threads + Wait + Sync>(rt: &HostRuntime, threads: &T) -> io::Result<bool> {
     let mut all_passed = true;
     for path in asked_cases(rt)?.iter() {
-        let failure = failure(rt, threads, path.as_str())?;
-        all_passed = tell(rt, path.as_str(), failure)? && all_passed;
+        all_passed = shown(rt, threads, path.as_str())? && all_passed;
     }
     Ok(all_passed)
 }

@@ -1,6 +1,6 @@
 //! Whole calls by threads.
 
-use case_tables::{Held, HoldingGate};
+use crate::gates::{Held, HoldingGate};
 use ftt_io::{FileShelf, MemSink};
 use fttcan_top::{Gate, OpenGate, Status, live};
 use std::alloc::{AllocError, Global};

@@ -1,6 +1,6 @@
 //! Placed entries that are read from fields.
 
-use case_lines::{Fault, parts, small};
+use cases::{Fault, parts, small};
 use requirement_table::{Entry, Placed};
 use std::alloc::Global;
 

@@ -3,7 +3,7 @@
 ghost use Rattle.std.specs.Prelude.{◌≡◌, ◌<◌, ◌^◌, IfOk};
 ghost use Rattle.cycle_layout.specs.Layout.{IsSlots};
 
-use case_lines::{Fault, Table, length, small, time};
+use cases::{Fault, Table, fields_of, length, small, time};
 use cycle_layout::Layout;
 use std::alloc::Global;
 
@@ -17,10 +17,11 @@ impl Table for Layouts {
 
     ghost IsReady = { λ _. ⊤ };
 
-    fn answer(&mut self, alloc: Global, fields: &[&str]) -> Result<String, Fault> {
-        match fields {
+    fn answer(&mut self, alloc: Global, given: &str) -> Result<String, Fault> {
+        let fields = fields_of(alloc, given)?;
+        match fields.as_slice() {
             ["96", call @ ..] => answer_with(alloc, call, 96),
-            _ => answer_with(alloc, fields, 40),
+            _ => answer_with(alloc, fields.as_slice(), 40),
         }
     }
 }

@@ -6,7 +6,7 @@ use crate::layouts::layout;
 use crate::requests::{are_in_order, requests};
 use crate::values::{text_of_offer, text_of_time};
 use async_window::{Mailboxes, Request};
-use case_lines::{Fault, Table, hexadecimal, length, push_behind, text_of_frame, time};
+use cases::{Fault, Table, fields_of, hexadecimal, length, push_behind, text_of_frame, time};
 use cycle_layout::Layout;
 use std::alloc::Global;
 
@@ -35,8 +35,9 @@ impl Table for Mail {
 
     ghost IsReady = { λ _. ⊤ };
 
-    fn answer(&mut self, alloc: Global, fields: &[&str]) -> Result<String, Fault> {
-        match fields {
+    fn answer(&mut self, alloc: Global, given: &str) -> Result<String, Fault> {
+        let fields = fields_of(alloc, given)?;
+        match fields.as_slice() {
             ["new", cycle, turnaround, window, given @ ..] => {
                 self.renew(alloc, layout(cycle, turnaround, window, 40)?, given)
             }
@@ -44,7 +45,7 @@ impl Table for Mail {
                 self.renew(alloc, layout(cycle, turnaround, window, 96)?, given)
             }
             _ => match &mut self.waiting {
-                Some(waiting) => waiting.answer(alloc, fields),
+                Some(waiting) => waiting.answer(alloc, fields.as_slice()),
                 None => Err(Fault::Unread),
             },
         }

@@ -11,7 +11,7 @@ use crate::triggers::trigger;
 use crate::values::{frame, mask, text_of_mask, text_of_offer, text_of_time};
 use async_window::{Owner, Request};
 use can_frame::{Frame, TimedFrame, wire_len};
-use case_lines::{Fault, Table, length, small, text_of_frame, time};
+use cases::{Fault, Table, fields_of, length, small, text_of_frame, time};
 use cycle_layout::Layout;
 use node_model::Node;
 use requirement_table::{MOST_SLOTS, Mask, Placed, well_placed};
@@ -47,8 +47,9 @@ impl Table for OneNode {
 
     ghost IsReady = { λ table. IfSome table.opened CountsCycles };
 
-    fn answer(&mut self, alloc: Global, fields: &[&str]) -> Result<String, Fault> {
-        match fields {
+    fn answer(&mut self, alloc: Global, given: &str) -> Result<String, Fault> {
+        let fields = fields_of(alloc, given)?;
+        match fields.as_slice() {
             ["new", cycle, turnaround, window, given @ ..] => {
                 self.renew(alloc, layout(cycle, turnaround, window, 40)?, given, 0)
             }
@@ -56,7 +57,7 @@ impl Table for OneNode {
                 self.renew(alloc, layout(cycle, turnaround, window, 96)?, given, 1)
             }
             _ => match &mut self.opened {
-                Some(opened) => opened.answer(alloc, fields),
+                Some(opened) => opened.answer(alloc, fields.as_slice()),
                 None => Err(Fault::Unread),
             },
         }

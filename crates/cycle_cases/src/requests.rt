@@ -4,7 +4,7 @@ ghost use Rattle.std.specs.Prelude.{◌≡◌, ◌≤◌, ◌<◌, true, All, Al
 
 use crate::values::frame;
 use async_window::Request;
-use case_lines::{Fault, time};
+use cases::{Fault, time};
 use std::alloc::Global;
 
 /// The requests of fields that each write an arrival, a colon and a frame.

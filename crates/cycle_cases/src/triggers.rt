@@ -2,7 +2,7 @@
 
 use crate::values::{frame, mask, text_of_mask};
 use can_frame::Frame;
-use case_lines::{Fault, Table, length, text_of_frame, time};
+use cases::{Fault, Table, fields_of, length, text_of_frame, time};
 use profile::LONGEST_WINDOW;
 use requirement_table::Mask;
 use std::alloc::Global;
@@ -17,8 +17,9 @@ impl Table for Triggers {
 
     ghost IsReady = { λ _. ⊤ };
 
-    fn answer(&mut self, alloc: Global, fields: &[&str]) -> Result<String, Fault> {
-        match fields {
+    fn answer(&mut self, alloc: Global, given: &str) -> Result<String, Fault> {
+        let fields = fields_of(alloc, given)?;
+        match fields.as_slice() {
             ["encode", cycle, l, slots] => {
                 text_of_frame(alloc, &trigger(time(cycle)?, length(l)?, mask(slots)?)?)
             }

@@ -1,7 +1,7 @@
 //! Frames, sets of slots and what is offered, as text. Where there is none it is `-`.
 
 use can_frame::Frame;
-use case_lines::{Fault, bytes, hexadecimal, push_behind, small};
+use cases::{Fault, bytes, hexadecimal, push_behind, small};
 use requirement_table::{MOST_SLOTS, Mask};
 use std::alloc::Global;
 

@@ -1,6 +1,6 @@
-//! Runs the cases of the libraries below the commands. They are about files, sinks, streams, values that a reader makes,
-//! rows that are read back or audited, the turn lock, the shared master, and its runs by threads. The program prints one
-//! line for each table: `ok NAME`, or `FAILED NAME:` and the first case that differs.
+//! Runs the cases of the libraries below the commands. They are about files, sinks, streams, values that a reader
+//! makes, rows that are read back or audited, the turn lock, and the shared master. The program prints one line for
+//! each table: `ok NAME:` and how many cases it has, or `FAILED NAME:` and the first case that fails.
 //!
 //! A table is a file of cases, which were worked out by hand; what it tells is the same for every schedule of its
 //! threads. With no words the program takes each table of the folder that it runs in. With words, each of them is the
@@ -12,7 +12,6 @@ mod desk;
 mod inputs;
 mod locks;
 mod logs;
-mod lone;
 mod marks;
 mod masters;
 mod shelves;
@@ -20,12 +19,12 @@ mod sinks;
 mod streams;
 mod tables;
 
-use case_tables::{tell, words};
+use cases::words;
 use std::io;
 use std::process::ExitCode;
 use std::sync::Wait;
 use std::thread::Threads;
-use tables::{all_names, failure};
+use tables::{all_names, shown};
 
 fn main(rt: HostRuntime) -> ExitCode {
     match run_tables(&rt, &rt) {
@@ -44,8 +43,7 @@ fn run_tables<T: Threads + Wait + Sync>(rt: &HostRuntime, threads: &T) -> io::Re
     }
     let mut all_passed = true;
     for name in names.iter() {
-        let failure = failure(rt, threads, name.as_str())?;
-        all_passed = tell(rt, name.as_str(), failure)? && all_passed;
+        all_passed = shown(rt, threads, name.as_str())? && all_passed;
     }
     Ok(all_passed)
 }

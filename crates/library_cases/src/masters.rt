@@ -14,7 +14,7 @@ use requirement_table::Entry;
 use std::alloc::{AllocError, Global};
 
 /// Rules of one node and 40 slots, with windows of 135 bit times.
-pub fn rules() -> Rules
+fn rules() -> Rules
     ensures rules { IsRules result }
     ensures nodes { result.nodes ≡ 1 }
     ensures slots { result.slots ≡ 40 }
@@ -31,7 +31,7 @@ pub fn rules() -> Rules
 }
 
 /// The change that is asked for: an entry without data, with an instance in each cycle from this one on.
-pub fn change(alloc: Global, start: u64) -> Result<Change, AllocError> {
+fn change(alloc: Global, start: u64) -> Result<Change, AllocError> {
     let entry = Entry {
         slot: 0,
         node: 0,

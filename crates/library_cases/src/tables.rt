@@ -1,7 +1,7 @@
 //! The tables, and what each of them asks.
 
-use crate::{audits, inputs, locks, logs, lone, masters, shelves, sinks, streams};
-use case_tables::{difference, parts_of, table_of};
+use crate::{audits, inputs, locks, logs, masters, shelves, sinks, streams};
+use cases::{Fault, Table, show};
 use std::alloc::{AllocError, Global};
 use std::io;
 use std::sync::Wait;
@@ -9,7 +9,7 @@ use std::thread::Threads;
 
 /// What is asked in the cases of a table.
 #[derive(Clone, Copy)]
-enum Table {
+enum Topic {
     /// Files are fetched from memory.
     MemoryShelf,
     /// Files of the system are fetched.
@@ -42,29 +42,26 @@ enum Table {
     Locks,
     /// The calls of a shared master by one thread.
     Masters,
-    /// A shared master is run by threads, with one operator.
-    Lone,
 }
 
 /// The tables, each with the name of its file.
-const TABLES: [(&str, Table); 17] = [
-    ("memory_shelf", Table::MemoryShelf),
-    ("file_shelf", Table::FileShelf),
-    ("memory_sink", Table::MemorySink),
-    ("streams", Table::Streams),
-    ("faults", Table::Faults),
-    ("system", Table::System),
-    ("steps", Table::Steps),
-    ("requests", Table::Requests),
-    ("generated", Table::Generated),
-    ("logs", Table::Logs),
-    ("rows", Table::Rows),
-    ("last_rows", Table::LastRows),
-    ("events", Table::Events),
-    ("audits", Table::Audits),
-    ("locks", Table::Locks),
-    ("masters", Table::Masters),
-    ("lone", Table::Lone),
+const TABLES: [(&str, Topic); 16] = [
+    ("memory_shelf", Topic::MemoryShelf),
+    ("file_shelf", Topic::FileShelf),
+    ("memory_sink", Topic::MemorySink),
+    ("streams", Topic::Streams),
+    ("faults", Topic::Faults),
+    ("system", Topic::System),
+    ("steps", Topic::Steps),
+    ("requests", Topic::Requests),
+    ("generated", Topic::Generated),
+    ("logs", Topic::Logs),
+    ("rows", Topic::Rows),
+    ("last_rows", Topic::LastRows),
+    ("events", Topic::Events),
+    ("audits", Topic::Audits),
+    ("locks", Topic::Locks),
+    ("masters", Topic::Masters),
 ];
 
 /// The names of all tables.
@@ -80,71 +77,67 @@ pub fn all_names(alloc: Global) -> Result<Vec<String>, AllocError> {
 fn told<T: Threads + Wait + Sync>(
     rt: &HostRuntime,
     threads: &T,
-    table: Table,
+    topic: Topic,
     given: &str,
 ) -> io::Result<String> {
     let alloc = rt.alloc();
-    match table {
-        Table::MemoryShelf => Ok(shelves::fetched_from_memory(alloc, given)?),
-        Table::FileShelf => Ok(shelves::fetched_from_files(rt, given)?),
-        Table::MemorySink => Ok(sinks::put_to_memory(alloc, given)?),
-        Table::Streams => streams::put(rt, given),
-        Table::Faults => Ok(sinks::printed(alloc, given)?),
-        Table::System => Ok(inputs::system(alloc, given)?),
-        Table::Steps => Ok(inputs::steps(alloc, given)?),
-        Table::Requests => Ok(inputs::requests(alloc, given)?),
-        Table::Generated => Ok(inputs::generated(alloc, given)?),
-        Table::Logs => Ok(logs::log(alloc, given)?),
-        Table::Rows => Ok(logs::second_rows(alloc, given)?),
-        Table::LastRows => Ok(logs::last_rows(alloc, given)?),
-        Table::Events => Ok(logs::events(alloc)?),
-        Table::Audits => Ok(audits::audited(alloc, given)?),
-        Table::Locks => Ok(locks::told(rt, threads, given)?),
-        Table::Masters => Ok(masters::told(alloc, given)?),
-        Table::Lone => Ok(lone::told(alloc, threads, given)?),
+    match topic {
+        Topic::MemoryShelf => Ok(shelves::fetched_from_memory(alloc, given)?),
+        Topic::FileShelf => Ok(shelves::fetched_from_files(rt, given)?),
+        Topic::MemorySink => Ok(sinks::put_to_memory(alloc, given)?),
+        Topic::Streams => streams::put(rt, given),
+        Topic::Faults => Ok(sinks::printed(alloc, given)?),
+        Topic::System => Ok(inputs::system(alloc, given)?),
+        Topic::Steps => Ok(inputs::steps(alloc, given)?),
+        Topic::Requests => Ok(inputs::requests(alloc, given)?),
+        Topic::Generated => Ok(inputs::generated(alloc, given)?),
+        Topic::Logs => Ok(logs::log(alloc, given)?),
+        Topic::Rows => Ok(logs::second_rows(alloc, given)?),
+        Topic::LastRows => Ok(logs::last_rows(alloc, given)?),
+        Topic::Events => Ok(logs::events(alloc)?),
+        Topic::Audits => Ok(audits::audited(alloc, given)?),
+        Topic::Locks => Ok(locks::told(rt, threads, given)?),
+        Topic::Masters => Ok(masters::told(alloc, given)?),
     }
 }
 
-/// Why the cases of a table fail, in words: the first of which something else is told than is wanted.
-fn first_difference<T: Threads + Wait + Sync>(
-    rt: &HostRuntime,
-    threads: &T,
-    table: Table,
-    text: &str,
-) -> io::Result<Option<String>> {
-    let mut number = 0u64;
-    for case in text.split_terminator("---\n") {
-        number = number.saturating_add(1);
-        let (given, wanted) = parts_of(case);
-        let found = told(rt, threads, table, given)?;
-        if let Some(reason) = difference(rt.alloc(), number, found.as_str(), wanted)? {
-            return Ok(Some(reason));
-        }
-    }
-    Ok(None)
+/// What answers the cases of a table.
+#[derive(Drop)]
+struct Asked<'a, T> {
+    rt: &'a HostRuntime,
+    threads: &'a T,
+    topic: Topic,
 }
 
-/// The table of this name, where there is one.
-fn table_named(path: &str) -> Option<Table> {
-    for (name, table) in TABLES {
-        if path == name {
-            return Some(table);
+impl<T: Threads + Wait + Sync> Table for Asked<'_, T> {
+    ghost use Rattle.std.specs.Prelude.{⊤};
+
+    ghost IsReady = { λ _. ⊤ };
+
+    fn answer(&mut self, _alloc: Global, given: &str) -> Result<String, Fault> {
+        Ok(told(self.rt, self.threads, self.topic, given)?)
+    }
+}
+
+/// What is asked in the table of this name, where there is one.
+fn topic_named(wanted: &str) -> Option<Topic> {
+    for (name, topic) in TABLES {
+        if wanted == name {
+            return Some(topic);
         }
     }
     None
 }
 
-/// Why the cases of the table of this name fail, in words; nothing where all pass.
-pub fn failure<T: Threads + Wait + Sync>(
+/// Prints the line of the table of this name, and tells whether its cases have passed.
+pub fn shown<T: Threads + Wait + Sync>(
     rt: &HostRuntime,
     threads: &T,
-    path: &str,
-) -> io::Result<Option<String>> {
-    let Some(table) = table_named(path) else {
-        return Ok(Some(String::from_str(rt.alloc(), "no such table")?));
+    name: &str,
+) -> io::Result<bool> {
+    let Some(topic) = topic_named(name) else {
+        println!(rt; "FAILED {name}: no such table")?;
+        return Ok(false);
     };
-    match table_of(rt, path)? {
-        Ok(text) => first_difference(rt, threads, table, text.as_str()),
-        Err(reason) => Ok(Some(reason)),
-    }
+    show(rt, name, Asked { rt, threads, topic })
 }

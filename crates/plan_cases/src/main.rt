@@ -1,36 +1,60 @@
-//! The cases of the crates that plan, where no whole command shows them: what public functions answer, beside answers
-//! that were worked out by hand.
+//! The cases of the crates that plan, and of the standby, where no whole command shows them: what public functions answer,
+//! beside answers that were worked out by hand. For each table of `data/` one line is printed.
 //!
-//! For each of these crates a file of `data/` has the cases, one in a line: a call, ` = `, and the wanted answer. Any
-//! other line is a remark. For each file the program prints how many cases it has, or a line for each case whose answer
-//! differs.
+//! Behind the tables a master is asked for some changes, each again where it is refused memory. With the word
+//! `asked_again` that is all.
 //!
 //! Cycles are elementary cycles, and lengths are bit times.
 #![tactic(auto)]
 
 mod admission_calls;
-mod compared;
+mod asking;
+mod changes;
 mod fault_calls;
 mod list_calls;
 mod master_calls;
 mod numbers;
+mod plans;
+mod standby_calls;
 mod table_calls;
 mod walk_calls;
 
-use std::{fs, io};
+use cases::show;
+use plans::Plans;
+use standby_calls::Standbys;
+use std::io;
+use std::process::ExitCode;
 
-fn main(rt: HostRuntime) -> io::Result<()> {
-    for name in [
-        "requirement_table",
-        "recurrence_check",
-        "planner_policies",
-        "admission",
-        "master_core",
-        "faults",
-    ] {
-        let text = fs::read_to_string(&rt, name)?;
-        let told = compared::compared(rt.alloc(), name, text.as_str())?;
-        print!(rt; "{told}")?;
+/// The tables about entries.
+const TABLES: [&str; 6] = [
+    "requirement_table",
+    "recurrence_check",
+    "planner_policies",
+    "admission",
+    "master_core",
+    "faults",
+];
+
+fn main(rt: HostRuntime) -> ExitCode {
+    match run(&rt) {
+        Ok(true) => ExitCode::from(0),
+        Ok(false) => ExitCode::from(1),
+        Err(_) => ExitCode::from(2),
     }
-    Ok(())
+}
+
+/// Runs the tables where there are no words, and asks a master again. Tells whether all cases have passed.
+fn run(rt: &HostRuntime) -> io::Result<bool> {
+    let passed = !asking::asked_words(rt)?.is_empty() || all_shown(rt)?;
+    asking::told(rt)?;
+    Ok(passed)
+}
+
+/// Prints the line of each table, and tells whether all cases have passed.
+fn all_shown(rt: &HostRuntime) -> io::Result<bool> {
+    let mut passed = show(rt, "standby", Standbys::new())?;
+    for name in TABLES {
+        passed = show(rt, name, Plans::new(rt.alloc()))? && passed;
+    }
+    Ok(passed)
 }

@@ -1,0 +1,105 @@
+//! A table, and what its cases answer.
+
+ghost use Rattle.std.specs.Prelude.{ℕ, IfOk, IsSome};
+ghost use Rattle.cases.specs.Remarks.{IsNoCase};
+
+use crate::fields::Fault;
+use crate::reading::{Case, Read, Reader};
+use std::alloc::{AllocError, Global};
+use std::rt::Files;
+use std::{fs, io};
+
+/// What answers the cases of a table, one after the other.
+pub trait Table {
+    /// What holds between two cases.
+    ghost IsReady: { Self → Type 0 };
+
+    /// What is told of what a case gives.
+    fn answer(&mut self, alloc: Global, given: &str) -> Result<String, Fault>
+        requires ready { IsReady self.old }
+        ensures ready { IsReady self.new };
+}
+
+/// Prints the line of the table in the file `NAME.txt`: `ok NAME:` and the number of its cases, or `FAILED NAME:` and the
+/// first that fails. Tells whether all have passed.
+pub fn show<R: Files + AllocGlobal + Print, T: Table + Drop>(
+    rt: &R,
+    name: &str,
+    mut table: T,
+) -> io::Result<bool>
+    requires ready { T.IsReady table }
+{
+    let file = format!(in rt.alloc(); "{name}.txt")?;
+    let text = fs::read_to_string(rt, file.as_str())?;
+    let told = compared(rt.alloc(), name, text.as_str(), &mut table)?;
+    let passed = told.starts_with("ok ");
+    rt.println(told)?;
+    Ok(passed)
+}
+
+/// The line of a table of this text, as `show` prints it.
+///
+/// A case is a line of what is given, ` = ` and what is wanted. A case of several lines has a line `---`, what is given, a
+/// line `=>` and what is wanted, up to the next line `---` or the end of the table; where one stands, no case of one line
+/// follows. Outside of these an empty line and one that begins with `#` are remarks. What is none of this fails.
+pub fn compared<T: Table>(
+    alloc: Global,
+    name: &str,
+    text: &str,
+    table: &mut T,
+) -> io::Result<String>
+    requires ready { T.IsReady table.old }
+    ensures ready { T.IsReady table.new }
+{
+    let mut reader = Reader::new();
+    let mut cases = 0u64;
+    for line in text.split_terminator('\n') {
+        let read = reader.next(alloc, line)?;
+        if let Some(failure) = failure(alloc, &read, &mut cases, table)? {
+            return Ok(format!(in alloc; "FAILED {name}: {failure}")?);
+        }
+    }
+    if let Some(failure) = failure(alloc, &reader.end(), &mut cases, table)? {
+        return Ok(format!(in alloc; "FAILED {name}: {failure}")?);
+    }
+    Ok(format!(in alloc; "ok {name}: {cases} cases")?)
+}
+
+/// Why what was read fails, where it does: what is no case always does. A case that passes is counted.
+fn failure<T: Table>(
+    alloc: Global,
+    read: &Read,
+    cases: &mut u64,
+    table: &mut T,
+) -> io::Result<Option<String>>
+    requires ready { T.IsReady table.old }
+    ensures ready { T.IsReady table.new }
+    ensures fails { IfOk result (λ failure. (line : ℕ) → IsNoCase line read.now → IsSome failure) }
+{
+    match read {
+        Read::Nothing => Ok(None),
+        Read::NoCase { line } => Ok(Some(format!(in alloc; "line {line} is no case")?)),
+        Read::Case { case } => {
+            *cases = cases.saturating_add(1);
+            let told = table.answer(alloc, case.given.as_str());
+            differs(alloc, case, told)
+        }
+    }
+}
+
+/// How what was told differs from what is wanted, where it does.
+fn differs(alloc: Global, case: &Case, told: Result<String, Fault>) -> io::Result<Option<String>> {
+    let line = case.line;
+    match told {
+        Ok(told) => {
+            if told == case.wanted {
+                Ok(None)
+            } else {
+                Ok(Some(format!(in alloc; "line {line} tells {told}")?))
+            }
+        }
+        Err(Fault::Unread) => Ok(Some(format!(in alloc; "line {line} is not read")?)),
+        Err(Fault::Memory) => Err(io::Error::from(AllocError)),
+        Err(Fault::Stream(fault)) => Err(fault),
+    }
+}
