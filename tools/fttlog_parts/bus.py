@@ -3,7 +3,7 @@ import fractions
 import re
 import struct
 
-from fttlog_parts.rows import INTERMISSION, NoLog, TRIGGERS, mask_of
+from fttlog_parts.rows import INTERMISSION, NoLog, TRIGGERS, mask_of, some
 
 MICROS = 1_000_000
 LINE = re.compile(r"\((\d+)\.(\d{1,9})\) +(\S+) +([0-9A-Fa-f]+)#([0-9A-Fa-f]*|R\d?)( +[RT])?")
@@ -116,14 +116,33 @@ def recorded(lines, interface):
     return frames, others
 
 
-def starts_of(frames, kbits, has_starts):
-    """The start of each frame, in bit times since the start of the first one."""
-    def start(frame):
-        """A start in bit times, not yet a whole number."""
-        return frame.micros * kbits / 1000 - (0 if has_starts else frame.length - INTERMISSION)
+def starts_of(frames, kbits, has_starts, note):
+    """The start of each frame, in bit times since the start of the first one. A frame that starts a bit time before the
+    one in front of it has ended is put behind that one, since times are rounded. One that starts earlier is refused."""
+    starts, moved, free = [], 0, 0
+    for frame in frames:
+        time = frame.micros * kbits / 1000 - (0 if has_starts else frame.length - INTERMISSION)
+        first = time if not starts else first
+        start = round(time - first)
+        if start < free - 1:
+            why = overlap(frame, start, frames[len(starts) - 1], free, kbits, has_starts)
+            raise NoLog(f"line {frame.line}: {why}")
+        moved += start < free
+        starts.append(max(start, free))
+        free = starts[-1] + frame.length
+    if moved:
+        note(f"{some(moved, 'frame')} would start a bit time before the one in front has ended: put behind it")
+    return starts
 
-    first = start(frames[0])
-    return [round(start(frame) - first) for frame in frames]
+
+def overlap(frame, start, before, free, kbits, has_starts):
+    """Why a frame can't start so early, and what may be wrong with the words."""
+    times = "ends of frames? Then leave --starts out" if has_starts else "starts of frames? Then --starts says so"
+    if frame.micros < before.micros:
+        return (f"the time goes back by {float(before.micros - frame.micros):g} us. Is the recording in order, and of "
+                "one bus?")
+    return (f"the frame would start at bit time {start}, and the one of line {before.line} ends at {free}: no bus "
+            f"sends two at once. Is {float(kbits):g} kbit/s the right rate? Are the times {times}")
 
 
 def cycles_in(frames, starts):
@@ -156,10 +175,29 @@ def calls_of(rows):
     return calls
 
 
-def from_candump(lines, words, calls, put, note):
-    """A recording of a bus of this profile as rows of a log. A cycle is opened where its trigger stands. The rows of
-    calls, which no recording shows, are put in front of the cycle that was next when they were answered."""
-    frames, others = recorded(lines, words.interface)
+def length_in(cycles, given, note):
+    """The length of a cycle in bit times: the one that is given, or else the distance of the triggers. Says where the
+    two differ."""
+    triggers = [(number, sent[0][1]) for number, _, _, sent in cycles]
+    if len(triggers) < 2 and given is None:
+        raise NoLog("the recording has fewer than two triggers: give the length of a cycle with --cycle")
+    if given is None:
+        length = round(fractions.Fraction(triggers[-1][1], triggers[-1][0] - triggers[0][0]))
+        note(f"cycles of {length} bit times, by the distance of the triggers")
+        return length
+    off = [(cycle[3][0][0].line, number - before, later - start)
+           for (before, start), (number, later), cycle in zip(triggers, triggers[1:], cycles[1:])
+           if abs(later - start - given * (number - before)) > 1]
+    if off:
+        line, many, distance = off[0]
+        note(f"--cycle is {given}, and {len(off)} of {len(triggers) - 1} triggers come at another time: the first in "
+             f"line {line}, {distance} bit times and {some(many, 'cycle')} after the one before. Are the rate and "
+             "--cycle right?")
+    return given
+
+
+def from_trigger(frames, others, note):
+    """The frames from the first trigger on. Says how many frames are left out, these of other interfaces too."""
     if others:
         note(f"{others} frames of other interfaces are left out")
     early = next((place for place, frame in enumerate(frames) if frame.identifier == TRIGGERS[0]), None)
@@ -167,15 +205,15 @@ def from_candump(lines, words, calls, put, note):
         raise NoLog("the recording has no trigger, which has identifier 000")
     if early:
         note(f"{early} frames in front of the first trigger are left out")
-    frames = frames[early:]
-    cycles = cycles_in(frames, starts_of(frames, words.kbits, words.starts))
-    length = words.cycle
-    if length is None:
-        if len(cycles) < 2:
-            raise NoLog("the recording has fewer than two triggers: give the length of a cycle with --cycle")
-        last = cycles[-1]
-        length = round(fractions.Fraction(last[3][0][1], last[0] - cycles[0][0]))
-        note(f"cycles of {length} bit times, by the distance of the triggers")
+    return frames[early:]
+
+
+def from_candump(lines, words, calls, put, note):
+    """A recording of a bus of this profile as rows of a log. A cycle is opened where its trigger stands. The rows of
+    calls, which no recording shows, are put in front of the cycle that was next when they were answered."""
+    frames = from_trigger(*recorded(lines, words.interface), note)
+    cycles = cycles_in(frames, starts_of(frames, words.kbits, words.starts, note))
+    length = length_in(cycles, words.cycle, note)
     first = cycles[0][0] * length
     if first:
         note(f"the first trigger is that of cycle {cycles[0][0]}: what was before it is not in the recording")

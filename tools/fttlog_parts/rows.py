@@ -6,6 +6,8 @@ import re
 TRIGGERS = (0x000, 0x001)
 FIRST_SLOT, SLOTS = 0x100, 96
 LAST_SLOT = FIRST_SLOT + SLOTS - 1
+# The greatest identifier of 11 bits.
+MOST = 0x7FF
 # The bits of intermission, which the length of a frame in a log counts.
 INTERMISSION = 3
 NUMBER = r"(0|[1-9][0-9]*)"
@@ -76,22 +78,60 @@ def is_slot(identifier):
     return FIRST_SLOT <= identifier <= LAST_SLOT
 
 
+# What a file of names has to have, as the end of a line that refuses one.
+NAMES = "names are rows SLOT,NAME or 0xID,NAME, as in names.csv of fttmodel"
+HEADER = "slot_or_id"
+
+
+def named_by(key):
+    """The identifier that a key of a file of names stands for: a slot, or an identifier with 0x. None for no key."""
+    if re.fullmatch("0x[0-9a-fA-F]{1,3}", key):
+        identifier = int(key, 16)
+        return identifier if identifier <= MOST else None
+    return FIRST_SLOT + int(key) if re.fullmatch("[0-9]{1,2}", key) and int(key) < SLOTS else None
+
+
+def named_rows(path):
+    """The rows of a file of names behind its header row, each with its place. Without a header row they have two fields
+    and no more, so that no other list with a number in front, such as one of messages, is taken for names."""
+    try:
+        with open(path, encoding="utf-8-sig", newline="") as file:
+            rows = [(place, [it.strip() for it in row]) for place, row in enumerate(csv.reader(file), 1)]
+    except (csv.Error, UnicodeDecodeError) as fault:
+        raise NoLog(f"{path}: {fault}; {NAMES}") from fault
+    rows = [(place, row) for place, row in rows if any(row) and not row[0].startswith("#")]
+    if rows and rows[0][1][0] == HEADER:
+        return rows[1:]
+    if rows and named_by(rows[0][1][0]) is None:
+        raise NoLog(f"{path}: row {rows[0][0]}: {rows[0][1][0]!r} is no slot, and a header row begins with {HEADER}; "
+                    f"{NAMES}")
+    place = next((place for place, row in rows if any(row[2:])), None)
+    if place is not None:
+        raise NoLog(f"{path}: row {place}: more than two fields, and no header row that begins with {HEADER}; {NAMES}")
+    return rows
+
+
+def names_in(path):
+    """The names of a file, by identifiers."""
+    given = {}
+    for place, row in named_rows(path):
+        identifier, name = named_by(row[0]), "".join(row[1:2])
+        if identifier is None:
+            raise NoLog(f"{path}: row {place}: {row[0]!r} is no slot and no identifier with 0x; {NAMES}")
+        if not name:
+            raise NoLog(f"{path}: row {place}: {row[0]} has no name; {NAMES}")
+        if given.setdefault(identifier, name) != name:
+            raise NoLog(f"{path}: row {place}: {row[0]} has another name above")
+    if not given:
+        raise NoLog(f"{path}: there is no name in this file; {NAMES}")
+    return given
+
+
 class Names:
     """What people call the frames: a name of a file for some, and for the others what the log has."""
 
     def __init__(self, path=None):
-        self.given = {}
-        if path is None:
-            return
-        with open(path, encoding="utf-8-sig", newline="") as file:
-            for place, row in enumerate(csv.reader(file), 1):
-                if len(row) < 2 or place == 1 and not re.fullmatch("(0x)?[0-9a-fA-F]+", row[0]):
-                    continue
-                key = row[0].strip()
-                if not re.fullmatch("[0-9]+|0x[0-9a-fA-F]{1,3}", key):
-                    raise NoLog(f"{path}: row {place}: {key!r} is no slot and no identifier with 0x")
-                identifier = int(key, 16) if key.startswith("0x") else FIRST_SLOT + int(key)
-                self.given[identifier] = row[1].strip()
+        self.given = {} if path is None else names_in(path)
 
     def own(self, identifier):
         """The name that a file gives, or None."""
