@@ -15,7 +15,7 @@ use Rattle.requirement_table.specs.Slots.{most_slots}
 use Rattle.requirement_table.specs.Table.{instance_in}
 use Rattle.requirement_table.specs.declared.entries.Placed.{Placed}
 use Rattle.requirement_table.proofs.Shared.{instance_in-sound}
-use Rattle.node_model.specs.Offered.{bytes_sent, trigger_frames}
+use Rattle.node_model.specs.Offered.{trigger_frames}
 use Rattle.cycle_engine.specs.Cycle.{RunsCycleWith, RunsCyclesWith, frames_in, of_slot}
 use Rattle.sporadic_poll.specs.declared.stream.Stream.{Stream}
 use Rattle.sporadic_poll.specs.Polled.{AreRides, is_polled, lengths_of, payload_at, payload_of, payload_taken, polled_bytes}
