@@ -150,7 +150,7 @@ flagged_frame layout opening known fits (one ∷ later) past free (next, follows
   where
     by_offer : slot_sent one.frame ≡ Some slot → offered_in layout [] opening past one.start one.frame → (slot < most_slots) × (contains_slot opening.mask slot ≡ true)
     by_offer here (inl trigger) =
-        absurd (omega (arith, above_low one.frame slot here, low layout opening bytes_of known fits layout.slots opening.cycle (width_of opening) opening.mask one.frame trigger.among))
+        absurd (omega (arith, above_low one.frame slot here, low layout.slots opening.cycle (width_of opening) opening.mask one.frame trigger.among))
     by_offer here (inr (inl request)) = absurd (no_request layout opening past one.start one.frame request)
     by_offer here (inr (inr (s, offers))) =
         let it : s ≡ slot = same_Some _ _ (sym (slot_is one.frame s offers.known offers.identifier) ∙ here) in

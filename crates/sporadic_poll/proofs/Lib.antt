@@ -9,6 +9,7 @@ mod Openings
 mod PolledCycle
 mod Released
 mod Retimed
+mod RideFrames
 mod Riding
 mod Rounds
 mod StreamRows

@@ -27,6 +27,17 @@ use Rattle.cycle_engine.specs.Offered.{offered_in, offered_in_with}
 use Rattle.cycle_engine.specs.SyncWindow.{back_to_back, sent_at}
 use Rattle.sporadic_poll.specs.Rides.{sent_anew}
 
+-- a trigger frame has the identifier 0 or 1
+pub low : (slots cycle l mask : ℕ) (frame : DataFrame) → Contains (triggers_with slots cycle l mask) frame → frame.identifier ≤ 1
+low slots cycle l mask frame (zero, within, is) = omega (arith, ap (λ (f : DataFrame). f.identifier) is)
+low slots cycle l mask frame (suc k, within, is) = later (nat_eq slots 40) k (omega (arith, within)) is
+  where
+    later : (one : Bool) (place : ℕ) → place < length (if one then [] else second_frame cycle mask ∷ [])
+        → get_or (if one then [] else second_frame cycle mask ∷ []) place frame ≡ frame → frame.identifier ≤ 1
+    later true place within is = absurd (omega (arith, within))
+    later false zero within is = omega (arith, ap (λ (f : DataFrame). f.identifier) is)
+    later false (suc place) within is = absurd (omega (arith, within))
+
 -- where there are no requests, none is offered
 pub no_request : (layout : CycleLayout) (opening : Opening) (past : List TimedFrame) (at : ℕ) (frame : DataFrame) → OffersRequest layout [] opening past at frame → ⊥
 no_request layout opening past at frame offers =
@@ -139,17 +150,6 @@ module _ (layout : CycleLayout) (opening : Opening) (sends : Instance → List �
   none_left past others low high alike all from at frame since until offers =
       let it = in_window others at frame (omega (arith, from, since)) offers in
       all it.0 it.1.known it.1.flagged ((alike (first_identifier + it.0)).1 it.1.unsent)
-
-  -- a trigger frame has the identifier 0 or 1
-  pub low : (slots cycle l mask : ℕ) (frame : DataFrame) → Contains (triggers_with slots cycle l mask) frame → frame.identifier ≤ 1
-  low slots cycle l mask frame (zero, within, is) = omega (arith, ap (λ (f : DataFrame). f.identifier) is)
-  low slots cycle l mask frame (suc k, within, is) = later (nat_eq slots 40) k (omega (arith, within)) is
-    where
-      later : (one : Bool) (place : ℕ) → place < length (if one then [] else second_frame cycle mask ∷ [])
-          → get_or (if one then [] else second_frame cycle mask ∷ []) place frame ≡ frame → frame.identifier ≤ 1
-      later true place within is = absurd (omega (arith, within))
-      later false zero within is = omega (arith, ap (λ (f : DataFrame). f.identifier) is)
-      later false (suc place) within is = absurd (omega (arith, within))
 
   -- a frame that is none of a slot is a trigger frame
   is_trigger : (past : List TimedFrame) (at : ℕ) (frame : DataFrame) → ((slot : ℕ) → slot < most_slots → frame.identifier ≡ first_identifier + slot → ⊥)

@@ -3,6 +3,7 @@ pub mod Polled
 pub mod PolledNodes
 pub mod Polling
 pub mod Ride
+pub mod RideFrames
 pub mod Rides
 pub mod StreamRow
 pub mod StreamText

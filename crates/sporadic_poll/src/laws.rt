@@ -1,6 +1,6 @@
 //! Laws about *Ride* and *Polling*. Each function has an empty body, and its contract is the law.
 
-ghost use Rattle.std.specs.Prelude.{◌≡◌, ℕ, ◌*◌, ◌<◌, List, Option, Some, Contains};
+ghost use Rattle.std.specs.Prelude.{◌≡◌, ℕ, ◌*◌, ◌<◌, All, List, Option, Some, Contains};
 ghost use Rattle.std.specs.List.{slice_get};
 ghost use Rattle.requirement_table.specs.declared.entries.Placed.{Placed};
 ghost use Rattle.requirement_table.specs.Instance.{IsReleasedIn};
@@ -8,11 +8,13 @@ ghost use Rattle.requirement_table.specs.Table.{IsWellPlaced};
 ghost use Rattle.can_frame.specs.declared.data_frame.TimedFrame.{TimedFrame};
 ghost use Rattle.cycle_layout.specs.Layout.{CycleLayout, IsLayout};
 ghost use Rattle.requirement_table.specs.Opening.{Opening};
-ghost use Rattle.cycle_engine.specs.Cycle.{RunsCycle};
+ghost use Rattle.requirement_table.specs.Slots.{most_slots};
+ghost use Rattle.cycle_engine.specs.Cycle.{RunsCycle, RunsCyclesWith};
 ghost use Rattle.cycle_engine.specs.Offered.{AreOfDistinctCycles};
 ghost use Rattle.sporadic_poll.specs.declared.stream.Stream.{Stream};
-ghost use Rattle.sporadic_poll.specs.Polled.{AreRides, lengths_of};
-ghost use Rattle.sporadic_poll.specs.Rides.{AreRidesAt, IsPlainCycle};
+ghost use Rattle.sporadic_poll.specs.Polled.{AreRides, lengths_of, polled_bytes};
+ghost use Rattle.sporadic_poll.specs.Rides.{AreRidesAt, IsPlainCycle, IsRidden};
+ghost use Rattle.sporadic_poll.specs.RideFrames.{HasRideFrame, KeepLengths};
 ghost use Rattle.sporadic_poll.specs.Ride.{CanCarry, IsOfSlot, IsRide, IsTakenBefore, Releases, length_released};
 ghost use Rattle.sporadic_poll.specs.Waiting.{ride_of};
 ghost use Rattle.sporadic_poll.specs.Polling.{IsCarriedInTime, IsPolled};
@@ -73,6 +75,18 @@ pub fn in_order()
         → IsRide layout_cycle streams slot lengths carried → (cycle before behind : ℕ)
         → carried cycle ≡ Some behind → before < behind → IsOfSlot streams slot before
         → IsTakenBefore carried cycle before }
+{}
+
+/// A request that was sent has its frame in the trace. In the cycle in which it was sent, that is the only frame of its
+/// slot. It lies in the cycle's synchronous window, and carries the request's bytes. This holds in opened cycles that
+/// were run, if each instance that may be sent was released in one of them with the length that its entry has.
+pub fn ride_frames()
+    ensures frame { (layout : CycleLayout) (streams : List Stream) (openings : List Opening)
+        (carried : ℕ → ℕ → Option ℕ) (trace : List TimedFrame) (place release cycle : ℕ)
+        → All (λ stream. stream.slot < most_slots) streams → AreRides layout.cycle streams openings carried
+        → KeepLengths openings → RunsCyclesWith (polled_bytes streams carried) layout openings trace
+        → IsRidden streams openings carried place release cycle
+        → HasRideFrame layout streams openings trace place release cycle }
 {}
 
 /// *Polling*: a request whose slot's requests come no oftener than an entry of the slot releases instances is carried

@@ -1,6 +1,6 @@
 //! Which request of its slot the next instance takes.
 
-ghost use Rattle.std.specs.Prelude.{◌≡◌, ℕ, ◌+◌, ◌*◌, ◌<◌, All, IfOk, IfSome, IsSomeAnd, Option, None, Some, false};
+ghost use Rattle.std.specs.Prelude.{◌≡◌, ℕ, ◌+◌, ◌*◌, ◌<◌, ◌↔◌, All, IfOk, IfSome, IsSomeAnd, Option, None, Some, false, true};
 ghost use Rattle.std.specs.List.{slice_get};
 ghost use Rattle.std.specs.Prelude.{get_or, length};
 ghost use Rattle.sporadic_poll.specs.Ride.{CanCarry, IsOfSlot, IsRide};
@@ -78,6 +78,7 @@ fn taken_from(streams: &[Stream], time: u64, entry_length: u8, next: usize) -> O
 
 /// Whether the next request of a slot arrived before a time.
 fn has_arrived(streams: &[Stream], time: u64, next: usize) -> bool
+    ensures arrived { (result ≡ true) ↔ IsSomeAnd (slice_get streams.now next) (λ stream. stream.at < time) }
     ensures none { result ≡ false → (entry_length : ℕ) → taken_from streams.now time entry_length next ≡ None }
 {
     if next >= streams.len() {
@@ -125,6 +126,8 @@ impl Queues {
     /// that time takes one.
     pub fn has_arrived(&self, slot: u8, time: u64) -> bool
         requires known { slot < length self.now.next }
+        ensures arrived { (result ≡ true) ↔ IsSomeAnd
+            (slice_get self.now.streams (get_or self.now.next slot 0)) (λ stream. stream.at < time) }
         ensures none { result ≡ false → (entry_length : ℕ)
             → taken_from self.now.streams time entry_length (get_or self.now.next slot 0) ≡ None }
     {

@@ -1,0 +1,138 @@
+-- A request that was sent has its frame in the trace.
+use Rattle.std.proofs.Common.{◌≡◌, ℕ, ◌+◌, ◌<◌, ◌≤◌, ◌==◌, true, false, if◌then◌else◌, List, [], ◌∷◌, ◌++◌, All, Contains, length, get_or, map, nat_lt, Option, Some, None, IfSome, option_map, option_and_then, refl, sym, ap, subst, ◌∙◌, arith}
+use Rattle.std.specs.List.{slice_get}
+use Rattle.std.proofs.lemmas.Bool.{lt-ltb, ne_eqb}
+use Rattle.std.proofs.lemmas.List.{get_or_default}
+use Rattle.std.proofs.lemmas.List.Elements.{All-contains, All-head, All-tail}
+use Rattle.std.proofs.lemmas.Option.{get_or_from_slice_get, none-some, same_Some, slice_get_within}
+use Rattle.profile.specs.Limits.{first_identifier}
+use Rattle.can_frame.specs.DataFrame.{DataFrame}
+use Rattle.can_frame.specs.declared.data_frame.TimedFrame.{TimedFrame}
+use Rattle.cycle_layout.specs.Layout.{CycleLayout}
+use Rattle.requirement_table.specs.Instance.{Instance, MaySend, bytes_of, release_of}
+use Rattle.requirement_table.specs.Opening.{Opening, width_of}
+use Rattle.requirement_table.specs.Slots.{most_slots}
+use Rattle.requirement_table.specs.Table.{instance_in}
+use Rattle.requirement_table.specs.declared.entries.Placed.{Placed}
+use Rattle.requirement_table.proofs.Shared.{instance_in-sound}
+use Rattle.node_model.specs.Offered.{trigger_frames}
+use Rattle.cycle_engine.specs.Cycle.{RunsCycleWith, RunsCyclesWith, frames_in, of_slot}
+use Rattle.sporadic_poll.specs.declared.stream.Stream.{Stream}
+use Rattle.sporadic_poll.specs.Polled.{AreRides, is_polled, lengths_of, payload_at, payload_of, payload_taken, polled_bytes}
+use Rattle.sporadic_poll.specs.Ride.{bytes_with}
+use Rattle.sporadic_poll.specs.Rides.{IsRidden, release_in}
+use Rattle.sporadic_poll.specs.RideFrames.{HasRideFrame, KeepLengths}
+use Rattle.sporadic_poll.proofs.Fates.{polled_by}
+use Rattle.sporadic_poll.proofs.Retimed.{low}
+
+-- a trigger frame is one of no slot
+none-of_slot : (slot : ℕ) (frames later : List TimedFrame) → All (λ frame. frame.identifier ≤ 1) (map (λ sent. sent.frame) frames)
+    → of_slot slot (frames ++ later) ≡ of_slot slot later
+none-of_slot slot [] later all = refl
+none-of_slot slot (sent ∷ frames) later all =
+    let first : sent.frame.identifier ≤ 1 = All-head (λ (frame : DataFrame). frame.identifier ≤ 1) sent.frame (map (λ s. s.frame) frames) all in
+    let other : (sent.frame.identifier == first_identifier + slot) ≡ false = ne_eqb sent.frame.identifier (first_identifier + slot) (λ same. absurd (omega (arith, first, same))) in
+    ap (λ b. if b then sent ∷ of_slot slot (frames ++ later) else of_slot slot (frames ++ later)) other
+    ∙ none-of_slot slot frames later (All-tail (λ (frame : DataFrame). frame.identifier ≤ 1) sent.frame (map (λ s. s.frame) frames) all)
+
+-- so the frames of a slot in a cycle are those behind the trigger
+slots-behind : (sends : Instance → List ℕ) (layout : CycleLayout) (opening : Opening) (frames : List TimedFrame) (slot : ℕ)
+    (runs : RunsCycleWith sends layout opening frames) → of_slot slot frames ≡ of_slot slot runs.later
+slots-behind sends layout opening frames slot runs =
+    let triggers : List TimedFrame = runs.trigger ∷ runs.second in
+    let are : All (λ frame. frame.identifier ≤ 1) (trigger_frames layout opening) = λ k d within.
+    low layout.slots opening.cycle (width_of opening) opening.mask (get_or (trigger_frames layout opening) k d)
+    (k, within, get_or_default (trigger_frames layout opening) k (get_or (trigger_frames layout opening) k d) d within) in
+    ap (of_slot slot) runs.all_frames
+    ∙ none-of_slot slot triggers runs.later (subst (All (λ (frame : DataFrame). frame.identifier ≤ 1)) (sym runs.are_triggers) are)
+
+-- an instance that sends something is there, and it is the one that was released in the cycle
+record IsSender (sends : Instance → List ℕ) (placed : List Placed) (slot cycle release : ℕ) (bytes : List ℕ) : Type 0 where
+  instance : Instance
+  found : instance_in placed slot cycle ≡ Some instance
+  of_slot : instance.placed.entry.slot ≡ slot
+  released : release_of instance.placed instance.number ≡ release
+  sent : sends instance ≡ bytes
+
+sender : (sends : Instance → List ℕ) (placed : List Placed) (slot cycle release : ℕ) (bytes : List ℕ)
+    → option_map sends (instance_in placed slot cycle) ≡ Some bytes → release_in placed slot cycle ≡ Some release
+    → IsSender sends placed slot cycle release bytes
+sender sends placed slot cycle release bytes sent released =
+    by_found (instance_in placed slot cycle) refl sent released (instance_in-sound placed slot cycle)
+  where
+    by_found : (found : Option Instance) → instance_in placed slot cycle ≡ found → option_map sends found ≡ Some bytes
+        → option_map (λ i. release_of i.placed i.number) found ≡ Some release
+        → IfSome found (λ i. Contains placed i.placed × (i.placed.entry.slot ≡ slot) × MaySend i.placed i.number cycle)
+        → IsSender sends placed slot cycle release bytes
+    by_found None at sent released sound = absurd (none-some bytes sent)
+    by_found (Some i) at sent released sound = record {
+      instance = i;
+      found = at;
+      of_slot = sound.1;
+      released = same_Some _ _ released;
+      sent = same_Some _ _ sent;
+    }
+
+-- the bytes of an instance of a polled slot that took a request for which there is room
+carried-bytes : (streams : List Stream) (carried : ℕ → ℕ → Option ℕ) (i : Instance) (place : ℕ) (request : Stream)
+    → is_polled streams i.placed.entry.slot ≡ true → carried i.placed.entry.slot (release_of i.placed i.number) ≡ Some place
+    → slice_get streams place ≡ Some request → length request.payload < i.placed.entry.length
+    → polled_bytes streams carried i ≡ bytes_with i.placed.entry.length (Some request.payload)
+carried-bytes streams carried i place request polled took at room =
+    let n : ℕ = i.placed.entry.length in
+    let test : nat_lt (length request.payload) n ≡ true = lt-ltb (length request.payload) n room in
+    let taken : payload_taken streams carried i ≡ Some request.payload =
+    ap (option_and_then (payload_at streams n)) took
+    ∙ ap (option_and_then (payload_of n)) at
+    ∙ ap (λ b. if b then Some request.payload else None) test in
+    ap (λ b. if b then bytes_with n (payload_taken streams carried i) else bytes_of i) polled
+    ∙ ap (bytes_with n) taken
+
+module _ (layout : CycleLayout) (streams : List Stream) (openings : List Opening) (carried : ℕ → ℕ → Option ℕ) (trace : List TimedFrame)
+    (place release cycle : ℕ) (known : All (λ stream. stream.slot < most_slots) streams)
+    (rides : AreRides layout.cycle streams openings carried) (keep : KeepLengths openings)
+    (runs : RunsCyclesWith (polled_bytes streams carried) layout openings trace)
+    (is : IsRidden streams openings carried place release cycle) where
+  pub ride_frame : HasRideFrame layout streams openings trace place release cycle
+  ride_frame =
+      let sends = polled_bytes streams carried in
+      let slot : ℕ = is.stream.slot in
+      let o : Opening = is.opening in
+      let few : slot < most_slots =
+      subst (λ (s : Stream). s.slot < most_slots) (get_or_from_slice_get streams place is.stream is.stream is.at)
+      (known place is.stream (slice_get_within streams place is.stream is.at)) in
+      let run : RunsCycleWith sends layout o (frames_in layout o.cycle trace) =
+      All-contains (λ (x : Opening). RunsCycleWith sends layout x (frames_in layout x.cycle trace)) openings o runs is.opened in
+      let once = run.each slot few is.flagged in
+      let it = sender sends o.placed slot o.cycle release once.sent.frame.bytes once.carries
+      (ap (release_in o.placed slot) is.in_cycle ∙ is.released) in
+      let i : Instance = it.instance in
+      let entry_length : ℕ = i.placed.entry.length in
+      let lengths : lengths_of openings slot release ≡ Some entry_length =
+      ap (lengths_of openings slot) (sym it.released)
+      ∙ All-contains (λ (x : Opening). (s : ℕ) (j : Instance) → instance_in x.placed s x.cycle ≡ Some j
+      → lengths_of openings s (release_of j.placed j.number) ≡ Some j.placed.entry.length) openings o keep is.opened slot i it.found in
+      let takes = ((rides slot few).each release entry_length place lengths).0 is.took in
+      let same : takes.stream ≡ is.stream = same_Some _ _ (sym takes.at ∙ is.at) in
+      let room : length is.stream.payload < entry_length =
+      subst (λ (s : Stream). length s.payload < entry_length) same takes.can.short in
+      let polled : is_polled streams i.placed.entry.slot ≡ true = ap (is_polled streams) it.of_slot ∙ polled_by streams place is.stream is.at in
+      let took : carried i.placed.entry.slot (release_of i.placed i.number) ≡ Some place =
+      ap (λ s. carried s (release_of i.placed i.number)) it.of_slot ∙ ap (carried slot) it.released ∙ is.took in
+      record {
+        request = is.stream;
+        at = is.at;
+        opening = o;
+        opened = is.opened;
+        in_cycle = is.in_cycle;
+        sent = once.sent;
+        once = ap (λ c. of_slot slot (frames_in layout c trace)) (sym is.in_cycle)
+            ∙ slots-behind sends layout o (frames_in layout o.cycle trace) slot run
+            ∙ once.once;
+        after = once.after;
+        before = once.before;
+        entry_length = entry_length;
+        released = lengths;
+        room = room;
+        carries = sym it.sent ∙ carried-bytes streams carried i place is.stream polled took is.at room;
+      }
