@@ -48,9 +48,9 @@ pub struct Asked<'a, T> {
 }
 
 impl<T: Threads + Wait + Sync> Table for Asked<'_, T> {
-    ghost use Rattle.std.specs.Prelude.{⊤};
+    ghost use Rattle.std.specs.Thread.{IsSync};
 
-    ghost IsReady = { λ _. ⊤ };
+    ghost IsReady = { λ _. IsSync T.row };
 
     fn answer(&mut self, _alloc: Global, given: &str) -> Result<String, Fault> {
         Ok(told(self.rt, self.threads, self.topic, given)?)
