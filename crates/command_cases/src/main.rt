@@ -3,7 +3,7 @@
 //!
 //! A call is a folder with input files, the words of a call, and what it is to write: a file `expected.log` or
 //! `expected.err`. A table is a file of cases, which were worked out by hand: replays over streams, plans that are cut
-//! short, and calls by threads. What it tells is the same for every schedule of its threads.
+//! short, calls by threads, and runs of a shared master. What it tells is the same for every schedule of its threads.
 //!
 //! With no words the program takes each call two levels below the folder that it runs in, in the order of the names, and
 //! then each table. With words, each of them is the folder of a call, or `tables/NAME`.
@@ -15,6 +15,7 @@ mod calling;
 mod fault;
 mod folder;
 mod gates;
+mod lone;
 mod prefixes;
 mod replays;
 mod runs;

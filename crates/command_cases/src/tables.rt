@@ -1,6 +1,6 @@
 //! The tables of whole calls that no folder shows, and what each of them asks.
 
-use crate::{prefixes, replays, runs};
+use crate::{lone, prefixes, replays, runs};
 use cases::{Fault, Table};
 use std::alloc::Global;
 use std::io;
@@ -16,13 +16,16 @@ pub enum Topic {
     Prefixes,
     /// Whole calls by threads.
     Runs,
+    /// Runs of a shared master by threads, whose gate holds a cycle or a plan.
+    Lone,
 }
 
 /// The tables, each with the name of its file.
-pub const TABLES: [(&str, Topic); 3] = [
+pub const TABLES: [(&str, Topic); 4] = [
     ("replays", Topic::Replays),
     ("prefixes", Topic::Prefixes),
     ("runs", Topic::Runs),
+    ("lone", Topic::Lone),
 ];
 
 /// What is told of what a case gives.
@@ -36,6 +39,7 @@ fn told<T: Threads + Wait + Sync>(
         Topic::Replays => replays::told(rt, given),
         Topic::Prefixes => Ok(prefixes::answers(rt.alloc(), given)?),
         Topic::Runs => Ok(runs::told(rt, threads, given)?),
+        Topic::Lone => Ok(lone::told(rt.alloc(), threads, given)?),
     }
 }
 
