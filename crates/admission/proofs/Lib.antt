@@ -5,6 +5,7 @@ mod Cycles
 mod Decided
 mod Divided
 mod Due
+mod InRange
 mod Later
 mod Left
 mod Listed

@@ -1,16 +1,23 @@
 //! Laws about recurrences, verdicts and changes. Each function has no body of its own, and its contract is the law.
 
-ghost use Rattle.std.specs.Prelude.{◌≡◌, ℕ, ◌+◌, ◌<◌, ◌≤◌, List, All};
+ghost use Rattle.std.specs.Prelude.{◌≡◌, ℕ, ◌+◌, ◌^◌, ◌<◌, ◌≤◌, List, All, length};
+ghost use Rattle.profile.specs.Limits.{cycles_end, openings_end};
 ghost use Rattle.requirement_table.specs.declared.entries.Placed.{Placed};
+ghost use Rattle.requirement_table.specs.Slots.{contains_slot, most_slots};
 ghost use Rattle.requirement_table.specs.Table.{IsWellPlaced};
 ghost use Rattle.change_protocol.specs.declared.operations.Change.{Change};
 ghost use Rattle.change_protocol.specs.Applied.{applied};
 ghost use Rattle.change_protocol.specs.Operations.{HasTypes};
 ghost use Rattle.planner_policies.specs.Plan.{HasNoMiss, IsValid, NeverMisses, Planning, mask_at, pending_at};
+ghost use Rattle.planner_policies.specs.declared.state.PlanState.{PlanState};
+ghost use Rattle.plan_check.specs.Certificate.{CertificateView};
+ghost use Rattle.plan_check.specs.PlanKept.{HasPending};
+ghost use Rattle.plan_check.specs.PlanText.{IsPlanOf, plan_text};
 ghost use Rattle.admission_rules.specs.declared.Rules.{Rules};
+ghost use Rattle.admission.specs.Certified.{IsCertificateOf, end_of};
 ghost use Rattle.admission.specs.declared.verdict.Verdict.{Verdict};
 ghost use Rattle.admission.specs.Recurrence.{IsRecurrence};
-ghost use Rattle.admission.specs.Verdict.{IsInTime, IsRules, IsTakenWhereDue, IsVerdict, plan_from};
+ghost use Rattle.admission.specs.Verdict.{IsInTime, IsRules, IsTakenWhereDue, IsVerdict, masks_of, plan_from};
 
 use planner_policies::laws::{loops, valid_states};
 
@@ -58,3 +65,25 @@ pub fn taken_where_due()
 {
     valid_states();
 }
+
+/// The certificate of a table, which is the plan from cycle 0 on, is in the range of the checker. It has a mask for each
+/// cycle, of slots that a set has room for. Nothing is pending before it, and its cycles are below the end of cycle
+/// numbers. Where at most 100,000 cycles were opened, its text is that of a plan in the ranges of the reader too. So
+/// reading gives it back, and it is never refused for its form.
+pub fn certificates_in_range()
+    ensures count { (plan : Planning) (n : ℕ) → length (masks_of plan n) ≡ n }
+    ensures masks { (plan : Planning) (n : ℕ) → All (λ mask. mask < 2 ^ most_slots) (masks_of plan n) }
+    ensures pending { (rules : Rules) (placed : List Placed) (opened : List ℕ) (state : PlanState)
+        (certificate : CertificateView) → IsCertificateOf rules placed opened state certificate
+        → HasPending placed certificate.from (contains_slot certificate.pending) }
+    ensures cycles { (rules : Rules) (placed : List Placed) (opened : List ℕ) (state : PlanState)
+        (certificate : CertificateView) → IsRules rules → state.cycle ≤ openings_end
+        → IsCertificateOf rules placed opened state certificate
+        → certificate.masks ≡ masks_of (plan_from rules placed 0 0) (end_of certificate)
+        → certificate.from + length certificate.masks ≤ cycles_end }
+    ensures read { (rules : Rules) (placed : List Placed) (opened : List ℕ) (state : PlanState)
+        (certificate : CertificateView) → IsRules rules → state.cycle ≤ 100000
+        → IsCertificateOf rules placed opened state certificate
+        → certificate.masks ≡ masks_of (plan_from rules placed 0 0) (end_of certificate)
+        → IsPlanOf (plan_text certificate) certificate }
+{}

@@ -2,4 +2,5 @@ mod Behind
 mod Cores
 mod Followed
 mod GoingOn
+mod Telling
 mod Triggers

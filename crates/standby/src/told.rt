@@ -8,6 +8,7 @@ ghost use Rattle.standby.specs.Core.{core_of};
 ghost use Rattle.standby.specs.declared.follow_fault.FollowFault.TheVariants.{Memory};
 ghost use Rattle.standby.specs.declared.told.Told.{Told as ToldOf};
 ghost use Rattle.standby.specs.Handover.{HasCaller, IsBehind};
+ghost use Rattle.standby.specs.Telling.{FollowsAll, FollowsOne, IsFaultOf, StopsAt};
 
 use crate::follow_fault::FollowFault;
 use crate::laws::told_whole;
@@ -36,6 +37,8 @@ fn follow_one(standby: &mut Standby, alloc: Global, told: &Told) -> Result<(), F
     ensures rules { standby.new.rules ≡ standby.old.rules }
     ensures next { next_of standby.new.history ≤ next_of standby.old.history + 1 }
     ensures same { OnErr result (standby.new.history ≡ standby.old.history) }
+    ensures followed { OnOk result (FollowsOne standby.old told.now standby.new.history) }
+    ensures fault { IfErr result (IsFaultOf standby.old told.now) }
     ensures behind { (whole : List Event) (rest : List ToldOf)
         → IsLegal standby.old.rules whole → IsBehind standby.old.rules whole standby.old.history (told.now ∷ rest)
         → OnOk result (IsBehind standby.old.rules whole standby.new.history rest) }
@@ -56,11 +59,14 @@ fn follow_one(standby: &mut Standby, alloc: Global, told: &Told) -> Result<(), F
 ///
 /// # Errors
 ///
-/// The first fault. What was told before it is followed.
+/// The first fault, whatever is told. What was told before it is followed, and nothing behind it is heard.
+#[tactic(auto, using(crate::proofs::Telling::follows_none, crate::proofs::Telling::follows_whole))]
 pub fn follow(standby: &mut Standby, alloc: Global, told: &[Told]) -> Result<(), FollowFault>
     requires callers { All HasCaller told.now }
     requires next { next_of standby.old.history + length told.now ≤ openings_end }
     ensures rules { standby.new.rules ≡ standby.old.rules }
+    ensures followed { OnOk result (FollowsAll standby.old told.now standby.new.history) }
+    ensures stopped { IfErr result (StopsAt standby.old told.now standby.new.history) }
     ensures handover { (whole : List Event)
         → IsLegal standby.old.rules whole → IsBehind standby.old.rules whole standby.old.history told.now
         → OnOk result (core_of whole ≡ core_of standby.new.history) }

@@ -1,7 +1,10 @@
-use Rattle.std.proofs.Common.{◌∙◌, ◌∷◌, subst}
+use Rattle.std.proofs.Common.{◌∙◌, ◌∷◌, List, IfErr, OnOk, ap, subst, sym}
 use Rattle.std.proofs.lemmas.Result.{on_ok_weaker}
+use Rattle.can_frame.specs.DataFrame.{DataFrame}
 use Rattle.standby.specs.Handover.{IsBehind}
+use Rattle.standby.specs.Telling.{FollowsOne, IsFaultOf}
 use Rattle.standby.specs.declared.told.Told.{Told as ToldOf}
+use Rattle.standby.specs.declared.told.Told.TheVariants.{Trigger}
 use Rattle.standby.proofs.Behind.{due-change, due-trigger}
 use Rattle.standby.proofs.Followed.{changed-core, opened-core}
 use Rattle.standby.proofs.told.follow_one.Goals as goal
@@ -40,3 +43,21 @@ returns-in-Trigger-clause-due c whole rest legal behind =
     let at = subst (λ (t : ToldOf). IsBehind rules whole own (t ∷ rest)) c.in-Trigger.is behind in
     let due = due-trigger rules whole own c.in-Trigger.frames rest legal at in
     c.trigger.ensures.due (c.as_slice.ensures.list ∙ due.frames_are)
+
+pub returns-in-Change-clause-followed : goal.returns-in-Change-clause-followed
+returns-in-Change-clause-followed c =
+    subst (λ (t : ToldOf). OnOk c.change.result (FollowsOne c.args.standby.now t c.change.new.self.history)) (sym c.in-Change.is) c.change.ensures.event
+
+pub returns-in-Change-clause-fault : goal.returns-in-Change-clause-fault
+returns-in-Change-clause-fault c =
+    subst (λ (t : ToldOf). IfErr c.change.result (IsFaultOf c.args.standby.now t)) (sym c.in-Change.is) c.change.ensures.fault
+
+pub returns-in-Trigger-clause-followed : goal.returns-in-Trigger-clause-followed
+returns-in-Trigger-clause-followed c =
+    let thing = ap (λ (frames : List DataFrame). Trigger frames) c.as_slice.ensures.list ∙ sym c.in-Trigger.is in
+    subst (λ (t : ToldOf). OnOk c.trigger.result (FollowsOne c.args.standby.now t c.trigger.new.self.history)) thing c.trigger.ensures.event
+
+pub returns-in-Trigger-clause-fault : goal.returns-in-Trigger-clause-fault
+returns-in-Trigger-clause-fault c =
+    let thing = ap (λ (frames : List DataFrame). Trigger frames) c.as_slice.ensures.list ∙ sym c.in-Trigger.is in
+    subst (λ (t : ToldOf). IfErr c.trigger.result (IsFaultOf c.args.standby.now t)) thing c.trigger.ensures.fault
