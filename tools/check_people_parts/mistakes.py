@@ -85,7 +85,21 @@ FILES = [
            "turnaround's "
            "20 it is 455, above the cycle of 444. Take a cycle of at least 455", "= 455", base=SYSTEM.replace(
                "window = 190", "window = 300")),
-    system("31 nodes", "nodes = 6", "nodes = 31", "Take 1 to 30.", "nodes = 30"),
+    system("31 nodes", "nodes = 6", "nodes = 31", "Take 3 to 30.", "nodes = 3"),
+    system("no nodes", "nodes = 6", "nodes = 0", "Take 3 to 30.", "nodes = 30"),
+    system("one node of three", "nodes = 6", "nodes = 1", "take 0, or bus.nodes = 3.", "nodes = 3"),
+    system("64 slots of a short cycle", "= 500", "= 400\nslots = 64", "bus.slots is 64. Write 40.",
+           "= 400\nslots = 40"),
+    system("slots in quotes", "nodes = 6", 'nodes = 6\nslots = "96"', "Write an integer without quotes: 40 or 96.",
+           "nodes = 6\nslots = 96"),
+    system("a window that is true", "= 190", "= true", "Write an integer: 55 to 345.", "= 345"),
+    system("a window with a unit that does not fit", "= 190", "= 500 bits", "Write window = 55, or a greater number "
+           "up to "
+           "345", "= 345"),
+    system("nodes with leading zeros", "nodes = 6", "nodes = 0500", "Write nodes = 3, or a greater number up to 30",
+           "nodes = 3"),
+    system("slots with leading zeros", "nodes = 6", "nodes = 6\nslots = 040", "Write slots = 40",
+           "nodes = 6\nslots = 40"),
     system("64 slots", "nodes = 6", "nodes = 6\nslots = 64", "Write 40 or 96.", "nodes = 6\nslots = 96"),
     system("a node that is not there", "node = 2", "node = 6", "take 0 to 5, or bus.nodes = 7.", "node = 5"),
     system("a node more", "node = 2", "node = 40", "nodes count from 0: take 0 to 5.", "node = 5"),

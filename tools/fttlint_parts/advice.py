@@ -9,8 +9,10 @@ def one_of(choices):
     return f"{', '.join(map(str, choices[:-1]))} or {choices[-1]}"
 
 
-def why_no_choice(value, choices):
+def why_no_choice(value, choices, values=None):
     """What to do about a value that is none of the choices."""
+    if 96 in choices and not is_wide(values or {}):
+        return "Write 40."
     if isinstance(value, str) and value.strip().lower() in choices:
         return "Write it in lower case." if value.strip() == value else f'Write "{value.strip().lower()}".'
     return f"Write {one_of(choices)}."
@@ -26,17 +28,47 @@ def integer_meant(value, low, high):
     return f"{low} to {high}"
 
 
-def bounds_in_cycle(key, values, low, high):
-    """The range of a key in which trigger, turnaround and window fit the cycle, where the others' values let it be;
-    else the key's own range."""
+def integers_of(document):
+    """All integers of a document by their paths, whatever else is wrong with it."""
+    found, waiting = {}, [("", document)]
+    while waiting:
+        path, value = waiting.pop()
+        if isinstance(value, (dict, list)):
+            inside = value.items() if isinstance(value, dict) else enumerate(value)
+            waiting += [(f"{path}.{key}" if path else key, it) for key, it in inside]
+        elif isinstance(value, int) and not isinstance(value, bool):
+            found[path] = value
+    return found
+
+
+def bounds_beside(path, values, low, high):
+    """The range of a key in which the rest of the system file lets it be; else the key's own range."""
+    key = path.rpartition(".")[2]
+    if path == "bus.nodes":
+        most = max((it for at, it in values.items() if re.fullmatch(r"async\.\d+\.node", at)), default=0)
+        return (most + 1 if low <= most < high else low), high
     cycle, window = values.get("bus.cycle"), values.get("bus.window", SHORTEST)
     trigger, turnaround = TRIGGER.get(values.get("bus.slots", 40), 135), values.get("bus.turnaround", 0)
-    if key == "cycle":
-        low = max(low, min(trigger + turnaround + window, high))
-    elif cycle is not None and key in ("window", "turnaround"):
+    if path == "bus.cycle":
+        low = max(low, min(trigger + max(turnaround, 0) + max(window, SHORTEST), high))
+    elif cycle is not None and path in ("bus.window", "bus.turnaround"):
         room = cycle - trigger - (turnaround if key == "window" else window)
         high = min(high, room) if room >= low else high
     return low, high
+
+
+def is_wide(values):
+    """Whether 96 slots fit the cycle beside the rest."""
+    need = TRIGGER[96] + values.get("bus.turnaround", 0) + values.get("bus.window", SHORTEST)
+    return need <= values.get("bus.cycle", need)
+
+
+def why_no_integer(path, value, values, low, high):
+    """The integer that a value of another kind means, or those that may be written."""
+    if path == "bus.slots":
+        return "40 or 96" if is_wide(values) else "40"
+    low, high = bounds_beside(path, values, low, 29 if high is None else high)
+    return integer_meant(value, low, high)
 
 
 def why_no_value(path, value, values, low, high):
@@ -45,10 +77,11 @@ def why_no_value(path, value, values, low, high):
     if key == "node":
         nodes = min(max(high + 1, 1), 30)
         more = f", or bus.nodes = {value + 1}" if nodes <= value < 30 else ""
-        return f"bus.nodes is {high + 1}, and nodes count from 0: take 0 to {nodes - 1}{more}."
+        told = f" to {nodes - 1}" if nodes > 1 else ""
+        return f"bus.nodes is {high + 1}, and nodes count from 0: take 0{told}{more}."
     if key == "id":
         return f"{value:#05x} is outside 0x200 to 0x7ef: take one of these{free_id(values)}."
-    low, high = bounds_in_cycle(key, values, low, high)
+    low, high = bounds_beside(path, values, low, high)
     more = " Without the key it is 10000." if key == "horizon" else ""
     return (f"Take {low} to {high}." if low < high else f"Take {low}.") + more
 

@@ -3,6 +3,7 @@ takes the file up to a later line, or to its end."""
 import difflib
 import re
 
+from . import advice
 from .common import shown
 
 try:
@@ -60,27 +61,48 @@ def rows_meant(row):
         yield row.replace("\x1a", "").strip()
 
 
-def right_row(text, line):
-    """The row to be written in place of this line; None where none is found."""
-    rows = text.splitlines()
-    if not 1 <= line <= len(rows):
-        return None
-    for candidate in rows_meant(rows[line - 1].strip()):
-        later = faulty_line("\n".join([*rows[:line - 1], candidate, *rows[line:]]))
-        if candidate != rows[line - 1].strip() and (later is None or later > line):
-            return candidate
-    return None
+def range_beside(text, key, ranges):
+    """The range of a key in which the rest of the text lets it be, where that is TOML; else the key's own range."""
+    try:
+        document = tomllib.loads(text)
+    except (ValueError, RecursionError):
+        return ranges[key]
+    return advice.bounds_beside(f"bus.{key}", advice.integers_of(document), *ranges[key])
 
 
-def remedy_of(text, line, why):
-    """What to do about the line of a text that TOML does not take, for this reason."""
+def right_row(text, line, ranges):
+    """The row to be written in place of this line, or None; and the range of its key, where a number that it may mean
+    is out of it."""
+    rows, beside = text.splitlines(), None
+    for candidate in rows_meant(rows[line - 1].strip()) if 1 <= line <= len(rows) else ():
+        mended = "\n".join([*rows[:line - 1], candidate, *rows[line:]])
+        later = faulty_line(mended)
+        if candidate == rows[line - 1].strip() or later is not None and later <= line:
+            continue
+        pair = re.fullmatch(rf"({KEY}) = ([0-9]+|0x[0-9a-fA-F]+)", candidate)
+        if pair is None or pair[1] not in ranges:
+            return candidate, None
+        low, high = range_beside(mended, pair[1], ranges)
+        number = int(pair[2], 16 if pair[2].startswith("0x") else 10)
+        if low <= number <= high and (pair[1] != "slots" or number in (40, 96)):
+            return candidate, None
+        beside = beside or (pair[1], low, high)
+    return None, beside
+
+
+def remedy_of(text, line, why, ranges):
+    """What to do about the line of a text that TOML does not take, for this reason. The keys that are integers have
+    these ranges."""
     if "overwrite" in why or "twice" in why:
         return "Take one of the two away."
-    row = right_row(text, line)
+    row, beside = right_row(text, line, ranges)
     if row == "":
         return "Take the character away."
     if row is not None:
         return f"Write {row}"
+    if beside is not None:
+        key, low, high = beside
+        return f"Write {key} = {low}" + ("" if key == "slots" or low == high else f", or a greater number up to {high}")
     alone = re.fullmatch(rf"\s*({KEY})\s*=?\s*", (text.splitlines() or [""])[line - 1])
     if alone is not None:
         return f"Write a value behind {alone[1]} =, or take the row away."
