@@ -27,14 +27,19 @@ def below(folder, skipped=("__pycache__",)):
     return [path for path in paths if not set(skipped).intersection(path.parts)]
 
 
+def modules():
+    """The paths of the modules of the tools."""
+    if (TOP / "tools/ftt").is_dir():
+        return below("tools/ftt")
+    # Until the tools are a package of their own, each has a folder of parts.
+    return [path for name in TOOLS for path in below(f"tools/{name}_parts")]
+
+
 def packages():
-    """The modules of the tools, as a folder of modules has them."""
-    found = {str(path.relative_to(TOP / "tools")): of(path) for path in below("tools/ftt")}
-    if not found:
-        # Until the tools are a package of their own, each script is a module beside its parts.
-        found = {f"{name}.py": of(f"tools/{name}") for name in TOOLS}
-        found |= {str(path.relative_to(TOP / "tools")): of(path)
-                  for name in TOOLS for path in below(f"tools/{name}_parts")}
+    """The modules of the tools and of the plain program, as a folder of modules has them."""
+    found = {str(path.relative_to(TOP / "tools")): of(path) for path in modules()}
+    if not (TOP / "tools/ftt").is_dir():
+        found |= {f"{name}.py": of(f"tools/{name}") for name in TOOLS}
     found["fttcan_reference/__init__.py"] = of("tools/reference")
     found["fttcan_reference/hostile"] = of("tools/hostile")
     return found
