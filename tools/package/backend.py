@@ -23,7 +23,6 @@ from helps import TOP  # noqa: E402  pylint: disable=wrong-import-position
 SOURCES = ("CHANGELOG.md", "LICENSE", "README.md", "docs/fttcan.1", "fttcan", "pyproject.toml", "tools/fttmodel",
            "tools/fttlint", "tools/fttsearch", "tools/fttlog", "tools/reference", "tools/hostile",
            "tools/completion.bash", "tools/completion.zsh", "tools/completion.fish")
-SOURCE_FOLDERS = ("tools/ftt", "tools/package")
 # The least moment that an archive of either kind can name, in seconds since 1970: the start of 1980.
 LEAST_MOMENT = 315_532_800
 
@@ -108,7 +107,7 @@ def archive(path, files, top):
 def build_sdist(sdist_directory, config_settings=None):
     """Makes the source archive in a folder, and says its name."""
     del config_settings
-    paths = [TOP / path for path in SOURCES] + [path for folder in SOURCE_FOLDERS for path in tree.below(folder)]
+    paths = [*(TOP / path for path in SOURCES), *tree.modules(), *tree.below("tools/package")]
     files = {str(path.relative_to(TOP)): (path.read_bytes(), 0o755 if os.access(path, os.X_OK) else 0o644)
              for path in paths}
     files["PKG-INFO"] = (metadata(), 0o644)
