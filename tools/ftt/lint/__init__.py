@@ -1,0 +1,66 @@
+"""Finds mistakes in the files of fttcan, and says what to do about each.
+
+    tools/fttlint SYSTEM STEPS [REQUESTS] [--plan PLAN] [--streams STREAMS] [--live | --replay] [--all]
+    tools/fttlint --words WORD..
+
+A mistake is what the program refuses: a file that breaks its format, or a change that is malformed, late or after the
+horizon. A warning is what no message of the program says. Changes above are taken for accepted where nothing here
+refuses them: a deadline that is missed is found by the program alone. Of a plan the form alone is looked at; whether it
+keeps the table is what `fttcan check` says.
+
+--words looks at the words of a call of fttcan, all that stand behind it, and says which one is wrong: the command, an
+option, a number, or a word that is missing or in another's place.
+
+Each finding is a line: FILE:LINE, `mistake` or `warning`, what is wrong, and what to do: a value or a row that the
+program takes. LINE is that of an editor.
+Below the first mistake of a file stands the program's own line, or verdict.
+
+Status: 0 nothing; 1 warnings; 2 mistakes; 3 a file that can't be read; 4 wrong words, or a Python before
+3.11.
+
+This program is a help for people. Nothing of it is proved, and nothing that is proved rests on it.
+"""
+import argparse
+import sys
+
+from ..command import Parser, needs_tomllib, takes_version
+
+# So many findings of a file are printed.
+SHOWN = 20
+
+
+def parser():
+    """The reader of the words."""
+    made = Parser(prog="fttlint", description=__doc__, formatter_class=argparse.RawDescriptionHelpFormatter)
+    made.add_argument("system", metavar="SYSTEM")
+    made.add_argument("steps", metavar="STEPS")
+    made.add_argument("requests", metavar="REQUESTS", nargs="?")
+    made.add_argument("--plan", metavar="PLAN", help="the plan text that check is to read")
+    made.add_argument("--streams", metavar="STREAMS", help="the requests of polled slots that poll is to read")
+    made.add_argument("--words", action="store_true", help="look at the words of a call, all that stand behind it")
+    modes = made.add_mutually_exclusive_group()
+    modes.add_argument("--live", action="store_const", const="live", dest="mode", default="both",
+                       help="for live alone: a START may pass, and no row waits for a cycle row")
+    modes.add_argument("--replay", action="store_const", const="replay", dest="mode",
+                       help="for replay, admit and check alone: no warning about live")
+    made.add_argument("--all", action="store_true", help=f"print all findings of a file, not {SHOWN}")
+    takes_version(made)
+    return made
+
+
+def main():
+    """Reads the words, looks at the files, and prints what was found. The status."""
+    needs_tomllib("fttlint")
+    # A path that is not UTF-8 is printed with ? in place of its bytes.
+    sys.stdout.reconfigure(errors="replace")
+    # What a call does not need is not loaded: the launcher waits for --words.
+    if sys.argv[1:2] == ["--words"]:
+        from .words import lint_words  # pylint: disable=import-outside-toplevel
+        return lint_words(sys.argv[2:])
+    reader = parser()
+    words = reader.parse_intermixed_args()
+    if words.words:
+        reader.error("--words stands in front")
+    from .look import look_at, put_findings  # pylint: disable=import-outside-toplevel
+    files = look_at(words.system, words.steps, words.requests, words.plan, words.streams, words.mode)
+    return put_findings(files, None if words.all else SHOWN)

@@ -1,0 +1,116 @@
+"""The entries that changes place, what a change does to them, and changes that are taken in its place."""
+import math
+from collections import namedtuple
+
+from ..telling import some
+
+Placed = namedtuple("Placed", "origin end phase period deadline length")
+# The releases between which a changed slot is silent, and the entries before and after.
+Silence = namedtuple("Silence", "last first old new")
+
+
+def live_of(entries):
+    """The live entry of a slot; None where there is none."""
+    return next((it for it in entries if it.end is None), None)
+
+
+def free_from(entries):
+    """The cycle from which a slot without a live entry is free."""
+    return max((it.end + it.deadline - 1 for it in entries), default=0)
+
+
+def changed(table, change):
+    """The table after a change that breaks no rule."""
+    after = {slot: list(entries) for slot, entries in table.items()}
+    for operation in change.operations:
+        fields = operation.fields
+        entries, origin = after.setdefault(fields["SLOT"], []), change.start
+        if operation.word != "add":
+            place = next(place for place, it in enumerate(entries) if it.end is None)
+            origin = change.start + entries[place].deadline - 1
+            entries[place] = entries[place]._replace(end=change.start)
+        if operation.word != "remove":
+            entries.append(Placed(origin, None, *(fields[it] for it in ("PHASE", "PERIOD", "DEADLINE", "LENGTH"))))
+    return after
+
+
+def least_from(table, horizon):
+    """The least cycle from which a change to this table can be accepted: a repeat before its horizon needs it; and the
+    cycle of the first repeat that there can be, where planning begins early enough."""
+    every = [it for entries in table.values() for it in entries]
+    live = [it for it in every if it.end is None]
+    common = math.lcm(*(it.period for it in live))
+    settled = max((it.origin + it.phase if it.end is None else it.end + it.deadline - 1 for it in every), default=0)
+    return settled + common - horizon, settled + common, common
+
+
+def nearer_start(change, table, horizon, late):
+    """The greatest START below that of a change with which its plan may repeat before the horizon; None where there is
+    none. Planning begins in cycle `late`."""
+    start = change.start - (least_from(changed(table, change), horizon)[0] - late)
+    before = [it.origin for operation in change.operations if operation.word != "add"
+              for it in [live_of(table[operation.fields["SLOT"]])]]
+    before += [free_from(table.get(operation.fields["SLOT"], [])) for operation in change.operations
+               if operation.word == "add"]
+    if start < max(before, default=0) or start < change.above:
+        return None
+    return start if least_from(changed(table, change._replace(start=start)), horizon)[0] <= late else None
+
+
+def free_slot(table, slots, start, others=()):
+    """The least slot to which an entry can be added in cycle `start`, and which is none of the others; None where none
+    is free."""
+    return next((slot for slot in range(slots) if slot not in others and live_of(table.get(slot, [])) is None
+                 and free_from(table.get(slot, [])) <= start), None)
+
+
+def last_release(entry, end):
+    """The last release of an entry before a cycle; None where there is none."""
+    first = entry.origin + entry.phase
+    return None if first >= end else first + (end - 1 - first) // entry.period * entry.period
+
+
+def silence_of(operation, change, table):
+    """Where a changed slot is silent for longer than the old period and the new one; None where it is not."""
+    entries = table[operation.fields["SLOT"]]
+    old = live_of(entries)
+    after = changed(table, change)
+    new = after[operation.fields["SLOT"]][-1]
+    released = [last_release(it, change.start if it.end is None else it.end) for it in entries]
+    last = max((it for it in released if it is not None), default=None)
+    if last is None:
+        return None
+    first = new.origin + new.phase
+    return Silence(last, first, old, new) if first - last > max(old.period, new.period) else None
+
+
+def shorter_silence(silence, change, is_live):
+    """A START with which a changed slot is silent for no longer than one of the periods, and for how long; None where
+    there is none."""
+    gap = silence.old.deadline + silence.new.phase
+    if gap > max(silence.old.period, silence.new.period) or silence.last < silence.old.origin:
+        return None
+    start = silence.last + 1
+    if not is_live and start < change.above:
+        start += silence.old.period
+    return start, gap
+
+
+def told_silence(operation, change, table, system, is_live):
+    """What is said of a change that leaves its slot silent for longer than both periods; None where it does not."""
+    silence = silence_of(operation, change, table)
+    if silence is None:
+        return None
+    slot, gap = operation.fields["SLOT"], silence.first - silence.last
+    ways, shorter = [], shorter_silence(silence, change, is_live)
+    if shorter is not None:
+        ways.append(f"take START {shorter[0]}, with which it is {some(shorter[1], 'cycle')}")
+    named = {it.fields["SLOT"] for it in change.operations}
+    free = free_slot(table, system.slots, change.start, named)
+    if free is not None:
+        ways.append(f"remove SLOT {slot} and add SLOT {free} in the same change: it begins at START, with another "
+                    "identifier")
+    told = ", or ".join(ways) + "."
+    return (f"SLOT {slot} releases nothing for {some(gap, 'cycle')}, from {silence.last} to {silence.first}. That is "
+            f"longer than the old period, {silence.old.period}, and the new one, {silence.new.period}: the new entry "
+            f"begins when the old DEADLINE is over." + (f" {told[:1].upper()}{told[1:]}" if ways else ""))

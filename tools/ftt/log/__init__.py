@@ -1,0 +1,203 @@
+"""Turns a log of fttcan into what other tools and people read.
+
+    tools/fttlog say [LOG]                    sentences on verdicts, cycles and frames
+    tools/fttlog late [LOG]                   how late frames were sent, with --requests or --steps
+    tools/fttlog svg FIRST LAST [LOG]         a drawing of the cycles FIRST to LAST, as SVG
+    tools/fttlog html [LOG]                   a page that shows the whole run, to pan and to search
+    tools/fttlog json [LOG]                   one JSON object a row
+    tools/fttlog accepted STEPS [LOG]         the steps without the changes that the log refuses
+    tools/fttlog candump KBITS [LOG]          the form of `candump -L`
+    tools/fttlog pcap KBITS [LOG]             a recording for tcpdump and Wireshark
+    tools/fttlog from-candump KBITS [DUMP]    the rows of a recording of candump -L
+    tools/fttlog bits [LOG]                   the bits of the bus
+
+With no LOG, or with -, the log is read from standard input. The log is one that `fttcan replay` or `fttcan live` wrote,
+with or without a report. Of one that was cut by `--tail` the rows that are there are told, where a form can do so.
+`tools/fttlog FORM --help` says the options of a form. docs/tools.md has examples.
+
+Status: 0 done; 1 a file can't be read, or a row of it can't be used: a line on standard error says which; 2 the words
+are wrong. This program is a help for readers. Nothing of it is proved, and nothing that is proved rests on it.
+"""
+import argparse
+import fractions
+import sys
+
+from ..command import takes_version
+from . import bus, drawing, rows, steps, times, words as sentences
+
+REPORT = rows.REPORT
+# The forms that tell what stands behind the row `end` too.
+WHOLE = ("say", "json", "late", "html")
+
+
+def at_least(least):
+    """A reader of numbers that are at least this one."""
+    def number(text):
+        value = int(text)
+        if value < least:
+            raise argparse.ArgumentTypeError(f"{value} is below {least}")
+        return value
+    return number
+
+
+def seconds(text):
+    """A reader of seconds, in decimals."""
+    value = fractions.Fraction(text)
+    if value < 0 or "/" in text:
+        raise ValueError
+    return value
+
+
+def kbits(text):
+    """A reader of bit rates."""
+    return rows.rate(text)
+
+
+def takes_kbits(made):
+    """Gives a form an option for a bit rate."""
+    made.add_argument("--kbits", type=kbits, help="the bit rate in kbit/s, as 500 or 83.333: times in milliseconds")
+
+
+def takes_names(made):
+    """Gives a form an option for names."""
+    made.add_argument("--names", metavar="FILE",
+                      help="names of messages: rows SLOT,NAME or 0xID,NAME, as names.csv of fttmodel")
+
+
+def takes_cycle(made):
+    """Gives a form an option for the length of a cycle."""
+    made.add_argument("--cycle", type=at_least(400),
+                      help="the length of a cycle in bit times; else by the distance of the triggers")
+
+
+def takes_starts(made):
+    """Gives a form a choice of what times are. All forms have the same one where nothing is said."""
+    moment = made.add_mutually_exclusive_group()
+    moment.add_argument("--starts", action="store_true", help="times are starts of frames; else ends, as of candump")
+    moment.add_argument("--ends", dest="starts", action="store_false", help="as without it: times are ends of frames")
+
+
+def takes_times(made):
+    """Gives a form that makes recordings a bit rate, and how bit times become seconds."""
+    made.add_argument("kbits", type=kbits, help="the bit rate in kbit/s, as 500 or 83.333")
+    made.add_argument("--at", type=seconds, default=fractions.Fraction(1), metavar="SECONDS",
+                      help="the time of bit time 0; else 1, since log2asc takes a first second of 0 for none")
+    takes_starts(made)
+
+
+def form(forms, name, told, *options):
+    """A form with these options."""
+    made = forms.add_parser(name, help=told, description=told)
+    for option in options:
+        option(made)
+    return made
+
+
+def forms_of(reader):
+    """The forms, each with its words."""
+    forms = reader.add_subparsers(dest="form", required=True, metavar="FORM")
+    tell = form(forms, "say", "sentences", takes_kbits, takes_names)
+    tell.add_argument("--steps", metavar="FILE", help="the steps file, to say which row of it asked for a change")
+    tell.add_argument("--all", action="store_true", help="the whole plan of a missed deadline")
+    late = form(forms, "late", "how late frames were sent", takes_kbits, takes_names, takes_cycle)
+    late.add_argument("--requests", metavar="FILE", help="the requests file: the latencies of asynchronous frames")
+    late.add_argument("--steps", metavar="FILE", help="the steps file: the delays of synchronous frames")
+    late.add_argument("--svg", metavar="FILE", help="writes histograms into this file")
+    draw = form(forms, "svg", "a drawing of some cycles", takes_kbits, takes_names, takes_cycle)
+    draw.add_argument("first", type=at_least(0), help="the first cycle")
+    draw.add_argument("last", type=at_least(0), help="the last cycle")
+    page = form(forms, "html", "a page that shows the whole run", takes_kbits, takes_names, takes_cycle)
+    page.add_argument("--title", default="A run of fttcan", help="the title of the page")
+    form(forms, "json", "one JSON object a row", takes_names)
+    keep = form(forms, "accepted", "the steps without refused changes")
+    keep.add_argument("steps", help="the steps file")
+    recordings_of(forms)
+    for made in forms.choices.values():
+        made.add_argument("log", nargs="?", default="-", help="the log; else standard input")
+
+
+def recordings_of(forms):
+    """The forms of recordings, each with its words."""
+    dump = form(forms, "candump", "the form of candump -L", takes_times)
+    dump.add_argument("--interface", default="can0", help="the name of the interface; else can0")
+    form(forms, "pcap", "a recording for tcpdump and Wireshark", takes_times)
+    take = form(forms, "from-candump", "the rows of a recording", takes_cycle, takes_starts)
+    take.add_argument("kbits", type=kbits, help="the bit rate in kbit/s")
+    take.add_argument("--interface", help="the interface whose frames are taken; else that of the first line")
+    take.add_argument("--calls", metavar="LOG",
+                      help="puts the rows submit, plan and look of this log in front of the cycles that were next")
+    line = form(forms, "bits", "the bits of the bus, as text of 0 and 1")
+    line.add_argument("--until", type=at_least(0), help="the time before which the bits end; else the last frame's end")
+
+
+def parser():
+    """The reader of the words."""
+    made = argparse.ArgumentParser(prog="fttlog", description=__doc__,
+                                   formatter_class=argparse.RawDescriptionHelpFormatter)
+    takes_version(made)
+    forms_of(made)
+    return made
+
+
+def read_words():
+    """The words. A log may stand behind the options too."""
+    reader = parser()
+    words, more = reader.parse_known_args()
+    if len(more) == 1 and words.log == "-" and not more[0].startswith("-"):
+        words.log = more[0]
+    elif more:
+        reader.error(f"unrecognized arguments: {' '.join(more)}")
+    if words.form == "late" and words.requests is None and words.steps is None:
+        reader.error("late needs --requests or --steps")
+    return words
+
+
+def note(text):
+    """Says on standard error what a reader has to know of the output."""
+    sys.stderr.write(f"fttlog: {text}\n")
+
+
+def turn(words, lines, put):
+    """Turns the lines of a log, or of a recording, into what the words ask for."""
+    names = rows.Names(getattr(words, "names", None))
+    if words.form == "from-candump":
+        calls = []
+        if words.calls is not None:
+            with open(words.calls, encoding="ascii", errors="replace") as log:
+                calls = bus.calls_of(rows.rows_of(log))
+        return bus.from_candump(lines, words, calls, put, note)
+    read = rows.rows_of(lines)
+    if words.form not in WHOLE:
+        read = (row for row in read if row[0] not in REPORT)
+    if words.form == "say":
+        return sentences.say(read, names, words.steps, words.kbits, words.all, put)
+    if words.form == "json":
+        return sentences.as_json(read, names, put)
+    if words.form == "accepted":
+        return steps.accepted(read, words.steps, put)
+    if words.form == "candump":
+        return bus.candump(read, words.kbits, words.at, not words.starts, words.interface, put)
+    if words.form == "pcap":
+        return bus.pcap(read, words.kbits, words.at, not words.starts, sys.stdout.buffer.write)
+    if words.form == "bits":
+        return bus.bits(read, words.until, put)
+    return {"late": times.late, "svg": drawing.svg, "html": drawing.html}[words.form](read, words, names, put)
+
+
+def main():
+    """Reads the words, and does what they ask."""
+    words = read_words()
+    try:
+        with (sys.stdin if words.log == "-" else open(words.log, encoding="ascii")) as log:
+            turn(words, log, sys.stdout.write)
+        sys.stdout.flush()
+    except BrokenPipeError:
+        sys.stdout = None
+    except OSError as fault:
+        sys.exit(f"fttlog: {fault.filename or 'standard output'}: {fault.strerror}")
+    except UnicodeDecodeError:
+        name = "standard input" if words.log == "-" else words.log
+        sys.exit(f"fttlog: {name}: this is no text of a log. `python3 -m can.logconvert FILE OUT.log` of python-can "
+                 "turns recordings in other forms, such as .blf")
+    except rows.NoLog as fault:
+        sys.exit(f"fttlog: {fault}")

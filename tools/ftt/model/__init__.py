@@ -1,0 +1,153 @@
+"""Makes the files of fttcan from a list of messages in milliseconds.
+
+    tools/fttmodel KBITS CYCLE_US MESSAGES OUT [options]
+
+KBITS is the bit rate in kbit/s and CYCLE_US the elementary cycle in microseconds. MESSAGES is a CSV file with a header
+row, or a DBC file where its name ends with .dbc; docs/tools.md says how its attributes are read. OUT is a folder, which
+is made where it is not there. The files system.toml, steps.csv and names.csv in OUT are replaced.
+
+The columns of the CSV file, in any order:
+
+    name      the name of the message; each name once
+    sender    the name of the node that sends it
+    length    its data bytes, 0 to 8
+    period    in milliseconds; an asynchronous message may have none
+    deadline  in milliseconds, at most the period; without one, the period
+    offset    in milliseconds, up to the first release; without one, 0
+    id        its CAN identifier, decimal or 0x..; slots are given in the order of identifiers
+    kind      sync or async; without one, sync
+    priority  0 to 255; between equal keys of the policy the lower one goes first; without one, 0
+
+name, sender, length and period are needed. Names of times may end with _ms. A column whose name begins with # is left
+out, and so is a row whose first field begins with #. Another column is left out with a line that says so, where its
+name is not near one of these.
+
+Status: 0 written; 1 written, with warnings; 2 a mistake in a message or an option, nothing is written; 3 a file that
+can't be read or written; 4 wrong words, or a Python before 3.11.
+
+This program is a help for people. Nothing of it is proved, and nothing that is proved rests on it.
+"""
+import argparse
+import csv
+import pathlib
+import re
+import sys
+from fractions import Fraction
+
+from .. import limits
+from ..command import Parser, needs_tomllib, takes_version, put_lines
+from ..faults import Refused, Unread
+from ..telling import some
+from . import dbc, table
+from .bus import Bus, alike, entries_of, owned_of, window_of
+from .files import names_text, steps_text, system_text, write_all
+from .messages import Mistakes, text_of
+from .said import common_period, told
+
+
+def messages_of(words, mistakes):
+    """What the file of messages has."""
+    text = text_of(words.messages)
+    if words.messages.lower().endswith(".dbc"):
+        return dbc.read(words.messages, text, words.kbits, words, mistakes)
+    if words.strict or words.period_attribute:
+        raise Refused("--strict and --period-attribute are for a DBC file, whose name ends with .dbc. Leave them out.")
+    return table.read(words.messages, text, mistakes)
+
+
+def model(words):
+    """Reads the messages, writes the files, and says what was done. The status."""
+    bus = Bus(words.kbits, words.cycle_us)
+    mistakes = Mistakes(words.messages)
+    read = messages_of(words, mistakes)
+    messages = read.messages
+    if not messages and not mistakes.lines:
+        raise Refused(f"{words.messages}:1: there are no messages. Write a row for each.")
+    alike(messages, mistakes)
+    nodes, most = {}, limits.NODES[1]
+    for message in messages:
+        if message.sender not in nodes and len(nodes) == most:
+            mistakes.add(message.line, "sender", message.sender, f"this is a sender beyond the {most} nodes. Let some "
+                         "nodes share a name.")
+        nodes.setdefault(message.sender, len(nodes))
+    entries = entries_of(messages, bus, nodes, words.slots, mistakes)
+    owned = owned_of(messages, nodes, words.renumber, mistakes)
+    mistakes.stop()
+    count = words.nodes or len(nodes)
+    if count < len(nodes):
+        raise Refused(f"--nodes is {count}: the messages have {some(len(nodes), 'sender')}. Take at least "
+                      f"{len(nodes)}.")
+    window = window_of(bus, words, entries, owned)
+    cycles = words.cycles
+    if cycles is None:
+        cycles = min(max((it.phase for it in entries), default=0) + common_period(entries), limits.CYCLES)
+    lines, warnings = told(bus, entries, owned, words, window, nodes)
+    folder = pathlib.Path(words.out)
+    write_all(folder, {"system.toml": system_text(bus, owned, words, window, count),
+                       "steps.csv": steps_text(entries, cycles), "names.csv": names_text(entries, owned)})
+    lines[2:2] = read.notes
+    warnings = read.warnings + warnings
+    lines += [f"warning: {warning}" for warning in warnings]
+    why = put_lines([*lines, f"written: system.toml, steps.csv and names.csv in {folder}"])
+    if why is not None:
+        raise Unread(why)
+    return 1 if warnings else 0
+
+
+def within(low, high):
+    """A reader of whole numbers in a range."""
+    def read(text):
+        if not re.fullmatch(r"[0-9]+", text) or not low <= int(text) <= high:
+            raise argparse.ArgumentTypeError(f"{text!r} is no whole number from {low} to {high}")
+        return int(text)
+    return read
+
+
+def positive(text):
+    """A decimal number above 0."""
+    if not re.fullmatch(r"[0-9]+(\.[0-9]+)?", text) or not Fraction(text):
+        raise argparse.ArgumentTypeError(f"{text!r} is no number above 0, such as 500 or 83.333")
+    return Fraction(text)
+
+
+def parser():
+    """The reader of the words."""
+    made = Parser(prog="fttmodel", description=__doc__, formatter_class=argparse.RawDescriptionHelpFormatter)
+    made.add_argument("kbits", metavar="KBITS", type=positive, help="the bit rate in kbit/s, as 500 or 83.333")
+    made.add_argument("cycle_us", metavar="CYCLE_US", type=positive, help="the elementary cycle in microseconds")
+    made.add_argument("messages", metavar="MESSAGES", help="the CSV or DBC file")
+    made.add_argument("out", metavar="OUT", help="the folder for the files")
+    made.add_argument("--window", type=within(*limits.WINDOW), help="the synchronous window in bit times; without it, "
+                      "all that leaves room for the longest asynchronous frame, or for 8 bytes where there is none")
+    made.add_argument("--turnaround", type=within(*limits.TURNAROUND), default=0, help="in bit times; without it 0")
+    made.add_argument("--policy", choices=limits.POLICIES, default="rm", help="without it rm")
+    made.add_argument("--fill", choices=limits.FILLS, default="prefix", help="what a cycle does at a message "
+                      "that doesn't fit any more: it ends there, or passes over it; without it prefix")
+    made.add_argument("--slots", type=int, choices=limits.SLOTS, default=limits.SLOTS[0], help="how many synchronous "
+                      "messages there may be; with 96 a cycle has two trigger frames, 270 bit times in place of 135; "
+                      "without it 40")
+    made.add_argument("--horizon", type=within(*limits.HORIZON), default=limits.USUAL_HORIZON,
+                      help="in cycles; without it 10000")
+    made.add_argument("--nodes", type=within(*limits.NODES), help="how many nodes; without it, as many as senders")
+    made.add_argument("--cycles", type=within(0, limits.CYCLES), help="how many cycles the steps open; without it, "
+                      "one common period after the greatest offset, at most 20000")
+    made.add_argument("--renumber", action="store_true", help="give asynchronous messages 0x200, 0x201, .. in the "
+                      "order of their identifiers")
+    made.add_argument("--period-attribute", metavar="NAME", help="of a DBC file: the attribute of messages that has "
+                      "the period in milliseconds, beside GenMsgCycleTime")
+    made.add_argument("--strict", action="store_true", help="refuse a DBC file with a message that would be left out")
+    takes_version(made)
+    return made
+
+
+def main():
+    """Reads the words, and does what they ask. The status."""
+    needs_tomllib("fttmodel")
+    try:
+        return model(parser().parse_args())
+    except (Refused, csv.Error) as fault:
+        print(fault, file=sys.stderr)
+        return 2
+    except Unread as fault:
+        print(fault, file=sys.stderr)
+        return 3

@@ -1,0 +1,131 @@
+"""Messages on a bus: slots and cycles for the synchronous ones, identifiers for the others."""
+import math
+from collections import namedtuple
+from fractions import Fraction
+
+from ..faults import Refused
+from ..frames import TRIGGER, worst
+from ..limits import CYCLE, FIRST_ASYNC, LAST_ASYNC, LENGTH, RATE, TIMES, WINDOW
+from ..system import room
+from ..telling import decimal
+
+# A synchronous message in its slot: times in elementary cycles.
+Entry = namedtuple("Entry", "message slot node phase period deadline")
+# An asynchronous message with the identifier that it has in the model.
+Owned = namedtuple("Owned", "message id node")
+
+
+def alike(messages, mistakes):
+    """Refuses a name or an identifier that stands twice."""
+    for field in ("name", "id"):
+        seen = {}
+        for message in messages:
+            value = getattr(message, field)
+            if value in (None, ""):
+                continue
+            if value in seen:
+                mistakes.add(message.line, field, value if field == "name" else f"{value:#05x}",
+                             f"it stands in line {seen[value]} too. Give each message its own.")
+            seen.setdefault(value, message.line)
+
+
+class Bus:
+    """The bus: its rate, its cycle in bit times, and how times become cycles."""
+
+    def __init__(self, kbits, cycle_us):
+        if kbits > RATE:
+            raise Refused(f"KBITS is {decimal(kbits)}, and CAN ends at {RATE} kbit/s. If this is in bit/s, write "
+                          f"{decimal(kbits / 1000)}.")
+        exact = kbits * cycle_us / 1000
+        self.kbits, self.cycle = kbits, math.floor(exact)
+        self.said = []
+        if self.cycle != exact:
+            self.said.append(f"a cycle of {decimal(cycle_us)} us is {decimal(exact)} bit times: {self.cycle} are taken")
+        low, high = CYCLE
+        if not low <= self.cycle <= high:
+            raise Refused(f"CYCLE_US is {decimal(cycle_us)}: at {decimal(kbits)} kbit/s it is {self.cycle} bit times. "
+                          f"Take {decimal(Fraction(low * 1000) / kbits)} to "
+                          f"{decimal(Fraction(high * 1000) / kbits)} us.")
+
+    def millis(self, cycles):
+        """So many cycles in milliseconds."""
+        return Fraction(cycles * self.cycle) / self.kbits
+
+    def cycles(self, millis, field, message, least, mistakes):
+        """A time as whole cycles, rounded down, and said where it was rounded."""
+        exact = millis * self.kbits / self.cycle
+        whole = math.floor(exact)
+        if whole < least:
+            mistakes.add(message.line, field, decimal(millis), f"it is {decimal(exact)} cycles, which becomes 0. Take "
+                         "a shorter cycle, or a longer time.")
+        elif whole > TIMES:
+            mistakes.add(message.line, field, decimal(millis), f"it is {whole} cycles, above {TIMES}. Take a "
+                         "longer cycle, or a shorter time.")
+        elif whole != exact:
+            self.said.append(f"line {message.line}, {field} of {message.name}: {decimal(millis)} ms is "
+                             f"{decimal(exact)} cycles, {whole} {'is' if whole == 1 else 'are'} taken "
+                             f"({decimal(self.millis(whole))} ms)")
+        return max(whole, least)
+
+
+def entries_of(messages, bus, nodes, slots, mistakes):
+    """The synchronous messages in their slots, in the order of their identifiers."""
+    chosen = [message for message in messages if message.kind == "sync"]
+    more = "Take --slots 96, make some asynchronous" if slots == 40 else "Make some asynchronous"
+    for message in chosen[slots:]:
+        mistakes.add(message.line, "name", message.name, f"this is a synchronous message beyond the {slots} slots. "
+                     f"{more}, or leave some out.")
+    chosen = sorted(chosen[:slots], key=lambda it: (it.id is None, it.id or 0))
+    taken = {}
+    for message in sorted(chosen, key=lambda it: it.line):
+        if message.period is None:
+            continue
+        period = bus.cycles(message.period, "period", message, 1, mistakes)
+        deadline = period
+        if message.deadline is not None:
+            if message.deadline > message.period:
+                mistakes.add(message.line, "deadline", decimal(message.deadline), f"it is above the period of "
+                             f"{decimal(message.period)} ms. Take at most the period.")
+            else:
+                deadline = bus.cycles(message.deadline, "deadline", message, 1, mistakes)
+        phase = bus.cycles(message.offset, "offset", message, 0, mistakes)
+        taken[message.line] = (phase, period, deadline)
+    return [Entry(message, slot, nodes[message.sender], *taken[message.line])
+            for slot, message in enumerate(chosen) if message.line in taken]
+
+
+def owned_of(messages, nodes, renumber, mistakes):
+    """The asynchronous messages with their identifiers in the model."""
+    chosen = sorted((it for it in messages if it.kind == "async"), key=lambda it: (it.id is None, it.id or 0))
+    if renumber:
+        most = LAST_ASYNC - FIRST_ASYNC + 1
+        for message in chosen[most:]:
+            mistakes.add(message.line, "name", message.name, f"there are more than {most} asynchronous messages. Leave "
+                         "some out.")
+        return [Owned(message, FIRST_ASYNC + place, nodes[message.sender]) for place, message in enumerate(chosen)]
+    for message in chosen:
+        if message.id is None or not FIRST_ASYNC <= message.id <= LAST_ASYNC:
+            why = f"{message.name} is asynchronous {message.why}. Such a" if message.why else "an asynchronous"
+            mistakes.add(message.line, "id",
+                         "" if message.id is None else f"{message.id:#05x}", f"{why} message "
+                         "has 0x200 to 0x7ef. Give it another, or let --renumber do so.")
+    return [Owned(message, message.id, nodes[message.sender]) for message in chosen]
+
+
+def window_of(bus, words, entries, owned):
+    """The window that is asked for; else all but one longest asynchronous frame, and not below one longest frame."""
+    longest = max((worst(it.message.length) for it in entries), default=WINDOW[0])
+    most = room(bus.cycle, words.slots, words.turnaround)
+    spare = max((worst(it.message.length) for it in owned), default=worst(LENGTH))
+    if longest > most:
+        raise Refused(f"CYCLE_US is {decimal(words.cycle_us)}: a cycle has {bus.cycle} bit times, and the trigger, the "
+                      f"turnaround and the longest frame need {bus.cycle - most + longest}. Take a longer cycle.")
+    window = words.window or max(min(most - spare, WINDOW[1]), longest)
+    if window < longest:
+        raise Refused(f"--window is {window}: the longest frame has {longest} bit times and never fits. Take at least "
+                      f"{longest}.")
+    if window > most:
+        raise Refused(f"--window is {window}: with the trigger's {TRIGGER[words.slots]} and the turnaround's "
+                      f"{words.turnaround} it is above the cycle of {bus.cycle}. Take at most {most}, or a longer "
+                      "cycle.")
+    return window

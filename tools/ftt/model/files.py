@@ -1,0 +1,56 @@
+"""The files of a model: the system, the steps, and the names of messages."""
+import csv
+import io
+
+from ..faults import Unread
+from ..limits import OPERATIONS, SLOTS
+from ..telling import decimal
+from .bus import Entry
+
+
+def system_text(bus, owned, words, window, nodes):
+    """The system file."""
+    text = (f"# made by fttmodel: {decimal(bus.kbits)} kbit/s, cycles of {decimal(bus.millis(1), 6)} ms\n"
+            f"[bus]\ncycle = {bus.cycle}\nturnaround = {words.turnaround}\nwindow = {window}\nnodes = {nodes}\n"
+            + (f"slots = {words.slots}\n" if words.slots != SLOTS[0] else "")
+            + f'\n[plan]\npolicy = "{words.policy}"\nhorizon = {words.horizon}\n'
+            + (f'fill = "{words.fill}"\n' if words.fill != "prefix" else ""))
+    for it in sorted(owned, key=lambda it: it.id):
+        text += f"\n# {it.message.name} of {it.message.sender}\n[[async]]\nid = {it.id:#05x}\nnode = {it.node}\n"
+    return text
+
+
+def steps_text(entries, cycles):
+    """The steps file: changes of 16 operations, and the cycles."""
+    text = ""
+    for it in entries:
+        start = "add,1,0" if it.slot % OPERATIONS == 0 else "and,add"
+        text += (f"{start},{it.slot},{it.node},{it.message.length},{it.phase},{it.period},{it.deadline},"
+                 f"{it.message.priority}\n")
+    return text + f"cycle,{cycles}\n"
+
+
+def names_text(entries, owned):
+    """The names file: what stands for each message."""
+    out = io.StringIO()
+    rows = csv.writer(out, lineterminator="\n")
+    rows.writerow(["slot_or_id", "name", "sender", "node", "period_cycles", "period_ms", "real_id"])
+    for it in entries + sorted(owned, key=lambda it: it.id):
+        message = it.message
+        rows.writerow([it.slot if isinstance(it, Entry) else f"{it.id:#05x}", message.name, message.sender, it.node,
+                       it.period if isinstance(it, Entry) else "",
+                       "" if message.period is None else decimal(message.period),
+                       "" if message.id is None else f"{message.id:#05x}"])
+    return out.getvalue()
+
+
+def write_all(folder, texts):
+    """Writes the files into the folder."""
+    try:
+        folder.mkdir(parents=True, exist_ok=True)
+        for name, text in texts.items():
+            (folder / name).write_text(text, encoding="utf-8", newline="\n")
+    except OSError as fault:
+        if folder.is_file():
+            raise Unread(f"{folder}: OUT is a folder, and a file of this name is there. Take another name.") from fault
+        raise Unread(f"{fault.filename}: {fault.strerror}. May it be written?") from fault

@@ -1,0 +1,326 @@
+"""The tables of fttsearch: the grid that was asked for, and what the program says of each of its points."""
+import csv
+import io
+import itertools
+import os
+import pathlib
+import re
+import stat
+import sys
+from collections import namedtuple
+
+from ..faults import Refused
+from ..limits import FILLS, POLICIES
+from ..rows import MARK
+from ..telling import listed, some
+
+WORDS = {"policy": POLICIES, "fill": FILLS}
+# The first row of a table, and the columns behind those of the axes.
+FRONT, COLUMNS = "#grid", ["accepted", "change", "why"]
+
+# A point of the grid is a tuple of values, one for each axis. What is said of it: whether all is accepted; else the
+# number of the first change that is not, and its verdict or the program's line on a file.
+Answer = namedtuple("Answer", "accepted change why")
+
+
+class Failed(Exception):
+    """A file that can't be read or written, or a program that gives no answer."""
+
+
+def read(path):
+    """The text of a file, without a byte order mark."""
+    try:
+        return pathlib.Path(path).read_bytes().removeprefix(MARK).decode("utf-8", "surrogateescape")
+    except OSError as fault:
+        raise Failed(f"{path}: {fault.strerror or fault}. Is it the right path?") from fault
+
+
+def ranges(values):
+    """The values of an axis as a text: words, or numbers as FIRST:LAST:STEP where three or more have one distance."""
+    values, texts = list(values), []
+    while values:
+        many = 1
+        if len(values) > 2 and not isinstance(values[0], str):
+            step = values[1] - values[0]
+            many = next((at for at in range(1, len(values)) if values[at] - values[at - 1] != step), len(values))
+        if many > 2:
+            texts.append(f"{values[0]}:{values[many - 1]}:{step}")
+        else:
+            many = 1
+            texts.append(str(values[0]))
+        del values[:many]
+    return " ".join(texts)
+
+
+def value_of(name, text):
+    """The value of an axis of this name."""
+    words = WORDS.get(name)
+    if words is None and name not in ("window", "deadline") and not re.fullmatch(r"period\.[0-9]{1,2}", name):
+        raise ValueError
+    return int(text) if words is None else words[words.index(text)]
+
+
+def values_of(name, text):
+    """The values of an axis from such a text."""
+    values = []
+    for part in text.split(" "):
+        numbers = [value_of(name, it) for it in part.split(":")]
+        values += range(numbers[0], numbers[1] + 1, numbers[2]) if len(numbers) == 3 else numbers
+    return values
+
+
+class Grid:
+    """What is asked for: the values of each axis, of how many parts this is which one, and a sum over the two files."""
+
+    def __init__(self, axes, part=(1, 1), files=""):
+        self.axes, self.part, self.files = axes, part, files
+        self.names = list(axes)
+
+    def points(self, part=None):
+        """The points of a part of the grid, in their order; without a part, those of this one."""
+        number, many = part or self.part
+        return list(itertools.product(*self.axes.values()))[number - 1::many]
+
+    def row(self):
+        """The first row of a table of these points."""
+        axes = [f"{name}={ranges(values)}" for name, values in self.axes.items()]
+        return [FRONT, f"part={self.part[0]}/{self.part[1]}", f"files={self.files}", *axes]
+
+    def header(self):
+        """The second row."""
+        return [*self.names, *COLUMNS]
+
+    def differs(self, other, is_part=False):
+        """What another grid has in another way, as a text of both; None where it has nothing, the part left out."""
+        pairs = itertools.zip_longest(self.row()[1 if is_part else 2:], other.row()[1 if is_part else 2:],
+                                      fillvalue="nothing")
+        return next((f"{one}, and not {two}" for one, two in pairs if one != two), None)
+
+
+def grid_of(row):
+    """The grid of the first row of a table."""
+    fields = dict(field.split("=", 1) for field in row[1:])
+    number, many = (int(it) for it in fields.pop("part").split("/"))
+    files = fields.pop("files")
+    if not 1 <= number <= many or not fields:
+        raise ValueError
+    return Grid({name: values_of(name, text) for name, text in fields.items()}, (number, many), files)
+
+
+def row_of(point, said):
+    """The row of a point."""
+    return [*point, "yes" if said.accepted else "no", said.change or "", said.why]
+
+
+def point_of(names, row):
+    """The point of a row of a table, and what is said of it."""
+    if len(row) != len(names) + 3 or row[-3] not in ("yes", "no"):
+        raise ValueError
+    point = tuple(value_of(name, it) for name, it in zip(names, row))
+    return point, Answer(row[-3] == "yes", int(row[-2]) if row[-2] else None, row[-1])
+
+
+class Tables:
+    """What some tables of one grid say: that grid, how often each part of it stands there, and the points."""
+
+    def __init__(self):
+        self.grid, self.parts, self.found, self.all = None, {}, {}, set()
+
+    def begin(self, grid, place):
+        """A first row."""
+        if self.grid is None:
+            self.grid, self.all = grid, set(grid.points((1, 1)))
+        other = grid.differs(self.grid)
+        if other or grid.part[1] != self.grid.part[1]:
+            other = other or f"{grid.part[1]} parts"
+            raise Refused(f"{place}: this is another grid than above: {other}. Join parts of one grid.")
+        self.parts[grid.part[0]] = self.parts.get(grid.part[0], 0) + 1
+
+    def row(self, row, place):
+        """A row that is none of the first two."""
+        try:
+            point, said = point_of(self.grid.names, row)
+        except ValueError as fault:
+            raise Refused(f"{place}: this is no row of a table. Give files that --csv has written.") from fault
+        if point not in self.all:
+            raise Refused(f"{place}: the grid of this table has no such point. Give files that --csv has written.")
+        if self.found.setdefault(point, said) != said:
+            raise Refused(f"{place}: this point has another answer above. Join parts of one grid.")
+
+    def take(self, path, text):
+        """The rows of a table."""
+        for line, row in enumerate(csv.reader(io.StringIO(text, newline="")), 1):
+            place = f"{path}:{line}"
+            if row[:1] == [FRONT]:
+                try:
+                    self.begin(grid_of(row), place)
+                except (ValueError, KeyError) as fault:
+                    raise Refused(f"{place}: this is no first row of a table. Give files that --csv has "
+                                  "written.") from fault
+            elif line == 1:
+                raise Refused(f"{place}: this is no row of a table: a row {FRONT} with the grid stands in front of "
+                              "each. Give files that --csv has written.")
+            elif row != self.grid.header():
+                self.row(row, place)
+
+    def holes(self):
+        """The parts of the grid that are not whole, as texts."""
+        texts, many = [], self.grid.part[1]
+        for number in range(1, many + 1):
+            points = self.grid.points((number, many))
+            known = sum(point in self.found for point in points)
+            if known < len(points):
+                texts.append(f"part {number}/{many} " + (f"has {known} of its {some(len(points), 'point')}"
+                                                        if number in self.parts else "is missing"))
+        return texts
+
+
+def joined(paths):
+    """The tables of all parts of a grid as one, with its points in order. Parts that are not whole are refused."""
+    tables = Tables()
+    for path in paths:
+        tables.take(path, sys.stdin.read() if path == "-" else read(path))
+    if not tables.found:
+        raise Refused("there is no point in these tables.")
+    holes = tables.holes()
+    if holes:
+        more = f", and {len(holes) - 5} more parts are not whole" if len(holes) > 5 else ""
+        raise Refused(f"the grid has holes: {listed(holes[:5])}{more}. Give the tables of all parts; --resume goes on "
+                      "with a table that is not whole.")
+    for number, many in sorted(tables.parts.items()):
+        if many > 1:
+            print(f"fttsearch: part {number}/{tables.grid.part[1]} stands here {many} times, with the same answers",
+                  file=sys.stderr)
+    whole = Grid(tables.grid.axes, files=tables.grid.files)
+    return whole, {point: tables.found[point] for point in whole.points()}
+
+
+class Output:
+    """A file that is written to, from its beginning. It is opened at once, and keeps what it has until `begin`. For -
+    it is standard output. A file that is still empty at the end, and was not there before, is taken away."""
+
+    def __init__(self, path):
+        self.path, self.is_new, self.file = path, path != "-" and not os.path.exists(path), sys.stdout
+        if path != "-":
+            with self.told():
+                # pylint: disable-next=consider-using-with
+                self.file = open(path, "a", encoding="utf-8", errors="surrogateescape", newline="")
+        self.is_regular = path != "-" and stat.S_ISREG(os.fstat(self.file.fileno()).st_mode)
+
+    def told(self):
+        """Turns a fault of the file into a line."""
+        return Told(self)
+
+    def begin(self, kept=0):
+        """Leaves so many bytes of what the file had."""
+        if self.is_regular:
+            with self.told():
+                self.file.truncate(kept)
+
+    def put(self, text):
+        """Writes a text. A reader that has ended, as head, is no fault: it gets no more."""
+        if self.file is None:
+            return
+        with self.told():
+            self.file.write(text)
+            self.file.flush()
+
+    def stop(self):
+        """Writes no more."""
+        if self.path == "-":
+            sys.stdout = None
+        self.file = None
+
+    def end(self):
+        """Closes the file."""
+        if self.path != "-" and self.file is not None:
+            with self.told():
+                self.file.close()
+            if self.is_new and self.is_regular and os.path.getsize(self.path) == 0:
+                os.unlink(self.path)
+
+
+class Told:
+    """What makes a line of a fault of an output. A reader that has ended gets no more, and that is no fault."""
+
+    def __init__(self, output):
+        self.output = output
+
+    def __enter__(self):
+        return self
+
+    def __exit__(self, kind, fault, trace):
+        if isinstance(fault, BrokenPipeError):
+            self.output.stop()
+            return True
+        if isinstance(fault, OSError):
+            self.output.stop()
+            raise Failed(f"{self.output.path}: {fault.strerror or fault}. May it be written?") from fault
+        return False
+
+
+class Table:
+    """A table whose rows are written as the answers come: in the order of the grid, each as soon as those in front of
+    it are there."""
+
+    def __init__(self, path, grid, is_resumed):
+        self.output, self.grid, self.points = Output(path), grid, grid.points()
+        self.found, self.is_in_order, self.kept = {}, True, 0
+        if is_resumed and self.output.is_regular:
+            self.resume(pathlib.Path(path).read_bytes())
+        self.waiting = [point for point in reversed(self.points) if point not in self.found]
+
+    def resume(self, old):
+        """Takes the rows of an earlier call, without a last one that it has not ended."""
+        whole = old[:old.rfind(b"\n") + 1]
+        if old and not old.startswith(FRONT.encode() + b","):
+            raise Refused(f"{self.output.path}: this is no table that can be gone on with: its first row is no "
+                          f"{FRONT}. Write to another file.")
+        tables = Tables()
+        tables.take(self.output.path, whole.decode("utf-8", "surrogateescape"))
+        other = tables.grid and tables.grid.differs(self.grid, True)
+        if other:
+            raise Refused(f"{self.output.path}: this table is of another grid, or of other files: {other}. Write to "
+                          "another file.")
+        if tables.found:
+            self.found, self.kept = tables.found, len(whole)
+            self.is_in_order = list(self.found) == self.points[:len(self.found)]
+
+    def begin(self):
+        """Writes the first two rows, where they are not there."""
+        self.output.begin(self.kept)
+        if not self.kept:
+            self.put([self.grid.row(), self.grid.header()])
+
+    def put(self, rows):
+        """Writes some rows at once."""
+        self.output.put(text_of(rows))
+
+    def add(self, point, said):
+        """Takes an answer, and writes what can be written."""
+        self.found[point] = said
+        rows = []
+        while self.waiting and self.waiting[-1] in self.found:
+            point = self.waiting.pop()
+            rows.append(row_of(point, self.found[point]))
+        if rows:
+            self.put(rows)
+
+    def end(self):
+        """Writes the answers that wait for one in front of them. A whole table is left in the order of the grid."""
+        self.put([row_of(point, self.found[point]) for point in reversed(self.waiting) if point in self.found])
+        self.output.end()
+        if not self.is_in_order and len(self.found) == len(self.points) and self.output.file is not None:
+            other = Output(self.output.path + ".new")
+            other.begin()
+            other.put(text_of([self.grid.row(), self.grid.header(),
+                               *(row_of(point, self.found[point]) for point in self.points)]))
+            other.end()
+            os.replace(other.path, os.path.realpath(self.output.path))
+
+
+def text_of(rows):
+    """Rows as text."""
+    text = io.StringIO()
+    csv.writer(text, lineterminator="\n").writerows(rows)
+    return text.getvalue()
