@@ -11,12 +11,12 @@ _fttcan_words() {
     'fttcan live') printf %s '--report' ;;
     'fttcan-reference FORM') printf %s 'replay admit check gen audit handover poll elastic' ;;
     'fttcan-reference replay') printf %s '--tail --report' ;;
-    'fttmodel') printf %s '--help --window --turnaround --policy --fill --slots --horizon --nodes --cycles --renumber --period-attribute --strict' ;;
+    'fttmodel') printf %s '--help --window --turnaround --policy --fill --slots --horizon --nodes --cycles --renumber --period-attribute --strict --version' ;;
     'fttmodel --policy') printf %s 'rm dm edf' ;;
     'fttmodel --fill') printf %s 'prefix skip' ;;
     'fttmodel --slots') printf %s '40 96' ;;
-    'fttlint') printf %s '--help --plan --streams --words --live --replay --all' ;;
-    'fttsearch') printf %s '--help --window --policy --fill --deadline --period --part --join --csv --resume --svg --jobs' ;;
+    'fttlint') printf %s '--help --plan --streams --words --live --replay --all --version' ;;
+    'fttsearch') printf %s '--help --window --policy --fill --deadline --period --part --join --csv --resume --svg --jobs --version' ;;
     'fttlog FORM') printf %s 'say late svg html json accepted candump pcap from-candump bits' ;;
     'fttlog say') printf %s '--help --kbits --names --steps --all' ;;
     'fttlog late') printf %s '--help --kbits --names --cycle --requests --steps --svg' ;;

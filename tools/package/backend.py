@@ -21,8 +21,8 @@ from helps import TOP  # noqa: E402  pylint: disable=wrong-import-position
 
 # What a source archive has: all that a wheel is made of.
 SOURCES = ("CHANGELOG.md", "LICENSE", "README.md", "docs/fttcan.1", "fttcan", "pyproject.toml", "tools/fttmodel",
-           "tools/fttlint", "tools/fttsearch", "tools/fttlog", "tools/reference", "tools/hostile",
-           "tools/completion.bash", "tools/completion.zsh", "tools/completion.fish")
+           "tools/fttlint", "tools/fttsearch", "tools/fttlog", "tools/reference", "tools/completion.bash",
+           "tools/completion.zsh", "tools/completion.fish")
 # The least moment that an archive of either kind can name, in seconds since 1970: the start of 1980.
 LEAST_MOMENT = 315_532_800
 
@@ -56,19 +56,15 @@ def metadata():
 def wheel_files():
     """The files of the wheel but for the list of them, in order."""
     info, share = f"{stem()}.dist-info", f"{stem()}.data/data"
-    files = {path: file.data for path, file in tree.packages().items()}
+    files = {path: file.data for path, file in tree.modules().items()}
+    files["fttcan_reference.py"] = (TOP / "tools/reference").read_bytes()
     files |= {f"{share}/{path}": file.data for path, file in (tree.pages() | tree.completion()).items()}
-    commands = "".join(f"{name} = {entry_point(name, place, files)}\n" for name, place in project()["scripts"].items())
+    commands = "".join(f"{name} = {place}\n" for name, place in project()["scripts"].items())
     return dict(sorted(files.items())) | {
         **{f"{info}/licenses/{name}": (TOP / name).read_bytes() for name in project()["license-files"]},
         f"{info}/METADATA": metadata(),
         f"{info}/WHEEL": b"Wheel-Version: 1.0\nGenerator: fttcan\nRoot-Is-Purelib: true\nTag: py3-none-any\n",
         f"{info}/entry_points.txt": f"[console_scripts]\n{commands}".encode()}
-
-
-def entry_point(name, place, files):
-    """The function that a command calls. Until the tools are a package of their own, it is that of its script."""
-    return f"{name}:main" if f"{name}.py" in files else place
 
 
 def sum_of(data):
@@ -107,9 +103,9 @@ def archive(path, files, top):
 def build_sdist(sdist_directory, config_settings=None):
     """Makes the source archive in a folder, and says its name."""
     del config_settings
-    paths = [*(TOP / path for path in SOURCES), *tree.modules(), *tree.below("tools/package")]
     files = {str(path.relative_to(TOP)): (path.read_bytes(), 0o755 if os.access(path, os.X_OK) else 0o644)
-             for path in paths}
+             for path in [*(TOP / path for path in SOURCES), *tree.below("tools/package")]}
+    files |= {f"tools/{path}": (file.data, 0o644) for path, file in tree.modules().items()}
     files["PKG-INFO"] = (metadata(), 0o644)
     name = f"{stem()}.tar.gz"
     archive(pathlib.Path(sdist_directory) / name, files, stem())

@@ -1,5 +1,6 @@
 """What the helps of the tools say, and what the launcher says of the commands: the source of manual pages and of
 completion."""
+import functools
 import os
 import pathlib
 import re
@@ -23,6 +24,7 @@ def script_of(name):
     return TOP / "tools" / (REFERENCE_SCRIPT if name == REFERENCE else name)
 
 
+@functools.cache
 def text_of(name, *form):
     """The help of a tool, or of one of its forms. A wide terminal keeps each row on a line."""
     environment = os.environ | {"COLUMNS": "1000", "NO_COLOR": "1", "PYTHON_COLORS": "0", "LC_ALL": "C.UTF-8"}

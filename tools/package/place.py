@@ -25,17 +25,16 @@ PAGE_FOLDERS = {"docs": "docs", "crates/command_cases/data/examples": "examples"
 
 
 def with_python(file, python):
-    """A script with this interpreter in its first line, or without one where it is read by another script."""
-    rest = file.data.partition(b"\n")[2]
-    return file._replace(data=(b"#!" + python.encode() if file.is_program else b"#") + b"\n" + rest)
+    """A script with this interpreter in its first line."""
+    return file._replace(data=b"#!" + python.encode() + b"\n" + file.data.partition(b"\n")[2])
 
 
 def tools(python):
     """The tools: their modules and scripts in a folder of their own, and a link to each script."""
     share = "share/fttcan"
-    found = {f"{share}/{path.relative_to(TOP / 'tools')}": tree.of(path) for path in tree.modules()}
-    for name in (*SCRIPTS.values(), "hostile"):
-        found[f"{share}/{name}"] = with_python(tree.of(f"tools/{name}", name != "hostile"), python)
+    found = {f"{share}/{path}": file for path, file in tree.modules().items()}
+    for name in SCRIPTS.values():
+        found[f"{share}/{name}"] = with_python(tree.of(f"tools/{name}", True), python)
     found[f"{share}/fttcan.lua"] = tree.of("tools/fttcan.lua")
     return found
 

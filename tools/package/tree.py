@@ -1,19 +1,29 @@
 """What an installation has: each file by its path, with its bytes and whether it is a program."""
-import re
+import sys
 from collections import namedtuple
 
 import manual
 from helps import REFERENCE, TOOLS, TOP
 
+sys.path.insert(0, str(TOP / "tools"))
+
+from ftt import version as of_tools  # noqa: E402  pylint: disable=wrong-import-position
+
 File = namedtuple("File", "data is_program")
 
 
 def version():
-    """The version of CHANGELOG.md. Where changes stand there that belong to none yet, it says so."""
-    text = (TOP / "CHANGELOG.md").read_text(encoding="utf-8")
-    first = re.search(r"^## \[([0-9][0-9.]*)\]", text, re.MULTILINE)
-    is_open = re.search(r"^## \[Unreleased\]\s*\n(?!\s*## )", text, re.MULTILINE)
-    return f"{first[1] if first else '0'}{'+unreleased' if is_open else ''}"
+    """The version as packages have it. Where CHANGELOG.md has changes that belong to none yet, it says so."""
+    number = of_tools.text()
+    return f"{number}unreleased" if number.endswith("+") else number
+
+
+def stated():
+    """The file VERSION of the modules: the number and the commit. A source archive has it, and no commit."""
+    kept = TOP / "tools/ftt" / of_tools.VERSION
+    if kept.is_file():
+        return File(kept.read_bytes(), False)
+    return File(" ".join(filter(None, (of_tools.text(), of_tools.commit()))).encode() + b"\n", False)
 
 
 def of(path, is_program=False):
@@ -28,21 +38,9 @@ def below(folder, skipped=("__pycache__",)):
 
 
 def modules():
-    """The paths of the modules of the tools."""
-    if (TOP / "tools/ftt").is_dir():
-        return below("tools/ftt")
-    # Until the tools are a package of their own, each has a folder of parts.
-    return [path for name in TOOLS for path in below(f"tools/{name}_parts")]
-
-
-def packages():
-    """The modules of the tools and of the plain program, as a folder of modules has them."""
-    found = {str(path.relative_to(TOP / "tools")): of(path) for path in modules()}
-    if not (TOP / "tools/ftt").is_dir():
-        found |= {f"{name}.py": of(f"tools/{name}") for name in TOOLS}
-    found["fttcan_reference/__init__.py"] = of("tools/reference")
-    found["fttcan_reference/hostile"] = of("tools/hostile")
-    return found
+    """The modules of the tools by their paths below a folder of modules."""
+    found = {str(path.relative_to(TOP / "tools")): of(path) for path in below("tools/ftt")}
+    return found | {f"ftt/{of_tools.VERSION}": stated()}
 
 
 def completion(zsh="share/zsh/site-functions"):
