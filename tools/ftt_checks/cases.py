@@ -37,8 +37,8 @@ def end(left_out=()):
 def called(*words, folder=None, log=None, env=None):
     """The output, the message and the status of a call, with this text for standard input."""
     source = {"stdin": subprocess.DEVNULL} if log is None else {"input": log.encode()}
-    done = subprocess.run([str(word) for word in words], cwd=folder, env=env, capture_output=True, check=False,
-                          **source)
+    words = [word if isinstance(word, bytes) else str(word) for word in words]
+    done = subprocess.run(words, cwd=folder, env=env, capture_output=True, check=False, **source)
     return done.stdout.decode(errors="replace"), done.stderr.decode(errors="replace"), done.returncode
 
 
