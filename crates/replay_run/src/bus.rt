@@ -39,7 +39,8 @@ pub struct Bus {
     nodes: Nodes,
     /// The nodes can learn a list of so many entries without memory.
     spare: usize,
-    /// The frames of the cycle that was run last.
+    /// The frames of the cycle that was run last; none before the first one. An answer leaves them. Taking the memory of
+    /// the next cycle may drop them.
     pub segment: CycleFrames,
     /// The room for the frames of the next cycle.
     room: Vec<TimedFrame>,
@@ -164,6 +165,7 @@ impl Bus {
         requires requests { AreLegal system.now.owners requests.now }
         ensures going { IfOk result (IsGoing (setting_of system.now requests.now) []) }
         ensures empty { IfOk result (λ bus. bus.master.history ≡ []) }
+        ensures none { IfOk result (λ bus. bus.segment ≡ []) }
         ensures kept { IfOk result (λ bus. is_some bus.trace ≡ keeps) }
     {
         beginning();
@@ -230,6 +232,7 @@ impl Bus {
             ≡ map call_of self.old.master.history ++ asked caller (act_of.Ask change.now) ∷ []) }
         ensures next { OnOk result (next_of self.new.master.history ≡ next_of self.old.master.history) }
         ensures kept { OnOk result (is_some self.new.trace ≡ is_some self.old.trace) }
+        ensures segment { self.new.segment ≡ self.old.segment }
         ensures still { OnErr result (GoesStill self.old self.new) }
     {
         calls_between();
@@ -246,6 +249,7 @@ impl Bus {
             ≡ map call_of self.old.master.history ++ asked caller act_of.Look ∷ []) }
         ensures next { OnOk result (next_of self.new.master.history ≡ next_of self.old.master.history) }
         ensures kept { OnOk result (is_some self.new.trace ≡ is_some self.old.trace) }
+        ensures segment { self.new.segment ≡ self.old.segment }
         ensures still { OnErr result (GoesStill self.old self.new) }
     {
         calls_between();
@@ -268,6 +272,7 @@ impl Bus {
             ≡ map call_of self.old.master.history ++ asked caller act.now ∷ []) }
         ensures next { OnOk result (next_of self.new.master.history ≡ next_of self.old.master.history) }
         ensures kept { OnOk result (is_some self.new.trace ≡ is_some self.old.trace) }
+        ensures segment { self.new.segment ≡ self.old.segment }
         ensures still { OnErr result (GoesStill self.old self.new) }
     {
         match act {

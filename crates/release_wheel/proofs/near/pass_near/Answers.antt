@@ -1,6 +1,6 @@
-use Rattle.std.proofs.Common.{◌<◌, ◌≤◌, ◌∙◌, arith}
-use Rattle.release_wheel.specs.Near.{at_wheel, until_of}
-use Rattle.release_wheel.proofs.NearPlans.{kept-at, near-passed, near-standing, near-valid}
+use Rattle.std.proofs.Common.{◌<◌, arith}
+use Rattle.release_wheel.specs.Near.{until_of}
+use Rattle.release_wheel.proofs.NearPlans.{near-passed, near-standing, near-valid}
 use Rattle.release_wheel.proofs.near.pass_near.Goals as goal
 
 pub returns-clause-passed : goal.returns-clause-passed

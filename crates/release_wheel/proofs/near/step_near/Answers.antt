@@ -1,8 +1,5 @@
-use Rattle.std.proofs.Common.{◌≡◌, ◌≤◌, ℕ, refl, sym, subst, arith}
-use Rattle.requirement_table.specs.Slots.{contains_slot}
-use Rattle.planner_policies.specs.Due.{IsPlanned}
-use Rattle.planner_policies.specs.Plan.{IsValid, Ranking, planning_of}
-use Rattle.release_wheel.specs.Near.{at_wheel}
+use Rattle.std.proofs.Common.{refl, sym, subst}
+use Rattle.planner_policies.specs.Plan.{IsValid}
 use Rattle.release_wheel.specs.Wheel.{IsKept}
 use Rattle.release_wheel.proofs.NearPlans.{onward-after, rows-onward, stepped-missed, stepped-planned, valid-after}
 use Rattle.release_wheel.proofs.near.step_near.Goals as goal

@@ -1,4 +1,4 @@
-use Rattle.std.proofs.Common.{length, arith}
+use Rattle.std.proofs.Common.{arith}
 use Rattle.std.proofs.lemmas.List.Sorted.{length_permutation}
 use Rattle.release_wheel.proofs.wheel.fill.Goals as goal
 

@@ -1,6 +1,5 @@
-use Rattle.std.proofs.Common.{◌≡◌, ◌+◌, ◌^◌, ◌<◌, ℕ, Bool, true, List, IsPermutation, sym, subst, ap, ◌∙◌, arith, length}
+use Rattle.std.proofs.Common.{◌≡◌, ◌+◌, ◌^◌, ◌<◌, ℕ, true, List, IsPermutation, sym, subst, ap, ◌∙◌, arith}
 use Rattle.std.proofs.lemmas.Bool.{both_ways}
-use Rattle.std.proofs.lemmas.List.Sorted.{length_permutation}
 use Rattle.requirement_table.specs.declared.entries.Placed.{Placed}
 use Rattle.requirement_table.specs.Slots.{contains_slot}
 use Rattle.requirement_table.specs.Table.{IsWellPlaced}
@@ -8,7 +7,7 @@ use Rattle.release_wheel.specs.declared.wheel.Wheel.{Wheel}
 use Rattle.planner_policies.specs.Due.{IsPlanned}
 use Rattle.planner_policies.specs.Plan.{IsValid, Ranking, planning_of}
 use Rattle.planner_policies.specs.Ranked.{AreRanked}
-use Rattle.release_wheel.specs.Wheel.{IsKept, IsOfRanking, IsPlannedOn, IsReleased, IsSameTable}
+use Rattle.release_wheel.specs.Wheel.{IsKept, IsOfRanking, IsPlannedOn, IsSameTable}
 use Rattle.planner_policies.proofs.Shared.{left-valid}
 use Rattle.release_wheel.proofs.wheel.step.Goals as goal
 
