@@ -1,5 +1,5 @@
 """Frames of 11 bits on the bus: their lengths in bit times and their bits. Terms are those of CAN 2.0 Part A."""
-from .limits import LENGTH
+from .limits import FEW_SLOTS, LENGTH, MANY_SLOTS
 
 # The bits of intermission, which the length of a frame counts.
 INTERMISSION = 3
@@ -13,7 +13,7 @@ def worst(length):
 
 
 # By the number of slots: the trigger part of a cycle, in bit times. It is one frame of eight bytes, or two.
-TRIGGER = {40: worst(LENGTH), 96: 2 * worst(LENGTH)}
+TRIGGER = {FEW_SLOTS: worst(LENGTH), MANY_SLOTS: 2 * worst(LENGTH)}
 
 
 def crc_of(bits):

@@ -2,11 +2,12 @@
 
 # The most data bytes of a frame, and the greatest bit rate of CAN, in kbit/s.
 LENGTH, RATE = 8, 1_000
+# How many slots a system may have.
+FEW_SLOTS, MANY_SLOTS = SLOTS = (40, 96)
 # Identifiers: those of the triggers, of slots, of asynchronous messages, and the greatest one of 11 bits.
 TRIGGERS = (0x000, 0x001)
-SLOTS = (40, 96)
 FIRST_SLOT = 0x100
-LAST_SLOT = FIRST_SLOT + SLOTS[-1] - 1
+LAST_SLOT = FIRST_SLOT + MANY_SLOTS - 1
 FIRST_ASYNC, LAST_ASYNC = 0x200, 0x7EF
 LAST_ID = 0x7FF
 

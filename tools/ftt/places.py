@@ -23,5 +23,7 @@ def program():
     top = checkout()
     if top:
         return str(top / "fttcan")
-    beside = pathlib.Path(sys.argv[0]).absolute().with_name("fttcan")
-    return str(beside) if beside.is_file() and os.access(beside, os.X_OK) else shutil.which("fttcan")
+    called = pathlib.Path(sys.argv[0]).absolute()
+    beside = called.with_name("fttcan")
+    is_there = called.is_file() and beside.is_file() and os.access(beside, os.X_OK)
+    return str(beside) if is_there else shutil.which("fttcan")

@@ -9,7 +9,8 @@ refuses them: a deadline that is missed is found by the program alone. Of a plan
 keeps the table is what `fttcan check` says.
 
 --words looks at the words of a call of fttcan, all that stand behind it, and says which one is wrong: the command, an
-option, a number, or a word that is missing or in another's place.
+option, a number, or a word that is missing or in another's place. Outside of a checkout the fttcan of the path says
+what its commands are.
 
 Each finding is a line: FILE:LINE, `mistake` or `warning`, what is wrong, and what to do: a value or a row that the
 program takes. LINE is that of an editor.

@@ -3,7 +3,7 @@ import re
 
 from .. import limits
 from ..frames import SHORTEST, TRIGGER
-from ..limits import FIRST_ASYNC, LAST_ASYNC
+from ..limits import FEW_SLOTS, FIRST_ASYNC, LAST_ASYNC, MANY_SLOTS
 from ..system import LAST_NODE
 
 
@@ -14,7 +14,7 @@ def one_of(choices):
 
 def why_no_choice(value, choices, values=None):
     """What to do about a value that is none of the choices."""
-    if 96 in choices and not is_wide(values or {}):
+    if MANY_SLOTS in choices and not is_wide(values or {}):
         return "Write 40."
     if isinstance(value, str) and value.strip().lower() in choices:
         return "Write it in lower case." if value.strip() == value else f'Write "{value.strip().lower()}".'
@@ -51,7 +51,8 @@ def bounds_beside(path, values, low, high):
         most = max((it for at, it in values.items() if re.fullmatch(r"async\.\d+\.node", at)), default=0)
         return (most + 1 if low <= most < high else low), high
     cycle, window = values.get("bus.cycle"), values.get("bus.window", SHORTEST)
-    trigger, turnaround = TRIGGER.get(values.get("bus.slots", 40), TRIGGER[40]), values.get("bus.turnaround", 0)
+    trigger = TRIGGER.get(values.get("bus.slots", FEW_SLOTS), TRIGGER[FEW_SLOTS])
+    turnaround = values.get("bus.turnaround", 0)
     if path == "bus.cycle":
         low = max(low, min(trigger + max(turnaround, 0) + max(window, SHORTEST), high))
     elif cycle is not None and path in ("bus.window", "bus.turnaround"):
@@ -62,7 +63,7 @@ def bounds_beside(path, values, low, high):
 
 def is_wide(values):
     """Whether 96 slots fit the cycle beside the rest."""
-    need = TRIGGER[96] + values.get("bus.turnaround", 0) + values.get("bus.window", SHORTEST)
+    need = TRIGGER[MANY_SLOTS] + values.get("bus.turnaround", 0) + values.get("bus.window", SHORTEST)
     return need <= values.get("bus.cycle", need)
 
 

@@ -1,7 +1,7 @@
 """The identifiers and the data of requests: what is wrong with one, and what is taken in its place."""
 import re
 
-from ..limits import FIRST_ASYNC, FIRST_SLOT, LAST_ASYNC, LENGTH
+from ..limits import FEW_SLOTS, FIRST_ASYNC, FIRST_SLOT, LAST_ASYNC, LENGTH
 from ..rows import identifier_of
 
 
@@ -19,7 +19,7 @@ def why_no_owner(number, text, system):
     other = int(text, 16) if re.fullmatch(r"[0-9]{1,3}", text) else None
     if other in system.owners:
         return f"Without 0x it is decimal, {number:#05x}. The system owns {other:#05x}: write 0x{text}."
-    if number == 0 or number == 1 and system.slots > 40:
+    if number == 0 or number == 1 and system.slots > FEW_SLOTS:
         return f"It is the trigger's, which the master sends. {owned_ones(system)}"
     if FIRST_SLOT <= number < FIRST_SLOT + system.slots:
         return f"It is that of slot {number - FIRST_SLOT}, which the plan sends. {owned_ones(system)}"

@@ -52,7 +52,7 @@ def bounds_of(name, row, system, cycles):
     period, phase, deadline = (whole(row.get(it, b""), longest) for it in ("PERIOD", "PHASE", "DEADLINE"))
     # The first repeat needs a period behind the first release, before the horizon.
     latest = max(cycles + horizon - phase - period, cycles)
-    slots, nodes = (limits.SLOTS[0], None) if system is None else (system.slots, system.nodes)
+    slots, nodes = (limits.FEW_SLOTS, None) if system is None else (system.slots, system.nodes)
     high = {"COUNT": max(limits.CYCLES - cycles, 0), "OPERATOR": limits.OPERATORS, "START": latest, "SLOT": slots - 1,
             "NODE": None if nodes is None else nodes - 1, "LENGTH": limits.LENGTH,
             "PHASE": period - 1 if period else None, "PERIOD": longest, "DEADLINE": period or longest,
@@ -130,10 +130,10 @@ def why_no_number(field, bounds):
 
 def why_no_slot(slot, system):
     """What is said of a slot that the bus does not have."""
-    slots = 40 if system is None else system.slots
+    slots = limits.FEW_SLOTS if system is None else system.slots
     told = f"SLOT is {slot}. The slots are 0 to {slots - 1}."
-    if not slots <= slot < 96:
+    if not slots <= slot < limits.MANY_SLOTS:
         return told
-    need = 0 if system is None else TRIGGER[96] + system.turnaround + system.window
+    need = 0 if system is None else TRIGGER[limits.MANY_SLOTS] + system.turnaround + system.window
     more = f", and bus.cycle has to be at least {need}" if system is not None and need > system.cycle else ""
     return f"{told} With bus.slots = 96 they are 0 to 95{more}."

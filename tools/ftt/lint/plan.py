@@ -2,6 +2,8 @@
 import itertools
 import re
 
+from ..limits import FEW_SLOTS
+from ..masks import mask_of
 from ..telling import shown, some
 from .files import bytes_of
 
@@ -59,7 +61,7 @@ class PlanLines:
         if re.fullmatch(rb"[0-9a-f]{10}", text):
             return int(text, 16)
         if version == 2 and re.fullmatch(rb"[0-9a-f]{24}", text):
-            if int(text, 16) < 1 << 40:
+            if int(text, 16) < 1 << FEW_SLOTS:
                 self.refuse(f"all slots of {shown(text)} are below 40. Write ten digits: {int(text, 16):010x}.")
             return int(text, 16)
         remedy = f"It has {some(len(text), 'character')}. "
@@ -69,7 +71,7 @@ class PlanLines:
             remedy = ""
         digits = re.fullmatch(rb"(?:0[xX])?([0-9a-fA-F]{1,24})", text.strip())
         number = 0 if digits is None else int(digits[1], 16)
-        form = f"{number:010x}" if version == 1 or number < 1 << 40 else f"{number:024x}"
+        form = f"{number:010x}" if version == 1 else mask_of(number)
         more = ", or 24 where a slot from 40 on is in the set" if version == 2 else ""
         what = f": {form}." if digits is not None and len(form) in (10, 24) else "."
         return self.refuse(f"{shown(text)} is no mask. {remedy}Write ten lower-case hexadecimal digits{more}{what}")

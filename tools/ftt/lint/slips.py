@@ -3,6 +3,7 @@ takes the file up to a later line, or to its end."""
 import re
 import tomllib
 
+from ..limits import SLOTS
 from ..telling import close, shown
 from . import advice
 
@@ -78,7 +79,7 @@ def right_row(text, line, ranges):
             return candidate, None
         low, high = range_beside(mended, pair[1], ranges)
         number = int(pair[2], 16 if pair[2].startswith("0x") else 10)
-        if low <= number <= high and (pair[1] != "slots" or number in (40, 96)):
+        if low <= number <= high and (pair[1] != "slots" or number in SLOTS):
             return candidate, None
         beside = beside or (pair[1], low, high)
     return None, beside

@@ -8,14 +8,13 @@ from .. import limits
 from ..frames import worst
 from ..rows import records_of
 from ..steps import CHANGES, MOST, ROWS, WORDS, key_of, width_of
+from ..table import Operation, changed, free_from, live_of
 from ..telling import close, shown, some
 from . import tables
 from .fields import number_of, separators
 from .files import rows_in
 from .numbers import bounds_of, why_no_number, why_no_slot
 
-# An operation: the line of its row, its word, and its fields by their names.
-Operation = namedtuple("Operation", "line word fields")
 # A change, above which so many cycles were opened.
 Change = namedtuple("Change", "start operations above")
 
@@ -141,7 +140,7 @@ def lint_rows(data, system, found):
 def broken_twice(operation, earlier, table):
     """What is said of the second operation of a change on one slot."""
     slot = operation.fields["SLOT"]
-    is_live = table is not None and tables.live_of(table.get(slot, [])) is not None
+    is_live = table is not None and live_of(table.get(slot, [])) is not None
     both = ""
     if {earlier.word, operation.word} == {"add", "remove"} and is_live:
         both = " For both, write change in place of the two."
@@ -151,7 +150,7 @@ def broken_twice(operation, earlier, table):
 
 def slots_of(system):
     """How many slots a system has, or the fewest where it is not known."""
-    return limits.SLOTS[0] if system is None else system.slots
+    return limits.FEW_SLOTS if system is None else system.slots
 
 
 def broken_value(operation, change, place, system, table):
@@ -184,20 +183,20 @@ def broken_slot(operation, change, table, system):
     """The rule of slots that an operation breaks, with what is told behind it, and the words; None for none."""
     slot, start = operation.fields["SLOT"], change.start
     entries = table.get(slot, [])
-    live = tables.live_of(entries)
+    live = live_of(entries)
     named = {it.fields["SLOT"] for it in change.operations}
     if operation.word == "add":
         if live is not None:
             other = tables.free_slot(table, slots_of(system), start, named)
             told = "" if other is None else f", such as {other}"
             return "10", f"SLOT {slot} has a live entry. Take another slot{told}, or write change."
-        free = tables.free_from(entries)
+        free = free_from(entries)
         if free > start:
             return f"10,{free}", f"SLOT {slot} is free from cycle {free} on, and START is {start}. Take START {free}."
         return None
     if live is None:
-        others = [it for it in sorted(table) if it not in named and tables.live_of(table[it]) is not None
-                  and tables.live_of(table[it]).origin <= start]
+        others = [it for it in sorted(table) if it not in named and live_of(table[it]) is not None
+                  and live_of(table[it]).origin <= start]
         told = f"take a slot that has one, such as {others[0]}" if others else "leave the row out"
         return "11", (f"SLOT {slot} has no live entry. Add one first, or {told}."
                       + (" To add one, write add." if operation.word == "change" else ""))
@@ -257,7 +256,7 @@ def lint_change(change, table, system, cycles, mode, found):
                       f"least START {change.above}, or put the row higher.",
                       answered=f"passed,{change.start},{change.above}")
         return False
-    after = tables.changed(table, change)
+    after = changed(table, change)
     if never_fits(change, after, system, found):
         return False
     if not lint_repeat(change, table, after, system, mode, found):
@@ -329,7 +328,7 @@ def lint_steps(path, system, mode, found):
                                   "Nothing of this entry is sent: open more cycles, or begin earlier.")
         if is_accepted:
             lint_silence(change, table, system, mode, found)
-            table = tables.changed(table, change)
+            table = changed(table, change)
     if not found.mistakes and not changes and not cycles:
         found.warning(None, "the file asks for nothing. Write rows, such as add and cycle.")
     return (cycles, table) if is_whole else (None, None)

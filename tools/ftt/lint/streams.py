@@ -1,5 +1,5 @@
 """Looks at the requests of polled slots."""
-from ..limits import LENGTH, SLOTS, STREAMS
+from ..limits import LENGTH, MANY_SLOTS, STREAMS
 from ..rows import records_of
 from ..telling import shown, some
 from .arrivals import Arrivals, is_header
@@ -18,7 +18,7 @@ def read_stream(record, system, last, rows):
     if slot is None:
         why = why_no_number(record.fields[1], bounds_of("SLOT", {}, system, 0))
         rows.found.mistake(record.line, f"SLOT is {shown(record.fields[1])}: {why}", rows.told(record, "number"))
-    elif slot >= (SLOTS[-1] if system is None else system.slots):
+    elif slot >= (MANY_SLOTS if system is None else system.slots):
         rows.found.mistake(record.line, why_no_slot(slot, system), rows.told(record, "slot"))
         slot = None
     length = rows.length(record)

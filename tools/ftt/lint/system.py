@@ -216,7 +216,7 @@ def lint_system(path, found):
     if found.mistakes:
         return None
     cycle, window, turnaround = values["bus.cycle"], values["bus.window"], values.get("bus.turnaround", 0)
-    slots = values.get("bus.slots", 40)
+    slots = values.get("bus.slots", limits.FEW_SLOTS)
     trigger = TRIGGER[slots]
     need = trigger + turnaround + window
     if need > cycle:

@@ -1,37 +1,12 @@
-"""The entries that changes place, what a change does to them, and changes that are taken in its place."""
+"""What a change makes of a table, and changes that are taken in its place."""
 import math
 from collections import namedtuple
 
+from ..table import changed, free_from, last_release, live_of
 from ..telling import some
 
-Placed = namedtuple("Placed", "origin end phase period deadline length")
 # The releases between which a changed slot is silent, and the entries before and after.
 Silence = namedtuple("Silence", "last first old new")
-
-
-def live_of(entries):
-    """The live entry of a slot; None where there is none."""
-    return next((it for it in entries if it.end is None), None)
-
-
-def free_from(entries):
-    """The cycle from which a slot without a live entry is free."""
-    return max((it.end + it.deadline - 1 for it in entries), default=0)
-
-
-def changed(table, change):
-    """The table after a change that breaks no rule."""
-    after = {slot: list(entries) for slot, entries in table.items()}
-    for operation in change.operations:
-        fields = operation.fields
-        entries, origin = after.setdefault(fields["SLOT"], []), change.start
-        if operation.word != "add":
-            place = next(place for place, it in enumerate(entries) if it.end is None)
-            origin = change.start + entries[place].deadline - 1
-            entries[place] = entries[place]._replace(end=change.start)
-        if operation.word != "remove":
-            entries.append(Placed(origin, None, *(fields[it] for it in ("PHASE", "PERIOD", "DEADLINE", "LENGTH"))))
-    return after
 
 
 def least_from(table, horizon):
@@ -62,12 +37,6 @@ def free_slot(table, slots, start, others=()):
     is free."""
     return next((slot for slot in range(slots) if slot not in others and live_of(table.get(slot, [])) is None
                  and free_from(table.get(slot, [])) <= start), None)
-
-
-def last_release(entry, end):
-    """The last release of an entry before a cycle; None where there is none."""
-    first = entry.origin + entry.phase
-    return None if first >= end else first + (end - 1 - first) // entry.period * entry.period
 
 
 def silence_of(operation, change, table):

@@ -4,9 +4,10 @@ import re
 import struct
 
 from ..frames import INTERMISSION, wire_of
-from ..limits import LAST_ID, LENGTH, TRIGGERS
+from ..limits import FEW_SLOTS, LAST_ID, LENGTH, TRIGGERS
+from ..masks import mask_of
 from ..telling import some
-from .rows import NoLog, mask_of
+from .rows import NoLog
 
 MICROS = 1_000_000
 LINE = re.compile(r"\((\d+)\.(\d{1,9})\) +(\S+) +([0-9A-Fa-f]+)#([0-9A-Fa-f]*|R\d?)( +[RT])?")
@@ -136,7 +137,7 @@ def cycles_in(frames, starts):
             continue
         behind = cycles[-1][3]
         if frame.identifier == TRIGGERS[1] and len(behind) == 1 and len(frame.data) == 8:
-            cycles[-1][1] |= int.from_bytes(frame.data[1:], "little") << 40
+            cycles[-1][1] |= int.from_bytes(frame.data[1:], "little") << FEW_SLOTS
         behind.append((frame, start))
     return cycles
 

@@ -4,8 +4,9 @@ import json
 import xml.sax.saxutils as xml
 
 from ..limits import TRIGGERS
+from ..masks import slots_of
 from ..telling import listed, some
-from .rows import NoLog, REPORT, duration, is_slot, length_of, millis, opened, slots_of
+from .rows import NoLog, REPORT, duration, is_slot, length_of, millis, opened
 from .words import reported_told, verdict_told
 
 # Width of a letter of the font in parts of its size: wider than most.

@@ -3,7 +3,7 @@ import csv
 import fractions
 import re
 
-from ..limits import FIRST_SLOT, LAST_ID, LAST_SLOT, SLOTS, TRIGGERS
+from ..limits import FIRST_SLOT, LAST_ID, LAST_SLOT, MANY_SLOTS, TRIGGERS
 from ..telling import fixed, some
 
 NUMBER = r"(0|[1-9][0-9]*)"
@@ -45,17 +45,6 @@ def rows_of(lines):
         yield word, match.groups(), place
 
 
-def slots_of(mask):
-    """The slots of a mask, the least first."""
-    number = int(mask, 16)
-    return [slot for slot in range(SLOTS[-1]) if number >> slot & 1]
-
-
-def mask_of(number):
-    """A set of slots as a mask."""
-    return f"{number:010x}" if number < 1 << 40 else f"{number:024x}"
-
-
 def is_slot(identifier):
     """Whether a frame with this identifier is synchronous."""
     return FIRST_SLOT <= identifier <= LAST_SLOT
@@ -71,7 +60,7 @@ def named_by(key):
     if re.fullmatch("0x[0-9a-fA-F]{1,3}", key):
         identifier = int(key, 16)
         return identifier if identifier <= LAST_ID else None
-    return FIRST_SLOT + int(key) if re.fullmatch("[0-9]{1,2}", key) and int(key) < SLOTS[-1] else None
+    return FIRST_SLOT + int(key) if re.fullmatch("[0-9]{1,2}", key) and int(key) < MANY_SLOTS else None
 
 
 def named_rows(path):

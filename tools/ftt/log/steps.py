@@ -2,7 +2,8 @@
 import pathlib
 
 from .. import places, rows
-from ..steps import CHANGES, key_of, width_of
+from ..steps import CHANGES, ROWS, key_of, width_of
+from ..table import Operation
 from .rows import NoLog
 
 
@@ -45,7 +46,7 @@ def read_steps(path):
             operator = numbers.pop(0)
             act = None if key[0] == "cycle" else Act(operator, numbers.pop(0) if key[0] in CHANGES else None, line)
         if key[-1] in CHANGES:
-            act.operations.append([key[-1], *numbers])
+            act.operations.append(Operation(line, key[-1], dict(zip(ROWS[key][-len(numbers):], numbers))))
         found.append((line, record, act))
     return found
 

@@ -6,6 +6,7 @@ from .. import places
 from ..frames import INTERMISSION
 from ..limits import FIRST_SLOT, LAST_SLOT, TRIGGERS
 from ..rows import identifier_of
+from ..table import changed, live_of, release
 from ..telling import some
 from .drawing import histogram
 from .rows import NoLog, RIDES, is_slot, length_of, millis, opened
@@ -15,58 +16,48 @@ PERCENTILES = (50, 90, 99)
 PERCENTS = [f"p{percent}" for percent in PERCENTILES]
 
 
-class Entry:
-    """An entry of the table: its releases, and the number of the instance that is sent next."""
-
-    def __init__(self, origin, operation):
-        _, self.slot, _, self.length, phase, self.period, self.deadline, _ = operation
-        self.origin, self.end, self.sent = origin, None, 0
-        self.first = origin + phase
-
-    def release(self):
-        """The release of its next instance, or None where it has ended before."""
-        release = self.first + self.sent * self.period
-        return release if self.end is None or release < self.end else None
-
-
-def change(entries, act):
-    """What an accepted change does to the entries, which stand by slot in the order of their placing."""
+def accepted(table, act):
+    """The table behind a change that the log accepts."""
     for operation in act.operations:
-        word, slot = operation[:2]
-        origin = act.start
-        if word != "add":
-            if not entries[slot]:
-                raise NoLog(f"line {act.line} of the steps: slot {slot} has no entry that the log has accepted")
-            old = entries[slot][-1]
-            old.end = act.start
-            origin += old.deadline - 1
-        if word != "remove":
-            entries[slot].append(Entry(origin, operation))
+        slot = operation.fields["SLOT"]
+        if operation.word != "add" and live_of(table.get(slot, [])) is None:
+            raise NoLog(f"line {act.line} of the steps: slot {slot} has no entry that the log has accepted")
+    return changed(table, act)
+
+
+def next_of(table, slot, sent):
+    """The entry of a slot whose instance is sent next, its place there, and its release; None where there is none. Of
+    each entry so many were sent, by slot and place."""
+    found = ((place, it, release(it, sent[slot, place])) for place, it in enumerate(table.get(slot, [])))
+    return next((it for it in found if it[2] is not None), (None, None, None))
 
 
 def delays_of(rows, path):
     """The delays of the sent instances in cycles, by identifier: the cycle of the frame less the release. Frames of a
     log with requests that ride on slots have these requests as data, and those of other logs the instance's number."""
     is_polled = any(word in RIDES for word, _, _ in rows)
-    asked, entries = Asked(path), collections.defaultdict(list)
+    asked, table, sent = Asked(path), {}, collections.Counter()
     delays, cycle = collections.defaultdict(list), None
     for word, fields, place in rows:
         if word == "submit":
             act = asked.next(word, int(fields[0]), place)
             if fields[2] == "accepted":
-                change(entries, act)
+                table = accepted(table, act)
         elif word == "look":
             asked.next(word, int(fields[0]), place)
         elif word == "open":
             cycle = int(fields[0])
         elif word == "frame" and is_slot(int(fields[2], 16)):
             identifier = int(fields[2], 16)
-            entry = next((it for it in entries[identifier - FIRST_SLOT] if it.release() is not None), None)
-            low = None if entry is None else (entry.sent % 256 ** entry.length).to_bytes(entry.length, "big").hex()
+            slot = identifier - FIRST_SLOT
+            place_in, entry, released = next_of(table, slot, sent)
+            low = None
+            if entry is not None:
+                low = (sent[slot, place_in] % 256 ** entry.length).to_bytes(entry.length, "big").hex()
             if low != fields[3] and (entry is None or not is_polled):
                 raise NoLog(f"row {place}: the steps of {path} send no such frame here. Is the log whole, and theirs?")
-            delays[identifier].append(cycle - entry.release())
-            entry.sent += 1
+            delays[identifier].append(cycle - released)
+            sent[slot, place_in] += 1
     return delays
 
 

@@ -4,8 +4,10 @@ import re
 import textwrap
 
 from ..limits import FIRST_SLOT, OPERATIONS
+from ..masks import slots_of
+from ..steps import ENTRY
 from ..telling import listed, some
-from .rows import duration, is_slot, slots_of
+from .rows import duration, is_slot
 from .steps import Asked, answered
 
 WIDTH = 100
@@ -28,12 +30,11 @@ WHYS = {
 
 def operation_told(operation, names):
     """An operation of a change, in words."""
-    word, slot, *rest = operation
-    who = names.of_slot(slot)
-    if word == "remove":
+    fields, who = operation.fields, names.of_slot(operation.fields["SLOT"])
+    if operation.word == "remove":
         return f"remove {who}"
-    node, length, phase, period, deadline, priority = rest
-    told = f"{word} {who}: {some(length, 'byte')} of node {node}, period {period}"
+    _, node, length, phase, period, deadline, priority = (fields[it] for it in ENTRY)
+    told = f"{operation.word} {who}: {some(length, 'byte')} of node {node}, period {period}"
     told += f", deadline {deadline}" if deadline != period else ""
     told += f", phase {phase}" if phase else ""
     return told + (f", priority {priority}" if priority else "")

@@ -123,7 +123,7 @@ def parser():
     made.add_argument("--policy", choices=limits.POLICIES, default="rm", help="without it rm")
     made.add_argument("--fill", choices=limits.FILLS, default="prefix", help="what a cycle does at a message "
                       "that doesn't fit any more: it ends there, or passes over it; without it prefix")
-    made.add_argument("--slots", type=int, choices=limits.SLOTS, default=limits.SLOTS[0], help="how many synchronous "
+    made.add_argument("--slots", type=int, choices=limits.SLOTS, default=limits.FEW_SLOTS, help="how many synchronous "
                       "messages there may be; with 96 a cycle has two trigger frames, 270 bit times in place of 135; "
                       "without it 40")
     made.add_argument("--horizon", type=within(*limits.HORIZON), default=limits.USUAL_HORIZON,

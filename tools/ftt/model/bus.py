@@ -5,7 +5,7 @@ from fractions import Fraction
 
 from ..faults import Refused
 from ..frames import TRIGGER, worst
-from ..limits import CYCLE, FIRST_ASYNC, LAST_ASYNC, LENGTH, RATE, TIMES, WINDOW
+from ..limits import CYCLE, FEW_SLOTS, FIRST_ASYNC, LAST_ASYNC, LENGTH, RATE, TIMES, WINDOW
 from ..system import room
 from ..telling import decimal
 
@@ -71,7 +71,7 @@ class Bus:
 def entries_of(messages, bus, nodes, slots, mistakes):
     """The synchronous messages in their slots, in the order of their identifiers."""
     chosen = [message for message in messages if message.kind == "sync"]
-    more = "Take --slots 96, make some asynchronous" if slots == 40 else "Make some asynchronous"
+    more = "Take --slots 96, make some asynchronous" if slots == FEW_SLOTS else "Make some asynchronous"
     for message in chosen[slots:]:
         mistakes.add(message.line, "name", message.name, f"this is a synchronous message beyond the {slots} slots. "
                      f"{more}, or leave some out.")

@@ -3,7 +3,7 @@ import csv
 import io
 
 from ..faults import Unread
-from ..limits import OPERATIONS, SLOTS
+from ..limits import FEW_SLOTS, OPERATIONS
 from ..telling import decimal
 from .bus import Entry
 
@@ -12,7 +12,7 @@ def system_text(bus, owned, words, window, nodes):
     """The system file."""
     text = (f"# made by fttmodel: {decimal(bus.kbits)} kbit/s, cycles of {decimal(bus.millis(1), 6)} ms\n"
             f"[bus]\ncycle = {bus.cycle}\nturnaround = {words.turnaround}\nwindow = {window}\nnodes = {nodes}\n"
-            + (f"slots = {words.slots}\n" if words.slots != SLOTS[0] else "")
+            + (f"slots = {words.slots}\n" if words.slots != FEW_SLOTS else "")
             + f'\n[plan]\npolicy = "{words.policy}"\nhorizon = {words.horizon}\n'
             + (f'fill = "{words.fill}"\n' if words.fill != "prefix" else ""))
     for it in sorted(owned, key=lambda it: it.id):

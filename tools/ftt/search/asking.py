@@ -62,7 +62,7 @@ def first_call(words):
         # The launcher says so by itself.
         more = f" {places.tool('fttlint')} {words.system} {words.steps} tells what to do."
         raise Refused(f"fttcan refuses a file.{more if named or not places.checkout() else ''}")
-    if status in (126, 127) and not named:
+    if status in (126, 127) and not named and places.checkout():
         raise Failed(f"There is no program to ask. With FTTCAN={places.TOOLS}/reference in front, fttsearch asks a "
                      "plain program: slower, and not proved.")
     if status not in (0, 1):

@@ -5,7 +5,7 @@ import tomllib
 
 from ..faults import Refused
 from ..rows import records_of
-from ..steps import slot_in
+from ..steps import ENTRY, slot_in
 
 
 def rows_of(text):
@@ -37,13 +37,13 @@ def stepped(rows, values):
             continue
         slot = int(name.partition(".")[2])
         row = next(row for row in reversed(rows) if slot_in(row) and int(row[slot_in(row)]) == slot)
-        at = slot_in(row) + 4
+        at = slot_in(row) + ENTRY.index("PERIOD")
         is_same = int(row[at]) == int(row[at + 1])
         row[at + 1] = str(value if is_same else min(value, int(row[at + 1])))
         row[at] = str(value)
     for row in rows:
         if slot_in(row) and "deadline" in values:
-            at = slot_in(row) + 5
+            at = slot_in(row) + ENTRY.index("DEADLINE")
             row[at] = str(min(values["deadline"], int(row[at])))
     return "".join(",".join(row) + "\n" for row in rows)
 

@@ -6,7 +6,7 @@ import sys
 import tomllib
 
 from ..faults import Refused
-from ..limits import SLOTS, WINDOW
+from ..limits import FEW_SLOTS, WINDOW
 from ..system import room
 from .asking import first_call, tried
 from .files import rows_of
@@ -41,7 +41,7 @@ class Search:
         self.open(words, asked_grid(words, rows, system))
         program, document = first_call(words), tomllib.loads(system)
         bus = document["bus"]
-        self.widest = min(room(bus["cycle"], bus.get("slots", SLOTS[0]), bus.get("turnaround", 0)), WINDOW[1])
+        self.widest = min(room(bus["cycle"], bus.get("slots", FEW_SLOTS), bus.get("turnaround", 0)), WINDOW[1])
         self.table.begin()
         tried(program, document, rows, self.table, words.jobs)
 
