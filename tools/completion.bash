@@ -1,25 +1,61 @@
-# Completes the words of the launcher in bash: commands, options and files. Call it so, best in ~/.bashrc:
+# Completes words in bash: commands, forms, options, their values, and files. An installation puts it in place. Or call:
 #
 #     . PATH/tools/completion.bash
 #
-# Commands and options are those that the help of the launcher has, so a new one needs nothing here.
+# tools/print-completion has written it from the helps of the tools and the commands of the launcher.
 # shellcheck shell=bash
 
+# The words that stand behind a key.
+_fttcan_words() {
+    case $1 in
+    'fttcan FORM') printf %s 'replay admit check gen live audit handover poll elastic' ;;
+    'fttcan replay') printf %s '--tail --report' ;;
+    'fttcan live') printf %s '--report' ;;
+    'fttcan-reference FORM') printf %s 'replay admit check gen audit handover poll elastic' ;;
+    'fttcan-reference replay') printf %s '--tail --report' ;;
+    'fttmodel') printf %s '--help --window --turnaround --policy --fill --slots --horizon --nodes --cycles --renumber --period-attribute --strict --version' ;;
+    'fttmodel --policy') printf %s 'rm dm edf' ;;
+    'fttmodel --fill') printf %s 'prefix skip' ;;
+    'fttmodel --slots') printf %s '40 96' ;;
+    'fttlint') printf %s '--help --plan --streams --words --live --replay --all --version' ;;
+    'fttsearch') printf %s '--help --window --policy --fill --deadline --period --part --join --csv --resume --svg --jobs --version' ;;
+    'fttlog FORM') printf %s 'say late svg html json accepted candump pcap from-candump bits' ;;
+    'fttlog say') printf %s '--help --kbits --names --steps --all' ;;
+    'fttlog late') printf %s '--help --kbits --names --cycle --requests --steps --svg' ;;
+    'fttlog svg') printf %s '--help --kbits --names --cycle' ;;
+    'fttlog html') printf %s '--help --kbits --names --cycle --title' ;;
+    'fttlog json') printf %s '--help --names' ;;
+    'fttlog accepted') printf %s '--help' ;;
+    'fttlog candump') printf %s '--help --at --starts --ends --interface' ;;
+    'fttlog pcap') printf %s '--help --at --starts --ends' ;;
+    'fttlog from-candump') printf %s '--help --cycle --starts --ends --interface --calls' ;;
+    'fttlog bits') printf %s '--help --until' ;;
+    esac
+}
+
+# Whether a command is the launcher, which is a script, and not the built program.
+_fttcan_is_launcher() { [ "$(head -c 2 -- "$(type -P -- "$1")" 2>/dev/null)" = '#!' ]; }
+
 _fttcan() {
-    local typed=${COMP_WORDS[COMP_CWORD]} at=1 lines command
-    lines=$("$1" help 2>/dev/null | sed -n 's/^  fttcan //p')
+    local typed=${COMP_WORDS[COMP_CWORD]} before=${COMP_WORDS[COMP_CWORD - 1]} key=${1##*/} at=1 first words=
     COMPREPLY=()
-    [ "${COMP_WORDS[1]}" = try ] && [ "$COMP_CWORD" -gt 1 ] && at=2
-    if [ "$COMP_CWORD" -eq "$at" ]; then
-        mapfile -t COMPREPLY < <(compgen -W "$(grep -o '^[a-z]*' <<<"${lines//, fttcan /$'\n'}")" -- "$typed")
-        return
+    [ "$key" = reference ] && key=fttcan-reference
+    first=$(_fttcan_words "$key FORM")
+    if [ "$key" = fttcan ] && _fttcan_is_launcher "$1"; then
+        [ "${COMP_WORDS[1]}" = try ] && [ "$COMP_CWORD" -gt 1 ] && at=2
+        [ "$at" -eq 1 ] && first="$first try help version where"
     fi
-    command=$(grep -m 1 "^${COMP_WORDS[at]} " <<<"$lines")
-    if [[ $typed == -* ]]; then
-        mapfile -t COMPREPLY < <(compgen -W "$(grep -o -e '--[a-z]*' <<<"$command")" -- "$typed")
+    if [ -n "$first" ] && [ "$COMP_CWORD" -eq "$at" ]; then
+        words=$first
     else
+        [ -n "$first" ] && key="$key ${COMP_WORDS[at]}"
+        [[ $typed == -* ]] && words=$(_fttcan_words "$key") || words=$(_fttcan_words "$key $before")
+    fi
+    if [ -n "$words" ]; then
+        mapfile -t COMPREPLY < <(compgen -W "$words" -- "$typed")
+    elif [[ $typed != -* ]]; then
         mapfile -t COMPREPLY < <(compgen -f -- "$typed")
     fi
 }
 
-complete -o filenames -F _fttcan fttcan ./fttcan
+complete -o filenames -F _fttcan fttcan ./fttcan fttmodel fttlint fttsearch fttlog fttcan-reference tools/fttmodel tools/fttlint tools/fttsearch tools/fttlog tools/reference

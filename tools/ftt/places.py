@@ -1,6 +1,8 @@
 """Where the tools stand: in a checkout of the repository, or in an installed package."""
+import os
 import pathlib
 import shutil
+import sys
 
 TOOLS = pathlib.Path(__file__).resolve().parent.parent
 
@@ -16,6 +18,12 @@ def tool(name):
 
 
 def program():
-    """The path of fttcan: the launcher of the checkout, or the program that is installed; None where neither is."""
+    """The path of fttcan: the launcher of the checkout; or the program that is installed, beside the tool that was
+    called or else on the path; None where neither is."""
     top = checkout()
-    return str(top / "fttcan") if top else shutil.which("fttcan")
+    if top:
+        return str(top / "fttcan")
+    called = pathlib.Path(sys.argv[0]).absolute()
+    beside = called.with_name("fttcan")
+    is_there = called.is_file() and beside.is_file() and os.access(beside, os.X_OK)
+    return str(beside) if is_there else shutil.which("fttcan")

@@ -18,8 +18,8 @@ output, and then the sentences go to standard error. The first row of the table 
 table that an earlier call left, and begins it where it is not there. --part tries each N-th point from the K-th one on,
 so that several machines share a grid, and --join reads the rows of all parts. A grid with holes is refused there.
 
-The program is the one that ./fttcan at the top of the repository builds, or the one that FTTCAN names. Outside of a
-checkout it is the fttcan of the path.
+The program is the one that FTTCAN names. Else it is the one that ./fttcan at the top of the repository builds; or, for
+an installed fttsearch, the fttcan beside it or on the path.
 
 Status: 0 some point is accepted, or all points of a part were tried; 1 none is accepted; 2 a file or a range is
 refused; 3 a file can't be read or written, or the program fails; 4 wrong words, or a Python before 3.11; 130

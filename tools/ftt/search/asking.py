@@ -55,7 +55,8 @@ def first_call(words):
     is shown, as how far a build is. The launcher is asked for the program that it has built."""
     named, usual = os.environ.get("FTTCAN"), places.program()
     if not named and usual is None:
-        raise Failed("There is no program to ask: no fttcan is on the path. FTTCAN names the program.")
+        raise Failed("There is no program to ask: no fttcan is beside fttsearch, and none on the path. With "
+                     "FTTCAN=fttcan-reference in front, fttsearch asks a plain program: slower, and not proved.")
     _, _, status = CALLS.make(named or usual, ["replay", words.system, words.steps], None)
     if status == 3:
         # The launcher says so by itself.
