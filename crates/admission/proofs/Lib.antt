@@ -16,6 +16,7 @@ mod Reduced
 mod Repeats
 mod Row
 mod Same
+mod SameLeft
 mod States
 mod Places
 mod Stretched

@@ -8,6 +8,7 @@ ghost use Rattle.requirement_table.specs.Table.{IsWellPlaced};
 ghost use Rattle.change_protocol.specs.declared.operations.Change.{Change};
 ghost use Rattle.change_protocol.specs.Applied.{applied};
 ghost use Rattle.change_protocol.specs.Operations.{HasTypes};
+ghost use Rattle.change_protocol.specs.Pruned.{pruned};
 ghost use Rattle.planner_policies.specs.Plan.{HasNoMiss, IsValid, NeverMisses, Planning, mask_at, pending_at};
 ghost use Rattle.planner_policies.specs.declared.state.PlanState.{PlanState};
 ghost use Rattle.plan_check.specs.Certificate.{CertificateView};
@@ -18,6 +19,7 @@ ghost use Rattle.admission.specs.Certified.{IsCertificateOf, end_of};
 ghost use Rattle.admission.specs.declared.verdict.Verdict.{Verdict};
 ghost use Rattle.admission.specs.Recurrence.{IsRecurrence};
 ghost use Rattle.admission.specs.Verdict.{IsInTime, IsRules, IsTakenWhereDue, IsVerdict, masks_of, plan_from};
+ghost use Rattle.admission.specs.Verdict.{trail_of};
 
 use planner_policies::laws::{loops, valid_states};
 
@@ -86,4 +88,25 @@ pub fn certificates_in_range()
         → IsCertificateOf rules placed opened state certificate
         → certificate.masks ≡ masks_of (plan_from rules placed 0 0) (end_of certificate)
         → IsPlanOf (plan_text certificate) certificate }
+{}
+
+/// A list that is pruned by a cycle has the verdict of the whole list on each change that is planned from that cycle or
+/// a later one.
+pub fn pruned_lists()
+    ensures verdict { (rules : Rules) (c from pending next : ℕ) (placed : List Placed) (change : Change)
+        (verdict : Verdict) → c ≤ from → IsWellPlaced placed → rules.slots ≤ most_slots → All HasTypes change.ops
+        → IsVerdict rules (pruned c placed) pending from next change verdict
+        → IsVerdict rules placed pending from next change verdict }
+    ensures trail { (rules : Rules) (c from pending next : ℕ) (placed : List Placed) (change : Change)
+        (verdict : Verdict) → c ≤ from → IsWellPlaced placed → rules.slots ≤ most_slots → All HasTypes change.ops
+        → IsVerdict rules (pruned c placed) pending from next change verdict
+        → trail_of (plan_from rules (applied (pruned c placed) change) from pending) verdict
+        ≡ trail_of (plan_from rules (applied placed change) from pending) verdict }
+    ensures well_placed { (c : ℕ) (placed : List Placed) → IsWellPlaced placed → IsWellPlaced (pruned c placed) }
+    ensures due { (rules : Rules) (c from pending next : ℕ) (placed : List Placed) (change : Change)
+        (verdict : Verdict) → c ≤ from → IsWellPlaced placed → rules.slots ≤ most_slots → All HasTypes change.ops
+        → (IsInTime rules (pruned c placed) next change
+        → IsTakenWhereDue rules (plan_from rules (applied (pruned c placed) change) from pending) verdict)
+        → IsInTime rules placed next change
+        → IsTakenWhereDue rules (plan_from rules (applied placed change) from pending) verdict }
 {}
