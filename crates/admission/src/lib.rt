@@ -11,6 +11,7 @@ mod decision;
 mod entries;
 pub mod laws;
 mod periods;
+mod safety;
 mod verdict;
 mod walk;
 
@@ -19,4 +20,5 @@ pub use certify_fault::CertifyFault;
 pub use certifying::certify;
 pub use deciding::decide;
 pub use decision::{Decision, Trail};
+pub use safety::{are_rules, safe_list};
 pub use verdict::Verdict;
