@@ -11,6 +11,7 @@ mod Left
 mod Listed
 mod Multiples
 mod Once
+mod Onward
 mod Planned
 mod Reduced
 mod Repeats

@@ -14,12 +14,13 @@ use Rattle.change_protocol.specs.Applied.{applied}
 use Rattle.change_protocol.specs.Malformed.{Broken, IsWellFormed, change_faults, faults, op_faults}
 use Rattle.change_protocol.specs.Operations.{HasTypes}
 use Rattle.change_protocol.specs.Pruned.{may_go, pruned}
-use Rattle.change_protocol.proofs.Shared.{faults-pruned, not_over-applied, well_placed-applied}
-use Rattle.planner_policies.specs.Plan.{HasNoMiss, IsFirstMiss, Planning, pending_at}
+use Rattle.change_protocol.proofs.Shared.{faults-pruned, not_over-applied, not_over-pruned, well_placed-applied}
+use Rattle.planner_policies.specs.Plan.{HasNoMiss, IsFirstMiss, IsValid, Planning, pending_at}
 use Rattle.admission_rules.specs.declared.Rules.{Rules}
 use Rattle.admission.specs.declared.verdict.Verdict.{Verdict}
 use Rattle.admission.specs.declared.verdict.Verdict.TheVariants.{Malformed, Passed, Miss, Horizon, Accepted}
 use Rattle.admission.specs.Recurrence.{AllRelease, AreAlike, HasNoRecurrence, IsCommonPeriod, IsLeastCommonPeriod, IsRecurrence, bound_of}
+use Rattle.admission.specs.Safe.{HasRepeat, IsSafeWithin}
 use Rattle.admission.specs.Verdict.{IsInTime, IsTakenWhereDue, IsVerdict, IsVerdictOnPlan, bounds_by, masks_of, plan_from, ranking_by, trail_of}
 use Rattle.admission.proofs.Cycles.{IsLike, same-masks, same-missed, same-no_miss, same-pending}
 use Rattle.admission.proofs.Left.{bound-kept, common-left, common-whole}
@@ -159,6 +160,45 @@ releases-same from c one other same all =
     (subst (λ (l : List Placed). All (λ p. p.end ≡ None → (k : ℕ) × IsReleasedIn p k c) l) same.left
     (All-filter (λ p. not (is_over from p)) (λ p. p.end ≡ None → (k : ℕ) × IsReleasedIn p k c) one all))
 
+-- so the one list is safe where the other is
+
+pub valid-same : (from pending : ℕ) (one other : List Placed) → HaveSameLeft from one other → IsValid one from pending → IsValid other from pending
+valid-same from pending one other same held slot is =
+    let here = held slot is in
+    record {
+      instance = here.instance;
+      found =
+          sym (instance_in-not_over from other slot from (omega arith))
+          ∙ ap (λ (l : List Placed). instance_in l slot from) (sym same.left)
+          ∙ instance_in-not_over from one slot from (omega arith)
+          ∙ here.found;
+      before = here.before;
+    }
+
+pub within-same : (rules : Rules) (from pending : ℕ) (one other : List Placed) → HaveSameLeft from one other
+    → IsSafeWithin rules one from pending → IsSafeWithin rules other from pending
+within-same rules from pending one other same is =
+    let safe = is.safe in
+    let again = is.repeats in
+    record {
+      in_range = is.in_range;
+      near = is.near;
+      safe = record {
+        well_placed = same.second;
+        held = valid-same from pending one other same safe.held;
+        in_time = λ m slot known. no_miss rules from pending one other same (m + 1) (λ k s below. safe.in_time k s) m slot (omega arith) known;
+      };
+      repeats = record {
+        period = again.period;
+        least_common = least_common from again.period one other same again.least_common;
+        one = again.one;
+        other = again.other;
+        before = again.before;
+        within = again.within;
+        alike = states rules from pending one other same again.period again.one again.other again.alike;
+      };
+    }
+
 -- so what is due of the one list is due of the other
 pub due-same : (rules : Rules) (from pending : ℕ) (one other : List Placed) (verdict : Verdict) → HaveSameLeft from one other
     → IsTakenWhereDue rules (plan_from rules one from pending) verdict → IsTakenWhereDue rules (plan_from rules other from pending) verdict
@@ -198,6 +238,22 @@ well_placed-pruned c placed well = record {
   in_range = all-pruned IsInRange c placed well.in_range;
   in_order = pairs-pruned c placed well.in_order;
 }
+
+pub same-pruned : (c from : ℕ) (placed : List Placed) → c ≤ from → IsWellPlaced placed → HaveSameLeft from placed (pruned c placed)
+same-pruned c from placed before well = record {
+  first = well;
+  second = well_placed-pruned c placed well;
+  left = sym (not_over-pruned c from placed before);
+}
+
+pub masks-kept : (rules : Rules) (from pending n : ℕ) (one other : List Placed) → HaveSameLeft from one other
+    → masks_of (plan_from rules other from pending) n ≡ masks_of (plan_from rules one from pending) n
+masks-kept rules from pending n one other same =
+    sym (same-masks (ranking_by rules one) other rules.window from pending n (λ m below. like rules from pending one other same m))
+
+pub pending-kept : (rules : Rules) (from pending n : ℕ) (one other : List Placed) → HaveSameLeft from one other
+    → pending_at (plan_from rules other from pending) n ≡ pending_at (plan_from rules one from pending) n
+pending-kept rules from pending n one other same = sym (pendings rules from pending one other same n)
 
 -- the parts of a well formed change
 none-parts : {X : Type 0} (one other : List X) → one ++ other ≡ [] → (one ≡ []) × (other ≡ [])

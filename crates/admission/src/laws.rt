@@ -18,8 +18,10 @@ ghost use Rattle.admission_rules.specs.declared.Rules.{Rules};
 ghost use Rattle.admission.specs.Certified.{IsCertificateOf, end_of};
 ghost use Rattle.admission.specs.declared.verdict.Verdict.{Verdict};
 ghost use Rattle.admission.specs.Recurrence.{IsRecurrence};
-ghost use Rattle.admission.specs.Verdict.{IsInTime, IsRules, IsTakenWhereDue, IsVerdict, masks_of, plan_from};
-ghost use Rattle.admission.specs.Verdict.{trail_of};
+ghost use Rattle.admission.specs.Safe.{HasRepeat, IsSafeWithin};
+ghost use Rattle.admission.specs.Verdict.{IsInTime, IsRules, IsTakenWhereDue, IsVerdict, IsVerdictOnPlan};
+ghost use Rattle.admission.specs.Verdict.{masks_of, plan_from, trail_of};
+ghost use Rattle.admission.specs.declared.verdict.Verdict.TheVariants.{Accepted};
 
 use planner_policies::laws::{loops, valid_states};
 
@@ -110,3 +112,25 @@ pub fn pruned_lists()
         → IsInTime rules placed next change
         → IsTakenWhereDue rules (plan_from rules (applied placed change) from pending) verdict }
 {}
+
+/// What an accepted change makes is safe within the horizon, and stays so: at each later cycle that is opened, with the
+/// slots that the plan leaves pending, and where the list is pruned by that cycle or an earlier one. A pruned list has
+/// the plan of the whole one.
+pub fn safe_states()
+    ensures found { (horizon : ℕ) (plan : Planning) (first length : ℕ)
+        → IsVerdictOnPlan horizon plan (Accepted first length) → HasRepeat plan horizon }
+    ensures later { (rules : Rules) (placed : List Placed) (from pending n : ℕ) → from + n ≤ openings_end
+        → IsSafeWithin rules placed from pending
+        → IsSafeWithin rules placed (from + n) (pending_at (plan_from rules placed from pending) n) }
+    ensures pruned { (rules : Rules) (placed : List Placed) (c from pending : ℕ) → c ≤ from
+        → IsSafeWithin rules placed from pending → IsSafeWithin rules (pruned c placed) from pending }
+    ensures pending { (rules : Rules) (placed : List Placed) (c from pending n : ℕ) → c ≤ from → IsWellPlaced placed
+        → pending_at (plan_from rules (pruned c placed) from pending) n
+        ≡ pending_at (plan_from rules placed from pending) n }
+    ensures planned { (rules : Rules) (placed : List Placed) (c from pending n : ℕ) → c ≤ from → IsWellPlaced placed
+        → masks_of (plan_from rules (pruned c placed) from pending) n
+        ≡ masks_of (plan_from rules placed from pending) n }
+{
+    loops();
+    valid_states();
+}

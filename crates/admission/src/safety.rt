@@ -7,9 +7,7 @@ ghost use Rattle.admission.specs.Verdict.{IsRules};
 use crate::deciding::decide_list;
 use admission_rules::Rules;
 use planner_policies::{PlanState, rank, valid};
-use profile::{
-    GREATEST_HORIZON, LONGEST_WINDOW, MOST_NODES, OPENINGS_END, SHORTEST_WINDOW,
-};
+use profile::{GREATEST_HORIZON, LONGEST_WINDOW, MOST_NODES, OPENINGS_END, SHORTEST_WINDOW};
 use requirement_table::{MOST_SLOTS, Placed, PlacedList, well_placed};
 use std::alloc::{AllocError, Global};
 
