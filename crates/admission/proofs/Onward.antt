@@ -46,7 +46,7 @@ bound-later z y b c (p ∷ placed) is low up =
 same-more : (one other more length : ℕ) → one % length ≡ other % length → (one + more) % length ≡ (other + more) % length
 same-more one other more length same = sym (mod-add-mod one length more) ∙ ap (λ n. (n + more) % length) same ∙ mod-add-mod other length more
 
-rounds-alike : (plan : Planning) (period one other : ℕ) → IsCommonPeriod plan.placed period → one < other → AreAlike plan period one other
+pub rounds-alike : (plan : Planning) (period one other : ℕ) → IsCommonPeriod plan.placed period → one < other → AreAlike plan period one other
     → All (RepeatsFrom (plan.from + one) (other - one)) plan.placed
 rounds-alike plan period one other common before alike i x within =
     let settled = alike.one_settled in

@@ -17,7 +17,7 @@ mod walk;
 
 pub use admission_rules::Rules;
 pub use certify_fault::CertifyFault;
-pub use certifying::certify;
+pub use certifying::{certify, certify_from};
 pub use deciding::decide;
 pub use decision::{Decision, Trail};
 pub use safety::{are_rules, safe_list};
