@@ -15,7 +15,7 @@ ghost use Rattle.plan_check.specs.Certificate.{CertificateView};
 ghost use Rattle.plan_check.specs.PlanKept.{HasPending};
 ghost use Rattle.plan_check.specs.PlanText.{IsPlanOf, plan_text};
 ghost use Rattle.admission_rules.specs.declared.Rules.{Rules};
-ghost use Rattle.admission.specs.Certified.{IsCertificateOf, end_of};
+ghost use Rattle.admission.specs.Certified.{IsCertificateFrom, IsCertificateOf, end_of};
 ghost use Rattle.admission.specs.declared.verdict.Verdict.{Verdict};
 ghost use Rattle.admission.specs.Recurrence.{IsRecurrence};
 ghost use Rattle.admission.specs.Safe.{HasRepeat, IsSafeWithin};
@@ -73,7 +73,8 @@ pub fn taken_where_due()
 /// The certificate of a table, which is the plan from cycle 0 on, is in the range of the checker. It has a mask for each
 /// cycle, of slots that a set has room for. Nothing is pending before it, and its cycles are below the end of cycle
 /// numbers. Where at most 100,000 cycles were opened, its text is that of a plan in the ranges of the reader too. So
-/// reading gives it back, and it is never refused for its form.
+/// reading gives it back, and it is never refused for its form. The certificate from a state on is in the range of the
+/// checker too: each slot that is pending before it has an instance, as the state has, and its cycles are below that end.
 pub fn certificates_in_range()
     ensures count { (plan : Planning) (n : ℕ) → length (masks_of plan n) ≡ n }
     ensures masks { (plan : Planning) (n : ℕ) → All (λ mask. mask < 2 ^ most_slots) (masks_of plan n) }
@@ -90,6 +91,12 @@ pub fn certificates_in_range()
         → IsCertificateOf rules placed opened state certificate
         → certificate.masks ≡ masks_of (plan_from rules placed 0 0) (end_of certificate)
         → IsPlanOf (plan_text certificate) certificate }
+    ensures pending_from { (rules : Rules) (placed : List Placed) (state : PlanState) (certificate : CertificateView)
+        → IsCertificateFrom rules placed state certificate → IsValid placed state.cycle state.pending
+        → HasPending placed certificate.from (contains_slot certificate.pending) }
+    ensures cycles_from { (rules : Rules) (placed : List Placed) (state : PlanState) (certificate : CertificateView)
+        → IsCertificateFrom rules placed state certificate → IsRules rules → state.cycle ≤ openings_end
+        → certificate.from + length certificate.masks ≤ cycles_end }
 {}
 
 /// A list that is pruned by a cycle has the verdict of the whole list on each change that is planned from that cycle or
