@@ -1,6 +1,6 @@
 -- Lists of which the same entries are not over by the first cycle have the same verdict. So a pruned list has that of
 -- the whole list.
-use Rattle.std.proofs.Common.{◌≡◌, ℕ, zero, suc, ◌+◌, ◌-◌, ◌<◌, ◌≤◌, Bool, true, false, cond, not, nat_le, Option, Some, None, option_map, List, [], ◌∷◌, ◌++◌, length, All, AllPairs, slice_get, if◌then◌else◌, refl, sym, ap, ◌∙◌, subst, arith}
+use Rattle.std.proofs.Common.{◌≡◌, ℕ, zero, suc, ◌+◌, ◌-◌, ◌≤◌, Bool, true, false, cond, not, nat_le, Option, Some, None, option_map, List, [], ◌∷◌, ◌++◌, length, All, AllPairs, slice_get, if◌then◌else◌, refl, sym, ap, ◌∙◌, subst, arith}
 use Rattle.std.proofs.lemmas.List.Elements.{All-cons, All-filter, All-head, All-nil, All-tail}
 use Rattle.std.specs.Option.{option_map_or}
 use Rattle.requirement_table.specs.Instance.{IsReleasedIn}
@@ -11,16 +11,16 @@ use Rattle.requirement_table.specs.Table.{GoesBefore, IsInRange, IsWellPlaced, i
 use Rattle.requirement_table.proofs.Shared.{instance_in-not_over, releases_in-not_over}
 use Rattle.change_protocol.specs.declared.operations.Change.{Change}
 use Rattle.change_protocol.specs.Applied.{applied}
-use Rattle.change_protocol.specs.Malformed.{Broken, IsWellFormed, change_faults, faults, op_faults}
+use Rattle.change_protocol.specs.Malformed.{Broken, IsWellFormed, change_faults, op_faults}
 use Rattle.change_protocol.specs.Operations.{HasTypes}
 use Rattle.change_protocol.specs.Pruned.{may_go, pruned}
 use Rattle.change_protocol.proofs.Shared.{faults-pruned, not_over-applied, not_over-pruned, well_placed-applied}
-use Rattle.planner_policies.specs.Plan.{HasNoMiss, IsFirstMiss, IsValid, Planning, pending_at}
+use Rattle.planner_policies.specs.Plan.{HasNoMiss, IsFirstMiss, IsValid, pending_at}
 use Rattle.admission_rules.specs.declared.Rules.{Rules}
 use Rattle.admission.specs.declared.verdict.Verdict.{Verdict}
 use Rattle.admission.specs.declared.verdict.Verdict.TheVariants.{Malformed, Passed, Miss, Horizon, Accepted}
-use Rattle.admission.specs.Recurrence.{AllRelease, AreAlike, HasNoRecurrence, IsCommonPeriod, IsLeastCommonPeriod, IsRecurrence, bound_of}
-use Rattle.admission.specs.Safe.{HasRepeat, IsSafeWithin}
+use Rattle.admission.specs.Recurrence.{AllRelease, AreAlike, IsCommonPeriod, IsLeastCommonPeriod, IsRecurrence, bound_of}
+use Rattle.admission.specs.Safe.{IsSafeWithin}
 use Rattle.admission.specs.Verdict.{IsInTime, IsTakenWhereDue, IsVerdict, IsVerdictOnPlan, bounds_by, masks_of, plan_from, ranking_by, trail_of}
 use Rattle.admission.proofs.Cycles.{IsLike, same-masks, same-missed, same-no_miss, same-pending}
 use Rattle.admission.proofs.Left.{bound-kept, common-left, common-whole}

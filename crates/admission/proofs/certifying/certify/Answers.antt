@@ -1,4 +1,4 @@
-use Rattle.std.proofs.Common.{◌≡◌, ◌+◌, ◌-◌, ◌++◌, ap, ◌∙◌, List, ℕ, arith}
+use Rattle.std.proofs.Common.{◌-◌, ◌++◌, ap, ◌∙◌, List, ℕ, arith}
 use Rattle.admission.proofs.Certified.{made-of, within-listed}
 use Rattle.admission.proofs.Row.{PlanLaws}
 use Rattle.admission.proofs.certifying.certify.Goals as goal

@@ -1,6 +1,5 @@
 use Rattle.admission.proofs.Onward.{repeat-found, within-later}
 use Rattle.admission.proofs.SameLeft.{masks-kept, pending-kept, same-pruned, within-same}
-use Rattle.admission.specs.Safe.{IsSafeWithin}
 use Rattle.change_protocol.specs.Pruned.{pruned}
 use Rattle.admission.proofs.laws.safe_states.Goals as goal
 
