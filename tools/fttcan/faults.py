@@ -34,7 +34,7 @@ class LibraryUnfit(Error, ImportError):
 
 
 class MemoryRanOut(Error, MemoryError):
-    """Memory ran out. Nothing changed, and the call may be made again."""
+    """Memory ran out, or a table has no room for more than 4,096 entries. Nothing changed, and the call may be made again."""
 
 
 class OutOfRange(Error, ValueError):

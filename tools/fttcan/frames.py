@@ -27,7 +27,7 @@ def _frame_out(frame: CFrame) -> Frame:
 
 
 def wire_length(identifier: int, data: bytes = b"") -> int:
-    """How many bit times a frame lasts. identifier: 0 to 0x7FF. data: 0 to 8 bytes. OutOfRange."""
+    """How many bit times a frame lasts. identifier: 0 to 0x7EF. data: 0 to 8 bytes. OutOfRange."""
     bits, given = U32(), bytes(data)
     must(calls.wire_length(whole("identifier", identifier, 16), given, len(given), bits))
     return bits.value

@@ -339,7 +339,7 @@ class Calls:
 calls = Calls()
 
 _CAUSES: dict[int, Callable[[], Exception]] = {
-    MEMORY: lambda: faults.MemoryRanOut("memory ran out"),
+    MEMORY: lambda: faults.MemoryRanOut("memory ran out, or the table is full"),
     ARGUMENT: lambda: faults.OutOfRange("an argument is out of its range"),
     TABLE: lambda: faults.BadTable("the entries are no table that a master can have"),
     STATE: lambda: faults.BadState("the state can't be planned from, or no cycle may be opened any more"),

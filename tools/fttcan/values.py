@@ -215,7 +215,7 @@ class Trigger:
 
 @dataclass(frozen=True)
 class Frame:
-    """A data frame. identifier: 0 to 0x7FF. data: 0 to 8 bytes."""
+    """A data frame. identifier: 0 to 0x7EF. data: 0 to 8 bytes."""
 
     identifier: int
     data: bytes = b""
