@@ -24,12 +24,12 @@ from .faults import (BadState, BadTable, BadText, Closed, Error, Horizon, Librar
 from .handles import Master, Planned, Snapshot, Standby
 from .library import version
 from .table import Table
-from .values import (Accepted, Add, Answer, Audit, Breach, Change, Entry, Frame, Layout, Order, Placed, Remove, Rules,
-                     Trigger, mask_of, mask_text, slots_of)
+from .values import (Accepted, Add, Answer, Audit, Breach, Change, Entry, Frame, Layout, Operation, Order, Placed, Remove,
+                     Rules, Slots, Trigger, mask_of, mask_text, slots_of)
 
 __all__ = [
     "Accepted", "Add", "Answer", "Audit", "BadState", "BadTable", "BadText", "Breach", "Change", "Closed", "Entry",
     "Error", "Frame", "Horizon", "Layout", "LibraryMissing", "LibraryUnfit", "Malformed", "Master", "MemoryRanOut",
-    "Miss", "NoTrigger", "NotPlanned", "Order", "OtherFlags", "OtherWindow", "OutOfRange", "Passed", "Placed",
-    "Planned", "Refused", "Remove", "Rules", "Snapshot", "Standby", "Table", "Trigger", "WouldMiss", "audit", "check",
+    "Miss", "NoTrigger", "NotPlanned", "Operation", "Order", "OtherFlags", "OtherWindow", "OutOfRange", "Passed", "Placed",
+    "Planned", "Refused", "Remove", "Rules", "Slots", "Snapshot", "Standby", "Table", "Trigger", "WouldMiss", "audit", "check",
     "faults", "frames", "library", "mask_of", "mask_text", "run", "slots_of", "values", "version"]
