@@ -4,7 +4,7 @@ The library is looked for when it is first needed, in this order:
 
 1. the file that the variable FTTCAN_LIBRARY names, and no other where it is set;
 2. libfttcan.so.1 in the folder of this package, in the folder lib of the prefix below which the package stands, and in
-   the folder out/c of a checkout;
+   the folder out/library/lib of a checkout;
 3. where the system looks for libraries.
 
 The names of STRUCTS and CALLS are those of the header fttcan.h. Callers of the package need nothing of this module but
@@ -274,7 +274,7 @@ def places() -> list[str]:
     if named:
         return [named]
     here = pathlib.Path(__file__).resolve().parent
-    folders = [here, here.parent.parent / "out/c"]
+    folders = [here, here.parent.parent / "out/library/lib"]
     folders += [above.parent / "lib" for above in here.parents if above.name in ("lib", "share")]
     return [str(folder / NAME) for folder in folders if (folder / NAME).is_file()] + [NAME]
 
