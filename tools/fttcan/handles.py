@@ -244,8 +244,8 @@ class Standby(Handle):
         """What it was made for."""
         return self._rules
 
-    def change(self, start: int, *operations: Operation, caller: int = 1) -> None:
-        """Follows a change that the first master has accepted.
+    def change(self, start: int, *operations: Operation, caller: int = 1) -> Accepted:
+        """Follows a change that the first master has accepted, and answers what it would have answered itself.
 
         Malformed, Passed, Miss, Horizon: its own table refuses the change, so it has not followed. It is as before.
         MemoryRanOut, OutOfRange, Closed.
@@ -253,9 +253,9 @@ class Standby(Handle):
         change, verdict = change_in(start, operations), CVerdict()
         with self._lock:
             status = calls.standby_change(self._struct, whole("caller", caller, 8), *change, verdict)
-        if status == NO:
-            accepted(verdict_out(verdict))
-        must(status)
+        if status != NO:
+            must(status)
+        return accepted(verdict_out(verdict))
 
     def trigger(self, *frames: Frame) -> None:
         """Follows the opening of a cycle by its trigger: one frame, or two with 96 slots.
