@@ -260,7 +260,8 @@ class Standby(Handle):
     def trigger(self, *frames: Frame) -> None:
         """Follows the opening of a cycle by its trigger: one frame, or two with 96 slots.
 
-        NoTrigger, OtherFlags, OtherWindow: this is not the trigger that is planned. It is as before. Closed.
+        NoTrigger, OtherFlags, OtherWindow: this is not the trigger that is planned. It is as before. OutOfRange: a frame
+        that is none. BadState: no cycle may be opened any more. MemoryRanOut, Closed.
         """
         given, fault = frames_in(frames), CFollow()
         with self._lock:
