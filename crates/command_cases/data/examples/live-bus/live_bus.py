@@ -386,7 +386,7 @@ def report(words, said):
           "The clock, the bus and Python are not proved")
     for it in sorted(said, key=lambda it: it.get("since", words.cycles)):
         if "verdict" in it:
-            print(f"asked in cycle {it['since']}, planned while cycles were opened, answered in cycle {it['settled']}: "
+            print(f"asked in cycle {it['since']}, planned in another thread, answered in cycle {it['settled']}: "
                   f"{it['words']}")
         elif "takes_over" in it:
             print(f"the standby takes over with cycle {it['takes_over']}, {it['after']:.0f} ms behind the last trigger")
