@@ -62,12 +62,15 @@ class BadText(Error, ValueError):
     plan text counted from 1, a bit of a recorded line counted from 0."""
 
     def __init__(self, said: str, place: int | None = None) -> None:
-        super().__init__(said)
-        self.place = place
+        super().__init__(said, place)
+        self.said, self.place = said, place
+
+    def __str__(self) -> str:
+        return self.said
 
 
 class Refused(Error):
-    """A change is refused. Nothing changed."""
+    """A change is refused. Nothing changed. Two are equal where kind and numbers are."""
 
     @property
     def row(self) -> str:
@@ -75,10 +78,10 @@ class Refused(Error):
         raise NotImplementedError
 
     def __eq__(self, other: object) -> bool:
-        return type(self) is type(other) and vars(self) == vars(other)
+        return isinstance(other, Refused) and type(self) is type(other) and self.args == other.args
 
     def __hash__(self) -> int:
-        return hash((type(self), self.row))
+        return hash((type(self), self.args))
 
 
 class Malformed(Refused):
@@ -90,26 +93,31 @@ class Malformed(Refused):
     """
 
     def __init__(self, operation: int, rule: int, until: int | None = None) -> None:
+        super().__init__(operation, rule, until)
         self.operation, self.rule, self.until = operation, rule, until
-        behind = "" if until is None else f" until cycle {until}"
-        super().__init__(f"operation {operation}: {RULES.get(rule, f'rule {rule}')}{behind}")
 
     @property
     def row(self) -> str:
-        fields = (self.operation, self.rule) if self.until is None else (self.operation, self.rule, self.until)
-        return ",".join(map(str, ("malformed", *fields)))
+        return ",".join(["malformed", *(str(it) for it in self.args if it is not None)])
+
+    def __str__(self) -> str:
+        behind = "" if self.until is None else f" until cycle {self.until}"
+        return f"operation {self.operation}: {RULES.get(self.rule, f'rule {self.rule}')}{behind}"
 
 
 class Passed(Refused):
     """The change starts in a cycle that was opened already. start: that cycle. next: the next cycle to be opened."""
 
     def __init__(self, start: int, next_cycle: int) -> None:
+        super().__init__(start, next_cycle)
         self.start, self.next = start, next_cycle
-        super().__init__(f"the change starts in cycle {start}, and cycle {next_cycle} is opened next")
 
     @property
     def row(self) -> str:
         return f"passed,{self.start},{self.next}"
+
+    def __str__(self) -> str:
+        return f"the change starts in cycle {self.start}, and cycle {self.next} is opened next"
 
 
 class Miss(Refused):
@@ -120,58 +128,65 @@ class Miss(Refused):
     """
 
     def __init__(self, slot: int, release: int, cycle: int, trail: tuple[int, ...] = ()) -> None:
+        super().__init__(slot, release, cycle, trail)
         self.slot, self.release, self.cycle, self.trail = slot, release, cycle, trail
-        super().__init__(f"slot {slot} would miss its deadline: what is released in cycle {release} is not sent up to "
-                         f"cycle {cycle}")
 
     @property
     def row(self) -> str:
         return f"miss,{self.slot},{self.release},{self.cycle}"
+
+    def __str__(self) -> str:
+        return f"slot {self.slot} would miss its deadline: what is released in cycle {self.release} is not sent up to " \
+               f"cycle {self.cycle}"
 
 
 class Horizon(Refused):
     """No repeat of the plan was found within the horizon. start: the first cycle that was planned. walked: how many."""
 
     def __init__(self, start: int, walked: int) -> None:
+        super().__init__(start, walked)
         self.start, self.walked = start, walked
-        super().__init__(f"from cycle {start} on no repeat of the plan was found within {walked} cycles")
 
     @property
     def row(self) -> str:
         return f"horizon,{self.start},{self.walked}"
 
+    def __str__(self) -> str:
+        return f"from cycle {self.start} on no repeat of the plan was found within {self.walked} cycles"
+
 
 class NotPlanned(Error):
-    """What a standby heard is not the trigger that it has planned. It is unchanged, and can go on.
-
-    kind: trigger, where the frames are no trigger of its next cycle; differs, where other slots are flagged; window,
-    where the window is not that of the flagged slots.
-    """
-
-    def __init__(self, kind: str, said: str) -> None:
-        self.kind = kind
-        super().__init__(said)
+    """What a standby heard is not the trigger that it has planned. It is unchanged, and can go on."""
 
 
 class NoTrigger(NotPlanned):
     """The frames are no trigger of the standby's next cycle. cycle: its number."""
 
     def __init__(self, cycle: int) -> None:
+        super().__init__(cycle)
         self.cycle = cycle
-        super().__init__("trigger", f"this is no trigger of cycle {cycle}")
+
+    def __str__(self) -> str:
+        return f"this is no trigger of cycle {self.cycle}"
 
 
 class OtherFlags(NotPlanned):
     """The trigger flags other slots. cycle: the next one. heard and planned: sets of slots."""
 
     def __init__(self, cycle: int, heard: int, planned: int) -> None:
+        super().__init__(cycle, heard, planned)
         self.cycle, self.heard, self.planned = cycle, heard, planned
-        super().__init__("differs", f"the trigger of cycle {cycle} flags {heard:#x}, and {planned:#x} is planned")
+
+    def __str__(self) -> str:
+        return f"the trigger of cycle {self.cycle} flags {self.heard:#x}, and {self.planned:#x} is planned"
 
 
 class OtherWindow(NotPlanned):
     """The trigger says another window than that of its slots. heard and needed: bit times."""
 
     def __init__(self, heard: int, needed: int) -> None:
+        super().__init__(heard, needed)
         self.heard, self.needed = heard, needed
-        super().__init__("window", f"the trigger says a window of {heard} bit times, and its slots need {needed}")
+
+    def __str__(self) -> str:
+        return f"the trigger says a window of {self.heard} bit times, and its slots need {self.needed}"
