@@ -101,8 +101,10 @@ class Malformed(Refused):
         return ",".join(["malformed", *(str(it) for it in self.args if it is not None)])
 
     def __str__(self) -> str:
-        behind = "" if self.until is None else f" until cycle {self.until}"
-        return f"operation {self.operation}: {RULES.get(self.rule, f'rule {self.rule}')}{behind}"
+        words = RULES.get(self.rule, f"rule {self.rule}")
+        if self.until is not None:
+            words = f"before cycle {self.until} the slot is not free, or its entry has not begun"
+        return f"operation {self.operation}: {words}"
 
 
 class Passed(Refused):
