@@ -56,7 +56,7 @@ def metadata():
 def wheel_files():
     """The files of the wheel but for the list of them, in order."""
     info, share = f"{stem()}.dist-info", f"{stem()}.data/data"
-    files = {path: file.data for path, file in tree.modules().items()}
+    files = {path: file.data for path, file in (tree.modules() | tree.package()).items()}
     files["fttcan_reference.py"] = (TOP / "tools/reference").read_bytes()
     files |= {f"{share}/{path}": file.data for path, file in (tree.pages() | tree.completion()).items()}
     commands = "".join(f"{name} = {place}\n" for name, place in project()["scripts"].items())
@@ -105,7 +105,7 @@ def build_sdist(sdist_directory, config_settings=None):
     del config_settings
     files = {str(path.relative_to(TOP)): (path.read_bytes(), 0o755 if os.access(path, os.X_OK) else 0o644)
              for path in [*(TOP / path for path in SOURCES), *tree.below("tools/package")]}
-    files |= {f"tools/{path}": (file.data, 0o644) for path, file in tree.modules().items()}
+    files |= {f"tools/{path}": (file.data, 0o644) for path, file in (tree.modules() | tree.package()).items()}
     files["PKG-INFO"] = (metadata(), 0o644)
     name = f"{stem()}.tar.gz"
     archive(pathlib.Path(sdist_directory) / name, files, stem())

@@ -52,6 +52,9 @@ def files(words):
     """All files of an installation by their paths below the prefix."""
     zsh = "share/zsh/vendor-completions" if words.debian else "share/zsh/site-functions"
     found = tools(words.python) | documents() | tree.completion(zsh)
+    # Python of Debian looks for modules in one folder below /usr. For another prefix PYTHONPATH has to name share/fttcan.
+    modules = "lib/python3/dist-packages" if words.debian else "share/fttcan"
+    found |= {f"{modules}/{path}": file for path, file in tree.package().items()}
     for path, file in tree.pages().items():
         # Debian has its manual pages packed.
         found[f"{path}.gz" if words.debian else path] = \

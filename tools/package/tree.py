@@ -43,6 +43,11 @@ def modules():
     return found | {f"ftt/{of_tools.VERSION}": stated()}
 
 
+def package():
+    """The package fttcan, which calls the library, by its paths below a folder of modules."""
+    return {str(path.relative_to(TOP / "tools")): of(path) for path in below("tools/fttcan")}
+
+
 def completion(zsh="share/zsh/site-functions"):
     """The files of completion below a prefix. bash and fish look for a file of a command's name."""
     found = {f"{zsh}/_fttcan": of("tools/completion.zsh")}
