@@ -2,22 +2,20 @@
 
     reference_asked.py < CALLS
 
-A call is a list: a word, and what stands behind it below in `WORDS`. It loads tools/reference as a module, and shares
+A call is a list: a word, and what stands behind it below in `WORDS`. It loads the package of tools/reference, and shares
 nothing with what is compared to it. Masters have keys. An operation is [word, slot] or [word, slot, node, length,
 phase, period, deadline, priority], and a placed entry [origin, end or null, slot, node, ..].
 """
 import copy
-import importlib.machinery
-import importlib.util
 import json
 import pathlib
 import sys
 
 sys.dont_write_bytecode = True
-PATH = pathlib.Path(__file__).resolve().parent.parent / "reference"
-LOADER = importlib.machinery.SourceFileLoader("reference", str(PATH))
-reference = importlib.util.module_from_spec(importlib.util.spec_from_loader("reference", LOADER))
-LOADER.exec_module(reference)
+sys.path.insert(0, str(pathlib.Path(__file__).resolve().parent.parent))
+
+import fttcan_reference as reference  # noqa: E402  pylint: disable=wrong-import-position
+
 MASTERS = {}
 
 

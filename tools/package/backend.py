@@ -57,7 +57,6 @@ def wheel_files():
     """The files of the wheel but for the list of them, in order."""
     info, share = f"{stem()}.dist-info", f"{stem()}.data/data"
     files = {path: file.data for path, file in (tree.modules() | tree.package()).items()}
-    files["fttcan_reference.py"] = (TOP / "tools/reference").read_bytes()
     files |= {f"{share}/{path}": file.data for path, file in (tree.pages() | tree.completion()).items()}
     commands = "".join(f"{name} = {place}\n" for name, place in project()["scripts"].items())
     return dict(sorted(files.items())) | {

@@ -39,7 +39,8 @@ def below(folder, skipped=("__pycache__",)):
 
 def modules():
     """The modules of the tools by their paths below a folder of modules."""
-    found = {str(path.relative_to(TOP / "tools")): of(path) for path in below("tools/ftt")}
+    found = {str(path.relative_to(TOP / "tools")): of(path)
+             for folder in ("tools/ftt", "tools/fttcan_reference") for path in below(folder)}
     return found | {f"ftt/{of_tools.VERSION}": stated()}
 
 
