@@ -3,7 +3,7 @@ import collections
 import itertools
 import math
 
-from .types import Change, Entry, MOST_COMBINATIONS, PERIODS, Refused, System, Unread, Unsure
+from .types import Change, Entry, MOST_COMBINATIONS, PERIODS, Refused, System, Unread
 from .bus import mask_text, slots_in, worst
 from .files import files_of, USAGE
 from .table import applied, broken_rule, sendable
