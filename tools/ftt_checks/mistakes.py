@@ -363,8 +363,8 @@ MESSAGES = [
              f"{HEAD},deadline\na,x,8,10,10\n"),
     messages("a period of 0 cycles", f"{HEAD}\na,x,8,0.5\n", "Take a shorter cycle, or a longer time.", ONE),
     messages("a deadline of an asynchronous message", f"{HEAD},deadline,kind,id\na,x,2,50,20,async,0x300\n",
-             "or write sync: a slot that polls it, of 3 bytes, keeps it where its period and its deadline are 20 ms "
-             "together, such as 10 and 10.", f"{HEAD},deadline,kind,id\na,x,3,10,10,sync,0x300\n"),
+             "or write polled: a slot asks for the message then, and keeps it.",
+             f"{HEAD},deadline,kind\na,x,2,50,20,polled\n"),
     bus("41 messages", "500 1000 messages.csv made", "Take --slots 96", "500 1000 messages.csv made --slots 96", MANY),
     bus("a rate in bit/s", "500000 1000 messages.csv made", "KBITS is 500000, and CAN ends at 1000 kbit/s. If this is "
         "in bit/s, write 500.", "500 1000 messages.csv made"),

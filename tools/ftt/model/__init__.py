@@ -37,18 +37,22 @@ from fractions import Fraction
 from .. import limits
 from ..command import Parser, needs_tomllib, takes_version, put_lines
 from ..faults import Refused, Unread
-from ..telling import some
-from . import dbc, table
+from ..telling import listed, some
+from . import bus_dbc, dbc, table
 from .bus import Bus, alike, entries_of, owned_of, window_of
 from .files import names_text, steps_text, system_text, write_all
 from .messages import Mistakes, text_of
 from .said import common_period, told
 
 
-def messages_of(words, mistakes):
+def is_dbc(path):
+    """Whether a file is a DBC file by its name."""
+    return path.lower().endswith(".dbc")
+
+
+def messages_of(words, text, mistakes):
     """What the file of messages has."""
-    text = text_of(words.messages)
-    if words.messages.lower().endswith(".dbc"):
+    if is_dbc(words.messages):
         return dbc.read(words.messages, text, words.kbits, words, mistakes)
     if words.strict or words.period_attribute:
         raise Refused("--strict and --period-attribute are for a DBC file, whose name ends with .dbc. Leave them out.")
@@ -59,7 +63,8 @@ def model(words):
     """Reads the messages, writes the files, and says what was done. The status."""
     bus = Bus(words.kbits, words.cycle_us)
     mistakes = Mistakes(words.messages)
-    read = messages_of(words, mistakes)
+    text = text_of(words.messages)
+    read = messages_of(words, text, mistakes)
     messages = read.messages
     if not messages and not mistakes.lines:
         raise Refused(f"{words.messages}:1: there are no messages. Write a row for each.")
@@ -83,12 +88,16 @@ def model(words):
         cycles = min(max((it.phase for it in entries), default=0) + common_period(entries), limits.CYCLES)
     lines, warnings = told(bus, entries, owned, words, window, nodes)
     folder = pathlib.Path(words.out)
-    write_all(folder, {"system.toml": system_text(bus, owned, words, window, count),
-                       "steps.csv": steps_text(entries, cycles), "names.csv": names_text(entries, owned)})
+    texts = {"system.toml": system_text(bus, owned, words, window, count),
+             "steps.csv": steps_text(entries, cycles), "names.csv": names_text(entries, owned)}
+    if words.dbc or words.instances:
+        source = bus_dbc.source_of(text) if is_dbc(words.messages) else None
+        texts["bus.dbc"] = bus_dbc.text_of(bus, entries, owned, words, source)
+    write_all(folder, texts)
     lines[2:2] = read.notes
     warnings = read.warnings + warnings
     lines += [f"warning: {warning}" for warning in warnings]
-    why = put_lines([*lines, f"written: system.toml, steps.csv and names.csv in {folder}"])
+    why = put_lines([*lines, f"written: {listed(texts)} in {folder}"])
     if why is not None:
         raise Unread(why)
     return 1 if warnings else 0
@@ -135,6 +144,10 @@ def parser():
                       "order of their identifiers")
     made.add_argument("--period-attribute", metavar="NAME", help="of a DBC file: the attribute of messages that has "
                       "the period in milliseconds, beside GenMsgCycleTime")
+    made.add_argument("--dbc", action="store_true", help="write bus.dbc too: the triggers, and each message by its "
+                      "identifier on this bus, with the signals that a DBC file has of it")
+    made.add_argument("--instances", action="store_true", help="write bus.dbc, in which each slot has the number of the "
+                      "instance, as in a log of the simulator")
     made.add_argument("--strict", action="store_true", help="refuse a DBC file with a message that would be left out")
     takes_version(made)
     return made

@@ -52,7 +52,9 @@ def write_all(folder, texts):
     try:
         folder.mkdir(parents=True, exist_ok=True)
         for name, text in texts.items():
-            (folder / name).write_text(text, encoding="utf-8", newline="\n")
+            # DBC files are not UTF-8.
+            encoding = "latin-1" if name.endswith(".dbc") else "utf-8"
+            (folder / name).write_bytes(text.encode(encoding, "replace"))
     except OSError as fault:
         if folder.is_file():
             raise Unread(f"{folder}: OUT is a folder, and a file of this name is there. Take another name.") from fault
