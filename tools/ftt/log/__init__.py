@@ -1,7 +1,7 @@
 """Turns a log of fttcan into what other tools and people read.
 
     tools/fttlog say [LOG]                    sentences on verdicts, cycles and frames
-    tools/fttlog late [LOG]                   how late frames were sent, with --requests or --steps
+    tools/fttlog late [LOG]                   how late frames were sent, with --requests, --steps or --streams
     tools/fttlog svg FIRST LAST [LOG]         a drawing of the cycles FIRST to LAST, as SVG
     tools/fttlog html [LOG]                   a page that shows the whole run, to pan and to search
     tools/fttlog json [LOG]                   one JSON object a row
@@ -102,6 +102,8 @@ def forms_of(reader):
     late = form(forms, "late", "how late frames were sent", takes_kbits, takes_names, takes_cycle)
     late.add_argument("--requests", metavar="FILE", help="the requests file: the latencies of asynchronous frames")
     late.add_argument("--steps", metavar="FILE", help="the steps file: the delays of synchronous frames")
+    late.add_argument("--streams", metavar="FILE", help="the streams file of a log of poll: the latencies of requests of "
+                      "polled slots")
     late.add_argument("--svg", metavar="FILE", help="writes histograms into this file")
     draw = form(forms, "svg", "a drawing of some cycles", takes_kbits, takes_names, takes_cycle)
     draw.add_argument("first", type=at_least(0), help="the first cycle")
@@ -147,8 +149,8 @@ def read_words():
         words.log = more[0]
     elif more:
         reader.error(f"unrecognized arguments: {' '.join(more)}")
-    if words.form == "late" and words.requests is None and words.steps is None:
-        reader.error("late needs --requests or --steps")
+    if words.form == "late" and (words.requests, words.steps, words.streams) == (None, None, None):
+        reader.error("late needs --requests, --steps or --streams")
     return words
 
 

@@ -38,7 +38,7 @@ from .. import limits
 from ..command import Parser, needs_tomllib, takes_version, put_lines
 from ..faults import Refused, Unread
 from ..telling import listed, some
-from . import bus_dbc, dbc, table
+from . import arrivals, bus_dbc, dbc, table
 from .bus import Bus, alike, entries_of, owned_of, window_of
 from .files import names_text, steps_text, system_text, write_all
 from .messages import Mistakes, text_of
@@ -90,12 +90,20 @@ def model(words):
     folder = pathlib.Path(words.out)
     texts = {"system.toml": system_text(bus, owned, words, window, count),
              "steps.csv": steps_text(entries, cycles), "names.csv": names_text(entries, owned)}
+    told_of_requests, more = [], []
+    if words.requests is not None:
+        asking = arrivals.Asking(bus, entries, owned, cycles)
+        requests, told_of_requests, more = arrivals.texts_of(words, asking)
+        texts.update(requests)
+    elif words.seed is not None or words.start is not None:
+        raise Refused("--seed and --from are for --requests. Leave them out.")
     if words.dbc or words.instances:
         source = bus_dbc.source_of(text) if is_dbc(words.messages) else None
         texts["bus.dbc"] = bus_dbc.text_of(bus, entries, owned, words, source)
     write_all(folder, texts)
     lines[2:2] = read.notes
-    warnings = read.warnings + warnings
+    lines += told_of_requests
+    warnings = read.warnings + warnings + more
     lines += [f"warning: {warning}" for warning in warnings]
     why = put_lines([*lines, f"written: {listed(texts)} in {folder}"])
     if why is not None:
@@ -144,6 +152,12 @@ def parser():
                       "order of their identifiers")
     made.add_argument("--period-attribute", metavar="NAME", help="of a DBC file: the attribute of messages that has "
                       "the period in milliseconds, beside GenMsgCycleTime")
+    made.add_argument("--requests", metavar="WHAT", help="write the requests of asynchronous messages into requests.csv, "
+                      "and those of polled ones into streams.csv. WHAT is `together`: all come at once, and again as often "
+                      "as they may; `random`; or a CSV file with the columns at, name and data, its times in milliseconds")
+    made.add_argument("--seed", type=within(0, 1 << 32), help="the number from which random requests come; without it 1")
+    made.add_argument("--from", dest="start", metavar="MS", type=positive, help="when the first requests come at the "
+                      "earliest, in milliseconds; without it 0")
     made.add_argument("--dbc", action="store_true", help="write bus.dbc too: the triggers, and each message by its "
                       "identifier on this bus, with the signals that a DBC file has of it")
     made.add_argument("--instances", action="store_true", help="write bus.dbc, in which each slot has the number of the "
