@@ -44,6 +44,7 @@ def told(entry, bus):
     """The bound of a polled message, in a sentence."""
     message, apart = entry.message, decimal(bus.millis(entry.period))
     given = "" if message.period is not None else ", which nothing in the list says"
-    return (f"{message.name} in slot {entry.slot}, every {some(entry.period, 'cycle')} with {some(entry.length, 'byte')}: "
+    every = "cycle" if entry.period == 1 else some(entry.period, "cycle")
+    return (f"{message.name} in slot {entry.slot}, every {every} with {some(entry.length, 'byte')}: "
             f"a request is sent within {some(bound(entry), 'cycle')}, {decimal(bus.millis(bound(entry)))} ms of "
             f"{decimal(message.deadline)}, if requests come at least {apart} ms apart{given}")
