@@ -4,7 +4,7 @@ import sys
 
 from ..frames import INTERMISSION, worst
 from ..limits import FEW_SLOTS, FIRST_ASYNC, FIRST_SLOT, LENGTH, TRIGGERS
-from ..telling import fixed, listed, some
+from ..telling import listed, some
 from . import clock as clocks
 from .asked import Pairs, Sent
 from .cycle import Compared
@@ -216,7 +216,7 @@ class Comparison:
     def said(self, found):
         """What is said of the comparison as a whole, as lines."""
         facts, run = self.facts(found), self.run.what
-        off = {name: fixed(value, 0) for name, value in facts["off_us"].items()}
+        off = {name: f"{value:.0f}" for name, value in facts["off_us"].items()}
         lines = [f"cycles {facts['first_cycle']} to {facts['last_cycle']} of {run}: {self.compared} compared",
                  f"clock of the recorder: {facts['ppm']:+.0f} ppm; frames are off by {off['p50']} us or less for a half "
                  f"of them, {off['p99']} us for 99 %, {off['greatest']} us at most"]

@@ -5,7 +5,7 @@ import json
 
 from ..limits import TRIGGERS
 from ..masks import slots_of
-from ..telling import fixed, listed, some
+from ..telling import listed, some
 
 KINDS = ("missing", "doubled", "late", "early", "past", "inside", "cycle", "flags", "window", "payload", "length",
          "stray", "order", "clock", "place")
@@ -26,7 +26,7 @@ class Finding:
         if self.what is not None:
             return self.what
         name = names.of(self.frame)
-        by = "" if self.by is None else f"{fixed(abs(self.by), 0)} us"
+        by = "" if self.by is None else f"{abs(self.by):.0f} us"
         text = {
             "missing": f"{name} is missing",
             "doubled": f"{name} is there {self.seen} times",

@@ -44,14 +44,21 @@ class Log:
         return self.cycles.get(number)
 
     def length(self):
-        """The length of a cycle in bit times; None where fewer than two tell."""
+        """The length of a cycle in bit times, by the distance of the triggers, or by where a window is; None where
+        nothing tells."""
         starts = [(number, cycle.frames[0][0]) for number, cycle in self.cycles.items() if cycle.frames]
         (one, at), (other, later) = min(starts, default=(0, 0)), max(starts, default=(0, 0))
-        return (later - at) // (other - one) if other > one else None
+        if other > one:
+            return (later - at) // (other - one)
+        ends = [(it[0] + cycle.width) // (number + 1) for number, cycle in self.cycles.items()
+                for it in cycle.frames if is_slot(it[2])]
+        return min(ends, default=None)
 
-    def places(self, residue):
-        """The cycles that may be the first one of a recording: all with this rest modulo 256."""
-        return [number for number in self.cycles if number % 256 == residue]
+    def places(self, residue, many):
+        """The cycles that may be the first one of a recording of so many cycles: all with this rest modulo 256, from
+        that on with which it ends in the run's first one."""
+        least = self.first - many + 1
+        return list(range(least + (residue - least) % 256, self.last + 1, 256))
 
 
 class Plan:
@@ -100,7 +107,7 @@ class Plan:
         """A plan has no times."""
         return None
 
-    def places(self, residue):
+    def places(self, residue, _):
         """The cycles that may be the first one of a recording, each place of the repeated part once."""
         found, seen = [], set()
         for number in range(self.first + (residue - self.first) % 256, self.repeat + 256 * self.period, 256):
@@ -144,11 +151,13 @@ def sample(values, many):
 
 def place_in(run, residue, told, sent):
     """Where in the run a recording begins: the cycle of its first trigger, how many of the looked at triggers fit
-    there, how many were looked at, and in how many places as many fit. Flags and windows decide, and between equal
+    there, how many of them are in the run then, and in how many places as many fit. Flags and windows decide, and between equal
     places the data of slots: told has those of the recording by cycles from the first one, sent the data by cycle and
     identifier."""
+    if not told:
+        return None, 0, 0, 0
     few, more = sample(told, FIRST_LOOK), sample(told, SECOND_LOOK)
-    found = sorted(run.places(residue), key=lambda it: -fitting(run, it, few))[:CANDIDATES]
+    found = sorted(run.places(residue, told[-1][0] + 1), key=lambda it: -fitting(run, it, few))[:CANDIDATES]
     if not found:
         return None, 0, len(more), 0
     marks = {it: fitting(run, it, more) for it in found}
@@ -159,4 +168,5 @@ def place_in(run, residue, told, sent):
                                  for number, identifier, data in looked
                                  for cycle in [run.at(it + number)] if cycle is not None) for it in best}
         best = [it for it in best if marks_of_data[it] == max(marks_of_data.values())]
-    return min(best), max(marks.values()), len(more), len(best)
+    begin = min(best)
+    return begin, marks[begin], sum(run.at(begin + number) is not None for number, _ in more), len(best)
