@@ -76,25 +76,45 @@ def residue_of(frames, numbers):
     return votes.most_common(1)[0][0] if votes else 0
 
 
+def base_of(rests, tolerance):
+    """Where most of some values lie close together, and how many do: their median. Of equally many the least ones are
+    taken, since a bus may be late and never early."""
+    rests, first, best = sorted(rests), 0, (0, 0)
+    for last, rest in enumerate(rests):
+        while rest - rests[first] > tolerance:
+            first += 1
+        if last + 1 - first > best[1] - best[0]:
+            best = first, last + 1
+    return statistics.median(rests[best[0]:best[1]]), best[1] - best[0]
+
+
 class Clock:
-    """A line through the triggers, by medians, so that some wrong ones don't move it. The rate is the recorder's
-    microseconds in one of the bus, and base the recorder's time of cycle 0."""
+    """A line through the triggers that are on time. The rate is the recorder's microseconds in one of the bus, and base
+    the recorder's time of cycle 0. A rate that is further off than it may be is taken only where the triggers stand on
+    no other line."""
 
     def __init__(self, numbers, times, cycle, tolerance, ppm=PPM):
         self.cycle, self.rate, self.is_off = cycle, 1.0, False
         seen = dict(reversed(list(zip(numbers, times))))
         numbers = sorted(seen)
         times = [seen[number] for number in numbers]
-        half = len(numbers) // 2
+        half, most = len(numbers) // 2, ppm / 1e6
         if half:
             pairs = [(times[at + half] - times[at]) / (numbers[at + half] - numbers[at])
                      for at in range(len(numbers) - half)]
-            rate = statistics.median(pairs) / cycle
-            # What noise alone may make of the rate.
-            doubt = tolerance / (half * cycle)
-            self.is_off = abs(rate - 1) > ppm / 1e6 + doubt
-            self.rate = rate if self.is_off else min(max(rate, 1 - ppm / 1e6), 1 + ppm / 1e6)
-        self.base = statistics.median(time - number * cycle * self.rate for number, time in zip(numbers, times))
+            measured = statistics.median(pairs) / cycle
+            self.rate = min(max(measured, 1 - most), 1 + most)
+        self.base, near = self.line(numbers, times, tolerance)
+        if half and measured != self.rate and near < len(numbers) / 2:
+            clipped, self.rate = (self.rate, self.base), measured
+            self.base, by_measured = self.line(numbers, times, tolerance)
+            self.is_off = by_measured > max(2 * near, len(numbers) * 3 / 4)
+            if not self.is_off:
+                self.rate, self.base = clipped
+
+    def line(self, numbers, times, tolerance):
+        """The base of the line with the rate, and how many triggers are on it."""
+        return base_of([time - number * self.cycle * self.rate for number, time in zip(numbers, times)], tolerance)
 
     def bus(self, time):
         """A time of the recorder, in microseconds of the bus since the start of cycle 0."""

@@ -2,7 +2,7 @@
 import collections
 
 from ..frames import INTERMISSION, worst
-from ..limits import FEW_SLOTS, FIRST_ASYNC, FIRST_SLOT, TRIGGERS
+from ..limits import FEW_SLOTS, FIRST_ASYNC, FIRST_SLOT, LENGTH, TRIGGERS
 from ..masks import mask_of, slots_of
 from .asked import Sent
 from .rows import is_slot
@@ -117,7 +117,8 @@ class Compared:
         if TRIGGERS[1] in self.seen:
             self.again(place, frame)
             return
-        self.off(self.placed(place, frame, self.begin, self.begin), frame)
+        lost = 0 if TRIGGERS[0] in self.seen else worst(LENGTH) * self.whole.bit
+        self.off(self.placed(place, frame, self.begin, self.begin + lost), frame)
         if len(frame.data) != 8:
             self.add("length", TRIGGERS[1], line=frame.line, own=8, seen=len(frame.data))
         else:
@@ -213,7 +214,8 @@ class Compared:
         else:
             whole.foreign[f"{identifier:03x}"] += 1
             whole.foreign_inside += inside > whole.tolerance
-        whole.chain = max(whole.chain, start) + frame.length * whole.bit
+        if identifier not in self.seen or start >= whole.chain - whole.tolerance:
+            whole.chain = max(whole.chain, start) + frame.length * whole.bit
 
     def missing(self):
         """What the run sends in this cycle and the recording does not have."""

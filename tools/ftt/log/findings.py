@@ -5,11 +5,27 @@ import json
 
 from ..limits import TRIGGERS
 from ..masks import slots_of
-from ..telling import listed, some
+from ..telling import listed
 
 KINDS = ("missing", "doubled", "late", "early", "past", "inside", "cycle", "flags", "window", "payload", "length",
          "stray", "order", "clock", "place")
 COLUMNS = ("cycle", "kind", "frame", "name", "line", "by_us", "own", "seen", "sentence")
+
+# What is said of a kind; of flags it is worked out, and of a clock and a place it stands in the finding.
+SAYS = {
+    "missing": "{name} is missing",
+    "doubled": "{name} is there {seen} times",
+    "late": "{name} is late by {by}",
+    "early": "{name} is early by {by}",
+    "past": "{name} ends {by} past its window",
+    "inside": "{name} touches the synchronous window, by {by}",
+    "cycle": "{name} has {seen} as its cycle modulo 256, and {run} {own}",
+    "window": "{name} has a window of {seen} bit times, and {run} one of {own}",
+    "payload": "{name} has the data {seen}, and {run} {own}",
+    "length": "{name} has {seen} data bytes, and {run} {own}",
+    "stray": "{name} is not due: {run} does not have it here",
+    "order": "{name} comes before its turn",
+}
 
 
 class Finding:
@@ -26,23 +42,11 @@ class Finding:
         if self.what is not None:
             return self.what
         name = names.of(self.frame)
-        by = "" if self.by is None else f"{abs(self.by):.0f} us"
-        text = {
-            "missing": f"{name} is missing",
-            "doubled": f"{name} is there {self.seen} times",
-            "late": f"{name} is late by {by}",
-            "early": f"{name} is early by {by}",
-            "past": f"{name} ends {by} past its window",
-            "inside": f"{name} touches the synchronous window, by {by}",
-            "cycle": f"{name} has {self.seen} as its cycle modulo 256, and {run} {self.own}",
-            "flags": flags_said(name, self.own, self.seen, run),
-            "window": f"{name} has a window of {self.seen} bit times, and {run} one of {self.own}",
-            "payload": f"{name} has the data {self.seen or 'of no byte'}, and {run} {self.own or 'no byte'}",
-            "length": f"{name} has {some(self.seen or 0, 'byte')}, and {run} {self.own}",
-            "stray": f"{name} is not due: {run} does not have it here",
-            "order": f"{name} comes before its turn",
-        }[self.kind]
         at = "" if self.line is None else f" (line {self.line})"
+        if self.kind == "flags":
+            return f"Cycle {self.cycle}: {flags_said(name, self.own, self.seen, run)}{at}."
+        values = {it: "nothing" if value == "" else value for it, value in (("own", self.own), ("seen", self.seen))}
+        text = SAYS[self.kind].format(name=name, by=f"{abs(self.by or 0):.0f} us", run=run, **values)
         return f"Cycle {self.cycle}: {text}{at}."
 
     def row(self, names, run):
@@ -55,8 +59,6 @@ class Finding:
 
 def flags_said(name, own, seen, run):
     """What is said of other flags: which slots are too many, and which are not there."""
-    if own is None:
-        return ""
     own, seen = set(slots_of(own)), set(slots_of(seen))
     more, less = sorted(seen - own), sorted(own - seen)
     parts = []
