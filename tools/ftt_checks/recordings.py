@@ -9,6 +9,8 @@ TRIGGER, SECOND = 0, 1
 FIRST_SLOT, LAST_SLOT = 0x100, 0x15F
 # How far stamps are off, in microseconds, and how fast the recorder's clock runs, in parts per million.
 NOISE, PPM = 10, 100
+# The least time by which a late frame is late, in microseconds.
+LATE = 120
 
 # A frame: its cycle, start, identifier and data.
 Frame = collections.namedtuple("Frame", "cycle start identifier data")
@@ -105,7 +107,7 @@ def doubled(run, frames, place, chance):
 
 def late(run, frames, place, chance, kbits):
     """A trigger or the frame of a slot that is ready late, and what others do then."""
-    least, most = 150 * kbits / 1000, 0.4 * run.length
+    least, most = LATE * 1.25 * kbits / 1000, 0.4 * run.length
     by = round(chance.uniform(min(least, most), most))
     return sent(run, frames, place, by), ("late", "past", "missing")
 
@@ -149,7 +151,7 @@ def places_for(kind, run, frames):
 
 
 def fault_in(kind, run, frames, kbits, chance):
-    """A fault of a kind at random; None where no frame can have it, or where it changes nothing."""
+    """A fault of a kind at random; None where no frame can have it, or where it is not late enough."""
     places = list(places_for(kind, run, frames))
     if not places:
         return None
@@ -157,8 +159,10 @@ def fault_in(kind, run, frames, kbits, chance):
     make = {"missing": missing, "doubled": doubled, "flag": flag, "byte": byte}.get(kind)
     frame = frames[place]
     found, kinds = make(run, frames, place, chance) if make else late(run, frames, place, chance, kbits)
-    if found == frames:
-        return None
+    if kind == "late":
+        moved = next(it.start for it in found if it[2:] == frame[2:] and it.cycle == frame.cycle) - frame.start
+        if moved < LATE * kbits / 1000:
+            return None
     triggers = {it for it in frames if it.identifier == TRIGGER}
     pushed = [it.cycle for it in found if it.identifier == TRIGGER and it.cycle != frame.cycle and it not in triggers]
     # Where most triggers are late, no reader can tell which are.

@@ -60,7 +60,7 @@ class Comparison:
     def parted(self):
         """The places of the frames by cycles, counted from the first trigger. Where triggers are missing, the time of
         a frame says its cycle."""
-        cycles, current, upper = {}, 0, None
+        cycles, current, upper, begin = {}, 0, None, 0.0
         following = dict(zip(self.triggers, [*self.numbers[1:], float("inf")]))
         # In this time of a cycle only its first trigger frame is sent, and what is there is late.
         late = worst(LENGTH) * self.bit
@@ -68,10 +68,10 @@ class Comparison:
             number = current
             if place in self.triggers:
                 number = current = self.triggers[place]
-                upper = following[place]
+                upper, begin = following[place], max(self.times[place], current * self.cycle)
             elif upper > current + 1:
-                middle = self.times[place] + frame.length * self.bit / 2 - late
-                number = min(max(current, int(middle // self.cycle)), max(current, upper - 1))
+                ahead = int((self.times[place] + frame.length * self.bit / 2 - late - begin) // self.cycle)
+                number = min(current + max(0, ahead), upper - 1)
             cycles.setdefault(number, []).append(place)
         return cycles
 
