@@ -9,6 +9,7 @@
     tools/fttlog candump KBITS [LOG]          the form of `candump -L`
     tools/fttlog pcap KBITS [LOG]             a recording for tcpdump and Wireshark
     tools/fttlog from-candump KBITS [DUMP]    the rows of a recording of candump -L
+    tools/fttlog conform KBITS OWN [DUMP]     whether a recording is that of the run OWN, a log or a plan
     tools/fttlog bits [LOG]                   the bits of the bus
 
 With no LOG, or with -, the log is read from standard input. The log is one that `fttcan replay` or `fttcan live` wrote,
@@ -16,18 +17,21 @@ with or without a report. Of one that was cut by `--tail` the rows that are ther
 `tools/fttlog FORM --help` says the options of a form. docs/tools.md has examples.
 
 Status: 0 done; 1 a file can't be read, or a row of it can't be used: a line on standard error says which; 2 the words
-are wrong. This program is a help for readers. Nothing of it is proved, and nothing that is proved rests on it.
+are wrong. Of conform 1 says too that something was found. This program is a help for readers. Nothing of it is proved, and nothing that is proved rests on it.
 """
 import argparse
 import fractions
 import sys
 
 from ..command import takes_version
-from . import bus, drawing, rows, steps, times, words as sentences
+from . import bus, conform, drawing, recording, rows, steps, times, words as sentences
+from .clock import PPM
 
 REPORT = rows.REPORT
 # The forms that tell what stands behind the row `end` too.
 WHOLE = ("say", "json", "late", "html")
+# The forms that read recordings.
+RECORDINGS = ("from-candump", "conform")
 
 
 def at_least(least):
@@ -123,13 +127,40 @@ def recordings_of(forms):
     dump = form(forms, "candump", "the form of candump -L", takes_times)
     dump.add_argument("--interface", default="can0", help="the name of the interface; else can0")
     form(forms, "pcap", "a recording for tcpdump and Wireshark", takes_times)
-    take = form(forms, "from-candump", "the rows of a recording", takes_cycle, takes_starts)
-    take.add_argument("kbits", type=kbits, help="the bit rate in kbit/s")
-    take.add_argument("--interface", help="the interface whose frames are taken; else that of the first line")
+    take = form(forms, "from-candump", "the rows of a recording", takes_cycle, takes_starts, takes_recording)
     take.add_argument("--calls", metavar="LOG",
                       help="puts the rows submit, plan and look of this log in front of the cycles that were next")
+    conforms(forms)
     line = form(forms, "bits", "the bits of the bus, as text of 0 and 1")
     line.add_argument("--until", type=at_least(0), help="the time before which the bits end; else the last frame's end")
+
+
+def takes_recording(made):
+    """Gives a form that reads recordings a bit rate, and what of a recording it takes."""
+    made.add_argument("kbits", type=kbits, help="the bit rate in kbit/s")
+    made.add_argument("--interface", help="the interface whose frames are taken; else that of the first line")
+    made.add_argument("--strict", action="store_true",
+                      help="refuses frames of other identifiers, of 29 bits and of CAN FD, remote and error frames; else "
+                      "they are left out and counted")
+
+
+def conforms(forms):
+    """The form that compares a recording with a run, and its words."""
+    made = form(forms, "conform", "whether a recording is that of a run", takes_names, takes_cycle, takes_starts,
+                takes_recording)
+    made.add_argument("own", help="the run: a log of replay, live, handover or poll, or a plan of admit")
+    made.add_argument("--tolerance", type=seconds, default=conform.TOLERANCE, metavar="US",
+                      help=f"what a frame may be off, in microseconds; else {conform.TOLERANCE}")
+    made.add_argument("--ppm", type=seconds, default=PPM,
+                      help=f"what the recorder's clock may run off, in parts per million; else {PPM}")
+    made.add_argument("--requests", choices=("own", "any"), default="own",
+                      help="whether the bus has the run's requests, in any place, or any others; else own")
+    made.add_argument("--any-data", action="store_true",
+                      help="compares no data of slots, only how many bytes there are")
+    made.add_argument("--csv", metavar="FILE", help="writes all findings as CSV; - is standard output")
+    made.add_argument("--json", metavar="FILE", help="writes all findings as JSON; - is standard output")
+    made.add_argument("--show", type=at_least(0), default=20, metavar="N", help="says N findings; else 20")
+    made.add_argument("--all", action="store_true", help="says all findings")
 
 
 def parser():
@@ -160,8 +191,13 @@ def note(text):
 
 
 def turn(words, lines, put):
-    """Turns the lines of a log, or of a recording, into what the words ask for."""
+    """Turns the lines of a log, or of a recording, into what the words ask for. Whether something was found that the
+    status has to tell."""
     names = rows.Names(getattr(words, "names", None))
+    if words.form in RECORDINGS:
+        recording.look_at(words.log)
+    if words.form == "conform":
+        return conform.conform(lines, words, put, note)
     if words.form == "from-candump":
         calls = []
         if words.calls is not None:
@@ -188,10 +224,10 @@ def turn(words, lines, put):
 
 def main():
     """Reads the words, and does what they ask."""
-    words = read_words()
+    words, is_found = read_words(), False
     try:
         with (sys.stdin if words.log == "-" else open(words.log, encoding="ascii")) as log:
-            turn(words, log, sys.stdout.write)
+            is_found = turn(words, log, sys.stdout.write)
         sys.stdout.flush()
     except BrokenPipeError:
         sys.stdout = None
@@ -203,3 +239,5 @@ def main():
                  "turns recordings in other forms, such as .blf")
     except rows.NoLog as fault:
         sys.exit(f"fttlog: {fault}")
+    if is_found is True:
+        sys.exit(1)
