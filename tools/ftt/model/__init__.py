@@ -1,6 +1,7 @@
 """Makes the files of fttcan from a list of messages in milliseconds.
 
     tools/fttmodel KBITS CYCLE_US MESSAGES OUT [options]
+    tools/fttmodel --from-recording DUMP [--interface NAME] > MESSAGES
 
 KBITS is the bit rate in kbit/s and CYCLE_US the elementary cycle in microseconds. MESSAGES is a CSV file with a header
 row, or a DBC file where its name ends with .dbc; docs/tools.md says how its attributes are read. OUT is a folder, which
@@ -15,12 +16,17 @@ The columns of the CSV file, in any order:
     deadline  in milliseconds, at most the period; without one, the period
     offset    in milliseconds, up to the first release; without one, 0
     id        its CAN identifier, decimal or 0x..; slots are given in the order of identifiers
-    kind      sync or async; without one, sync
+    kind      sync, polled or async; without one, sync. A polled message comes when it likes, and has a deadline: a
+              slot with one byte more asks for it, and keeps it. `period` is then its least distance, if one is known
     priority  0 to 255; between equal keys of the policy the lower one goes first; without one, 0
 
-name, sender, length and period are needed. Names of times may end with _ms. A column whose name begins with # is left
+name, sender, length and period are needed. Names of times may end with _ms. Fields may be separated by semicolons or
+tabs in place of commas, and then times may have decimal commas. A column whose name begins with # is left
 out, and so is a row whose first field begins with #. Another column is left out with a line that says so, where its
 name is not near one of these.
+
+--from-recording makes such a list from a recording of a plain CAN bus, as `candump -L` writes it: identifiers, lengths,
+periods and least distances. What a recording can't tell is left open.
 
 Status: 0 written; 1 written, with warnings; 2 a mistake in a message or an option, nothing is written; 3 a file that
 can't be read or written; 4 wrong words, or a Python before 3.11.
@@ -38,7 +44,7 @@ from .. import limits
 from ..command import Parser, needs_tomllib, takes_version, put_lines
 from ..faults import Refused, Unread
 from ..telling import listed, some
-from . import arrivals, bus_dbc, dbc, table
+from . import arrivals, bus_dbc, dbc, recorded, table
 from .bus import Bus, alike, entries_of, owned_of, window_of
 from .files import names_text, steps_text, system_text, write_all
 from .messages import Mistakes, text_of
@@ -163,15 +169,36 @@ def parser():
     made.add_argument("--instances", action="store_true", help="write bus.dbc, in which each slot has the number of the "
                       "instance, as in a log of the simulator")
     made.add_argument("--strict", action="store_true", help="refuse a DBC file with a message that would be left out")
+    made.add_argument("--from-recording", metavar="DUMP", help="alone, in front: print a list of messages from a recording")
     takes_version(made)
     return made
+
+
+def from_recording(words):
+    """Prints the list of messages of a recording, and says what is left open. The status."""
+    reader = Parser(prog="fttmodel --from-recording", description="Prints a list of messages from a recording.")
+    reader.add_argument("dump", metavar="DUMP", help="the text of candump -L")
+    reader.add_argument("--interface", help="the interface whose frames are taken; else that of the first line")
+    words = reader.parse_args(words)
+    text, notes = recorded.list_of(words.dump, words.interface)
+    print("\n".join(notes), file=sys.stderr)
+    why = put_lines(text.splitlines())
+    if why is not None:
+        raise Unread(why)
+    return 0
 
 
 def main():
     """Reads the words, and does what they ask. The status."""
     needs_tomllib("fttmodel")
     try:
-        return model(parser().parse_args())
+        if sys.argv[1:2] == ["--from-recording"]:
+            return from_recording(sys.argv[2:])
+        reader = parser()
+        words = reader.parse_args()
+        if words.from_recording is not None:
+            reader.error("--from-recording stands in front, and alone: --from-recording DUMP > MESSAGES")
+        return model(words)
     except (Refused, csv.Error) as fault:
         print(fault, file=sys.stderr)
         return 2

@@ -8,9 +8,10 @@ import statistics
 from collections import namedtuple
 from fractions import Fraction
 
-from ..faults import Refused
+from ..faults import Refused, Unread
 from ..limits import FIRST_ASYNC, LAST_ASYNC, LAST_ID
-from ..telling import decimal, some
+from ..log.recording import LINE, kind_of, other_form
+from ..telling import decimal, shown, some
 
 # So many sends are needed to tell a period, and so great a part of the gaps has to be near a multiple of it.
 LEAST, NEAR = 8, Fraction(19, 20)
@@ -83,18 +84,46 @@ def notes_of(rows):
                "--renumber gives them others, or write polled with a deadline")
 
 
-def list_of(path, frames, others):
-    """The text of the list, and what is said of it. The frames of one bus are triples of a time in milliseconds, an
-    identifier and a number of bytes; others counts what was left out, by what it is."""
-    by_identifier = {}
-    for time, identifier, length in frames:
-        by_identifier.setdefault(identifier, []).append((time, length))
-    if not by_identifier:
-        raise Refused(f"{path}: there is no frame with an identifier of 11 bits.")
-    rows = [row_of(identifier, sorted(sent)) for identifier, sent in sorted(by_identifier.items()) if identifier <= LAST_ID]
+def sends_of(path, lines, interface):
+    """The sends of a recording of candump -L, by identifiers of 11 bits: the time in milliseconds and the number of bytes
+    of each; and how many frames are left out, by what they are."""
+    found, left = {}, {}
+    for place, line in enumerate(lines, 1):
+        if not line.strip():
+            continue
+        match = LINE.fullmatch(line.strip())
+        if match is None:
+            raise Refused(f"{path}:{place}: {shown(line.strip(), 60)} is no line of candump -L.")
+        seconds, part, where, identifier, data, _ = match.groups()
+        interface = interface or where
+        kind = f"frames of other interfaces than {interface}" if where != interface else kind_of(identifier, data)
+        if kind is None and int(identifier, 16) > LAST_ID:
+            kind = "identifiers above 0x7ff"
+        if kind is not None:
+            left[kind] = left.get(kind, 0) + 1
+            continue
+        time = (int(seconds) + Fraction(int(part), 10 ** len(part))) * 1000
+        found.setdefault(int(identifier, 16), []).append((time, len(data) // 2))
+    if not found:
+        raise Refused(f"{path}: there is no data frame with an identifier of 11 bits.")
+    return found, left
+
+
+def list_of(path, interface):
+    """The text of the list of a recording, and what is said of it."""
+    try:
+        with open(path, "rb") as file:
+            data = file.read()
+    except OSError as fault:
+        raise Unread(f"{path}: {fault.strerror or fault}. Is it the right path?") from fault
+    why = other_form(data[:512], path)
+    if why is not None:
+        raise Refused(why)
+    found, others = sends_of(path, data.decode("ascii", "replace").splitlines(), interface)
+    rows = [row_of(identifier, sorted(sent)) for identifier, sent in sorted(found.items())]
     out = io.StringIO()
     writer = csv.writer(out, lineterminator="\n")
     writer.writerow(HEAD)
     writer.writerows(rows)
-    told = [f"left out: {some(many, what)}" for what, many in sorted(others.items())]
+    told = [f"left out: {many} of {what}" for what, many in sorted(others.items())]
     return out.getvalue(), told + list(notes_of(rows))
