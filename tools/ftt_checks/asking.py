@@ -5,8 +5,8 @@ import random
 
 HEAD = "name,sender,length,period,deadline,kind,id\n"
 # At 500 kbit/s with cycles of 5 ms: start is polled every 4 cycles and sent within 4, stop every 2 and within 2.
-LIST = (f"{HEAD}loop,plc,8,5,,sync,\nstart,panel,1,,40,polled,\nstop,panel,0,12.5,20,polled,\nlog,plc,4,7,,async,0x300\n"
-        "once,plc,1,,,async,0x301\n")
+LIST = (f"{HEAD}loop,plc,8,5,,sync,\nstart,panel,1,,40,polled,\nstop,panel,0,12.5,20,polled,\n"
+        "log,plc,4,7,,async,0x300\nonce,plc,1,,,async,0x301\n")
 WORDS = ("500", "5000", "asked.csv", "asked")
 BOUND = {1: 8, 2: 4}
 CYCLE = 2500
@@ -72,15 +72,17 @@ def check_lists(tools):
     tools.case("requests: of a list", status == 0 and streams == [["1750", "1", "05"]] and
                requests == [["1", "0x300", "0a0b"], ["1000", "0x300", "00000000"]], f"{said}{requests}{streams}")
     for name, text, part, ended in (
-            ("a name that is near", "at,name\n1,strt\n", "when.csv:2: name is 'strt': no polled or asynchronous message has "
-             "this name. Is it start?", 2),
-            ("a synchronous message", "at,name\n1,loop\n", "it is synchronous, and sent by its period. Leave the row out.", 2),
-            ("too many bytes", "at,name,data\n1,start,0506\n", "Write at most 1 byte in hexadecimal, two digits each", 2),
+            ("a name that is near", "at,name\n1,strt\n", "when.csv:2: name is 'strt': no polled or asynchronous "
+             "message has this name. Is it start?", 2),
+            ("a synchronous message", "at,name\n1,loop\n", "it is synchronous, and sent by its period. Leave the row "
+             "out.", 2),
+            ("too many bytes", "at,name,data\n1,start,0506\n", "Write at most 1 byte in hexadecimal, two digits "
+             "each", 2),
             ("a time that is none", "at,name\n1s,start\n", "when.csv:2: at is '1s': this is no time.", 2),
             ("a column that is missing", "time,name\n1,start\n", "when.csv:1: the column at is missing.", 2),
             ("a column that is near", "at,nam\n1,start\n", "Is it name?", 2),
-            ("requests too near", "at,name\n1,start\n11,start\n", "when.csv:3: start comes 2 cycles after the one before, "
-             "and is polled every 4: its bound of 40 ms holds no more.", 1),
+            ("requests too near", "at,name\n1,start\n11,start\n", "when.csv:3: start comes 2 cycles after the one "
+             "before, and is polled every 4: its bound of 40 ms holds no more.", 1),
             ("a request too late", "at,name\n95,stop\n", "when.csv:2: stop may come too late to be sent before the run "
              "ends. Open more cycles.", 1)):
         tools.put("when.csv", text)
@@ -118,17 +120,19 @@ def check_recordings(tools):
     rows = {row["id"]: row for row in csv.DictReader(io.StringIO(out))}
     found = {key: (row["length"], row["period"], row["kind"], row["sender"]) for key, row in rows.items()}
     wanted = {"0x100": ("8", "10", "sync", "unknown"), "0x2a0": ("5", "100", "sync", "unknown"),
-              "0x0f0": ("2", found.get("0x0f0", ("", ""))[1], "async", "unknown"), "0x7a0": ("1", "", "async", "unknown"),
+              "0x0f0": ("2", found.get("0x0f0", ("", ""))[1], "async", "unknown"),
+              "0x7a0": ("1", "", "async", "unknown"),
               "0x320": ("4", found.get("0x320", ("", ""))[1], "sync", "unknown")}
     is_near = 33.29 < float(found["0x320"][1]) < 33.31 and float(found["0x0f0"][1]) >= 50
-    said = ("left out: 1 of 29-bit identifiers\n", "left out: 1 of frames of other interfaces than can0\n", "left out: 1 of "
-            "remote frames\n", "5 identifiers: 3 with a period, 2 without one", "left open: senders")
-    tools.case("recording: its identifiers", status == 0 and found == wanted and is_near and all(it in err for it in said),
-               f"{out}{err}")
+    said = ("left out: 1 of 29-bit identifiers\n", "left out: 1 of frames of other interfaces than can0\n", "left "
+            "out: 1 of remote frames\n", "5 identifiers: 3 with a period, 2 without one", "left open: senders")
+    is_right = status == 0 and found == wanted and is_near and all(it in err for it in said)
+    tools.case("recording: its identifiers", is_right, f"{out}{err}")
     tools.case("recording: what was lost", int(rows["0x2a0"]["#lost"]) == 100 - text.count(" 2A0#") > 0, out)
     tools.put("plain.csv", out)
     out, err, status = tools.call("fttmodel", "500", "1000", "plain.csv", "plain", "--renumber")
-    tools.case("recording: its list is taken", status == 0 and "messages: 3 synchronous, 2 asynchronous" in out, out + err)
+    tools.case("recording: its list is taken", status == 0 and "messages: 3 synchronous, 2 asynchronous" in out,
+               out + err)
     for name, text, part in (("a BLF file", b"LOGG\x90\x00", "this is a BLF file of Vector"),
                              ("another line", b"hello\n", "plain.log:1: 'hello' is no line of candump -L."),
                              ("no frame", b"", "plain.log: there is no data frame with an identifier of 11 bits.")):

@@ -329,23 +329,24 @@ def wishes(name, wrong, part, right):
 FILES += [
     log("a log with a report", "end,1\n", "end,1\nentry,0,0,1,0,0\nload,55,55,55\n", "run.log:6: mistake: the word is "
         "'entry': behind the row `end` stand the rows of a report (--report), and audit takes none. Take them away"),
-    log("a log of poll", "end,1\n", "end,1\nwaits,0,1\n", "the word is 'waits': behind the row `end` stand the rows of a "
-        "log of `poll`"),
-    log("a frame without the comma of its data", "51,100,", "51,100", "Write frame,START,LEN,ID,DATA. Write the comma in "
-        "front of the data"),
-    log("an identifier with 0x", "51,100,", "51,0x100,", "run.log:4: mistake: ID is '0x100': three hexadecimal digits are "
-        "taken, in lower case and without 0x. Write 100."),
-    log("a mask of one digit in a log", "0000000001,55", "1,55", "MASK is '1': a mask has 10 digits in lower case, or 24. "
-        "Write 0000000001."),
-    log("data in capitals", "0000370100000000", "0x0000370100000000", "DATA is '0x0000370100000000': two hexadecimal digits "
-        "for each byte are taken, in lower case, at most 16. Write 0000370100000000."),
-    log("zeros in front in a log", "frame,0,", "frame,00,", "START is '00': digits alone are taken, without zeros in front. "
-        "Write 0."),
+    log("a log of poll", "end,1\n", "end,1\nwaits,0,1\n", "the word is 'waits': behind the row `end` stand the rows "
+        "of a log of `poll`"),
+    log("a frame without the comma of its data", "51,100,", "51,100", "Write frame,START,LEN,ID,DATA. Write the comma "
+        "in front of the data"),
+    log("an identifier with 0x", "51,100,", "51,0x100,", "run.log:4: mistake: ID is '0x100': three hexadecimal digits "
+        "are taken, in lower case and without 0x. Write 100."),
+    log("a mask of one digit in a log", "0000000001,55", "1,55", "MASK is '1': a mask has 10 digits in lower case, or "
+        "24. Write 0000000001."),
+    log("data in capitals", "0000370100000000", "0x0000370100000000", "DATA is '0x0000370100000000': two hexadecimal "
+        "digits for each byte are taken, in lower case, at most 16. Write 0000370100000000."),
+    log("zeros in front in a log", "frame,0,", "frame,00,", "START is '00': digits alone are taken, without zeros in "
+        "front. Write 0."),
     log("a verdict that is none", "accepted", "acepted", "the verdict is 'acepted': Is it accepted?"),
-    log("a verdict without its fields", "accepted,0,1", "accepted,0", "Write submit,CALLER,FROM,accepted,FIRST,LENGTH."),
+    log("a verdict without its fields", "accepted,0,1", "accepted,0",
+        "Write submit,CALLER,FROM,accepted,FIRST,LENGTH."),
     log("a word of a log", "open,", "opn,", "the word is 'opn': Is it open?"),
-    log("a plan for a log", LOG, "fttcan plan 2\nfrom 0\n", "this is a plan text. Its audit is `fttcan check SYSTEM STEPS "
-        "PLAN`."),
+    log("a plan for a log", LOG, "fttcan plan 2\nfrom 0\n", "this is a plan text. Its audit is `fttcan check SYSTEM "
+        "STEPS PLAN`."),
     log("a recording for a log", LOG, "(1.000246) can0 000#0000370100000000\n", "this is a recording of candump."),
     log("steps for a log", LOG, "add,1,0,0,0,0,0,1,1,0\n", "this is a row of a steps file."),
     wishes("wishes without a start", "add,1,1,0,0,4,1,2,4\n", "Write a first row above it: start,1,",

@@ -32,7 +32,8 @@ for line in sys.stdin if sys.argv[2] == "decode" else ():
     number, data = line.split(",")
     try:
         found = frames[int(number)].decode(bytes.fromhex(data.strip()))
-        print(json.dumps({name: int(it.raw_value) if not isinstance(it.raw_value, float) else it.raw_value for name, it in found.items()}))
+        values = {name: it.raw_value for name, it in found.items()}
+        print(json.dumps({name: it if isinstance(it, float) else int(it) for name, it in values.items()}))
     except Exception as fault:
         print(json.dumps({"fault": repr(fault)}))
 """

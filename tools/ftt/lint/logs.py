@@ -54,7 +54,9 @@ def why_no_row(fields):
             return "the row", ",".join(fields), f"Write submit,CALLER,FROM,{verdict},{VERDICTS[verdict]}."
         names = ("CALLER", "FROM", "the verdict", *VERDICTS[verdict].split(","), "UNTIL")
     if word != "submit" and len(rest) != len(names):
-        more = " Write the comma in front of the data also where there are none." if (word, len(rest)) == ("frame", 3) else ""
+        more = ""
+        if (word, len(rest)) == ("frame", 3):
+            more = " Write the comma in front of the data also where there are none."
         return "the row", ",".join(fields), f"Write {word},{','.join(names)}.{more}"
     for name, text in zip(names, rest):
         why = None if name == "the verdict" else why_no_field(name, text)
@@ -151,8 +153,9 @@ def lint_log(path, found):
         found.warning(line, f"the log begins with a row '{word}', without the one that it belongs to: it was cut by "
                       "--tail, or in the middle. Audit a log that is whole.")
     elif rows.ended is None:
-        found.warning(None, "the log has no row `end`: it is not whole, and audit says no,unfinished. Write it to its end.")
+        found.warning(None, "the log has no row `end`: it is not whole, and audit says no,unfinished. Write it to its "
+                      "end.")
     elif rows.ended != "told" and rows.ended[1] != rows.opened:
         line, number = rows.ended
-        found.warning(line, f"NEXT is {number}, and the log has {some(rows.opened, 'row')} `open`. Audit says no: it was cut, "
-                      f"or a row is missing. {'Write end,' + str(rows.opened) + '.' if rows.opened else ''}".rstrip())
+        found.warning(line, f"NEXT is {number}, and the log has {some(rows.opened, 'row')} `open`. Audit says no: it "
+                      "was cut, or a row is missing. Audit a log that is whole.")

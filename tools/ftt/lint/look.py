@@ -5,7 +5,6 @@ from ..command import put_lines
 from ..faults import Unread
 from ..telling import some
 from .files import Findings
-from .logs import lint_log
 from .plan import lint_plan
 from .requests import lint_requests
 from .steps import lint_steps
@@ -40,6 +39,8 @@ def look_at(words):
     if words.wishes is not None:
         look(words.wishes, lint_wishes, system, cycles)
     if words.log is not None:
+        # The readers of logs are needed here alone.
+        from .logs import lint_log  # pylint: disable=import-outside-toplevel
         look(words.log, lint_log)
     return files
 

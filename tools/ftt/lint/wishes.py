@@ -22,16 +22,18 @@ def why_no_word(record, word, is_first, next_cycle):
     if word.lower() in known:
         return f"Write it in lower case: {word.lower()}."
     if is_first and word in ("add", "remove"):
-        return (f"The start is missing. Write a first row above it: start,{next_cycle}, with the cycle in which the change "
-                "is to begin.")
+        return (f"The start is missing. Write a first row above it: start,{next_cycle}, with the cycle in which the "
+                "change is to begin.")
     if word == "start":
-        return "The start stands in the first row, and in no other. Take this one away, or put its rows into another file."
+        return ("The start stands in the first row, and in no other. Take this one away, or put its rows into another "
+                "file.")
     if word == "change":
         return "A wish changes no entry. Write a row remove,SLOT, and a row add with another slot."
     if word == "and":
         return "Rows of one wish need no `and`. Take it away: each row is an operation of the same change."
     near = close(word.lower(), known)
-    return f"Is it {near}?" if near else f"The word of {'the first row' if is_first else 'a later row'} is {' or '.join(known)}."
+    row = "the first row" if is_first else "a later row"
+    return f"Is it {near}?" if near else f"The word of {row} is {' or '.join(known)}."
 
 
 def is_whole(record, word, found, told):
@@ -76,24 +78,25 @@ def lint_wishes(path, system, cycles, found):
         word, told = record.fields[0].decode("utf-8", "replace"), f"wishes: row {record.number} "
         count = record.number
         if word not in (("start",) if count == 1 else ("add", "remove")):
-            found.mistake(record.line, f"the word is {shown(word)}. {why_no_word(record, word, count == 1, cycles or 0)}",
-                          told + "word")
+            why = why_no_word(record, word, count == 1, cycles or 0)
+            found.mistake(record.line, f"the word is {shown(word)}. {why}", told + "word")
             continue
         if not is_whole(record, word, found, told):
             continue
         if count > OPERATIONS + 1:
-            found.mistake(record.line, f"this is operation {count - 1}, and a change has at most {OPERATIONS}. Part the "
-                          "wish.", told + "many")
+            found.mistake(record.line, f"this is operation {count - 1}, and a change has at most {OPERATIONS}. Part "
+                          "the wish.", told + "many")
             return
         periods = lint_row(record, word, system, cycles, found, told)
         wrong = next((it for it in periods if not 1 <= it <= TIMES), None)
         if wrong is not None:
             found.warning(record.line, f"PERIOD is {wrong}: no such choice is accepted. Take 1 to {TIMES}.")
         elif word == "start" and cycles is not None and int(record.fields[1]) < cycles:
-            found.warning(record.line, f"START is {int(record.fields[1])}, and the steps open {some(cycles, 'cycle')}: it "
-                          f"has passed. Take at least {cycles}.")
+            found.warning(record.line, f"START is {int(record.fields[1])}, and the steps open "
+                          f"{some(cycles, 'cycle')}: it has passed. Take at least {cycles}.")
     if count == 0:
         found.mistake(None, f"the file has no row. Write start,{cycles or 0}, and below it an add or a remove.",
                       "wishes: row 1 word")
     elif count == 1 and not found.mistakes:
-        found.mistake(None, "the wish has no operation. Write a row add or remove below the start.", "wishes: row 2 word")
+        found.mistake(None, "the wish has no operation. Write a row add or remove below the start.",
+                      "wishes: row 2 word")

@@ -44,7 +44,7 @@ from .. import limits
 from ..command import Parser, needs_tomllib, takes_version, put_lines
 from ..faults import Refused, Unread
 from ..telling import listed, some
-from . import arrivals, bus_dbc, dbc, recorded, table
+from . import arrivals, bus_dbc, dbc, table
 from .bus import Bus, alike, entries_of, owned_of, window_of
 from .files import names_text, steps_text, system_text, write_all
 from .messages import Mistakes, text_of
@@ -65,6 +65,30 @@ def messages_of(words, text, mistakes):
     return table.read(words.messages, text, mistakes)
 
 
+def nodes_of(messages, mistakes):
+    """The senders of messages, each with its number."""
+    nodes, most = {}, limits.NODES[1]
+    for message in messages:
+        if message.sender not in nodes and len(nodes) == most:
+            mistakes.add(message.line, "sender", message.sender, f"this is a sender beyond the {most} nodes. Let some "
+                         "nodes share a name.")
+        nodes.setdefault(message.sender, len(nodes))
+    return nodes
+
+
+def more_of(words, text, bus, entries, owned, cycles):
+    """The files that are made where they are asked for, requests and bus.dbc; what is told of them, and warnings."""
+    texts, lines, warnings = {}, [], []
+    if words.requests is not None:
+        texts, lines, warnings = arrivals.texts_of(words, arrivals.Asking(bus, entries, owned, cycles))
+    elif words.seed is not None or words.start is not None:
+        raise Refused("--seed and --from are for --requests. Leave them out.")
+    if words.dbc or words.instances:
+        source = bus_dbc.source_of(text) if is_dbc(words.messages) else None
+        texts["bus.dbc"] = bus_dbc.text_of(bus, entries, owned, words, source)
+    return texts, lines, warnings
+
+
 def model(words):
     """Reads the messages, writes the files, and says what was done. The status."""
     bus = Bus(words.kbits, words.cycle_us)
@@ -75,12 +99,7 @@ def model(words):
     if not messages and not mistakes.lines:
         raise Refused(f"{words.messages}:1: there are no messages. Write a row for each.")
     alike(messages, mistakes)
-    nodes, most = {}, limits.NODES[1]
-    for message in messages:
-        if message.sender not in nodes and len(nodes) == most:
-            mistakes.add(message.line, "sender", message.sender, f"this is a sender beyond the {most} nodes. Let some "
-                         "nodes share a name.")
-        nodes.setdefault(message.sender, len(nodes))
+    nodes = nodes_of(messages, mistakes)
     entries = entries_of(messages, bus, nodes, words.slots, mistakes)
     owned = owned_of(messages, nodes, words.renumber, mistakes)
     mistakes.stop()
@@ -96,20 +115,12 @@ def model(words):
     folder = pathlib.Path(words.out)
     texts = {"system.toml": system_text(bus, owned, words, window, count),
              "steps.csv": steps_text(entries, cycles), "names.csv": names_text(entries, owned)}
-    told_of_requests, more = [], []
-    if words.requests is not None:
-        asking = arrivals.Asking(bus, entries, owned, cycles)
-        requests, told_of_requests, more = arrivals.texts_of(words, asking)
-        texts.update(requests)
-    elif words.seed is not None or words.start is not None:
-        raise Refused("--seed and --from are for --requests. Leave them out.")
-    if words.dbc or words.instances:
-        source = bus_dbc.source_of(text) if is_dbc(words.messages) else None
-        texts["bus.dbc"] = bus_dbc.text_of(bus, entries, owned, words, source)
+    more, said, warned = more_of(words, text, bus, entries, owned, cycles)
+    texts |= more
     write_all(folder, texts)
     lines[2:2] = read.notes
-    lines += told_of_requests
-    warnings = read.warnings + warnings + more
+    lines += said
+    warnings = read.warnings + warnings + warned
     lines += [f"warning: {warning}" for warning in warnings]
     why = put_lines([*lines, f"written: {listed(texts)} in {folder}"])
     if why is not None:
@@ -158,18 +169,21 @@ def parser():
                       "order of their identifiers")
     made.add_argument("--period-attribute", metavar="NAME", help="of a DBC file: the attribute of messages that has "
                       "the period in milliseconds, beside GenMsgCycleTime")
-    made.add_argument("--requests", metavar="WHAT", help="write the requests of asynchronous messages into requests.csv, "
-                      "and those of polled ones into streams.csv. WHAT is `together`: all come at once, and again as often "
-                      "as they may; `random`; or a CSV file with the columns at, name and data, its times in milliseconds")
-    made.add_argument("--seed", type=within(0, 1 << 32), help="the number from which random requests come; without it 1")
+    made.add_argument("--requests", metavar="WHAT", help="write the requests of asynchronous messages into "
+                      "requests.csv, and those of polled ones into streams.csv. WHAT is `together`: all come at once, "
+                      "and again as often as they may; `random`; or a CSV file with the columns at, name and data, its "
+                      "times in milliseconds")
+    made.add_argument("--seed", type=within(0, 1 << 32), help="the number from which random requests come; "
+                      "without it 1")
     made.add_argument("--from", dest="start", metavar="MS", type=positive, help="when the first requests come at the "
                       "earliest, in milliseconds; without it 0")
     made.add_argument("--dbc", action="store_true", help="write bus.dbc too: the triggers, and each message by its "
                       "identifier on this bus, with the signals that a DBC file has of it")
-    made.add_argument("--instances", action="store_true", help="write bus.dbc, in which each slot has the number of the "
-                      "instance, as in a log of the simulator")
+    made.add_argument("--instances", action="store_true", help="write bus.dbc, in which each slot has the number of "
+                      "the instance, as in a log of the simulator")
     made.add_argument("--strict", action="store_true", help="refuse a DBC file with a message that would be left out")
-    made.add_argument("--from-recording", metavar="DUMP", help="alone, in front: print a list of messages from a recording")
+    made.add_argument("--from-recording", metavar="DUMP", help="alone, in front: print a list of messages from a "
+                      "recording")
     takes_version(made)
     return made
 
@@ -180,6 +194,8 @@ def from_recording(words):
     reader.add_argument("dump", metavar="DUMP", help="the text of candump -L")
     reader.add_argument("--interface", help="the interface whose frames are taken; else that of the first line")
     words = reader.parse_args(words)
+    # The readers of recordings are needed here alone.
+    from . import recorded  # pylint: disable=import-outside-toplevel
     text, notes = recorded.list_of(words.dump, words.interface)
     print("\n".join(notes), file=sys.stderr)
     why = put_lines(text.splitlines())

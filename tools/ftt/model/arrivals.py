@@ -172,9 +172,9 @@ def warnings_of(asking, requests, path):
             last, cycle = before.get(name), it.at // asking.bus.cycle
             if last is not None and cycle - last < each.period:
                 told.append(name)
-                yield (f"{path}:{it.line}: {name} comes {some(cycle - last, 'cycle')} after the one before, and is polled "
-                       f"every {each.period}: its bound of {decimal(asking.bus.millis(polled.bound(each)))} ms holds no "
-                       "more.")
+                yield (f"{path}:{it.line}: {name} comes {some(cycle - last, 'cycle')} after the one before, and is "
+                       f"polled every {each.period}: its bound of {decimal(asking.bus.millis(polled.bound(each)))} ms "
+                       "holds no more.")
             before[name] = cycle
         if it.at >= asking.last(each) and name not in told:
             told.append(name)
@@ -207,8 +207,8 @@ def texts_of(words, asking):
             continue
         rows = sorted((it for it in found if isinstance(it.message, Entry) == is_slot), key=lambda it: it.at)
         if len(rows) > most:
-            raise Refused(f"--requests: {name} would have {len(rows)} rows, and {most} are the most. Open fewer cycles by "
-                          "--cycles, or give greater distances.")
+            raise Refused(f"--requests: {name} would have {len(rows)} rows, and {most} are the most. Open fewer "
+                          "cycles by --cycles, or give greater distances.")
         texts[name] = "".join(f"{it.at},{it.message.slot if is_slot else f'{it.message.id:#05x}'},{it.data.hex()}\n"
                               for it in rows)
         senders = len({it.message.message.name for it in rows})

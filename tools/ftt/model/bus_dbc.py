@@ -1,5 +1,6 @@
-"""The bus as a DBC file, so that a program that reads DBC shows a recording of it: triggers with their cycle, window and
-flags, and each message by its identifier on this bus.
+"""The bus as a DBC file, so that a program that reads DBC shows a recording of it.
+
+It has the triggers with their cycle, window and flags, and each message by its identifier on this bus.
 
 A message of a DBC file keeps its signals. Another one of a slot has the number of the instance, as in a log of the
 simulator; a polled one a mark and the data; an asynchronous one its data.
@@ -18,16 +19,16 @@ SYMBOL = 32
 # Who receives a signal where nobody is named.
 ANYBODY = "Vector__XXX"
 # A row that ends with a semicolon, maybe some lines below.
-ROW = re.compile(rf'^[ \t]*((?:CM_|BA_|BA_DEF_|BA_DEF_DEF_|VAL_|VAL_TABLE_|SIG_VALTYPE_|SG_MUL_VAL_|SIG_GROUP_|BO_TX_BU_)'
-                 rf'[ \t](?:{attributes.QUOTED}|[^";])*;)', re.MULTILINE | re.DOTALL)
+WORDS = "CM_|BA_|BA_DEF_|BA_DEF_DEF_|VAL_|VAL_TABLE_|SIG_VALTYPE_|SG_MUL_VAL_|SIG_GROUP_|BO_TX_BU_"
+ROW = re.compile(rf'^[ \t]*((?:{WORDS})[ \t](?:{attributes.QUOTED}|[^";])*;)', re.MULTILINE | re.DOTALL)
 # One that tells more of the signals of a message: its words up to the number of the message, and what follows.
 TOLD = re.compile(r"(VAL_|SIG_VALTYPE_|SG_MUL_VAL_|CM_\s+SG_)\s+([0-9]+)\s+(.*)", re.DOTALL)
 
-# What a DBC file has of signals: its nodes, its tables of values, and by the number of a message the rows of its signals
+# What a DBC file has of signals: its nodes and its tables of values. By the number of a message the rows of its signals,
 # and those that tell more of them, each as a word and what follows the number.
 Source = namedtuple("Source", "nodes tables signals more")
-# A message of the bus: its number, its symbol, its length, its sender, its rows SG_, its period in milliseconds or None,
-# and what is told of it.
+# A message of the bus: its number, its symbol, its length, its sender, its rows SG_, its period in milliseconds, if it has
+# one, and what is told of it.
 Frame = namedtuple("Frame", "number symbol length sender signals period told")
 
 
@@ -70,8 +71,8 @@ class Symbols:
 
 def signal(name, start, size, highest=None, *, is_big=False, low=0, unit="", receivers=ANYBODY):
     """A row SG_ of a whole number. The start of one that stands most significant byte first is its highest bit."""
-    return (f'SG_ {name} : {start}|{size}@{0 if is_big else 1}+ (1,0) [{low}|{2 ** size - 1 if highest is None else highest}] '
-            f'"{unit}" {receivers}')
+    highest = 2 ** size - 1 if highest is None else highest
+    return f'SG_ {name} : {start}|{size}@{0 if is_big else 1}+ (1,0) [{low}|{highest}] "{unit}" {receivers}'
 
 
 def whole(name, length, byte=0):
@@ -151,8 +152,8 @@ def attributes_of(bus, frames, long_names):
     rows = ['BA_DEF_ "BusType" STRING ;', 'BA_DEF_ "Baudrate" INT 0 1000000;',
             'BA_DEF_ BO_ "GenMsgCycleTime" FLOAT 0 100000000;', 'BA_DEF_ BO_ "GenMsgSendType" ENUM "Cyclic","Event";',
             'BA_DEF_ BO_ "SystemMessageLongSymbol" STRING ;', 'BA_DEF_DEF_ "BusType" "CAN";',
-            'BA_DEF_DEF_ "Baudrate" 500000;', 'BA_DEF_DEF_ "GenMsgCycleTime" 0;', 'BA_DEF_DEF_ "GenMsgSendType" "Cyclic";',
-            'BA_DEF_DEF_ "SystemMessageLongSymbol" "";', 'BA_ "BusType" "CAN";',
+            'BA_DEF_DEF_ "Baudrate" 500000;', 'BA_DEF_DEF_ "GenMsgCycleTime" 0;',
+            'BA_DEF_DEF_ "GenMsgSendType" "Cyclic";', 'BA_DEF_DEF_ "SystemMessageLongSymbol" "";', 'BA_ "BusType" "CAN";',
             f'BA_ "Baudrate" {int(bus.kbits * 1000)};']
     for it in frames:
         if it.period is None:

@@ -1,7 +1,7 @@
 """Polled messages: a slot takes the requests of a message that comes when it likes, and keeps a bound.
 
-A request that arrives in cycle a is sent in a cycle from a + 1 to a + PERIOD + DEADLINE - 1, where requests of a slot come
-at least PERIOD cycles apart: docs/FORMATS.md says why. So it has been sent within PERIOD + DEADLINE cycles.
+A request that arrives in cycle a is sent in a cycle from a + 1 to a + PERIOD + DEADLINE - 1, where requests of a slot
+come at least PERIOD cycles apart: docs/FORMATS.md says why. So it has been sent within PERIOD + DEADLINE cycles.
 """
 import math
 
@@ -21,8 +21,8 @@ def times_of(message, bus, mistakes):
     exact = message.deadline * bus.kbits / bus.cycle
     whole = min(math.floor(exact), 2 * TIMES)
     if whole < 2:
-        mistakes.add(message.line, "deadline", decimal(message.deadline), f"it is {decimal(exact)} cycles, and a polled "
-                     f"slot needs 2, {decimal(bus.millis(2))} ms. Take a shorter cycle, or a longer time.")
+        mistakes.add(message.line, "deadline", decimal(message.deadline), f"it is {decimal(exact)} cycles, and a "
+                     f"polled slot needs 2, {decimal(bus.millis(2))} ms. Take a shorter cycle, or a longer time.")
         return None
     period = whole - whole // 2
     if message.period is not None:

@@ -65,8 +65,8 @@ def row_of(identifier, frames):
     measured = ["", "", "", ""] if found is None else [
         decimal(found.period) if is_cyclic else "", decimal(found.jitter) if is_cyclic else "", decimal(found.least),
         found.lost if is_cyclic else ""]
-    return [f"m{identifier:03x}", "unknown", lengths[-1], "" if period is None else decimal(period), f"{identifier:#05x}",
-            "sync" if is_cyclic else "async", len(frames), *measured, "/".join(map(str, lengths))]
+    return [f"m{identifier:03x}", "unknown", lengths[-1], "" if period is None else decimal(period),
+            f"{identifier:#05x}", "sync" if is_cyclic else "async", len(frames), *measured, "/".join(map(str, lengths))]
 
 
 def notes_of(rows):
@@ -85,8 +85,8 @@ def notes_of(rows):
 
 
 def sends_of(path, lines, interface):
-    """The sends of a recording of candump -L, by identifiers of 11 bits: the time in milliseconds and the number of bytes
-    of each; and how many frames are left out, by what they are."""
+    """The sends of a recording of candump -L, by identifiers of 11 bits: the time in milliseconds and the number of
+    bytes of each; and how many frames are left out, by what they are."""
     found, left = {}, {}
     for place, line in enumerate(lines, 1):
         if not line.strip():

@@ -66,7 +66,9 @@ def separator_of(text, columns=None):
     """What stands between the fields of a text: that of comma, semicolon and tab by which the first row names the most
     columns, of a list of messages or of these. A spreadsheet of a country with decimal commas writes semicolons."""
     def is_column(name):
-        return column_of(name)[0] is not None if columns is None else re.sub("_ms$", "", name.strip().lower()) in columns
+        if columns is None:
+            return column_of(name)[0] is not None
+        return re.sub("_ms$", "", name.strip().lower()) in columns
     first = next((row for row in text.splitlines() if row.strip(" ,;\t") and not row.lstrip().startswith("#")), "")
     return max(SEPARATORS, key=lambda it: sum(is_column(name) for row in csv.reader([first], delimiter=it)
                                               for name in row))
