@@ -24,11 +24,11 @@ ROW = re.compile(rf'^[ \t]*((?:{WORDS})[ \t](?:{attributes.QUOTED}|[^";])*;)', r
 # One that tells more of the signals of a message: its words up to the number of the message, and what follows.
 TOLD = re.compile(r"(VAL_|SIG_VALTYPE_|SG_MUL_VAL_|CM_\s+SG_)\s+([0-9]+)\s+(.*)", re.DOTALL)
 
-# What a DBC file has of signals: its nodes and its tables of values. By the number of a message the rows of its signals,
-# and those that tell more of them, each as a word and what follows the number.
+# What a DBC file has of signals: its nodes and its tables of values. By the number of a message the rows of its
+# signals, and those that tell more of them, each as a word and what follows the number.
 Source = namedtuple("Source", "nodes tables signals more")
-# A message of the bus: its number, its symbol, its length, its sender, its rows SG_, its period in milliseconds, if it has
-# one, and what is told of it.
+# A message of the bus: its number, its symbol, its length, its sender, its rows SG_, its period in milliseconds, if it
+# has one, and what is told of it.
 Frame = namedtuple("Frame", "number symbol length sender signals period told")
 
 
@@ -153,8 +153,8 @@ def attributes_of(bus, frames, long_names):
             'BA_DEF_ BO_ "GenMsgCycleTime" FLOAT 0 100000000;', 'BA_DEF_ BO_ "GenMsgSendType" ENUM "Cyclic","Event";',
             'BA_DEF_ BO_ "SystemMessageLongSymbol" STRING ;', 'BA_DEF_DEF_ "BusType" "CAN";',
             'BA_DEF_DEF_ "Baudrate" 500000;', 'BA_DEF_DEF_ "GenMsgCycleTime" 0;',
-            'BA_DEF_DEF_ "GenMsgSendType" "Cyclic";', 'BA_DEF_DEF_ "SystemMessageLongSymbol" "";', 'BA_ "BusType" "CAN";',
-            f'BA_ "Baudrate" {int(bus.kbits * 1000)};']
+            'BA_DEF_DEF_ "GenMsgSendType" "Cyclic";', 'BA_DEF_DEF_ "SystemMessageLongSymbol" "";',
+            'BA_ "BusType" "CAN";', f'BA_ "Baudrate" {int(bus.kbits * 1000)};']
     for it in frames:
         if it.period is None:
             rows.append(f'BA_ "GenMsgSendType" BO_ {it.number} 1;')
