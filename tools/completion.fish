@@ -49,6 +49,8 @@ complete -c fttmodel -l from -x -d 'when the first requests come at the earliest
 complete -c fttmodel -l dbc -d 'write bus.dbc too: the triggers, and each message by its identifier on this bus, with the signals that a DBC file has of it'
 complete -c fttmodel -l instances -d 'write bus.dbc, in which each slot has the number of the instance, as in a log of the simulator'
 complete -c fttmodel -l strict -d 'refuse a DBC file with a message that would be left out'
+complete -c fttmodel -l signals -r -d 'write bus.dbc with the signals that this DBC file has of the messages with the same identifiers'
+complete -c fttmodel -l from-dbc -r -d 'alone, in front: print a list of messages from a DBC file'
 complete -c fttmodel -l from-recording -x -d 'alone, in front: print a list of messages from a recording'
 complete -c fttmodel -l version -d 'show the version, the commit and the sum of the sources'
 complete -c fttlint -l help -d 'show this help message and exit'

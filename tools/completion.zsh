@@ -11,7 +11,7 @@ _fttcan_words() {
     'fttcan live') printf %s '--report' ;;
     'fttcan-reference FORM') printf %s 'replay admit check gen audit handover poll elastic' ;;
     'fttcan-reference replay') printf %s '--tail --report' ;;
-    'fttmodel') printf %s '--help --window --turnaround --policy --fill --slots --horizon --nodes --cycles --renumber --period-attribute --requests --seed --from --dbc --instances --strict --from-recording --version' ;;
+    'fttmodel') printf %s '--help --window --turnaround --policy --fill --slots --horizon --nodes --cycles --renumber --period-attribute --requests --seed --from --dbc --instances --strict --signals --from-dbc --from-recording --version' ;;
     'fttmodel --policy') printf %s 'rm dm edf' ;;
     'fttmodel --fill') printf %s 'prefix skip' ;;
     'fttmodel --slots') printf %s '40 96' ;;

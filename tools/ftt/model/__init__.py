@@ -2,6 +2,7 @@
 
     tools/fttmodel KBITS CYCLE_US MESSAGES OUT [options]
     tools/fttmodel --from-recording DUMP [--interface NAME] > MESSAGES
+    tools/fttmodel --from-dbc FILE [--period-attribute NAME] [--strict] > MESSAGES
 
 KBITS is the bit rate in kbit/s and CYCLE_US the elementary cycle in microseconds. MESSAGES is a CSV file with a header
 row, or a DBC file where its name ends with .dbc; docs/tools.md says how its attributes are read. OUT is a folder, which
@@ -26,7 +27,8 @@ out, and so is a row whose first field begins with #. Another column is left out
 name is not near one of these.
 
 --from-recording makes such a list from a recording of a plain CAN bus, as `candump -L` writes it: identifiers, lengths,
-periods and least distances. What a recording can't tell is left open.
+periods and least distances. What a recording can't tell is left open. --from-dbc makes one from a DBC file, to which
+deadlines can be added.
 
 Status: 0 written; 1 written, with warnings; 2 a mistake in a message or an option, nothing is written; 3 a file that
 can't be read or written; 4 wrong words, or a Python before 3.11.
@@ -44,7 +46,7 @@ from .. import limits
 from ..command import Parser, needs_tomllib, takes_version, put_lines
 from ..faults import Refused, Unread
 from ..telling import listed, some
-from . import arrivals, bus_dbc, dbc, table
+from . import arrivals, bus_dbc, dbc, lists, table
 from .bus import Bus, alike, entries_of, owned_of, window_of
 from .files import names_text, steps_text, system_text, write_all
 from .messages import Mistakes, text_of
@@ -83,8 +85,9 @@ def more_of(words, text, bus, entries, owned, cycles):
         texts, lines, warnings = arrivals.texts_of(words, arrivals.Asking(bus, entries, owned, cycles))
     elif words.seed is not None or words.start is not None:
         raise Refused("--seed and --from are for --requests. Leave them out.")
-    if words.dbc or words.instances:
-        source = bus_dbc.source_of(text) if is_dbc(words.messages) else None
+    if words.dbc or words.instances or words.signals:
+        text = text_of(words.signals) if words.signals else text if is_dbc(words.messages) else None
+        source = None if text is None else bus_dbc.source_of(text)
         texts["bus.dbc"] = bus_dbc.text_of(bus, entries, owned, words, source)
     return texts, lines, warnings
 
@@ -182,38 +185,26 @@ def parser():
     made.add_argument("--instances", action="store_true", help="write bus.dbc, in which each slot has the number of "
                       "the instance, as in a log of the simulator")
     made.add_argument("--strict", action="store_true", help="refuse a DBC file with a message that would be left out")
+    made.add_argument("--signals", metavar="FILE", help="write bus.dbc with the signals that this DBC file has of the "
+                      "messages with the same identifiers")
+    made.add_argument("--from-dbc", metavar="FILE", help="alone, in front: print a list of messages from a DBC file")
     made.add_argument("--from-recording", metavar="DUMP", help="alone, in front: print a list of messages from a "
                       "recording")
     takes_version(made)
     return made
 
 
-def from_recording(words):
-    """Prints the list of messages of a recording, and says what is left open. The status."""
-    reader = Parser(prog="fttmodel --from-recording", description="Prints a list of messages from a recording.")
-    reader.add_argument("dump", metavar="DUMP", help="the text of candump -L")
-    reader.add_argument("--interface", help="the interface whose frames are taken; else that of the first line")
-    words = reader.parse_args(words)
-    # The readers of recordings are needed here alone.
-    from . import recorded  # pylint: disable=import-outside-toplevel
-    text, notes = recorded.list_of(words.dump, words.interface)
-    print("\n".join(notes), file=sys.stderr)
-    why = put_lines(text.splitlines())
-    if why is not None:
-        raise Unread(why)
-    return 0
-
-
 def main():
     """Reads the words, and does what they ask. The status."""
     needs_tomllib("fttmodel")
     try:
-        if sys.argv[1:2] == ["--from-recording"]:
-            return from_recording(sys.argv[2:])
+        of_list = {lists.RECORDING: lists.from_recording, lists.DBC: lists.from_dbc}.get("".join(sys.argv[1:2]))
+        if of_list is not None:
+            return of_list(sys.argv[2:])
         reader = parser()
         words = reader.parse_args()
-        if words.from_recording is not None:
-            reader.error("--from-recording stands in front, and alone: --from-recording DUMP > MESSAGES")
+        if words.from_recording is not None or words.from_dbc is not None:
+            reader.error("--from-recording and --from-dbc stand in front: --from-recording DUMP > MESSAGES")
         return model(words)
     except (Refused, csv.Error) as fault:
         print(fault, file=sys.stderr)

@@ -80,6 +80,11 @@ def whole(name, length, byte=0):
     return [signal(name, 8 * byte + 7, 8 * length, is_big=True)] if length else []
 
 
+def behind_mark(row):
+    """A row SG_ of a signal that stands one byte later, behind the mark."""
+    return re.sub(r"(:\s*)([0-9]+)\|", lambda it: f"{it[1]}{int(it[2]) + 8}|", row, count=1)
+
+
 def triggers_of(slots, entries, sender, receivers, period):
     """The trigger, and where there are more than 40 slots the second one, with a flag for each slot."""
     names = {it.slot: it.message.name for it in entries}
@@ -102,7 +107,8 @@ def signals_of(it, source, is_by_instance):
     """The rows SG_ of a message."""
     message = it.message
     if source is not None and not (is_by_instance and isinstance(it, Entry)):
-        return source.signals.get(message.id, [])
+        rows = source.signals.get(message.id, [])
+        return [signal("FTT_Asked", 0, 8, 1), *map(behind_mark, rows)] if message.kind == KIND else rows
     if not isinstance(it, Entry):
         return whole("Data", message.length)
     if message.kind == KIND:
