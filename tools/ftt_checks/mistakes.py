@@ -363,6 +363,8 @@ FILES += [
     wishes("wishes without an operation", "start,1\n", "Write a row add or remove below the start.",
            "start,1\nremove,0\n"),
     wishes("wishes without a row", "", "Write start,1, and below it", "start,1\nremove,0\n"),
+    wishes("a start that is no number", "start,1 #\nremove,0\n", "START is '1 #': a row has no comment. Write 1.",
+           "start,1\nremove,0\n"),
     wishes("a period with a sign", "start,1\nadd,1,1,0,0,4,1,+2\n", "a sign is not taken. Write 2",
            "start,1\nadd,1,1,0,0,4,1,2\n"),
 ]

@@ -53,7 +53,7 @@ def is_whole(record, word, found, told):
 
 
 def lint_row(record, word, system, next_cycle, found, told):
-    """Looks at the numbers of a whole row. Its periods; none where one is faulty."""
+    """Looks at the numbers of a whole row. Its periods; None where a number is faulty."""
     names = ROWS[word]
     periods = []
     for place, field in enumerate(record.fields[1:]):
@@ -62,7 +62,7 @@ def lint_row(record, word, system, next_cycle, found, told):
         if number is None:
             why = why_no_number(field, bounds_of(name, {}, system, next_cycle or 0))
             found.mistake(record.line, f"{name} is {shown(field)}: {why}", told + "number")
-            return []
+            return None
         if name == "PERIOD":
             periods.append(number)
     return periods
@@ -88,6 +88,8 @@ def lint_wishes(path, system, cycles, found):
                           "the wish.", told + "many")
             return
         periods = lint_row(record, word, system, cycles, found, told)
+        if periods is None:
+            continue
         wrong = next((it for it in periods if not 1 <= it <= TIMES), None)
         if wrong is not None:
             found.warning(record.line, f"PERIOD is {wrong}: no such choice is accepted. Take 1 to {TIMES}.")
