@@ -1,5 +1,6 @@
 """Whether a recording is that of a run, with a clock that is not perfect: what is wrong, frame by frame."""
 import collections
+import gc
 import sys
 
 from ..frames import INTERMISSION, worst
@@ -256,6 +257,8 @@ def sentences(whole, found, names, shown):
 
 def conform(lines, words, put, note):
     """Compares a recording with a run, and writes what is wrong. Whether something is."""
+    # All that is made here is kept up to the end, so there is nothing to collect.
+    gc.disable()
     names, run = Names(words.names), run_in(words.own)
     found = recorded(lines, words.interface, words.strict)
     from_trigger(found, note)
