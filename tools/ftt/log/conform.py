@@ -30,7 +30,9 @@ class Comparison:
         self.requests = collections.defaultdict(list)
         self.rides = collections.defaultdict(list)
         self.lines, self.foreign_inside = {}, 0
-        self.chain, self.outside, self.compared, self.lag = float("-inf"), 0, 0, 0
+        # Up to when the bus is busy with the frames in front, and with those that were left out.
+        self.chain = self.foreign_until = float("-inf")
+        self.outside = self.compared = self.lag = 0
         clocks.in_order(self.frames, self.tolerance)
         self.starts = clocks.starts_in(self.frames, words.kbits, words.starts)
         if not run.has_frames:

@@ -48,9 +48,7 @@ class Compared:
         """Looks at all frames in the order of the recording, and then at what is missing."""
         self.opened([self.begin])
         for place, frame in zip(self.places, self.frames):
-            busy = self.whole.busy.get(place)
-            if busy is not None:
-                self.whole.chain = max(self.whole.chain, busy)
+            self.whole.foreign_until = max(self.whole.foreign_until, self.whole.busy.get(place, 0.0))
             if frame.identifier == TRIGGERS[0]:
                 self.trigger(place, frame)
             elif frame.identifier == TRIGGERS[1] and self.whole.run.slots > FEW_SLOTS:
@@ -74,6 +72,8 @@ class Compared:
         whole, start, lasts = self.whole, self.whole.times[place], frame.length * self.whole.bit
         if low < whole.chain:
             low, high = whole.chain, max(high, whole.chain)
+        if high < whole.foreign_until:
+            high = whole.foreign_until
         off = start - high if start > high else start - low if start < low else 0.0
         if abs(off) <= whole.tolerance:
             whole.offs.append(abs(off))

@@ -32,7 +32,7 @@ FORMS = (
     (rb"\s*(?:date |base +(?:hex|dec) )", "an ASC file of Vector", CONVERT.replace("{1}", ".asc")),
     (rb";", "a TRC file of PEAK", CONVERT.replace("{1}", ".trc")),
     (rb"timestamp,arbitration_id,", "a CSV file of python-can", CONVERT.replace("{1}", ".csv")),
-    (rb"[^\r\n]*,[^\r\n]*,[^\r\n]*\bID\b", "a CSV file of another tool",
+    (rb"(?=[^\r\n]*,[^\r\n]*,)[^\r\n]*\bID\b", "a CSV file of another tool",
      "python-can turns one whose columns are timestamp, arbitration_id, extended, remote, error, dlc and data"),
     (rb" *\([0-9.]+\) +\S+ +[0-9A-F]+ +\[[0-9]+\]", "what candump -t a prints", PLAIN),
     (rb" *\S+ +[0-9A-F]+ +\[[0-9]+\]", "what candump prints without times", "record with `candump -L`"),
