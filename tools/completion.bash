@@ -19,7 +19,7 @@ _fttcan_words() {
     'fttmodel --slots') printf %s '40 96' ;;
     'fttlint') printf %s '--help --plan --streams --words --live --replay --all --version' ;;
     'fttsearch') printf %s '--help --window --policy --fill --deadline --period --part --join --csv --resume --svg --jobs --version' ;;
-    'fttlog FORM') printf %s 'say late svg html json accepted candump pcap from-candump bits' ;;
+    'fttlog FORM') printf %s 'say late svg html json accepted candump pcap from-candump conform bits' ;;
     'fttlog say') printf %s '--help --kbits --names --steps --all' ;;
     'fttlog late') printf %s '--help --kbits --names --cycle --requests --steps --svg' ;;
     'fttlog svg') printf %s '--help --kbits --names --cycle' ;;
@@ -28,7 +28,9 @@ _fttcan_words() {
     'fttlog accepted') printf %s '--help' ;;
     'fttlog candump') printf %s '--help --at --starts --ends --interface' ;;
     'fttlog pcap') printf %s '--help --at --starts --ends' ;;
-    'fttlog from-candump') printf %s '--help --cycle --starts --ends --interface --calls' ;;
+    'fttlog from-candump') printf %s '--help --cycle --starts --ends --interface --strict --calls --snap --moved' ;;
+    'fttlog conform') printf %s '--help --names --cycle --starts --ends --interface --strict --tolerance --ppm --requests --any-data --csv --json --show --all' ;;
+    'fttlog conform --requests') printf %s 'own any' ;;
     'fttlog bits') printf %s '--help --until' ;;
     esac
 }
