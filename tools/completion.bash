@@ -28,7 +28,7 @@ _fttcan_words() {
     'fttlog accepted') printf %s '--help' ;;
     'fttlog candump') printf %s '--help --at --starts --ends --interface' ;;
     'fttlog pcap') printf %s '--help --at --starts --ends' ;;
-    'fttlog from-candump') printf %s '--help --cycle --starts --ends --interface --strict --calls' ;;
+    'fttlog from-candump') printf %s '--help --cycle --starts --ends --interface --strict --calls --snap --moved' ;;
     'fttlog conform') printf %s '--help --names --cycle --starts --ends --interface --strict --tolerance --ppm --requests --any-data --csv --json --show --all' ;;
     'fttlog conform --requests') printf %s 'own any' ;;
     'fttlog bits') printf %s '--help --until' ;;

@@ -126,6 +126,8 @@ complete -c fttlog -n '__fish_seen_subcommand_from from-candump' -l ends -d 'as 
 complete -c fttlog -n '__fish_seen_subcommand_from from-candump' -l interface -x -d 'the interface whose frames are taken'
 complete -c fttlog -n '__fish_seen_subcommand_from from-candump' -l strict -d 'refuses frames of other identifiers, of 29 bits and of CAN FD, remote and error frames'
 complete -c fttlog -n '__fish_seen_subcommand_from from-candump' -l calls -r -d 'puts the rows submit, plan and look of this log in front of the cycles that were next'
+complete -c fttlog -n '__fish_seen_subcommand_from from-candump' -l snap -x -d 'moves each frame by at most so many microseconds to its exact time, by order and lengths'
+complete -c fttlog -n '__fish_seen_subcommand_from from-candump' -l moved -r -d 'with --snap: writes by how much each frame was moved, as CSV'
 complete -c fttlog -n __fish_use_subcommand -f -a conform -d 'whether a recording is that of a run'
 complete -c fttlog -n '__fish_seen_subcommand_from conform' -l help -d 'show this help message and exit'
 complete -c fttlog -n '__fish_seen_subcommand_from conform' -l names -r -d 'names of messages: rows SLOT,NAME or 0xID,NAME, as names.csv of fttmodel'

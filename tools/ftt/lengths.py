@@ -26,9 +26,15 @@ def step_of(state, value, width):
     return STATES.index(behind), brought
 
 
-STUFF_8 = [[step_of(state, value, 8) for value in range(256)] for state in range(len(STATES))]
-STUFF_7 = [[step_of(state, value, 7)[0] for value in range(128)] for state in range(len(STATES))]
-BROUGHT_7 = [[step_of(state, value, 7)[1] for value in range(128)] for state in range(len(STATES))]
+def steps_of(width):
+    """By a state and a number of so many bits, one behind the other: the state behind it, ready for the next eight
+    bits, and the stuff bits."""
+    steps = [step_of(state, value, width) for state in range(len(STATES)) for value in range(1 << width)]
+    return [state << 8 for state, _ in steps], [brought for _, brought in steps]
+
+
+NEXT_8, BROUGHT_8 = steps_of(8)
+NEXT_7, BROUGHT_7 = steps_of(7)
 CRC_8 = [crc_of(number_bits(value, 8)) for value in range(256)]
 
 
@@ -39,7 +45,7 @@ def headed(identifier, size):
     bits = [0] + number_bits(identifier, 11) + [0, 0, 0] + number_bits(size, 4)
     # A recessive bit stands in front of the frame.
     state, brought = stuffed((1, 1), bits)
-    return crc_of(bits), STATES.index(state), len(bits) + 8 * size + 15 + BEHIND + brought
+    return crc_of(bits), STATES.index(state) << 8, len(bits) + 8 * size + 15 + BEHIND + brought
 
 
 def length_of(identifier, data):
@@ -47,8 +53,8 @@ def length_of(identifier, data):
     register, state, length = headed(identifier, len(data))
     for byte in data:
         register = (register << 8 & 0x7FFF) ^ CRC_8[register >> 7 ^ byte]
-        state, brought = STUFF_8[state][byte]
-        length += brought
-    high = register >> 8
-    length += BROUGHT_7[state][high]
-    return length + STUFF_8[STUFF_7[state][high]][register & 0xFF][1]
+        state |= byte
+        length += BROUGHT_8[state]
+        state = NEXT_8[state]
+    state = state >> 1 | register >> 8
+    return length + BROUGHT_7[state] + BROUGHT_8[NEXT_7[state] | register & 0xFF]

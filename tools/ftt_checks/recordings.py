@@ -3,7 +3,8 @@ times of the bus here, up to the last step."""
 import collections
 import random
 
-from ftt.frames import INTERMISSION, wire_of
+from ftt.frames import INTERMISSION, worst
+from ftt.lengths import length_of
 
 TRIGGER, SECOND = 0, 1
 FIRST_SLOT, LAST_SLOT = 0x100, 0x15F
@@ -23,7 +24,25 @@ def is_slot(identifier):
 
 def bits_of(frame):
     """The length of a frame."""
-    return len(wire_of(frame.identifier, frame.data))
+    return length_of(frame.identifier, frame.data)
+
+
+def long_run(many, cycle=2000):
+    """The text of a log with so many frames: eight slots with 1 to 8 bytes in each cycle."""
+    sizes = range(1, 9)
+    width, rows = sum(map(worst, sizes)), ["submit,1,0,accepted,0,1"]
+    for number in range(-(-many // 9)):
+        rows.append(f"open,{number},00000000ff,{width}")
+        start = number * cycle
+        data = bytes([number % 256]) + width.to_bytes(2, "big") + bytes([255, 0, 0, 0, 0])
+        rows.append(f"frame,{start},{length_of(0, data)},000,{data.hex()}")
+        start += cycle - width
+        for slot, size in enumerate(sizes):
+            data = (number % 256 ** size).to_bytes(size, "big")
+            length = length_of(FIRST_SLOT + slot, data)
+            rows.append(f"frame,{start},{length},{FIRST_SLOT + slot:03x},{data.hex()}")
+            start += length
+    return "\n".join([*rows, f"end,{number + 1}\n"])
 
 
 class Run:

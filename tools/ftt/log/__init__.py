@@ -130,6 +130,9 @@ def recordings_of(forms):
     take = form(forms, "from-candump", "the rows of a recording", takes_cycle, takes_starts, takes_recording)
     take.add_argument("--calls", metavar="LOG",
                       help="puts the rows submit, plan and look of this log in front of the cycles that were next")
+    take.add_argument("--snap", type=seconds, metavar="US",
+                      help="moves each frame by at most so many microseconds to its exact time, by order and lengths")
+    take.add_argument("--moved", metavar="FILE", help="with --snap: writes by how much each frame was moved, as CSV")
     conforms(forms)
     line = form(forms, "bits", "the bits of the bus, as text of 0 and 1")
     line.add_argument("--until", type=at_least(0), help="the time before which the bits end; else the last frame's end")
@@ -182,6 +185,8 @@ def read_words():
         reader.error(f"unrecognized arguments: {' '.join(more)}")
     if words.form == "late" and (words.requests, words.steps, words.streams) == (None, None, None):
         reader.error("late needs --requests, --steps or --streams")
+    if getattr(words, "moved", None) is not None and words.snap is None:
+        reader.error("--moved needs --snap")
     return words
 
 
@@ -199,11 +204,11 @@ def turn(words, lines, put):
     if words.form == "conform":
         return conform.conform(lines, words, put, note)
     if words.form == "from-candump":
-        calls = []
+        own = []
         if words.calls is not None:
             with open(words.calls, encoding="ascii", errors="replace") as log:
-                calls = bus.calls_of(rows.rows_of(log))
-        return bus.from_candump(lines, words, calls, put, note)
+                own = list(rows.rows_of(log))
+        return bus.from_candump(lines, words, own, put, note)
     read = rows.rows_of(lines)
     if words.form not in WHOLE:
         read = (row for row in read if row[0] not in REPORT)

@@ -1,4 +1,5 @@
 """The bits of a bus, and recordings of candump: a log as one, and one as a log."""
+import collections
 import fractions
 import struct
 
@@ -8,6 +9,7 @@ from ..masks import mask_of
 from ..telling import some
 from .recording import back_by, from_trigger, recorded
 from .rows import NoLog
+from .snap import Snapped
 
 MICROS = 1_000_000
 
@@ -107,7 +109,7 @@ def cycles_in(frames, starts):
 
 def calls_of(rows):
     """The rows of a log that no recording shows: verdicts, plans and looks, each with the cycle that is next there."""
-    calls, following = [], 0
+    calls, following = collections.deque(), 0
     for word, fields, _ in rows:
         if word == "open":
             following = int(fields[0]) + 1
@@ -137,19 +139,26 @@ def length_in(cycles, given, note):
     return given
 
 
-def from_candump(lines, words, calls, put, note):
-    """A recording of a bus of this profile as rows of a log. A cycle is opened where its trigger stands. The rows of
-    calls, which no recording shows, are put in front of the cycle that was next when they were answered."""
+def from_candump(lines, words, rows, put, note):
+    """A recording of a bus of this profile as rows of a log. A cycle is opened where its trigger stands. The calls of
+    some rows, which no recording shows, are put in front of the cycle that was next when they were answered."""
     frames = from_trigger(recorded(lines, words.interface, words.strict), note)
-    cycles = cycles_in(frames, starts_of(frames, words.kbits, words.starts, note))
-    length = length_in(cycles, words.cycle, note)
+    if words.snap is None:
+        cycles = cycles_in(frames, starts_of(frames, words.kbits, words.starts, note))
+        length = length_in(cycles, words.cycle, note)
+    else:
+        exact = Snapped(frames, words, rows)
+        exact.tell(note)
+        if words.moved is not None:
+            exact.write(words.moved)
+        cycles, length = cycles_in(frames, exact.starts), exact.length
     first = cycles[0][0] * length
     if first:
         note(f"the first trigger is that of cycle {cycles[0][0]}: what was before it is not in the recording")
-    calls = list(calls)
+    calls = calls_of(rows)
     for number, mask, width, sent in cycles:
         while calls and calls[0][0] <= number:
-            put(calls.pop(0)[1])
+            put(calls.popleft()[1])
         put(f"open,{number},{mask_of(mask)},{width}\n")
         for frame, start in sent:
             put(f"frame,{first + start},{frame.length},{frame.identifier:03x},{frame.data.hex()}\n")

@@ -1,5 +1,6 @@
 """Whether a recording is that of a run, with a clock that is not perfect: what is wrong, frame by frame."""
 import collections
+import gc
 import sys
 
 from ..frames import INTERMISSION, worst
@@ -29,7 +30,9 @@ class Comparison:
         self.requests = collections.defaultdict(list)
         self.rides = collections.defaultdict(list)
         self.lines, self.foreign_inside = {}, 0
-        self.chain, self.outside, self.compared, self.lag = float("-inf"), 0, 0, 0
+        # Up to when the bus is busy with the frames in front, and with those that were left out.
+        self.chain = self.foreign_until = float("-inf")
+        self.outside = self.compared = self.lag = 0
         clocks.in_order(self.frames, self.tolerance)
         self.starts = clocks.starts_in(self.frames, words.kbits, words.starts)
         if not run.has_frames:
@@ -256,6 +259,8 @@ def sentences(whole, found, names, shown):
 
 def conform(lines, words, put, note):
     """Compares a recording with a run, and writes what is wrong. Whether something is."""
+    # All that is made here is kept up to the end, so there is nothing to collect.
+    gc.disable()
     names, run = Names(words.names), run_in(words.own)
     found = recorded(lines, words.interface, words.strict)
     from_trigger(found, note)

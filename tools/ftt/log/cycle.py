@@ -48,9 +48,7 @@ class Compared:
         """Looks at all frames in the order of the recording, and then at what is missing."""
         self.opened([self.begin])
         for place, frame in zip(self.places, self.frames):
-            busy = self.whole.busy.get(place)
-            if busy is not None:
-                self.whole.chain = max(self.whole.chain, busy)
+            self.whole.foreign_until = max(self.whole.foreign_until, self.whole.busy.get(place, 0.0))
             if frame.identifier == TRIGGERS[0]:
                 self.trigger(place, frame)
             elif frame.identifier == TRIGGERS[1] and self.whole.run.slots > FEW_SLOTS:
@@ -72,11 +70,14 @@ class Compared:
         """How far a frame starts before or behind where it is due, in microseconds; 0 within the tolerance. The bus is
         busy up to its end then."""
         whole, start, lasts = self.whole, self.whole.times[place], frame.length * self.whole.bit
-        low, high = max(low, whole.chain), max(high, whole.chain)
-        off = start - high if start > high else min(0.0, start - low)
+        if low < whole.chain:
+            low, high = whole.chain, max(high, whole.chain)
+        if high < whole.foreign_until:
+            high = whole.foreign_until
+        off = start - high if start > high else start - low if start < low else 0.0
         if abs(off) <= whole.tolerance:
             whole.offs.append(abs(off))
-            whole.chain = min(max(start, low), high) + lasts
+            whole.chain = start - off + lasts
             return 0.0
         whole.chain = max(whole.chain, start + lasts)
         return off
@@ -164,6 +165,9 @@ class Compared:
     def turn(self, place, frame):
         """How far the frame of a slot is off. The slots are sent in their order; one that others were sent in front of
         is late from there on. Where a slot in front is missing, it may have been sent all the same."""
+        if self.next < len(self.order) and self.order[self.next] == frame.identifier and not self.passed:
+            self.next += 1
+            return self.placed(place, frame, self.window.low, self.window.high)
         lost = 0.0
         while self.next < len(self.order) and self.order[self.next] < frame.identifier:
             ahead = self.order[self.next]

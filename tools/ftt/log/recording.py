@@ -9,6 +9,8 @@ from ..telling import listed, shown, some, why_no_text
 from .rows import NoLog
 
 LINE = re.compile(r"\((\d+)\.(\d{1,9})\) +(\S+) +([0-9A-Fa-f]+)#(#[0-9A-Fa-f]+|R[0-9A-Fa-f]?|[0-9A-Fa-f]*)( +[RT])?")
+# The form of nearly all lines: microseconds, and a data frame with 11 bits.
+USUAL = re.compile(r"\((\d+)\.(\d{6})\) (\S+) ([0-7][0-9A-Fa-f]{2})#((?:[0-9A-Fa-f]{2}){0,8})(?: [RT])?\s*")
 # The bit of an identifier of eight digits that makes it an error frame.
 ERROR = 1 << 29
 # What a frame is that is none of this profile, and in the order in which they are told.
@@ -30,7 +32,7 @@ FORMS = (
     (rb"\s*(?:date |base +(?:hex|dec) )", "an ASC file of Vector", CONVERT.replace("{1}", ".asc")),
     (rb";", "a TRC file of PEAK", CONVERT.replace("{1}", ".trc")),
     (rb"timestamp,arbitration_id,", "a CSV file of python-can", CONVERT.replace("{1}", ".csv")),
-    (rb"[^\r\n]*,[^\r\n]*,[^\r\n]*\bID\b", "a CSV file of another tool",
+    (rb"(?=[^\r\n]*,[^\r\n]*,)[^\r\n]*\bID\b", "a CSV file of another tool",
      "python-can turns one whose columns are timestamp, arbitration_id, extended, remote, error, dlc and data"),
     (rb" *\([0-9.]+\) +\S+ +[0-9A-F]+ +\[[0-9]+\]", "what candump -t a prints", PLAIN),
     (rb" *\S+ +[0-9A-F]+ +\[[0-9]+\]", "what candump prints without times", "record with `candump -L`"),
@@ -87,10 +89,8 @@ class Recording:
         return listed([f"{many} of {kind}" for kind, many in self.left.items() if many], "")
 
 
-def is_own(identifier):
-    """Whether a frame with this identifier of 11 bits may be one of the profile."""
-    return (identifier in TRIGGERS or FIRST_SLOT <= identifier <= LAST_SLOT
-            or FIRST_ASYNC <= identifier <= LAST_ASYNC)
+# The identifiers of 11 bits that frames of the profile may have.
+OWN = frozenset((*TRIGGERS, *range(FIRST_SLOT, LAST_SLOT + 1), *range(FIRST_ASYNC, LAST_ASYNC + 1)))
 
 
 def kind_of(identifier, data):
@@ -110,42 +110,49 @@ def refuse(place, kind, identifier):
     raise NoLog(f"line {place}: {what}: no frame of this profile. Without --strict it is left out")
 
 
-def recorded(lines, interface, is_strict=False, leaves_other=True):
+def recorded(lines, interface, is_strict=False):
     """The recording of one interface: that which is named, or that of the first line. Frames of the profile are kept.
-    The others are left out, and a strict reader refuses them; those with another identifier of 11 bits are kept where
-    they are not to be left out."""
+    The others are left out, and a strict reader refuses them."""
     found, progress = Recording(interface), Progress("lines read")
-    frames, matched = found.frames, LINE.fullmatch
+    matched, keep = USUAL.fullmatch, found.frames.append
     for place, line in enumerate(lines, 1):
-        line = line.strip()
-        if not line:
-            continue
         match = matched(line)
-        if match is None:
-            raise NoLog(f"line {place}: {shown(line, 60)} is no line of candump -L")
-        seconds, part, where, identifier, data, _ = match.groups()
-        if where != found.interface:
-            if found.interface is not None:
-                found.others += 1
-                continue
-            found.interface = where
-        nanos = int(seconds + part.ljust(9, "0"))
-        kind = kind_of(identifier, data)
-        if kind is None:
+        if match is not None and match[3] == found.interface:
+            seconds, part, _, identifier, data = match.groups()
             number = int(identifier, 16)
-            if len(data) % 2 or len(data) > 2 * LENGTH:
-                raise NoLog(f"line {place}: {shown(data)} is no data of 0 to 8 bytes")
-            kind = OTHER if leaves_other and not is_own(number) or number > 0x7FF else None
-        if kind is None:
-            frames.append(Recorded(nanos, number, bytes.fromhex(data), place))
-        elif is_strict:
-            refuse(place, kind, identifier)
-        else:
-            found.leave(kind, nanos)
-        if not place % 4096:
+            if number in OWN:
+                keep(Recorded(int(seconds + part) * 1000, number, bytes.fromhex(data), place))
+            else:
+                take(line.strip(), place, found, is_strict)
+        elif not line.isspace():
+            take(line.strip(), place, found, is_strict)
+        if not place & 0xFFF:
             progress.step(place)
     progress.end()
     return found
+
+
+def take(line, place, found, is_strict):
+    """Takes a line of any form that candump -L has."""
+    match = LINE.fullmatch(line)
+    if match is None:
+        raise NoLog(f"line {place}: {shown(line, 60)} is no line of candump -L")
+    seconds, part, where, identifier, data, _ = match.groups()
+    found.interface = found.interface or where
+    if where != found.interface:
+        found.others += 1
+        return
+    nanos, kind = int(seconds + part.ljust(9, "0")), kind_of(identifier, data)
+    if kind is None and (len(data) % 2 or len(data) > 2 * LENGTH):
+        raise NoLog(f"line {place}: {shown(data)} is no data of 0 to 8 bytes")
+    if kind is None and int(identifier, 16) not in OWN:
+        kind = OTHER
+    if kind is None:
+        found.frames.append(Recorded(nanos, int(identifier, 16), bytes.fromhex(data), place))
+    elif is_strict:
+        refuse(place, kind, identifier)
+    else:
+        found.leave(kind, nanos)
 
 
 def other_form(head, name):
