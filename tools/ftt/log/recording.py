@@ -20,7 +20,8 @@ OTHER, WIDE, FD, REMOTE, ERRORS = KINDS = ("other 11-bit identifiers", "29-bit i
 CONVERT = "`python3 -m can.logconvert {0} OUT.log` of python-can turns it, where its name ends in {1}"
 SHARK = ("`tshark -r {0} -T fields -e frame.time_epoch -e can.id -e data.data --disable-protocol autosar-nm | awk "
          "-F'\\t' '{{ printf \"(%s) can0 %03X#%s\\n\", $1, $2, $3 }}' > OUT.log` turns it")
-PLAIN = ("`sed -E 's/^ *(\\([0-9.]+\\)) +(\\S+) +([0-9A-F]+) +\\[[0-9]+\\]/\\1 \\2 \\3#/; s/ //3g' {0} > OUT.log` turns it")
+PLAIN = ("`sed -E 's/^ *(\\([0-9.]+\\)) +(\\S+) +([0-9A-F]+) +\\[[0-9]+\\]/\\1 \\2 \\3#/; s/ //3g' {0} > OUT.log` "
+         "turns it")
 # Other forms: how their first bytes look, what they are, and what turns them.
 FORMS = (
     (rb"LOGG", "a BLF file of Vector", CONVERT.replace("{1}", ".blf")),
@@ -166,7 +167,8 @@ def other_form(head, name):
 
 
 def look_at(path):
-    """Refuses a file in another form by its name. Of standard input the first bytes are looked at, where that can be."""
+    """Refuses a file in another form by its name. Of standard input the first bytes are looked at, where they can
+    be."""
     if path == "-":
         peek = getattr(getattr(sys.stdin, "buffer", None), "peek", None)
         head, name = peek(512) if peek else b"", "standard input"
