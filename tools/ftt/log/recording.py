@@ -17,6 +17,7 @@ ERROR = 1 << 29
 OTHER, WIDE, FD, REMOTE, ERRORS = KINDS = ("other 11-bit identifiers", "29-bit identifiers", "CAN FD", "remote frames",
                                            "error frames")
 
+INPUT = "standard input"
 CONVERT = "`python3 -m can.logconvert {0} OUT.log` of python-can turns it, where its name ends in {1}"
 SHARK = ("`tshark -r {0} -T fields -e frame.time_epoch -e can.id -e data.data --disable-protocol autosar-nm | awk "
          "-F'\\t' '{{ printf \"(%s) can0 %03X#%s\\n\", $1, $2, $3 }}' > OUT.log` turns it")
@@ -162,8 +163,10 @@ def other_form(head, name):
     if why is not None:
         return f"{name}: {why}"
     form = next((it for it in FORMS if re.match(it[0], head)), None)
-    return None if form is None else (f"{name}: this is {form[1]}, and the text of `candump -L` is needed. "
-                                      f"{form[2].format(name)[0].upper()}{form[2].format(name)[1:]}")
+    if form is None:
+        return None
+    command = form[2].format("FILE" if name == INPUT else name)
+    return f"{name}: this is {form[1]}, and the text of `candump -L` is needed. {command[0].upper()}{command[1:]}"
 
 
 def look_at(path):
@@ -171,7 +174,7 @@ def look_at(path):
     be."""
     if path == "-":
         peek = getattr(getattr(sys.stdin, "buffer", None), "peek", None)
-        head, name = peek(512) if peek else b"", "standard input"
+        head, name = peek(512) if peek else b"", INPUT
     else:
         with open(path, "rb") as file:
             head, name = file.read(512), path
