@@ -17,7 +17,8 @@ with or without a report. Of one that was cut by `--tail` the rows that are ther
 `tools/fttlog FORM --help` says the options of a form. docs/tools.md has examples.
 
 Status: 0 done; 1 a file can't be read, or a row of it can't be used: a line on standard error says which; 2 the words
-are wrong. Of conform 1 says too that something was found. This program is a help for readers. Nothing of it is proved, and nothing that is proved rests on it.
+are wrong. Of conform 1 says too that something was found. This program is a help for readers. Nothing of it is proved,
+and nothing that is proved rests on it.
 """
 import argparse
 import fractions
@@ -143,8 +144,8 @@ def takes_recording(made):
     made.add_argument("kbits", type=kbits, help="the bit rate in kbit/s")
     made.add_argument("--interface", help="the interface whose frames are taken; else that of the first line")
     made.add_argument("--strict", action="store_true",
-                      help="refuses frames of other identifiers, of 29 bits and of CAN FD, remote and error frames; else "
-                      "they are left out and counted")
+                      help="refuses frames of other identifiers, of 29 bits and of CAN FD, remote and error frames; "
+                      "else they are left out and counted")
 
 
 def conforms(forms):

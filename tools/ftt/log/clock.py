@@ -3,7 +3,8 @@ import collections
 import statistics
 
 from ..frames import INTERMISSION
-from ..limits import TRIGGERS
+from ..limits import CYCLE, TRIGGERS
+from ..telling import some
 from .recording import back_by
 from .rows import NoLog
 
@@ -43,7 +44,11 @@ def cycle_by(frames, starts, kbits):
             if frames[place].data and frames[before].data and frames[place].data[0] != frames[before].data[0]]
     if not gaps:
         raise NoLog("the recording has fewer than two triggers: give the length of a cycle with --cycle")
-    return round(statistics.median(gaps) * float(kbits) / 1000)
+    length = round(statistics.median(gaps) * float(kbits) / 1000)
+    if not CYCLE[0] <= length <= CYCLE[1]:
+        raise NoLog(f"by the distance of the triggers a cycle has {some(length, 'bit time')}, and it has {CYCLE[0]} to "
+                    f"{CYCLE[1]}: is {float(kbits):g} kbit/s the right rate? Else give its length with --cycle")
+    return length
 
 
 def numbers_of(frames, starts, cycle):

@@ -212,8 +212,8 @@ class Comparison:
             "off_us": {name: round(offs[min(len(offs) - 1, len(offs) * part // 100)], 1)
                        for name, part in (("p50", 50), ("p99", 99), ("greatest", 100))},
             "requests_off_cycles": self.lag, "foreign": dict(sorted(self.foreign.items())),
-            "foreign_in_windows": self.foreign_inside, "left_out": {kind: many for kind, many in found.left.items() if many},
-            "other_interfaces": found.others,
+            "foreign_in_windows": self.foreign_inside,
+            "left_out": {kind: many for kind, many in found.left.items() if many}, "other_interfaces": found.others,
         }
 
     def said(self, found):
@@ -221,8 +221,8 @@ class Comparison:
         facts, run = self.facts(found), self.run.what
         off = {name: f"{value:.0f}" for name, value in facts["off_us"].items()}
         lines = [f"cycles {facts['first_cycle']} to {facts['last_cycle']} of {run}: {self.compared} compared",
-                 f"clock of the recorder: {facts['ppm']:+.0f} ppm; frames are off by {off['p50']} us or less for a half "
-                 f"of them, {off['p99']} us for 99 %, {off['greatest']} us at most"]
+                 f"clock of the recorder: {facts['ppm']:+.0f} ppm; frames are off by {off['p50']} us or less for a "
+                 f"half of them, {off['p99']} us for 99 %, {off['greatest']} us at most"]
         if self.equal > 1:
             lines.append(f"begin: the recording fits {self.equal} places of {run} alike; the first is taken")
         if self.outside:

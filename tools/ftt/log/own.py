@@ -151,9 +151,9 @@ def sample(values, many):
 
 def place_in(run, residue, told, sent):
     """Where in the run a recording begins: the cycle of its first trigger, how many of the looked at triggers fit
-    there, how many of them are in the run then, and in how many places as many fit. Flags and windows decide, and between equal
-    places the data of slots: told has those of the recording by cycles from the first one, sent the data by cycle and
-    identifier."""
+    there, how many of them are in the run then, and in how many places as many fit. Flags and windows decide, and
+    between equal places the data of slots: told has those of the recording by cycles from the first one, sent the data
+    by cycle and identifier."""
     if not told:
         return None, 0, 0, 0
     few, more = sample(told, FIRST_LOOK), sample(told, SECOND_LOOK)

@@ -17,10 +17,12 @@ ERROR = 1 << 29
 OTHER, WIDE, FD, REMOTE, ERRORS = KINDS = ("other 11-bit identifiers", "29-bit identifiers", "CAN FD", "remote frames",
                                            "error frames")
 
+INPUT = "standard input"
 CONVERT = "`python3 -m can.logconvert {0} OUT.log` of python-can turns it, where its name ends in {1}"
 SHARK = ("`tshark -r {0} -T fields -e frame.time_epoch -e can.id -e data.data --disable-protocol autosar-nm | awk "
          "-F'\\t' '{{ printf \"(%s) can0 %03X#%s\\n\", $1, $2, $3 }}' > OUT.log` turns it")
-PLAIN = ("`sed -E 's/^ *(\\([0-9.]+\\)) +(\\S+) +([0-9A-F]+) +\\[[0-9]+\\]/\\1 \\2 \\3#/; s/ //3g' {0} > OUT.log` turns it")
+PLAIN = ("`sed -E 's/^ *(\\([0-9.]+\\)) +(\\S+) +([0-9A-F]+) +\\[[0-9]+\\]/\\1 \\2 \\3#/; s/ //3g' {0} > OUT.log` "
+         "turns it")
 # Other forms: how their first bytes look, what they are, and what turns them.
 FORMS = (
     (rb"LOGG", "a BLF file of Vector", CONVERT.replace("{1}", ".blf")),
@@ -161,15 +163,18 @@ def other_form(head, name):
     if why is not None:
         return f"{name}: {why}"
     form = next((it for it in FORMS if re.match(it[0], head)), None)
-    return None if form is None else (f"{name}: this is {form[1]}, and the text of `candump -L` is needed. "
-                                      f"{form[2].format(name)[0].upper()}{form[2].format(name)[1:]}")
+    if form is None:
+        return None
+    command = form[2].format("FILE" if name == INPUT else name)
+    return f"{name}: this is {form[1]}, and the text of `candump -L` is needed. {command[0].upper()}{command[1:]}"
 
 
 def look_at(path):
-    """Refuses a file in another form by its name. Of standard input the first bytes are looked at, where that can be."""
+    """Refuses a file in another form by its name. Of standard input the first bytes are looked at, where they can
+    be."""
     if path == "-":
         peek = getattr(getattr(sys.stdin, "buffer", None), "peek", None)
-        head, name = peek(512) if peek else b"", "standard input"
+        head, name = peek(512) if peek else b"", INPUT
     else:
         with open(path, "rb") as file:
             head, name = file.read(512), path

@@ -1,4 +1,4 @@
-"""Exact times of a recording with noise: by the order of the frames, by their lengths, and by where the bus sends them."""
+"""Exact times of a recording with noise: by the order of the frames, their lengths, and where the bus sends them."""
 import csv
 
 from ..limits import TRIGGERS
@@ -85,11 +85,11 @@ class Snapped:
         """Says how far frames were moved, and which were not."""
         offs = sorted(map(abs, self.moved))
         half, most = offs[len(offs) // 2], offs[min(len(offs) - 1, len(offs) * 99 // 100)]
-        note(f"{some(len(offs), 'frame')} moved to exact times: a half by {half:.1f} us or less, 99 % by {most:.1f} us, "
-             f"all by {offs[-1]:.1f} us at most. The recorder's clock runs off by {self.clock.ppm():+.0f} ppm")
+        note(f"{some(len(offs), 'frame')} moved to exact times: a half by {half:.1f} us or less, 99 % by {most:.1f} "
+             f"us, all by {offs[-1]:.1f} us at most. The recorder's clock runs off by {self.clock.ppm():+.0f} ppm")
         if self.loose:
-            note(f"{some(len(self.loose), 'frame')} of requests, the first in line {self.loose[0]}, stand where they were "
-                 "recorded: neither --calls nor the frame in front tells their exact time")
+            note(f"{some(len(self.loose), 'frame')} of requests, the first in line {self.loose[0]}, stand where they "
+                 "were recorded: neither --calls nor the frame in front tells their exact time")
         if self.far:
             note(f"{some(len(self.far), 'frame')}, the first in line {self.far[0]}, would move by more than "
                  f"{self.reach:g} us, and stand where they were recorded")
