@@ -8,6 +8,8 @@
 mod audit;
 mod given;
 mod run;
+#[cfg(test)]
+mod tests;
 mod words;
 
 pub use audit::fttcan_audit;
