@@ -1,5 +1,5 @@
 -- What a call does, from what `plain` says of it.
-use Rattle.std.proofs.Common.{◌≡◌, ◌≢◌, ◌⊎◌, ℕ, true, false, List, [], ◌++◌, Option, Some, None, Ok, Err, inl, inr, length, refl, ap, sym, subst, arith, take, drop, nat_le}
+use Rattle.std.proofs.Common.{◌≡◌, ◌≢◌, ◌⊎◌, ℕ, true, false, List, [], Option, Some, None, Ok, Err, inl, inr, length, refl, ap, sym, subst, arith, take, drop, nat_le}
 use Rattle.std.specs.Prelude.{Result, codes, unwrap_or}
 use Rattle.std.proofs.lemmas.Bool.Decides.{nat_tests}
 use Rattle.std.proofs.lemmas.List.{take_all, take-append-drop, length-take}
