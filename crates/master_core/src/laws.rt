@@ -10,6 +10,7 @@ ghost use Rattle.admission_rules.specs.declared.Rules.{Rules};
 ghost use Rattle.admission.specs.declared.verdict.Verdict.{Verdict};
 ghost use Rattle.admission.specs.Verdict.{IsRules, IsVerdict, is_accepted};
 ghost use Rattle.master_core.specs.declared.event.Event.{Event};
+ghost use Rattle.master_core.specs.Cores.{CoreView, IsCore, core_of, saved_of};
 ghost use Rattle.master_core.specs.History.{IsLegal, IsRightAnswer, next_of, placed_of, plan_of};
 ghost use Rattle.master_core.specs.Openings.{openings_of};
 
@@ -74,3 +75,8 @@ pub fn accepted_anew()
 {
     loops();
 }
+
+/// What is saved of a core is saved of no other one.
+pub fn saved_cores()
+    ensures saved { (core : CoreView) → IsCore core → core_of (saved_of core) ≡ core }
+{}
