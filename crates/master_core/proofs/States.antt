@@ -111,15 +111,16 @@ module _ (history : List Event) (core : CoreView) (is : IsCore core) (of : IsSta
       ap (λ (n : ℕ). plan_from rules whole n (pending_at (plan_of rules whole) core.cycle)) (zero-add core.cycle)
       ∙ ap (λ (q : ℕ). plan_from rules whole core.cycle q) (sym of.waiting)
 
-  -- the plan of the next cycle
+  -- the plan that goes on
+  pub masks-are : (n : ℕ) → mask_at (plan_of rules whole) (core.cycle + n) ≡ mask_at (onward core) n
+  masks-are n =
+      set_of-same most_slots (planned_at (plan_of rules whole) (core.cycle + n)) (planned_at (later_plan (plan_of rules whole) core.cycle) n)
+      (λ slot known. on-planned (plan_of rules whole) core.cycle n slot known)
+      ∙ ap (λ (p : Planning). mask_at p n) later-is
+      ∙ sym (left-mask rules core.cycle core.pending whole core.placed whole-well is.safe.safe.well_placed left n)
+
   pub mask-is : mask_at (plan_of rules whole) core.cycle ≡ mask_at (onward core) 0
-  mask-is =
-      let at : core.cycle + 0 ≡ core.cycle = omega arith in
-      ap (mask_at (plan_of rules whole)) (sym at)
-      ∙ set_of-same most_slots (planned_at (plan_of rules whole) (core.cycle + 0)) (planned_at (later_plan (plan_of rules whole) core.cycle) 0)
-      (λ slot known. on-planned (plan_of rules whole) core.cycle 0 slot known)
-      ∙ ap (λ (p : Planning). mask_at p 0) later-is
-      ∙ sym (left-mask rules core.cycle core.pending whole core.placed whole-well is.safe.safe.well_placed left 0)
+  mask-is = let at : core.cycle + 0 ≡ core.cycle = omega arith in ap (mask_at (plan_of rules whole)) (sym at) ∙ masks-are 0
 
   -- and what it leaves
   pending-is : pending_at (plan_of rules whole) (core.cycle + 1) ≡ pending_at (onward core) 1
