@@ -1,7 +1,7 @@
 //! CRC-32, the checksum of IEEE 802.3.
 
-ghost use Rattle.std.specs.Prelude.{◌≡◌, ◌^◌, ◌<◌, fold};
-ghost use Rattle.saved_state.specs.Checksum.{behind, checksum, shifted, shifted_by};
+ghost use Rattle.std.specs.Prelude.{◌≡◌};
+ghost use Rattle.saved_state.specs.Checksum.{behind, checksum, shifted};
 
 /// The register behind one bit.
 #[tactic(auto, unfolding(crate::specs::Checksum::shifted))]

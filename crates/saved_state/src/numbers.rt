@@ -1,10 +1,8 @@
 //! The numbers of a state, and the state that numbers stand for.
 
-ghost use Rattle.std.specs.Prelude.{◌≡◌, ◌≤◌, ◌<◌, ◌^◌, ◌%◌, ◌/◌, ◌++◌, ◌∷◌, All, IfOk, IfSome, None, Some, List, ℕ, length};
-ghost use Rattle.requirement_table.specs.declared.entries.Placed.{Placed as PlacedOf};
-ghost use Rattle.master_core.specs.declared.saved.Saved.{Saved as SavedOf};
-ghost use Rattle.saved_state.specs.Bytes.{IsTyped, IsTypedPlaced, IsTypedHead, bool_number, fill_number, head_numbers, list_numbers, numbers_of, placed_numbers, policy_number};
-ghost use Rattle.saved_state.specs.Numbers.{bool_in, end_in, fill_in, placed_in, places_in, policy_in, state_in};
+ghost use Rattle.std.specs.Prelude.{◌≡◌, ◌<◌, ◌/◌, ◌++◌, All, IfOk, IfSome, None, length};
+ghost use Rattle.saved_state.specs.Bytes.{IsTyped, IsTypedPlaced, IsTypedHead, fill_number, head_numbers, list_numbers, numbers_of, placed_numbers, policy_number};
+ghost use Rattle.saved_state.specs.Numbers.{fill_in, placed_in, places_in, policy_in, state_in};
 
 use admission_rules::Rules;
 use master_core::Saved;

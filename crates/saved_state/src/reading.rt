@@ -1,6 +1,6 @@
 //! States that are read from bytes.
 
-ghost use Rattle.std.specs.Prelude.{◌≡◌, ◌≤◌, ◌/◌, take, IfErr, IfOk, List, ℕ, length};
+ghost use Rattle.std.specs.Prelude.{◌≡◌, ◌/◌, IfErr, IfOk, length};
 ghost use Rattle.std.specs.Int.{from_le_bytes, w64};
 ghost use Rattle.master_core.specs.declared.saved.Saved.{Saved as SavedOf};
 ghost use Rattle.saved_state.specs.Bytes.{AreBytesOf};

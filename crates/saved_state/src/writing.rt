@@ -1,7 +1,6 @@
 //! States as bytes.
 
 ghost use Rattle.std.specs.Prelude.{◌≡◌, ◌+◌, ◌*◌, ◌++◌, IfOk, length};
-ghost use Rattle.std.specs.Int.{to_le_bytes, w64};
 ghost use Rattle.saved_state.specs.Bytes.{AreBytesOf, bytes_of_numbers};
 
 use crate::crc::checksum;
