@@ -37,9 +37,9 @@ said-kept old new rose full is text (inr front) = inr (is front.0, front.1)
 -- what was put of an answer that was cut short, where the output was empty
 cut-kept : (words : List (List ℕ)) (files : NamedFiles) (out : List ℕ)
     → (Some out ≡ Some []) ⊎ ((asked_for : Asked) × ForSome (Some files) (λ told. IsAsked words told (Ok asked_for)) × IsOfWords words asked_for
-      × (TellsFront asked_for (Some []) (Some out) ⊎ IsCutWhileRun asked_for (Some []) (Some out)))
+    × (TellsFront asked_for (Some []) (Some out) ⊎ IsCutWhileRun asked_for (Some []) (Some out)))
     → (out ≡ []) ⊎ ((asked_for : Asked) × IsAsked words files (Ok asked_for) × IsOfWords words asked_for
-      × (TellsFront asked_for (Some []) (Some out) ⊎ IsCutWhileRun asked_for (Some []) (Some out)))
+    × (TellsFront asked_for (Some []) (Some out) ⊎ IsCutWhileRun asked_for (Some []) (Some out)))
 cut-kept words files out (inl same) = inl (ap (λ told. unwrap_or told []) same)
 cut-kept words files out (inr part) = inr (part.0, part.1 files refl, part.2, part.3)
 
@@ -107,6 +107,9 @@ called-without-memory words files out_room err_room err is = record {
   done = λ never. absurd never;
   cut = λ cut. inl refl;
   nothing = λ never. absurd never;
-  message = (Refusal.LaterPlan, (λ same. absurd (cc)),
-    subst (λ text. Says (Some []) (Some text) (length text ≡ err_room) (codes "out of memory\n")) (sym is) (said-in-room err_room (codes "out of memory\n")));
+  message = (
+    Refusal.LaterPlan,
+    (λ same. absurd (cc)),
+    subst (λ text. Says (Some []) (Some text) (length text ≡ err_room) (codes "out of memory\n")) (sym is) (said-in-room err_room (codes "out of memory\n")),
+  );
 }

@@ -21,12 +21,7 @@ pub struct Given<'a> {
 
 impl<'a> Given<'a> {
     /// Before any fetch.
-    pub fn new(
-        file0: &'a [u8],
-        file1: &'a [u8],
-        file2: &'a [u8],
-        file3: &'a [u8],
-    ) -> Given<'a>
+    pub fn new(file0: &'a [u8], file1: &'a [u8], file2: &'a [u8], file3: &'a [u8]) -> Given<'a>
         ensures file0 { result.file0.now ≡ file0.now }
         ensures file1 { result.file1.now ≡ file1.now }
         ensures file2 { result.file2.now ≡ file2.now }

@@ -5,7 +5,9 @@ use crate::{fttcan_audit, fttcan_run};
 use std::alloc::Global;
 
 const SYSTEM: &[u8] = b"[bus]\ncycle = 1000\nwindow = 135\nnodes = 1\n";
+
 const STEPS: &[u8] = b"add,1,0,0,0,0,0,101,101,0\nand,add,1,0,0,0,103,103,0\n";
+
 const LOG: &[u8] = b"submit,1,0,horizon,0,10000\nend,0\n";
 
 /// What a call answers and writes, where the words stand over these files and there is room for so many bytes of output.
@@ -35,11 +37,31 @@ fn words_are_carried_out_over_files(rt: HostRuntime) {
     let alloc = rt.alloc();
     let cases: [(&[u8], usize, (u32, [u8; 8], usize, [u8; 16], usize)); 6] = [
         (b"audit\x000\x001\x002", 8, (0, *b"yes\n....", 4, none, 0)),
-        (b"audit\x000\x001\x002\x003", 4, (0, *b"yes\n....", 4, none, 0)),
-        (b"audit\x000\x001\x002", 3, (5, *b"yes.....", 3, *b"write fault\n....", 12)),
-        (b"audit\x000\x001\x004", 8, (4, *b"........", 0, *b"read fault\n.....", 11)),
-        (b"live\x000\x001", 8, (2, *b"........", 0, *b"usage: fttcan re", 16)),
-        (b"audit\x000\x001\x002\xff", 8, (2, *b"........", 0, *b"usage: fttcan re", 16)),
+        (
+            b"audit\x000\x001\x002\x003",
+            4,
+            (0, *b"yes\n....", 4, none, 0),
+        ),
+        (
+            b"audit\x000\x001\x002",
+            3,
+            (5, *b"yes.....", 3, *b"write fault\n....", 12),
+        ),
+        (
+            b"audit\x000\x001\x004",
+            8,
+            (4, *b"........", 0, *b"read fault\n.....", 11),
+        ),
+        (
+            b"live\x000\x001",
+            8,
+            (2, *b"........", 0, *b"usage: fttcan re", 16),
+        ),
+        (
+            b"audit\x000\x001\x002\xff",
+            8,
+            (2, *b"........", 0, *b"usage: fttcan re", 16),
+        ),
     ];
     for (words, room, expected) in cases.iter() {
         assert_eq!(rt; ran(alloc, words, *room), *expected);
@@ -58,7 +80,10 @@ fn a_log_is_audited(rt: HostRuntime) {
     ];
     for (log, requests, status, row) in cases.iter() {
         let mut found = 7;
-        assert_eq!(rt; fttcan_audit(alloc, SYSTEM, STEPS, log, requests, &mut found), *status);
+        assert_eq!(rt;
+            fttcan_audit(alloc, SYSTEM, STEPS, log, requests, &mut found),
+            *status
+        );
         assert_eq!(rt; found, *row);
     }
 }
