@@ -11,22 +11,24 @@ _fttcan_words() {
     'fttcan live') printf %s '--report' ;;
     'fttcan-reference FORM') printf %s 'replay admit check gen audit handover poll elastic' ;;
     'fttcan-reference replay') printf %s '--tail --report' ;;
-    'fttmodel') printf %s '--help --window --turnaround --policy --fill --slots --horizon --nodes --cycles --renumber --period-attribute --strict --version' ;;
+    'fttmodel') printf %s '--help --window --turnaround --policy --fill --slots --horizon --nodes --cycles --renumber --period-attribute --requests --seed --from --dbc --instances --strict --signals --from-dbc --from-recording --version' ;;
     'fttmodel --policy') printf %s 'rm dm edf' ;;
     'fttmodel --fill') printf %s 'prefix skip' ;;
     'fttmodel --slots') printf %s '40 96' ;;
-    'fttlint') printf %s '--help --plan --streams --words --live --replay --all --version' ;;
+    'fttlint') printf %s '--help --plan --streams --wishes --log --words --live --replay --all --version' ;;
     'fttsearch') printf %s '--help --window --policy --fill --deadline --period --part --join --csv --resume --svg --jobs --version' ;;
-    'fttlog FORM') printf %s 'say late svg html json accepted candump pcap from-candump bits' ;;
+    'fttlog FORM') printf %s 'say late svg html json accepted candump pcap from-candump conform bits' ;;
     'fttlog say') printf %s '--help --kbits --names --steps --all' ;;
-    'fttlog late') printf %s '--help --kbits --names --cycle --requests --steps --svg' ;;
+    'fttlog late') printf %s '--help --kbits --names --cycle --requests --steps --streams --svg' ;;
     'fttlog svg') printf %s '--help --kbits --names --cycle' ;;
     'fttlog html') printf %s '--help --kbits --names --cycle --title' ;;
     'fttlog json') printf %s '--help --names' ;;
     'fttlog accepted') printf %s '--help' ;;
     'fttlog candump') printf %s '--help --at --starts --ends --interface' ;;
     'fttlog pcap') printf %s '--help --at --starts --ends' ;;
-    'fttlog from-candump') printf %s '--help --cycle --starts --ends --interface --calls' ;;
+    'fttlog from-candump') printf %s '--help --cycle --starts --ends --interface --strict --calls --snap --moved' ;;
+    'fttlog conform') printf %s '--help --names --cycle --starts --ends --interface --strict --tolerance --ppm --requests --any-data --csv --json --show --all' ;;
+    'fttlog conform --requests') printf %s 'own any' ;;
     'fttlog bits') printf %s '--help --until' ;;
     esac
 }

@@ -2,15 +2,16 @@
 from . import mistakes
 
 NAMES = {"system": "system.toml", "steps": "steps.csv", "requests": "requests.csv", "streams": "streams.csv",
-         "plan": "plan.txt"}
+         "plan": "plan.txt", "wishes": "wishes.csv", "log": "run.log"}
 
 
 def command_of(files):
     """The command that reads these files, and the words behind it."""
     if "plan" in files:
         return ["check", NAMES["system"], NAMES["steps"], NAMES["plan"]]
-    if "streams" in files:
-        return ["poll", NAMES["system"], NAMES["steps"], NAMES["streams"]]
+    for command, name in (("poll", "streams"), ("elastic", "wishes"), ("audit", "log")):
+        if name in files:
+            return [command, NAMES["system"], NAMES["steps"], NAMES[name]]
     return ["replay", NAMES["system"], NAMES["steps"], *([NAMES["requests"]] if "requests" in files else [])]
 
 
@@ -19,7 +20,7 @@ def options_of(files):
     told = [NAMES["system"], NAMES["steps"]]
     if "requests" in files:
         told.append(NAMES["requests"])
-    for name in ("streams", "plan"):
+    for name in ("streams", "plan", "wishes", "log"):
         told += [f"--{name}", NAMES[name]] if name in files else []
     return [*told, "--replay"]
 

@@ -311,6 +311,64 @@ FILES = [
     plan("text behind the end", "end\n", "end\n\n", "text stands behind end. Take it away.", "end\n"),
 ]
 
+# The log of a run of one cycle, and its files.
+LOGGED = {"system": "[bus]\ncycle = 1000\nwindow = 135\nnodes = 2\n", "steps": "add,1,0,0,0,0,0,1,1,0\ncycle,1\n"}
+LOG = ("submit,1,0,accepted,0,1\nopen,0,0000000001,55\nframe,0,126,000,0000370100000000\nframe,945,51,100,\nend,1\n")
+
+
+def log(name, old, new, part):
+    """A mistake in a log, where this text stands in place of the right one."""
+    return name, {**LOGGED, "log": LOG.replace(old, new)}, part, {**LOGGED, "log": LOG}
+
+
+def wishes(name, wrong, part, right):
+    """A mistake in wishes for a bus with a slot."""
+    return name, {**LOGGED, "wishes": wrong}, part, {**LOGGED, "wishes": right}
+
+
+FILES += [
+    log("a log with a report", "end,1\n", "end,1\nentry,0,0,1,0,0\nload,55,55,55\n", "run.log:6: mistake: the word is "
+        "'entry': behind the row `end` stand the rows of a report (--report), and audit takes none. Take them away"),
+    log("a log of poll", "end,1\n", "end,1\nwaits,0,1\n", "the word is 'waits': behind the row `end` stand the rows "
+        "of a log of `poll`"),
+    log("a frame without the comma of its data", "51,100,", "51,100", "Write frame,START,LEN,ID,DATA. Write the comma "
+        "in front of the data"),
+    log("an identifier with 0x", "51,100,", "51,0x100,", "run.log:4: mistake: ID is '0x100': three hexadecimal digits "
+        "are taken, in lower case and without 0x. Write 100."),
+    log("a mask of one digit in a log", "0000000001,55", "1,55", "MASK is '1': a mask has 10 digits in lower case, or "
+        "24. Write 0000000001."),
+    log("data in capitals", "0000370100000000", "0x0000370100000000", "DATA is '0x0000370100000000': two hexadecimal "
+        "digits for each byte are taken, in lower case, at most 16. Write 0000370100000000."),
+    log("zeros in front in a log", "frame,0,", "frame,00,", "START is '00': digits alone are taken, without zeros in "
+        "front. Write 0."),
+    log("a verdict that is none", "accepted", "acepted", "the verdict is 'acepted': Is it accepted?"),
+    log("a verdict without its fields", "accepted,0,1", "accepted,0",
+        "Write submit,CALLER,FROM,accepted,FIRST,LENGTH."),
+    log("a word of a log", "open,", "opn,", "the word is 'opn': Is it open?"),
+    log("a plan for a log", LOG, "fttcan plan 2\nfrom 0\n", "this is a plan text. Its audit is `fttcan check SYSTEM "
+        "STEPS PLAN`."),
+    log("a recording for a log", LOG, "(1.000246) can0 000#0000370100000000\n", "this is a recording of candump."),
+    log("steps for a log", LOG, "add,1,0,0,0,0,0,1,1,0\n", "this is a row of a steps file."),
+    wishes("wishes without a start", "add,1,1,0,0,4,1,2,4\n", "Write a first row above it: start,1,",
+           "start,1\nadd,1,1,0,0,4,1,2,4\n"),
+    wishes("wishes without a period", "start,1\nadd,1,1,0,0,4,1\n", "The PERIOD is missing. Write one at the end",
+           "start,1\nadd,1,1,0,0,4,1,2\n"),
+    wishes("nine periods", "start,1\nadd,1,1,0,0,9,1,1,2,3,4,5,6,7,8,9\n", "It has 9 periods. Take at most 8.",
+           "start,1\nadd,1,1,0,0,9,1,2,3,4,5,6,7,8,9\n"),
+    wishes("a change in wishes", "start,1\nchange,0\n", "Write a row remove,SLOT, and a row add with another slot.",
+           "start,1\nremove,0\n"),
+    wishes("and in wishes", "start,1\nand,remove,0\n", "Take it away: each row is an operation of the same change.",
+           "start,1\nremove,0\n"),
+    wishes("a start in capitals", "START,1\nremove,0\n", "Write it in lower case: start.", "start,1\nremove,0\n"),
+    wishes("wishes without an operation", "start,1\n", "Write a row add or remove below the start.",
+           "start,1\nremove,0\n"),
+    wishes("wishes without a row", "", "Write start,1, and below it", "start,1\nremove,0\n"),
+    wishes("a start that is no number", "start,1 #\nremove,0\n", "START is '1 #': a row has no comment. Write 1.",
+           "start,1\nremove,0\n"),
+    wishes("a period with a sign", "start,1\nadd,1,1,0,0,4,1,+2\n", "a sign is not taken. Write 2",
+           "start,1\nadd,1,1,0,0,4,1,2\n"),
+]
+
 REPLAY = "replay system.toml steps.csv"
 HANDOVER = "handover system.toml steps.csv"
 WORDS = [
@@ -363,8 +421,8 @@ MESSAGES = [
              f"{HEAD},deadline\na,x,8,10,10\n"),
     messages("a period of 0 cycles", f"{HEAD}\na,x,8,0.5\n", "Take a shorter cycle, or a longer time.", ONE),
     messages("a deadline of an asynchronous message", f"{HEAD},deadline,kind,id\na,x,2,50,20,async,0x300\n",
-             "or write sync: a slot that polls it, of 3 bytes, keeps it where its period and its deadline are 20 ms "
-             "together, such as 10 and 10.", f"{HEAD},deadline,kind,id\na,x,3,10,10,sync,0x300\n"),
+             "or write polled: a slot asks for the message then, and keeps it.",
+             f"{HEAD},deadline,kind\na,x,2,50,20,polled\n"),
     bus("41 messages", "500 1000 messages.csv made", "Take --slots 96", "500 1000 messages.csv made --slots 96", MANY),
     bus("a rate in bit/s", "500000 1000 messages.csv made", "KBITS is 500000, and CAN ends at 1000 kbit/s. If this is "
         "in bit/s, write 500.", "500 1000 messages.csv made"),

@@ -15,12 +15,14 @@ mod list_calls;
 mod master_calls;
 mod numbers;
 mod plans;
+mod saved_calls;
 mod standby_calls;
 mod table_calls;
 mod walk_calls;
 
 use cases::show;
 use plans::Plans;
+use saved_calls::Saves;
 use standby_calls::Standbys;
 use std::io;
 use std::process::ExitCode;
@@ -53,6 +55,7 @@ fn run(rt: &HostRuntime) -> io::Result<bool> {
 /// Prints the line of each table, and tells whether all cases have passed.
 fn all_shown(rt: &HostRuntime) -> io::Result<bool> {
     let mut passed = show(rt, "standby", Standbys::new())?;
+    passed = show(rt, "saved_state", Saves)? && passed;
     for name in TABLES {
         passed = show(rt, name, Plans::new(rt.alloc()))? && passed;
     }

@@ -1,12 +1,14 @@
 """Finds mistakes in the files of fttcan, and says what to do about each.
 
-    tools/fttlint SYSTEM STEPS [REQUESTS] [--plan PLAN] [--streams STREAMS] [--live | --replay] [--all]
+    tools/fttlint SYSTEM STEPS [REQUESTS] [--plan PLAN] [--streams STREAMS] [--wishes WISHES] [--log LOG]
+                  [--live | --replay] [--all]
     tools/fttlint --words WORD..
 
 A mistake is what the program refuses: a file that breaks its format, or a change that is malformed, late or after the
 horizon. A warning is what no message of the program says. Changes above are taken for accepted where nothing here
 refuses them: a deadline that is missed is found by the program alone. Of a plan the form alone is looked at; whether it
-keeps the table is what `fttcan check` says.
+keeps the table is what `fttcan check` says. So of a log its rows alone are looked at; what they tell is audited by
+`fttcan audit`.
 
 --words looks at the words of a call of fttcan, all that stand behind it, and says which one is wrong: the command, an
 option, a number, or a word that is missing or in another's place. Outside of a checkout the fttcan of the path says
@@ -38,6 +40,8 @@ def parser():
     made.add_argument("requests", metavar="REQUESTS", nargs="?")
     made.add_argument("--plan", metavar="PLAN", help="the plan text that check is to read")
     made.add_argument("--streams", metavar="STREAMS", help="the requests of polled slots that poll is to read")
+    made.add_argument("--wishes", metavar="WISHES", help="the wishes that elastic is to read")
+    made.add_argument("--log", metavar="LOG", help="the log that audit is to read")
     made.add_argument("--words", action="store_true", help="look at the words of a call, all that stand behind it")
     modes = made.add_mutually_exclusive_group()
     modes.add_argument("--live", action="store_const", const="live", dest="mode", default="both",
@@ -63,5 +67,4 @@ def main():
     if words.words:
         reader.error("--words stands in front")
     from .look import look_at, put_findings  # pylint: disable=import-outside-toplevel
-    files = look_at(words.system, words.steps, words.requests, words.plan, words.streams, words.mode)
-    return put_findings(files, None if words.all else SHOWN)
+    return put_findings(look_at(words), None if words.all else SHOWN)

@@ -10,10 +10,11 @@ from .requests import lint_requests
 from .steps import lint_steps
 from .streams import lint_streams
 from .system import lint_system
+from .wishes import lint_wishes
 
 
-def look_at(system, steps, requests, plan, streams, mode):
-    """Looks at the files. What was found in each."""
+def look_at(words):
+    """Looks at the files that the words of a call name. What was found in each."""
     files = []
 
     def look(path, reader, *more):
@@ -27,14 +28,20 @@ def look_at(system, steps, requests, plan, streams, mode):
             found.lines.append(str(fault))
             return None
 
-    read = look(system, lint_system)
-    cycles, table = look(steps, lint_steps, read, mode) or (None, None)
-    if requests is not None:
-        look(requests, lint_requests, read, cycles)
-    if plan is not None:
-        look(plan, lint_plan)
-    if streams is not None:
-        look(streams, lint_streams, read, cycles, table)
+    system = look(words.system, lint_system)
+    cycles, table = look(words.steps, lint_steps, system, words.mode) or (None, None)
+    if words.requests is not None:
+        look(words.requests, lint_requests, system, cycles)
+    if words.plan is not None:
+        look(words.plan, lint_plan)
+    if words.streams is not None:
+        look(words.streams, lint_streams, system, cycles, table)
+    if words.wishes is not None:
+        look(words.wishes, lint_wishes, system, cycles)
+    if words.log is not None:
+        # The readers of logs are needed here alone.
+        from .logs import lint_log  # pylint: disable=import-outside-toplevel
+        look(words.log, lint_log)
     return files
 
 

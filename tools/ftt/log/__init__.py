@@ -1,7 +1,7 @@
 """Turns a log of fttcan into what other tools and people read.
 
     tools/fttlog say [LOG]                    sentences on verdicts, cycles and frames
-    tools/fttlog late [LOG]                   how late frames were sent, with --requests or --steps
+    tools/fttlog late [LOG]                   how late frames were sent, with --requests, --steps or --streams
     tools/fttlog svg FIRST LAST [LOG]         a drawing of the cycles FIRST to LAST, as SVG
     tools/fttlog html [LOG]                   a page that shows the whole run, to pan and to search
     tools/fttlog json [LOG]                   one JSON object a row
@@ -9,6 +9,7 @@
     tools/fttlog candump KBITS [LOG]          the form of `candump -L`
     tools/fttlog pcap KBITS [LOG]             a recording for tcpdump and Wireshark
     tools/fttlog from-candump KBITS [DUMP]    the rows of a recording of candump -L
+    tools/fttlog conform KBITS OWN [DUMP]     whether a recording is that of the run OWN, a log or a plan
     tools/fttlog bits [LOG]                   the bits of the bus
 
 With no LOG, or with -, the log is read from standard input. The log is one that `fttcan replay` or `fttcan live` wrote,
@@ -16,18 +17,22 @@ with or without a report. Of one that was cut by `--tail` the rows that are ther
 `tools/fttlog FORM --help` says the options of a form. docs/tools.md has examples.
 
 Status: 0 done; 1 a file can't be read, or a row of it can't be used: a line on standard error says which; 2 the words
-are wrong. This program is a help for readers. Nothing of it is proved, and nothing that is proved rests on it.
+are wrong. Of conform 1 says too that something was found. This program is a help for readers. Nothing of it is proved,
+and nothing that is proved rests on it.
 """
 import argparse
 import fractions
 import sys
 
 from ..command import takes_version
-from . import bus, drawing, rows, steps, times, words as sentences
+from . import bus, conform, drawing, recording, rows, steps, times, words as sentences
+from .clock import PPM
 
 REPORT = rows.REPORT
 # The forms that tell what stands behind the row `end` too.
 WHOLE = ("say", "json", "late", "html")
+# The forms that read recordings.
+RECORDINGS = ("from-candump", "conform")
 
 
 def at_least(least):
@@ -102,6 +107,8 @@ def forms_of(reader):
     late = form(forms, "late", "how late frames were sent", takes_kbits, takes_names, takes_cycle)
     late.add_argument("--requests", metavar="FILE", help="the requests file: the latencies of asynchronous frames")
     late.add_argument("--steps", metavar="FILE", help="the steps file: the delays of synchronous frames")
+    late.add_argument("--streams", metavar="FILE", help="the streams file of a log of poll: the latencies of requests of "
+                      "polled slots")
     late.add_argument("--svg", metavar="FILE", help="writes histograms into this file")
     draw = form(forms, "svg", "a drawing of some cycles", takes_kbits, takes_names, takes_cycle)
     draw.add_argument("first", type=at_least(0), help="the first cycle")
@@ -121,13 +128,43 @@ def recordings_of(forms):
     dump = form(forms, "candump", "the form of candump -L", takes_times)
     dump.add_argument("--interface", default="can0", help="the name of the interface; else can0")
     form(forms, "pcap", "a recording for tcpdump and Wireshark", takes_times)
-    take = form(forms, "from-candump", "the rows of a recording", takes_cycle, takes_starts)
-    take.add_argument("kbits", type=kbits, help="the bit rate in kbit/s")
-    take.add_argument("--interface", help="the interface whose frames are taken; else that of the first line")
+    take = form(forms, "from-candump", "the rows of a recording", takes_cycle, takes_starts, takes_recording)
     take.add_argument("--calls", metavar="LOG",
                       help="puts the rows submit, plan and look of this log in front of the cycles that were next")
+    take.add_argument("--snap", type=seconds, metavar="US",
+                      help="moves each frame by at most so many microseconds to its exact time, by order and lengths")
+    take.add_argument("--moved", metavar="FILE", help="with --snap: writes by how much each frame was moved, as CSV")
+    conforms(forms)
     line = form(forms, "bits", "the bits of the bus, as text of 0 and 1")
     line.add_argument("--until", type=at_least(0), help="the time before which the bits end; else the last frame's end")
+
+
+def takes_recording(made):
+    """Gives a form that reads recordings a bit rate, and what of a recording it takes."""
+    made.add_argument("kbits", type=kbits, help="the bit rate in kbit/s")
+    made.add_argument("--interface", help="the interface whose frames are taken; else that of the first line")
+    made.add_argument("--strict", action="store_true",
+                      help="refuses frames of other identifiers, of 29 bits and of CAN FD, remote and error frames; "
+                      "else they are left out and counted")
+
+
+def conforms(forms):
+    """The form that compares a recording with a run, and its words."""
+    made = form(forms, "conform", "whether a recording is that of a run", takes_names, takes_cycle, takes_starts,
+                takes_recording)
+    made.add_argument("own", help="the run: a log of replay, live, handover or poll, or a plan of admit")
+    made.add_argument("--tolerance", type=seconds, default=conform.TOLERANCE, metavar="US",
+                      help=f"what a frame may be off, in microseconds; else {conform.TOLERANCE}")
+    made.add_argument("--ppm", type=seconds, default=PPM,
+                      help=f"what the recorder's clock may run off, in parts per million; else {PPM}")
+    made.add_argument("--requests", choices=("own", "any"), default="own",
+                      help="whether the bus has the run's requests, in any place, or any others; else own")
+    made.add_argument("--any-data", action="store_true",
+                      help="compares no data of slots, only how many bytes there are")
+    made.add_argument("--csv", metavar="FILE", help="writes all findings as CSV; - is standard output")
+    made.add_argument("--json", metavar="FILE", help="writes all findings as JSON; - is standard output")
+    made.add_argument("--show", type=at_least(0), default=20, metavar="N", help="says N findings; else 20")
+    made.add_argument("--all", action="store_true", help="says all findings")
 
 
 def parser():
@@ -147,8 +184,10 @@ def read_words():
         words.log = more[0]
     elif more:
         reader.error(f"unrecognized arguments: {' '.join(more)}")
-    if words.form == "late" and words.requests is None and words.steps is None:
-        reader.error("late needs --requests or --steps")
+    if words.form == "late" and (words.requests, words.steps, words.streams) == (None, None, None):
+        reader.error("late needs --requests, --steps or --streams")
+    if getattr(words, "moved", None) is not None and words.snap is None:
+        reader.error("--moved needs --snap")
     return words
 
 
@@ -158,14 +197,19 @@ def note(text):
 
 
 def turn(words, lines, put):
-    """Turns the lines of a log, or of a recording, into what the words ask for."""
+    """Turns the lines of a log, or of a recording, into what the words ask for. Whether something was found that the
+    status has to tell."""
     names = rows.Names(getattr(words, "names", None))
+    if words.form in RECORDINGS:
+        recording.look_at(words.log)
+    if words.form == "conform":
+        return conform.conform(lines, words, put, note)
     if words.form == "from-candump":
-        calls = []
+        own = []
         if words.calls is not None:
             with open(words.calls, encoding="ascii", errors="replace") as log:
-                calls = bus.calls_of(rows.rows_of(log))
-        return bus.from_candump(lines, words, calls, put, note)
+                own = list(rows.rows_of(log))
+        return bus.from_candump(lines, words, own, put, note)
     read = rows.rows_of(lines)
     if words.form not in WHOLE:
         read = (row for row in read if row[0] not in REPORT)
@@ -186,10 +230,10 @@ def turn(words, lines, put):
 
 def main():
     """Reads the words, and does what they ask."""
-    words = read_words()
+    words, is_found = read_words(), False
     try:
         with (sys.stdin if words.log == "-" else open(words.log, encoding="ascii")) as log:
-            turn(words, log, sys.stdout.write)
+            is_found = turn(words, log, sys.stdout.write)
         sys.stdout.flush()
     except BrokenPipeError:
         sys.stdout = None
@@ -201,3 +245,5 @@ def main():
                  "turns recordings in other forms, such as .blf")
     except rows.NoLog as fault:
         sys.exit(f"fttlog: {fault}")
+    if is_found is True:
+        sys.exit(1)

@@ -1,17 +1,17 @@
 """The bits of a bus, and recordings of candump: a log as one, and one as a log."""
+import collections
 import fractions
-import re
 import struct
 
 from ..frames import INTERMISSION, wire_of
-from ..limits import FEW_SLOTS, LAST_ID, LENGTH, TRIGGERS
+from ..limits import FEW_SLOTS, TRIGGERS
 from ..masks import mask_of
 from ..telling import some
+from .recording import back_by, from_trigger, recorded
 from .rows import NoLog
+from .snap import Snapped
 
 MICROS = 1_000_000
-LINE = re.compile(r"\((\d+)\.(\d{1,9})\) +(\S+) +([0-9A-Fa-f]+)#([0-9A-Fa-f]*|R\d?)( +[RT])?")
-LENGTHS = range(LENGTH + 1)
 
 
 def bits(rows, until, put):
@@ -60,46 +60,12 @@ def pcap(rows, kbits, at_second, has_ends, put):
             put(struct.pack("<IIII", micros // MICROS, micros % MICROS, len(packet), len(packet)) + packet)
 
 
-class Recorded:
-    """A frame of a recording: the time in microseconds, the identifier, the data, its bits, and the line."""
-
-    def __init__(self, micros, identifier, data, line):
-        self.micros, self.identifier, self.data, self.line = micros, identifier, data, line
-        self.length = len(wire_of(identifier, data))
-
-
-def recorded(lines, interface):
-    """The frames of one interface of a recording, and how many frames there are of others."""
-    frames, others = [], 0
-    for place, line in enumerate(lines, 1):
-        line = line.strip()
-        if not line:
-            continue
-        match = LINE.fullmatch(line)
-        if match is None:
-            raise NoLog(f"line {place}: {line!r} is no line of candump -L")
-        seconds, part, where, identifier, data, _ = match.groups()
-        interface = interface or where
-        if where != interface:
-            others += 1
-            continue
-        if len(identifier) != 3 or int(identifier, 16) > LAST_ID:
-            raise NoLog(f"line {place}: the identifier {identifier} has no 11 bits: no frame of this profile")
-        if data.startswith("R"):
-            raise NoLog(f"line {place}: a remote frame is no frame of this profile")
-        if len(data) % 2 or len(data) // 2 not in LENGTHS:
-            raise NoLog(f"line {place}: {data!r} is no data of 0 to 8 bytes")
-        micros = int(seconds) * MICROS + fractions.Fraction(int(part) * MICROS, 10 ** len(part))
-        frames.append(Recorded(micros, int(identifier, 16), bytes.fromhex(data), place))
-    return frames, others
-
-
 def starts_of(frames, kbits, has_starts, note):
     """The start of each frame, in bit times since the start of the first one. A frame that starts a bit time before the
     one in front of it has ended is put behind that one, since times are rounded. One that starts earlier is refused."""
     starts, moved, free = [], 0, 0
     for frame in frames:
-        time = frame.micros * kbits / 1000 - (0 if has_starts else frame.length - INTERMISSION)
+        time = frame.nanos * kbits / MICROS - (0 if has_starts else frame.length - INTERMISSION)
         first = time if not starts else first
         start = round(time - first)
         if start < free - 1:
@@ -116,9 +82,8 @@ def starts_of(frames, kbits, has_starts, note):
 def overlap(frame, start, before, free, kbits, has_starts):
     """Why a frame can't start so early, and what may be wrong with the words."""
     times = "ends of frames? Then leave --starts out" if has_starts else "starts of frames? Then --starts says so"
-    if frame.micros < before.micros:
-        return (f"the time goes back by {float(before.micros - frame.micros):g} us. Is the recording in order, and of "
-                "one bus?")
+    if frame.nanos < before.nanos:
+        return back_by(before, frame)
     return (f"the frame would start at bit time {start}, and the one of line {before.line} ends at {free}: no bus "
             f"sends two at once. Is {float(kbits):g} kbit/s the right rate? Are the times {times}")
 
@@ -144,7 +109,7 @@ def cycles_in(frames, starts):
 
 def calls_of(rows):
     """The rows of a log that no recording shows: verdicts, plans and looks, each with the cycle that is next there."""
-    calls, following = [], 0
+    calls, following = collections.deque(), 0
     for word, fields, _ in rows:
         if word == "open":
             following = int(fields[0]) + 1
@@ -174,31 +139,26 @@ def length_in(cycles, given, note):
     return given
 
 
-def from_trigger(frames, others, note):
-    """The frames from the first trigger on. Says how many frames are left out, these of other interfaces too."""
-    if others:
-        note(f"{others} frames of other interfaces are left out")
-    early = next((place for place, frame in enumerate(frames) if frame.identifier == TRIGGERS[0]), None)
-    if early is None:
-        raise NoLog("the recording has no trigger, which has identifier 000")
-    if early:
-        note(f"{early} frames in front of the first trigger are left out")
-    return frames[early:]
-
-
-def from_candump(lines, words, calls, put, note):
-    """A recording of a bus of this profile as rows of a log. A cycle is opened where its trigger stands. The rows of
-    calls, which no recording shows, are put in front of the cycle that was next when they were answered."""
-    frames = from_trigger(*recorded(lines, words.interface), note)
-    cycles = cycles_in(frames, starts_of(frames, words.kbits, words.starts, note))
-    length = length_in(cycles, words.cycle, note)
+def from_candump(lines, words, rows, put, note):
+    """A recording of a bus of this profile as rows of a log. A cycle is opened where its trigger stands. The calls of
+    some rows, which no recording shows, are put in front of the cycle that was next when they were answered."""
+    frames = from_trigger(recorded(lines, words.interface, words.strict), note)
+    if words.snap is None:
+        cycles = cycles_in(frames, starts_of(frames, words.kbits, words.starts, note))
+        length = length_in(cycles, words.cycle, note)
+    else:
+        exact = Snapped(frames, words, rows)
+        exact.tell(note)
+        if words.moved is not None:
+            exact.write(words.moved)
+        cycles, length = cycles_in(frames, exact.starts), exact.length
     first = cycles[0][0] * length
     if first:
         note(f"the first trigger is that of cycle {cycles[0][0]}: what was before it is not in the recording")
-    calls = list(calls)
+    calls = calls_of(rows)
     for number, mask, width, sent in cycles:
         while calls and calls[0][0] <= number:
-            put(calls.pop(0)[1])
+            put(calls.popleft()[1])
         put(f"open,{number},{mask_of(mask)},{width}\n")
         for frame, start in sent:
             put(f"frame,{first + start},{frame.length},{frame.identifier:03x},{frame.data.hex()}\n")

@@ -6,59 +6,15 @@ from .. import places
 from ..frames import INTERMISSION
 from ..limits import FIRST_SLOT, LAST_SLOT, TRIGGERS
 from ..rows import identifier_of
-from ..table import changed, live_of, release
 from ..telling import some
 from .drawing import histogram
-from .rows import NoLog, RIDES, is_slot, length_of, millis, opened
-from .steps import Asked, records_of
+from .rows import NoLog, is_slot, length_of, millis, opened
+from .slots import ridden, sent_of
+from .steps import records_of
 
 PERCENTILES = (50, 90, 99)
 PERCENTS = [f"p{percent}" for percent in PERCENTILES]
-
-
-def accepted(table, act):
-    """The table behind a change that the log accepts."""
-    for operation in act.operations:
-        slot = operation.fields["SLOT"]
-        if operation.word != "add" and live_of(table.get(slot, [])) is None:
-            raise NoLog(f"line {act.line} of the steps: slot {slot} has no entry that the log has accepted")
-    return changed(table, act)
-
-
-def next_of(table, slot, sent):
-    """The entry of a slot whose instance is sent next, its place there, and its release; None where there is none. Of
-    each entry so many were sent, by slot and place."""
-    found = ((place, it, release(it, sent[slot, place])) for place, it in enumerate(table.get(slot, [])))
-    return next((it for it in found if it[2] is not None), (None, None, None))
-
-
-def delays_of(rows, path):
-    """The delays of the sent instances in cycles, by identifier: the cycle of the frame less the release. Frames of a
-    log with requests that ride on slots have these requests as data, and those of other logs the instance's number."""
-    is_polled = any(word in RIDES for word, _, _ in rows)
-    asked, table, sent = Asked(path), {}, collections.Counter()
-    delays, cycle = collections.defaultdict(list), None
-    for word, fields, place in rows:
-        if word == "submit":
-            act = asked.next(word, int(fields[0]), place)
-            if fields[2] == "accepted":
-                table = accepted(table, act)
-        elif word == "look":
-            asked.next(word, int(fields[0]), place)
-        elif word == "open":
-            cycle = int(fields[0])
-        elif word == "frame" and is_slot(int(fields[2], 16)):
-            identifier = int(fields[2], 16)
-            slot = identifier - FIRST_SLOT
-            place_in, entry, released = next_of(table, slot, sent)
-            low = None
-            if entry is not None:
-                low = (sent[slot, place_in] % 256 ** entry.length).to_bytes(entry.length, "big").hex()
-            if low != fields[3] and (entry is None or not is_polled):
-                raise NoLog(f"row {place}: the steps of {path} send no such frame here. Is the log whole, and theirs?")
-            delays[identifier].append(cycle - released)
-            sent[slot, place_in] += 1
-    return delays
+LEFT = "waiting: requests that were not sent by the end of the run; later: those that arrive after it\n"
 
 
 def read_requests(path):
@@ -135,20 +91,53 @@ def asynchronous(rows, words, names, end):
         pictures.append((names.of(identifier), values, shown, f"{what}, in {unit}"))
     head = ["identifier", "sent", "least", "mean", *PERCENTS, "greatest", "waiting", "later"]
     told = f"asynchronous frames, {what}, in {unit}\n" + table(head, lines)
-    told += "waiting: requests that were not sent by the end of the run; later: those that arrive after it\n"
-    return told, pictures
+    return told + LEFT, pictures
 
 
-def synchronous(rows, words, names):
-    """The table of delays, and what is needed for their histograms."""
-    lines, pictures, shown = [], [], shown_by(None)
-    what = "from the release to the cycle that sends them, in cycles"
-    for identifier, values in sorted(delays_of(rows, words.steps).items()):
-        lines.append([names.of(identifier), str(len(values)), *statistics(values, shown)])
-        pictures.append((names.of(identifier), values, shown, what))
-    head = ["message", "sent", "least", "mean", *PERCENTS, "greatest"]
+def spans(cycles, length, shown):
+    """Some numbers of cycles as texts, the least first, each once."""
+    return "/".join(shown(it * length) for it in sorted(cycles)) or "-"
+
+
+def synchronous(sent, words, names, length):
+    """The table of delays, and what is needed for their histograms: in cycles to the one that sends an instance; or in
+    milliseconds to the end of its frame, with its deadline, where the rate is known."""
+    lines, pictures, by_slot = [], [], collections.defaultdict(list)
+    for it in sent:
+        by_slot[it.slot].append(it)
+    is_timed, shown = words.kbits is not None, shown_by(words.kbits)
+    what = "from the release to the " + ("end of the frame, in ms" if is_timed else "cycle that sends them, in cycles")
+    for slot, found in sorted(by_slot.items()):
+        values = [it.end - it.release * length if is_timed else it.cycle - it.release for it in found]
+        last = [spans({it.deadline for it in found}, length, shown)] if is_timed else []
+        lines.append([names.of_slot(slot), str(len(values)), *statistics(values, shown), *last])
+        pictures.append((names.of_slot(slot), values, shown, what))
+    head = ["message", "sent", "least", "mean", *PERCENTS, "greatest", *(["deadline"] if is_timed else [])]
     told = f"synchronous frames, {what}\n" + table(head, lines)
     return told, pictures
+
+
+def polled(rows, sent, words, names, length, end):
+    """The table of requests that ride on slots, and what is needed for their histograms. Where the steps are known, the
+    bound stands beside: PERIOD and DEADLINE of the entries that took them."""
+    ends, entries, slot_cycle = {}, {}, None
+    for word, fields, _ in rows:
+        if word == "open":
+            slot_cycle = int(fields[0])
+        elif word == "frame" and is_slot(int(fields[2], 16)):
+            ends[int(fields[2], 16) - FIRST_SLOT, slot_cycle] = int(fields[0]) + int(fields[1]) - INTERMISSION
+    for it in sent:
+        entries[it.slot, it.release, it.cycle] = it.period + it.deadline
+    lines, pictures, shown = [], [], shown_by(words.kbits)
+    what = f"from the arrival to the end of the frame, in {'bit times' if words.kbits is None else 'ms'}"
+    for slot, (values, left, taken) in ridden(rows, words.streams, ends).items():
+        bounds = spans({entries[slot, *it] for it in taken if (slot, *it) in entries}, length, shown)
+        lines.append([names.of_slot(slot), str(len(values)), *statistics(values, shown), bounds,
+                      str(sum(at < end for at in left)), str(sum(at >= end for at in left))])
+        pictures.append((names.of_slot(slot), values, shown, what))
+    head = ["message", "sent", "least", "mean", *PERCENTS, "greatest", "bound", "waiting", "later"]
+    told = f"requests of polled slots, {what}\n" + table(head, lines)
+    return told + LEFT, pictures
 
 
 def late(rows, words, names, put):
@@ -157,11 +146,16 @@ def late(rows, words, names, put):
     ends, cycles = [int(fields[0]) for word, fields, _ in rows if word == "end"], opened(rows)
     if not ends or cycles and cycles[0][0] != 0 or len(cycles) != ends[0]:
         raise NoLog("the log is not whole, and late needs all of it")
-    parts = []
+    parts, length = [], words.cycle
+    if length is None and (words.requests, words.streams, words.kbits) != (None, None, None):
+        length = length_of(cycles)
+    sent = [] if words.steps is None else sent_of(rows, words.steps)
     if words.requests is not None:
-        parts.append(asynchronous(rows, words, names, (words.cycle or length_of(cycles)) * ends[0]))
+        parts.append(asynchronous(rows, words, names, length * ends[0]))
+    if words.streams is not None:
+        parts.append(polled(rows, sent, words, names, length, length * ends[0]))
     if words.steps is not None:
-        parts.append(synchronous(rows, words, names))
+        parts.append(synchronous(sent, words, names, length))
     pictures = [picture for _, more in parts for picture in more]
     if words.svg is not None:
         with open(words.svg, "w", encoding="utf-8", newline="\n") as file:

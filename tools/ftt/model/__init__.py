@@ -1,6 +1,8 @@
 """Makes the files of fttcan from a list of messages in milliseconds.
 
     tools/fttmodel KBITS CYCLE_US MESSAGES OUT [options]
+    tools/fttmodel --from-recording DUMP [--interface NAME] > MESSAGES
+    tools/fttmodel --from-dbc FILE [--period-attribute NAME] [--strict] > MESSAGES
 
 KBITS is the bit rate in kbit/s and CYCLE_US the elementary cycle in microseconds. MESSAGES is a CSV file with a header
 row, or a DBC file where its name ends with .dbc; docs/tools.md says how its attributes are read. OUT is a folder, which
@@ -15,12 +17,18 @@ The columns of the CSV file, in any order:
     deadline  in milliseconds, at most the period; without one, the period
     offset    in milliseconds, up to the first release; without one, 0
     id        its CAN identifier, decimal or 0x..; slots are given in the order of identifiers
-    kind      sync or async; without one, sync
+    kind      sync, polled or async; without one, sync. A polled message comes when it likes, and has a deadline: a
+              slot with one byte more asks for it, and keeps it. `period` is then its least distance, if one is known
     priority  0 to 255; between equal keys of the policy the lower one goes first; without one, 0
 
-name, sender, length and period are needed. Names of times may end with _ms. A column whose name begins with # is left
+name, sender, length and period are needed. Names of times may end with _ms. Fields may be separated by semicolons or
+tabs in place of commas, and then times may have decimal commas. A column whose name begins with # is left
 out, and so is a row whose first field begins with #. Another column is left out with a line that says so, where its
 name is not near one of these.
+
+--from-recording makes such a list from a recording of a plain CAN bus, as `candump -L` writes it: identifiers, lengths,
+periods and least distances. What a recording can't tell is left open. --from-dbc makes one from a DBC file, to which
+deadlines can be added.
 
 Status: 0 written; 1 written, with warnings; 2 a mistake in a message or an option, nothing is written; 3 a file that
 can't be read or written; 4 wrong words, or a Python before 3.11.
@@ -37,39 +45,64 @@ from fractions import Fraction
 from .. import limits
 from ..command import Parser, needs_tomllib, takes_version, put_lines
 from ..faults import Refused, Unread
-from ..telling import some
-from . import dbc, table
+from ..telling import listed, some
+from . import arrivals, bus_dbc, dbc, lists, table
 from .bus import Bus, alike, entries_of, owned_of, window_of
 from .files import names_text, steps_text, system_text, write_all
 from .messages import Mistakes, text_of
 from .said import common_period, told
 
 
-def messages_of(words, mistakes):
+def is_dbc(path):
+    """Whether a file is a DBC file by its name."""
+    return path.lower().endswith(".dbc")
+
+
+def messages_of(words, text, mistakes):
     """What the file of messages has."""
-    text = text_of(words.messages)
-    if words.messages.lower().endswith(".dbc"):
+    if is_dbc(words.messages):
         return dbc.read(words.messages, text, words.kbits, words, mistakes)
     if words.strict or words.period_attribute:
         raise Refused("--strict and --period-attribute are for a DBC file, whose name ends with .dbc. Leave them out.")
     return table.read(words.messages, text, mistakes)
 
 
-def model(words):
-    """Reads the messages, writes the files, and says what was done. The status."""
-    bus = Bus(words.kbits, words.cycle_us)
-    mistakes = Mistakes(words.messages)
-    read = messages_of(words, mistakes)
-    messages = read.messages
-    if not messages and not mistakes.lines:
-        raise Refused(f"{words.messages}:1: there are no messages. Write a row for each.")
-    alike(messages, mistakes)
+def nodes_of(messages, mistakes):
+    """The senders of messages, each with its number."""
     nodes, most = {}, limits.NODES[1]
     for message in messages:
         if message.sender not in nodes and len(nodes) == most:
             mistakes.add(message.line, "sender", message.sender, f"this is a sender beyond the {most} nodes. Let some "
                          "nodes share a name.")
         nodes.setdefault(message.sender, len(nodes))
+    return nodes
+
+
+def more_of(words, text, bus, entries, owned, cycles):
+    """The files that are made where they are asked for, requests and bus.dbc; what is told of them, and warnings."""
+    texts, lines, warnings = {}, [], []
+    if words.requests is not None:
+        texts, lines, warnings = arrivals.texts_of(words, arrivals.Asking(bus, entries, owned, cycles))
+    elif words.seed is not None or words.start is not None:
+        raise Refused("--seed and --from are for --requests. Leave them out.")
+    if words.dbc or words.instances or words.signals:
+        text = text_of(words.signals) if words.signals else text if is_dbc(words.messages) else None
+        source = None if text is None else bus_dbc.source_of(text)
+        texts["bus.dbc"] = bus_dbc.text_of(bus, entries, owned, words, source)
+    return texts, lines, warnings
+
+
+def model(words):
+    """Reads the messages, writes the files, and says what was done. The status."""
+    bus = Bus(words.kbits, words.cycle_us)
+    mistakes = Mistakes(words.messages)
+    text = text_of(words.messages)
+    read = messages_of(words, text, mistakes)
+    messages = read.messages
+    if not messages and not mistakes.lines:
+        raise Refused(f"{words.messages}:1: there are no messages. Write a row for each.")
+    alike(messages, mistakes)
+    nodes = nodes_of(messages, mistakes)
     entries = entries_of(messages, bus, nodes, words.slots, mistakes)
     owned = owned_of(messages, nodes, words.renumber, mistakes)
     mistakes.stop()
@@ -83,12 +116,16 @@ def model(words):
         cycles = min(max((it.phase for it in entries), default=0) + common_period(entries), limits.CYCLES)
     lines, warnings = told(bus, entries, owned, words, window, nodes)
     folder = pathlib.Path(words.out)
-    write_all(folder, {"system.toml": system_text(bus, owned, words, window, count),
-                       "steps.csv": steps_text(entries, cycles), "names.csv": names_text(entries, owned)})
+    texts = {"system.toml": system_text(bus, owned, words, window, count),
+             "steps.csv": steps_text(entries, cycles), "names.csv": names_text(entries, owned)}
+    more, said, warned = more_of(words, text, bus, entries, owned, cycles)
+    texts |= more
+    write_all(folder, texts)
     lines[2:2] = read.notes
-    warnings = read.warnings + warnings
+    lines += said
+    warnings = read.warnings + warnings + warned
     lines += [f"warning: {warning}" for warning in warnings]
-    why = put_lines([*lines, f"written: system.toml, steps.csv and names.csv in {folder}"])
+    why = put_lines([*lines, f"written: {listed(texts)} in {folder}"])
     if why is not None:
         raise Unread(why)
     return 1 if warnings else 0
@@ -135,7 +172,24 @@ def parser():
                       "order of their identifiers")
     made.add_argument("--period-attribute", metavar="NAME", help="of a DBC file: the attribute of messages that has "
                       "the period in milliseconds, beside GenMsgCycleTime")
+    made.add_argument("--requests", metavar="WHAT", help="write the requests of asynchronous messages into "
+                      "requests.csv, and those of polled ones into streams.csv. WHAT is `together`: all come at once, "
+                      "and again as often as they may; `random`; or a CSV file with the columns at, name and data, its "
+                      "times in milliseconds")
+    made.add_argument("--seed", type=within(0, 1 << 32), help="the number from which random requests come; "
+                      "without it 1")
+    made.add_argument("--from", dest="start", metavar="MS", type=positive, help="when the first requests come at the "
+                      "earliest, in milliseconds; without it 0")
+    made.add_argument("--dbc", action="store_true", help="write bus.dbc too: the triggers, and each message by its "
+                      "identifier on this bus, with the signals that a DBC file has of it")
+    made.add_argument("--instances", action="store_true", help="write bus.dbc, in which each slot has the number of "
+                      "the instance, as in a log of the simulator")
     made.add_argument("--strict", action="store_true", help="refuse a DBC file with a message that would be left out")
+    made.add_argument("--signals", metavar="FILE", help="write bus.dbc with the signals that this DBC file has of the "
+                      "messages with the same identifiers")
+    made.add_argument("--from-dbc", metavar="FILE", help="alone, in front: print a list of messages from a DBC file")
+    made.add_argument("--from-recording", metavar="DUMP", help="alone, in front: print a list of messages from a "
+                      "recording")
     takes_version(made)
     return made
 
@@ -144,7 +198,14 @@ def main():
     """Reads the words, and does what they ask. The status."""
     needs_tomllib("fttmodel")
     try:
-        return model(parser().parse_args())
+        of_list = {lists.RECORDING: lists.from_recording, lists.DBC: lists.from_dbc}.get("".join(sys.argv[1:2]))
+        if of_list is not None:
+            return of_list(sys.argv[2:])
+        reader = parser()
+        words = reader.parse_args()
+        if words.from_recording is not None or words.from_dbc is not None:
+            reader.error("--from-recording and --from-dbc stand in front: --from-recording DUMP > MESSAGES")
+        return model(words)
     except (Refused, csv.Error) as fault:
         print(fault, file=sys.stderr)
         return 2

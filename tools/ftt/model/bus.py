@@ -8,9 +8,13 @@ from ..frames import TRIGGER, worst
 from ..limits import CYCLE, FEW_SLOTS, FIRST_ASYNC, LAST_ASYNC, LENGTH, RATE, TIMES, WINDOW
 from ..system import room
 from ..telling import decimal
+from . import polled
 
-# A synchronous message in its slot: times in elementary cycles.
-Entry = namedtuple("Entry", "message slot node phase period deadline")
+# The kinds of messages that get slots, as they are told.
+KINDS = {"sync": "synchronous", polled.KIND: "polled"}
+
+# A message in its slot, synchronous or polled: the data bytes of its frame, and times in elementary cycles.
+Entry = namedtuple("Entry", "message slot node length phase period deadline")
 # An asynchronous message with the identifier that it has in the model.
 Owned = namedtuple("Owned", "message id node")
 
@@ -68,30 +72,36 @@ class Bus:
         return max(whole, least)
 
 
+def times_of(message, bus, mistakes):
+    """The phase, the period and the deadline of a synchronous message in cycles; None where it has no period."""
+    if message.period is None:
+        return None
+    period = bus.cycles(message.period, "period", message, 1, mistakes)
+    deadline = period
+    if message.deadline is not None:
+        if message.deadline > message.period:
+            mistakes.add(message.line, "deadline", decimal(message.deadline), f"it is above the period of "
+                         f"{decimal(message.period)} ms. Take at most the period.")
+        else:
+            deadline = bus.cycles(message.deadline, "deadline", message, 1, mistakes)
+    return bus.cycles(message.offset, "offset", message, 0, mistakes), period, deadline
+
+
 def entries_of(messages, bus, nodes, slots, mistakes):
-    """The synchronous messages in their slots, in the order of their identifiers."""
-    chosen = [message for message in messages if message.kind == "sync"]
+    """The synchronous and the polled messages in their slots, in the order of their identifiers."""
+    chosen = [message for message in messages if message.kind in KINDS]
     more = "Take --slots 96, make some asynchronous" if slots == FEW_SLOTS else "Make some asynchronous"
     for message in chosen[slots:]:
-        mistakes.add(message.line, "name", message.name, f"this is a synchronous message beyond the {slots} slots. "
-                     f"{more}, or leave some out.")
+        mistakes.add(message.line, "name", message.name, f"this is a {KINDS[message.kind]} message beyond the {slots} "
+                     f"slots. {more}, or leave some out.")
     chosen = sorted(chosen[:slots], key=lambda it: (it.id is None, it.id or 0))
     taken = {}
     for message in sorted(chosen, key=lambda it: it.line):
-        if message.period is None:
-            continue
-        period = bus.cycles(message.period, "period", message, 1, mistakes)
-        deadline = period
-        if message.deadline is not None:
-            if message.deadline > message.period:
-                mistakes.add(message.line, "deadline", decimal(message.deadline), f"it is above the period of "
-                             f"{decimal(message.period)} ms. Take at most the period.")
-            else:
-                deadline = bus.cycles(message.deadline, "deadline", message, 1, mistakes)
-        phase = bus.cycles(message.offset, "offset", message, 0, mistakes)
-        taken[message.line] = (phase, period, deadline)
-    return [Entry(message, slot, nodes[message.sender], *taken[message.line])
-            for slot, message in enumerate(chosen) if message.line in taken]
+        of_kind = polled.times_of if message.kind == polled.KIND else times_of
+        taken[message.line] = of_kind(message, bus, mistakes)
+    return [Entry(message, slot, nodes[message.sender], message.length + (message.kind == polled.KIND),
+                  *taken[message.line])
+            for slot, message in enumerate(chosen) if taken[message.line] is not None]
 
 
 def owned_of(messages, nodes, renumber, mistakes):
@@ -114,7 +124,7 @@ def owned_of(messages, nodes, renumber, mistakes):
 
 def window_of(bus, words, entries, owned):
     """The window that is asked for; else all but one longest asynchronous frame, and not below one longest frame."""
-    longest = max((worst(it.message.length) for it in entries), default=WINDOW[0])
+    longest = max((worst(it.length) for it in entries), default=WINDOW[0])
     most = room(bus.cycle, words.slots, words.turnaround)
     spare = max((worst(it.message.length) for it in owned), default=worst(LENGTH))
     if longest > most:

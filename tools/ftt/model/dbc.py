@@ -155,7 +155,7 @@ class Reader:
         if self.too:
             self.warnings.append(f"sent on events too, which wait for the next period here: {', '.join(self.too)}.")
         rate = self.known.rate()
-        if rate and all(abs(rate - it) * 1000 > rate for it in (kbits * 1000, kbits)):
+        if rate and kbits is not None and all(abs(rate - it) * 1000 > rate for it in (kbits * 1000, kbits)):
             self.warnings.append(f"Baudrate is {decimal(rate)} in the file, and KBITS is {decimal(kbits)}. Is the rate "
                                  "right?")
         if not any(it.kind == "sync" for it in messages):

@@ -25,7 +25,7 @@ def steps_text(entries, cycles):
     text = ""
     for it in entries:
         start = "add,1,0" if it.slot % OPERATIONS == 0 else "and,add"
-        text += (f"{start},{it.slot},{it.node},{it.message.length},{it.phase},{it.period},{it.deadline},"
+        text += (f"{start},{it.slot},{it.node},{it.length},{it.phase},{it.period},{it.deadline},"
                  f"{it.message.priority}\n")
     return text + f"cycle,{cycles}\n"
 
@@ -34,13 +34,16 @@ def names_text(entries, owned):
     """The names file: what stands for each message."""
     out = io.StringIO()
     rows = csv.writer(out, lineterminator="\n")
-    rows.writerow(["slot_or_id", "name", "sender", "node", "period_cycles", "period_ms", "real_id"])
+    rows.writerow(["slot_or_id", "name", "sender", "node", "period_cycles", "period_ms", "real_id", "kind",
+                   "deadline_ms"])
     for it in entries + sorted(owned, key=lambda it: it.id):
         message = it.message
+        deadline = message.period if message.deadline is None and message.kind == "sync" else message.deadline
         rows.writerow([it.slot if isinstance(it, Entry) else f"{it.id:#05x}", message.name, message.sender, it.node,
                        it.period if isinstance(it, Entry) else "",
                        "" if message.period is None else decimal(message.period),
-                       "" if message.id is None else f"{message.id:#05x}"])
+                       "" if message.id is None else f"{message.id:#05x}", message.kind,
+                       "" if deadline is None else decimal(deadline)])
     return out.getvalue()
 
 
@@ -49,7 +52,9 @@ def write_all(folder, texts):
     try:
         folder.mkdir(parents=True, exist_ok=True)
         for name, text in texts.items():
-            (folder / name).write_text(text, encoding="utf-8", newline="\n")
+            # DBC files are not UTF-8.
+            encoding = "latin-1" if name.endswith(".dbc") else "utf-8"
+            (folder / name).write_bytes(text.encode(encoding, "replace"))
     except OSError as fault:
         if folder.is_file():
             raise Unread(f"{folder}: OUT is a folder, and a file of this name is there. Take another name.") from fault

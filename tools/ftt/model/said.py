@@ -6,6 +6,7 @@ from ..frames import TRIGGER, worst
 from ..limits import HORIZON, WINDOW
 from ..system import room
 from ..telling import decimal, some
+from . import polled
 from .dbc import NOBODY
 
 
@@ -18,10 +19,10 @@ def released(entries, period):
     """The greatest sum of worst lengths that are released in one cycle; and whether it is exact."""
     last = max((entry.phase for entry in entries), default=0)
     if last + period > 200_000:
-        return sum(worst(entry.message.length) for entry in entries), False
+        return sum(worst(entry.length) for entry in entries), False
     sums = [0] * (last + period)
     for entry in entries:
-        bits = worst(entry.message.length)
+        bits = worst(entry.length)
         for cycle in range(entry.phase, last + period, entry.period):
             sums[cycle] += bits
     return max(sums), True
@@ -71,15 +72,18 @@ def told_horizon(entries, repeat, horizon):
 def told(bus, entries, owned, words, window, nodes):
     """The lines on standard output, and whether one is a warning."""
     lines, warnings = [], []
-    need = sum((Fraction(worst(it.message.length), it.period) for it in entries), Fraction(0))
-    longest = max((worst(it.message.length) for it in entries), default=0)
+    need = sum((Fraction(worst(it.length), it.period) for it in entries), Fraction(0))
+    longest = max((worst(it.length) for it in entries), default=0)
     period = common_period(entries)
     most, is_exact = released(entries, period)
     settled = max((it.phase for it in entries), default=0)
     free = room(bus.cycle, words.slots, words.turnaround) - window
     lines.append(f"cycle: {decimal(bus.millis(1), 6)} ms at {decimal(bus.kbits)} kbit/s is {bus.cycle} bit times")
-    lines.append(f"messages: {len(entries)} synchronous, {len(owned)} asynchronous, of {some(len(nodes), 'sender')}")
+    asked = [it for it in entries if it.message.kind == polled.KIND]
+    lines.append(f"messages: {len(entries) - len(asked)} synchronous, {f'{len(asked)} polled, ' if asked else ''}"
+                 f"{len(owned)} asynchronous, of {some(len(nodes), 'sender')}")
     lines += [f"rounded: {said}" for said in bus.said or ["nothing"]]
+    lines += [f"polled: {polled.told(it, bus)}" for it in asked]
     lines.append(f"need: {decimal(need, 1)} bit times a cycle on average, at {'worst' if is_exact else 'most'} {most} "
                  "released in one cycle")
     lines.append(f"window: at least {max(longest, WINDOW[0])} for one longest frame; {window} is taken")

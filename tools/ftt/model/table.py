@@ -6,11 +6,14 @@ from fractions import Fraction
 
 from ..faults import Refused
 from ..limits import LENGTH, PRIORITY
-from ..telling import close, decimal
+from ..telling import close
+from . import polled
 from .messages import Message, Read, read_id, read_time, read_whole
 
 NEEDED = ("name", "sender", "length", "period")
 COLUMNS = (*NEEDED, "deadline", "offset", "id", "kind", "priority")
+TIMES = ("period", "deadline", "offset")
+SEPARATORS = (",", ";", "\t")
 # What other lists of messages call these columns.
 OTHER_NAMES = {
     "message": "name", "message name": "name", "signal": "name", "frame": "name", "node": "sender", "ecu": "sender",
@@ -23,7 +26,7 @@ def column_of(name):
     """The column that a name in the header row means, or None, and whether the name is the column's own, or only near
     it."""
     word = name.strip().lower()
-    short = word[:-3] if word in ("period_ms", "deadline_ms", "offset_ms") else word
+    short = word[:-3] if word in [f"{it}_ms" for it in TIMES] else word
     if short in COLUMNS:
         return short, "own"
     plain = re.sub(r"[^a-z]+", " ", re.sub(r"[(\[].*|\bms$", "", word.replace("_", " "))).strip()
@@ -59,36 +62,40 @@ def header_of(row, line, mistakes):
     return found, extra
 
 
+def separator_of(text, columns=None):
+    """What stands between the fields of a text: that of comma, semicolon and tab by which the first row names the most
+    columns, of a list of messages or of these. A spreadsheet of a country with decimal commas writes semicolons."""
+    def is_column(name):
+        if columns is None:
+            return column_of(name)[0] is not None
+        return re.sub("_ms$", "", name.strip().lower()) in columns
+    first = next((row for row in text.splitlines() if row.strip(" ,;\t") and not row.lstrip().startswith("#")), "")
+    return max(SEPARATORS, key=lambda it: sum(is_column(name) for row in csv.reader([first], delimiter=it)
+                                              for name in row))
+
+
 def no_header(row, line, mistakes):
     """Refuses a first row that is no header row at all."""
-    if len(row) == 1 and (";" in row[0] or "\t" in row[0]):
-        mistakes.add(line, "the header", row[0], "the fields are not separated by commas. Save the file with commas.")
-    elif not any(column_of(name)[0] for name in row if name.strip() and not name.strip().startswith("#")):
+    if not any(column_of(name)[0] for name in row if name.strip() and not name.strip().startswith("#")):
         mistakes.add(line, "the first row", ",".join(row), "it names no column. Write a header row above the messages, "
                      f"such as {','.join(NEEDED)}.")
     mistakes.stop()
 
 
-def why_no_deadline(text, length):
-    """What to do about the deadline of an asynchronous message."""
-    told = "nothing keeps it for an asynchronous message. Leave it out, or write sync"
-    if not re.fullmatch(r"[0-9]{1,9}(\.[0-9]{1,9})?", text) or not re.fullmatch("[0-7]", length) or not Fraction(text):
-        return told + "."
-    half = decimal(Fraction(text) / 2)
-    return (f"{told}: a slot that polls it, of {int(length) + 1} bytes, keeps it where its period and its deadline are "
-            f"{text} ms together, such as {half} and {half}.")
-
-
 def message_of(field, line, mistakes):
     """The message of a row, whose fields are asked for by their columns."""
     kind = field("kind").lower() or "sync"
-    if kind not in ("sync", "async"):
-        mistakes.add(line, "kind", field("kind"), "Write sync or async.")
+    if kind not in ("sync", "async", polled.KIND):
+        mistakes.add(line, "kind", field("kind"), "Write sync, polled or async.")
     if kind == "async" and field("deadline"):
-        mistakes.add(line, "deadline", field("deadline"), why_no_deadline(field("deadline"), field("length")))
+        mistakes.add(line, "deadline", field("deadline"), "nothing keeps it for an asynchronous message. Leave it out, "
+                     "or write polled: a slot asks for the message then, and keeps it.")
     if kind == "async" and field("offset"):
         mistakes.add(line, "offset", field("offset"), "nothing keeps it for an asynchronous message. Leave it out, or "
                      "write sync.")
+    if kind == polled.KIND and not field("deadline"):
+        mistakes.add(line, "deadline", "", "a polled message needs one: the time from a request to the end of its "
+                     "frame. Write milliseconds.")
     for name in ("name", "sender"):
         if not field(name):
             who = "the node that sends the message" if name == "sender" else "the message"
@@ -97,7 +104,8 @@ def message_of(field, line, mistakes):
             mistakes.add(line, name, field(name), "Write a name without control characters.")
     return Message(
         line, field("name"), field("sender"),
-        read_whole(field("length"), None, LENGTH, line, "length", mistakes,
+        read_whole(field("length"), None, polled.MOST if kind == polled.KIND else LENGTH, line, "length", mistakes,
+                   "Its frame has one byte more." if kind == polled.KIND else
                    "Part longer messages into frames of at most 8 bytes."),
         read_time(field("period"), kind == "sync", line, "period", mistakes),
         read_time(field("deadline"), False, line, "deadline", mistakes),
@@ -109,7 +117,10 @@ def message_of(field, line, mistakes):
 def read(path, text, mistakes):
     """The messages of a CSV file."""
     columns, extra, messages, before = None, [], [], 0
-    reader = csv.reader(io.StringIO(text, newline=""))
+    hint = re.match(r"sep=([,;\t])\r?\n", text)
+    separator = hint[1] if hint else separator_of(text)
+    # The row of the hint is a comment to what follows.
+    reader = csv.reader(io.StringIO("#" + text if hint else text, newline=""), delimiter=separator)
     for row in reader:
         line, before = before + 1, reader.line_num
         if not any(field.strip() for field in row) or row[0].lstrip().startswith("#"):
@@ -126,7 +137,8 @@ def read(path, text, mistakes):
 
         def field(name, fields=row):
             place = columns.get(name)
-            return fields[place].strip() if place is not None and place < len(fields) else ""
+            value = fields[place].strip() if place is not None and place < len(fields) else ""
+            return value.replace(",", ".") if separator != "," and name in TIMES else value
 
         messages.append(message_of(field, line, mistakes))
     if columns is None:

@@ -1,0 +1,11 @@
+//! The bytes of a saved state of a master: what is kept of it while it does not run.
+#![tactic(auto)]
+
+mod crc;
+mod numbers;
+mod reading;
+mod writing;
+
+pub use crc::checksum;
+pub use reading::{ReadFault, read};
+pub use writing::write;
