@@ -181,7 +181,7 @@ typedef struct {
  * 2: in cycle `first` the worst lengths sum to `second` bit times, which is more than the window.
  * 3: the instance of `slot` that is released in cycle `first` is not sent by cycle `second`, its last one.
  * 4: behind the loop what waits of `slot` is not what waited before it.
- * After FTTCAN_TEXT `first` is the first line that breaks the form of a plan text, counted from 1. */
+ * After FTTCAN_TEXT `first` is the first line that breaks the form of a plan text, counted from 1, and the rest is as it was. */
 typedef struct {
     uint64_t first, second;
     uint8_t kind, slot;
@@ -352,7 +352,7 @@ uint32_t fttcan_open(const fttcan_rules *rules, const fttcan_placed *placed, siz
 
 /* Whether the text of a plan keeps a table for ever within a window of so many bit times: FTTCAN_OK or FTTCAN_NO, where
  * `breach` says why not. The plan begins in its cycle FROM, with its slots PENDING. FTTCAN_TEXT: `breach->first` is the
- * first wrong line, and the rest of `breach` is 0. FTTCAN_TABLE. FTTCAN_MEMORY. */
+ * first wrong line. FTTCAN_TABLE. FTTCAN_MEMORY. */
 uint32_t fttcan_check(const fttcan_placed *placed, size_t placed_count, uint32_t window, const uint8_t *text, size_t text_len,
                       fttcan_breach *breach);
 
