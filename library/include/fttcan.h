@@ -335,7 +335,7 @@ uint32_t fttcan_standby_take_over(fttcan_standby *s, fttcan_master *m);
 /* ---- The stateless pair: the caller keeps table and state. */
 
 /* Decides of a change of a table whose next cycle is that of the state. Where the verdict is FTTCAN_ACCEPTED, the changed
- * table is written to `room`, and `count` is its length. Else `room` and `count` are as before. The state stays as it is.
+ * table is written to `room`, and `count` is its length. Else nothing is written to `room`. The state stays as it is.
  * FTTCAN_ARGUMENT: a rule, or a kind of operation. FTTCAN_TABLE. FTTCAN_STATE. FTTCAN_ROOM: `count` is written, and nothing
  * else; the changed table has at most placed_count + ops_count entries. FTTCAN_MEMORY. */
 uint32_t fttcan_decide(const fttcan_rules *rules, const fttcan_placed *placed, size_t placed_count, const fttcan_state *state,

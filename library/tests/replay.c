@@ -109,7 +109,7 @@ static void put_trail(uint64_t from, const fttcan_verdict *verdict) {
 
 /* After so many opened cycles the master is dropped, and the standby goes on. */
 static void hand_over(void) {
-    if (!is("handed") || opened != at_opened)
+    if (!is("handed") || opened != at_opened || standby.at == NULL)
         return;
     fttcan_master_free(&master);
     STATUS(FTTCAN_OK, fttcan_standby_take_over(&standby, &master));

@@ -4,7 +4,10 @@
 #include "support.h"
 #include <pthread.h>
 
-enum { CYCLES = 30000, PLANNERS = 3, MOST = 4200 };
+#ifndef CYCLES
+#define CYCLES 30000
+#endif
+enum { PLANNERS = 3, MOST = 4200 };
 
 static const fttcan_rules rules = {5000, 1500, 5, 40, FTTCAN_EDF, FTTCAN_PREFIX};
 static pthread_mutex_t turn = PTHREAD_MUTEX_INITIALIZER;

@@ -7,6 +7,7 @@ import tempfile
 
 from . import exports, kit, unproved
 from .kit import BuildFault
+from .parts import LeftOut
 
 TOP = pathlib.Path(__file__).resolve().parent.parent.parent
 LIBRARY = TOP / "library"
@@ -17,7 +18,6 @@ AARCH64 = "aarch64-unknown-linux-gnu"
 HOST = unproved.TARGET
 # What stands in front of the names of the tools for a target.
 PREFIX = {HOST: "", AARCH64: "aarch64-linux-gnu-"}
-# A free target needs no words for the place of its code; the archive's code may stand anywhere.
 HEADERS = ("fttcan.h", "fttcan_heap.h", "fttcan.hpp")
 SONAME = "libfttcan.so.1"
 
@@ -82,13 +82,14 @@ class Unproved:
     def object(self, name, made, target, backend):
         """Makes the object of a crate."""
         if backend != "llvm":
-            raise BuildFault("left out: without proofs, Rattle's own compiler takes no library")
+            raise LeftOut("without proofs, Rattle's own compiler takes no library")
         module = self.module(name)
         flags = [word for word in unproved.FLAGS if target == HOST or word != "-march=x86-64"]
         if target != HOST:
             text = module.read_text(encoding="utf-8")
             module = module.with_suffix(".other.ll")
-            module.write_text(re.sub(r"^target (?:triple|datalayout) = .*\n", "", text, flags=re.MULTILINE), encoding="utf-8")
+            text = re.sub(r"^target (?:triple|datalayout) = .*\n", "", text, flags=re.MULTILINE)
+            module.write_text(re.sub(r'"target-(?:cpu|features)"="[^"]*" ?', "", text), encoding="utf-8")
         unproved.compiled(module, made, [*flags, "-fPIC"], target)
 
 
