@@ -367,7 +367,8 @@ uint32_t fttcan_wire_length(uint16_t id, const uint8_t *data, size_t len, uint32
 uint32_t fttcan_wire_bits(uint16_t id, const uint8_t *data, size_t len, uint8_t *room, size_t room_len, size_t *count);
 
 /* The frame that has these bits on the wire, one a byte, 0 or 1. FTTCAN_TEXT: no frame has them, and `place` is the place
- * of the first one that can't stand, counted from 0. FTTCAN_ARGUMENT: a byte above 1. */
+ * of the first one that can't stand, counted from 0; where they end early, or have another CRC sequence, it is their
+ * number. FTTCAN_ARGUMENT: a byte above 1. FTTCAN_MEMORY. */
 uint32_t fttcan_read_wire(const uint8_t *bits, size_t count, fttcan_frame *frame, size_t *place);
 
 /* The trigger frames of a cycle: one with 40 slots, two with 96. FTTCAN_ARGUMENT: the slots, a window above 16,383, or a
@@ -382,9 +383,9 @@ uint32_t fttcan_trigger_decode(uint8_t slots, const fttcan_frame *frames, size_t
  * bytes, the highest first. FTTCAN_ARGUMENT: `len` is above 8. */
 uint32_t fttcan_payload(uint64_t number, uint8_t *room, size_t len);
 
-/* Whether an asynchronous data frame with `dlc` data bytes may start at bit time `at` of its cycle, where the synchronous
- * window of the cycle has `window` bit times: it starts behind the turnaround, and ends before that window at its longest.
- * FTTCAN_ARGUMENT: the layout, `dlc` above 8, or a window above that of the layout. */
+/* Whether an asynchronous data frame with `dlc` data bytes may start at bit time `at`, which is counted from the start of
+ * cycle 0: behind the turnaround of its cycle, and so that at its longest it ends before the synchronous window of that
+ * cycle, which has `window` bit times. FTTCAN_ARGUMENT: the layout, `dlc` above 8, or a window above that of the layout. */
 uint32_t fttcan_fits(const fttcan_layout *layout, uint64_t at, uint8_t dlc, uint32_t window, uint8_t *fits);
 
 /* ---- Whole commands over memory. They are a second object of the library, which is linked only where they are called. */

@@ -508,11 +508,41 @@ inline std::vector<std::uint8_t> payload(std::uint64_t number, std::size_t len) 
     return room;
 }
 
-/// Whether an asynchronous frame may start at a bit time of its cycle.
+/// Whether an asynchronous frame may start at a bit time, counted from the start of cycle 0.
 inline bool fits(const fttcan_layout &layout, std::uint64_t at, std::uint8_t dlc, std::uint32_t window) {
     std::uint8_t answer = 0;
     of::check(fttcan_fits(&layout, at, dlc, window, &answer), "fits");
     return answer != 0;
+}
+
+/// What a command of the program wrote, and its exit status.
+struct command {
+    std::uint32_t status;
+    std::string out, err;
+};
+
+/// Carries out a command of the program over memory: the words, where the files are named 0, 1, 2 and 3, and the files. The
+/// room for the output grows until it is all there, or has so many bytes.
+inline command run(const std::vector<std::string> &words, const std::array<std::string_view, 4> &files = {},
+                   std::size_t most = std::size_t(1) << 28) {
+    std::string joined;
+    for (const std::string &word : words)
+        joined += (&word == words.data() ? std::string() : std::string(1, '\0')) + word;
+    bytes lent[5];
+    for (std::size_t place = 0; place < 5; place++) {
+        const std::string_view text = place < 4 ? files[place] : std::string_view(joined);
+        lent[place] = bytes(reinterpret_cast<const std::uint8_t *>(text.data()), text.size());
+    }
+    for (std::size_t size = std::size_t(1) << 20;; size *= 4) {
+        std::vector<std::uint8_t> out(size), err(4096);
+        std::size_t out_count = 0, err_count = 0;
+        const std::uint32_t status = fttcan_run(of::at(lent[4]), lent[4].size(), of::at(lent[0]), lent[0].size(), of::at(lent[1]),
+                                                lent[1].size(), of::at(lent[2]), lent[2].size(), of::at(lent[3]), lent[3].size(),
+                                                out.data(), out.size(), &out_count, err.data(), err.size(), &err_count);
+        if (status != 5 || size >= most)
+            return {status, std::string(out.begin(), out.begin() + static_cast<std::ptrdiff_t>(out_count)),
+                    std::string(err.begin(), err.begin() + static_cast<std::ptrdiff_t>(err_count))};
+    }
 }
 
 /// Whether a set has a slot.

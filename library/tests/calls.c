@@ -502,7 +502,12 @@ static void of_fits(void) {
         WANT(fits == 1);
         STATUS(FTTCAN_OK, fttcan_fits(&layout, 134, dlc, 270, &fits));
         WANT(fits == 0);
-        STATUS(FTTCAN_OK, fttcan_fits(&layout, UINT64_MAX, dlc, 0, &fits));
+        /* The same in cycle 7, with an empty window. */
+        STATUS(FTTCAN_OK, fttcan_fits(&layout, 7000 + 1000 - 55 - 10 * (uint64_t)dlc, dlc, 0, &fits));
+        WANT(fits == 1);
+        STATUS(FTTCAN_OK, fttcan_fits(&layout, 7001 + 1000 - 55 - 10 * (uint64_t)dlc, dlc, 0, &fits));
+        WANT(fits == 0);
+        STATUS(FTTCAN_OK, fttcan_fits(&layout, 7134, dlc, 0, &fits));
         WANT(fits == 0);
     }
     fits = 9;
