@@ -17,9 +17,10 @@ sys.path.insert(0, str(TOP / "tools"))
 TESTS = LIBRARY / "tests"
 WARNINGS = ["-Wall", "-Wextra", "-Wpedantic", "-Wshadow", "-Werror"]
 # The programs of library/tests that are run alone: their words, and those under valgrind.
+CALLS = ("calls_frames", "calls_pair", "calls_master", "calls_apart", "calls_standby")
 PROGRAMS = {
     "layout": ([], None),
-    "calls": ([], []),
+    **{name: ([], []) for name in CALLS},
     "refuse": ([], []),
     "random": (["1", "300"], ["2", "6"]),
     "flips": (["12"], ["2"]),
