@@ -163,14 +163,15 @@ def shared(made, folder, target=HOST):
     return whole
 
 
-def beside(prefix, libdir="lib"):
-    """Puts the headers and the file for pkg-config below a prefix."""
+def beside(prefix, is_proved, libdir="lib"):
+    """Puts the headers and the file for pkg-config below a prefix. That file says whether the library is proved."""
     prefix = pathlib.Path(prefix)
     (prefix / "include").mkdir(parents=True, exist_ok=True)
     for name in HEADERS:
         shutil.copyfile(LIBRARY / "include" / name, prefix / "include" / name)
     (prefix / libdir / "pkgconfig").mkdir(parents=True, exist_ok=True)
     text = (LIBRARY / "fttcan.pc.in").read_text(encoding="utf-8")
-    for name, value in {"PREFIX": prefix.resolve(), "LIBDIR": libdir, "VERSION": version()}.items():
+    values = {"PREFIX": prefix.resolve(), "LIBDIR": libdir, "VERSION": version(), "PROVED": "proved" if is_proved else "NOT PROVED"}
+    for name, value in values.items():
         text = text.replace(f"@{name}@", str(value))
     (prefix / libdir / "pkgconfig" / "fttcan.pc").write_text(text, encoding="utf-8")
