@@ -393,14 +393,14 @@ uint32_t fttcan_fits(const fttcan_layout *layout, uint64_t at, uint8_t dlc, uint
 /* Carries out the words of a call of the program fttcan, between which bytes 0 stand: every command but live. Its files are
  * named 0, 1, 2 and 3. What it writes goes to `out`, what it says of a fault to `err`, each as far as there is room, and
  * the counts are how much. It answers the exit status of the program, 0 to 7: 5 is that `out` is too small. docs/FORMATS.md
- * has the words, the files and the statuses. A word that is no UTF-8 is status 2. */
+ * has the words, the files and the statuses. Words that are no UTF-8 are status 2, and want of memory is status 6. */
 uint32_t fttcan_run(const uint8_t *words, size_t words_len, const uint8_t *file0, size_t len0, const uint8_t *file1, size_t len1,
                     const uint8_t *file2, size_t len2, const uint8_t *file3, size_t len3, uint8_t *out, size_t out_len,
                     size_t *out_count, uint8_t *err, size_t err_len, size_t *err_count);
 
-/* Whether a log, whoever made it, is that of a whole run of the steps. FTTCAN_OK: it is. FTTCAN_NO: `row` is the first row that
- * can't stand, counted from 1. FTTCAN_UNFINISHED: all rows can stand, and more have to follow. FTTCAN_TEXT: a file is refused.
- * FTTCAN_MEMORY. */
+/* Whether a log, whoever made it, is that of a whole run of the steps. Where the requests have no bytes there are none.
+ * FTTCAN_OK: it is. FTTCAN_NO: `row` is the first row that can't stand, counted from 1. FTTCAN_UNFINISHED: all rows can stand,
+ * and they are not all rows of a whole run. FTTCAN_TEXT: a file is refused. FTTCAN_MEMORY. */
 uint32_t fttcan_audit(const uint8_t *system, size_t system_len, const uint8_t *steps, size_t steps_len, const uint8_t *log,
                       size_t log_len, const uint8_t *requests, size_t requests_len, uint64_t *row);
 

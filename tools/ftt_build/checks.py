@@ -204,6 +204,20 @@ def of_commands(built):
     return f"{many} examples"
 
 
+def of_audits(built):
+    """fttcan_audit answers each example of an audit as the program does."""
+    made = built.program("audit", "gcc")
+    many = 0
+    for folder in sorted(replays.EXAMPLES.iterdir()):
+        if not (folder / "expected.log").is_file() or replays.words_of(folder)[0] != "audit":
+            continue
+        told = ran([made, *(folder / word for word in replays.words_of(folder)[1:])])
+        wanted = (folder / "expected.log").read_text(encoding="utf-8")
+        assert told == wanted, f"{folder.name}: {told.strip()}, and not {wanted.strip()}"
+        many += 1
+    return f"{many} examples"
+
+
 def of_freestanding(built, compiler, runner=()):
     """A program without a C library runs: an arena is its heap."""
     path = command(compiler)
