@@ -263,6 +263,9 @@ uint32_t fttcan_master_planned(fttcan_master *m, fttcan_mask *flags);
 /* The next cycle to be opened. */
 uint32_t fttcan_master_next(fttcan_master *m, uint64_t *cycle);
 
+/* The rules of the master: those with which it was made, or which its saved bytes had. */
+uint32_t fttcan_master_rules(fttcan_master *m, fttcan_rules *rules);
+
 /* The placed entries that still count, in the order of their placing. FTTCAN_ROOM: `count` is written, and nothing else. */
 uint32_t fttcan_master_table(fttcan_master *m, fttcan_placed *room, size_t room_count, size_t *count);
 

@@ -331,6 +331,13 @@ public:
         return cycle;
     }
 
+    /// The rules of this master.
+    fttcan_rules rules() {
+        fttcan_rules made{};
+        of::check(fttcan_master_rules(get(), &made), "master::rules");
+        return made;
+    }
+
     /// The placed entries that still count.
     std::vector<fttcan_placed> table() {
         return of::filled<std::vector<fttcan_placed>>("master::table", [this](fttcan_placed *room, std::size_t size, std::size_t *count) {

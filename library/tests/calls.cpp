@@ -44,6 +44,7 @@ void of_master() {
     WANT(answer.first == 0 && answer.length == 2);
     WANT(fttcan::has(m.upcoming(), 5) && !fttcan::has(m.upcoming(), 6) && !fttcan::has(m.upcoming(), 200));
     WANT(m.open().window == 135 && m.next() == 1 && m.look(8) == 1);
+    WANT(m.rules().window == 540 && m.rules().slots == 40);
     WANT(m.table().size() == 1 && m.table()[0].entry.slot == 5);
     WANT((throws<fttcan::malformed>([&] { m.submit(1, 2, {first}); },
                                     [](const fttcan::malformed &f) { return f.op == 0 && f.why == 10 && !f.is_known; })));

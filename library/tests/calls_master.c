@@ -49,6 +49,7 @@ static void of_closed(void) {
     fttcan_order order = {9, {9, 9}, 9, 9};
     fttcan_mask mask = {9, 9};
     fttcan_placed room;
+    fttcan_rules told = rules;
     uint64_t cycle = 9;
     size_t count = 9;
     uint8_t byte = 9;
@@ -58,6 +59,8 @@ static void of_closed(void) {
     STATUS(FTTCAN_CLOSED, fttcan_master_open(&m, &order));
     STATUS(FTTCAN_CLOSED, fttcan_master_planned(&m, &mask));
     STATUS(FTTCAN_CLOSED, fttcan_master_next(&m, &cycle));
+    STATUS(FTTCAN_CLOSED, fttcan_master_rules(&m, &told));
+    WANT(told.window == 540);
     STATUS(FTTCAN_CLOSED, fttcan_master_table(&m, &room, 1, &count));
     STATUS(FTTCAN_CLOSED, fttcan_master_certificate(&m, &byte, 1, &count));
     STATUS(FTTCAN_CLOSED, fttcan_master_save(&m, &byte, 1, &count));
@@ -182,6 +185,7 @@ static void of_certificate(void) {
 }
 
 static void of_save(void) {
+    fttcan_rules told;
     fttcan_master m = {NULL}, other = {NULL};
     fttcan_verdict v = {0, 0, 0, 0, 0, 0, 0};
     fttcan_order order, again;
@@ -201,6 +205,10 @@ static void of_save(void) {
     bytes[len] = 0;
     STATUS(FTTCAN_TEXT, fttcan_master_restore(&other, bytes, len + 1));
     STATUS(FTTCAN_OK, fttcan_master_restore(&other, bytes, len));
+    memset(&told, 0xFF, sizeof told);
+    STATUS(FTTCAN_OK, fttcan_master_rules(&other, &told));
+    WANT(told.horizon == rules.horizon && told.window == rules.window && told.nodes == rules.nodes && told.slots == rules.slots
+         && told.policy == rules.policy && told.fill == rules.fill);
     for (place = 0; place < 5; place++) {
         STATUS(FTTCAN_OK, fttcan_master_open(&m, &order));
         STATUS(FTTCAN_OK, fttcan_master_open(&other, &again));
