@@ -151,15 +151,14 @@ def archive(maker, crates, folder, target=HOST, backend="llvm"):
 
 
 def shared(made, folder, target=HOST):
-    """Makes the shared library of an archive, and its two links."""
+    """Makes the shared library of an archive, and the link that a linker looks for."""
     folder = pathlib.Path(folder)
-    whole = folder / f"libfttcan.so.{version()}"
+    whole = folder / SONAME
     run([f"{PREFIX[target]}gcc", "-shared", "-o", whole, "-Wl,--whole-archive", made, "-Wl,--no-whole-archive", "-Wl,-z,defs",
          "-Wl,-z,relro,-z,now", "-Wl,--gc-sections", f"-Wl,--version-script={LIBRARY / 'fttcan.map'}", f"-Wl,-soname,{SONAME}"])
     run([f"{PREFIX[target]}strip", "--strip-unneeded", whole])
-    for name in (SONAME, "libfttcan.so"):
-        (folder / name).unlink(missing_ok=True)
-        (folder / name).symlink_to(whole.name)
+    (folder / "libfttcan.so").unlink(missing_ok=True)
+    (folder / "libfttcan.so").symlink_to(SONAME)
     return whole
 
 
