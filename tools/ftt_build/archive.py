@@ -106,7 +106,7 @@ class Proved:
             crate = kit.crate(TOP, name)
             # The crates below are built by then: an object of this machine was made first.
             built = pathlib.Path(made).with_suffix(".built.a")
-            words = [word for word in crate.words([]) if not word.startswith("--target")]
+            words = [word for word in crate.words(["--jobs", "2"]) if not word.startswith("--target")]
             more = ["--target", target] if target != HOST else []
             run([kit.folder() / "bin" / "rattle", "build", *words, *more, "--toolchain", kit.folder() / "toolchain",
                  *(["--backend", backend] if backend != "llvm" else []), "-o", built], cwd=place)
