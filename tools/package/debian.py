@@ -1,8 +1,8 @@
 """Makes the package for Debian in out/, by dpkg-deb. The Makefile at the top calls this.
 
-    debian.py [--program PROGRAM] [--maintainer "NAME <ADDRESS>"] [--out FOLDER]
+    debian.py [--program PROGRAM] [--library FOLDER] [--maintainer "NAME <ADDRESS>"] [--out FOLDER]
 
-With a program the package is one of this machine's architecture, and else one of all. The time of its files is that of
+With a program or a library the package is one of this machine's architecture, and else one of all. The time of its files is that of
 SOURCE_DATE_EPOCH, or of the last commit; so the same sources give the same bytes.
 """
 import argparse
@@ -37,6 +37,11 @@ HAS_PROGRAM = """\
  .
  This package has the program fttcan too. Its pages say what of it is proved,
  and what is only tested.
+"""
+HAS_LIBRARY = """\
+ .
+ The library libfttcan is here for programs in C and C++: the master, its
+ standby, the admission test and the frames. It is proved, but for its heap.
 """
 COPYRIGHT = """\
 Format: https://www.debian.org/doc/packaging-manuals/copyright-format/1.0/
@@ -85,6 +90,18 @@ def copyright_text():
         "License: Expat or Apache-2.0\n", f"License: Expat or Apache-2.0\n{comment}\n", 1) + "\n"
 
 
+def multiarch():
+    """The folder of libraries of this machine's architecture."""
+    told = subprocess.run(["dpkg-architecture", "-qDEB_HOST_MULTIARCH"], stdout=subprocess.PIPE, stderr=subprocess.DEVNULL,
+                          text=True, check=False).stdout if shutil.which("dpkg-architecture") else ""
+    return told.strip() or {"amd64": "x86_64-linux-gnu", "arm64": "aarch64-linux-gnu"}.get(dpkg_architecture(), "")
+
+
+def dpkg_architecture():
+    """The architecture of this machine, as dpkg calls it."""
+    return subprocess.run(["dpkg", "--print-architecture"], check=True, stdout=subprocess.PIPE, text=True).stdout.strip()
+
+
 def libraries(program):
     """The packages that a built program needs."""
     with tempfile.TemporaryDirectory() as room:
@@ -105,17 +122,17 @@ def control(words, folder):
     needs = "python3 (>= 3.11)"
     if words.program:
         needs = f"{libraries(words.program)}, {needs}"
+    elif words.library:
+        needs = f"libc6, {needs}"
     return (f"Package: fttcan\nVersion: {tree.version()}\nArchitecture: {architecture(words)}\n"
             f"Maintainer: {words.maintainer}\nInstalled-Size: {-(-size // 1024)}\nDepends: {needs}\n"
             f"Suggests: python3-can, wireshark\nSection: science\nPriority: optional\n"
-            f"Description: {ABOUT}{HAS_PROGRAM if words.program else ''}")
+            f"Description: {ABOUT}{HAS_PROGRAM if words.program else ''}{HAS_LIBRARY if words.library else ''}")
 
 
 def architecture(words):
     """The architecture of the package."""
-    if not words.program:
-        return "all"
-    return subprocess.run(["dpkg", "--print-architecture"], check=True, stdout=subprocess.PIPE, text=True).stdout.strip()
+    return dpkg_architecture() if words.program or words.library else "all"
 
 
 def changelog(words):
@@ -127,7 +144,9 @@ def changelog(words):
 
 def fill(words, folder):
     """Puts all files of the package into a folder."""
-    asked = argparse.Namespace(program=words.program, python="/usr/bin/python3", debian=True)
+    libdir = f"lib/{multiarch()}" if words.library else "lib"
+    asked = argparse.Namespace(program=words.program, library=words.library, prefix="/usr", libdir=libdir,
+                               python="/usr/bin/python3", debian=True)
     place.install(asked, folder / "usr")
     if words.program and shutil.which("strip"):
         # Names of the compiled functions go; the code stays.
@@ -141,6 +160,9 @@ def fill(words, folder):
     sums = subprocess.run("find usr -type f -print0 | LC_ALL=C sort -z | xargs -0 md5sum", shell=True, cwd=folder,
                           check=True, stdout=subprocess.PIPE).stdout
     (folder / "DEBIAN/md5sums").write_bytes(sums)
+    if words.library:
+        # The loader is to find the new shared library.
+        (folder / "DEBIAN/triggers").write_text("activate-noawait ldconfig\n", encoding="utf-8")
     (folder / "DEBIAN/control").write_text(control(words, folder / "usr"), encoding="utf-8")
     for path in [*folder.rglob("*"), folder]:
         if not path.is_symlink():
@@ -153,6 +175,7 @@ def main():
     parser = argparse.ArgumentParser(prog="debian.py", description=__doc__,
                                      formatter_class=argparse.RawDescriptionHelpFormatter)
     parser.add_argument("--program", default="", help="the built program; without it none is in the package")
+    parser.add_argument("--library", default="", help="the folder of the built library for C; without it none is in the package")
     parser.add_argument("--maintainer", required=True, help="who answers for the package")
     parser.add_argument("--out", default=str(TOP / "out"), help="the folder of the package")
     words = parser.parse_args()

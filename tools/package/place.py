@@ -1,6 +1,6 @@
 """Puts an installation below a prefix, and takes it away again. The Makefile at the top calls this.
 
-    place.py install DESTDIR PREFIX [--program PROGRAM] [--python COMMAND] [--debian]
+    place.py install DESTDIR PREFIX [--program PROGRAM] [--library FOLDER] [--python COMMAND] [--debian]
     place.py uninstall DESTDIR PREFIX
 
 What was put, files and the folders that were not there before, stands in PREFIX/share/fttcan/installed. An
@@ -10,6 +10,7 @@ import argparse
 import gzip
 import os
 import pathlib
+import re
 import sys
 
 sys.dont_write_bytecode = True
@@ -48,8 +49,25 @@ def documents():
     return found
 
 
+def library(folder, prefix, libdir):
+    """The library for C that was built in a folder, as it stands below a prefix, with its libraries in libdir."""
+    folder, found = pathlib.Path(folder), {}
+    for path in sorted((folder / "include").iterdir()):
+        found[f"include/{path.name}"] = tree.File(path.read_bytes(), False)
+    for path in sorted((folder / "lib").glob("libfttcan.*")):
+        # A link stays one: what it leads to stands beside it.
+        found[f"{libdir}/{path.name}"] = os.readlink(path) if path.is_symlink() else tree.File(path.read_bytes(), False)
+    told = (folder / "lib/pkgconfig/fttcan.pc").read_text(encoding="utf-8")
+    if "NOT PROVED" in told:
+        sys.exit(f"{folder}: this library was built without proofs, and is not installed")
+    told = re.sub(r"^prefix=.*", f"prefix={prefix}", told, flags=re.MULTILINE)
+    told = re.sub(r"^libdir=.*", f"libdir=${{prefix}}/{libdir}", told, flags=re.MULTILINE)
+    found[f"{libdir}/pkgconfig/fttcan.pc"] = tree.File(told.encode(), False)
+    return found
+
+
 def files(words):
-    """All files of an installation by their paths below the prefix."""
+    """All files of an installation by their paths below the prefix; of a link, where it leads to."""
     zsh = "share/zsh/vendor-completions" if words.debian else "share/zsh/site-functions"
     found = tools(words.python) | documents() | tree.completion(zsh)
     # Python of Debian looks for modules in one folder below /usr. For another prefix PYTHONPATH has to name share/fttcan.
@@ -61,6 +79,8 @@ def files(words):
             file._replace(data=gzip.compress(file.data, 9, mtime=0)) if words.debian else file
     if words.program:
         found["bin/fttcan"] = tree.File(pathlib.Path(words.program).read_bytes(), True)
+    if words.library:
+        found |= library(words.library, words.prefix, words.libdir)
     return found
 
 
@@ -80,8 +100,11 @@ def install(words, top):
     for path, file in sorted(files(words).items()):
         make_folder((top / path).parent, folders)
         (top / path).unlink(missing_ok=True)
-        (top / path).write_bytes(file.data)
-        (top / path).chmod(0o755 if file.is_program else 0o644)
+        if isinstance(file, str):
+            (top / path).symlink_to(file)
+        else:
+            (top / path).write_bytes(file.data)
+            (top / path).chmod(0o755 if file.is_program else 0o644)
         put.append(path)
     make_folder(top / "bin", folders)
     for name, script in SCRIPTS.items():
@@ -117,6 +140,8 @@ def main():
     parser.add_argument("destdir", help="a folder in front of the prefix, or nothing")
     parser.add_argument("prefix", help="the prefix, as /usr/local")
     parser.add_argument("--program", default="", help="the built program; without it none is put")
+    parser.add_argument("--library", default="", help="the folder of the built library for C; without it none is put")
+    parser.add_argument("--libdir", default="lib", help="the folder of libraries below the prefix")
     parser.add_argument("--python", default="/usr/bin/env python3", help="what runs the tools")
     parser.add_argument("--debian", action="store_true", help="as a package of Debian has it, and without the list")
     words = parser.parse_args()

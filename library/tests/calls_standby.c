@@ -1,0 +1,96 @@
+/* The calls on a standby: each call once where it is answered, and once for each status that it can answer but FTTCAN_MEMORY: refuse.c has that. */
+#include "support.h"
+
+static const fttcan_rules rules = {10000, 540, 5, 40, FTTCAN_RM, FTTCAN_PREFIX};
+/* The entry of the first change: 8 bytes of node 1 in slot 5, in every second cycle. */
+static const fttcan_op first = {FTTCAN_ADD, {0, 2, 1, 5, 1, 8, 0}};
+
+static void is_accepted(const fttcan_verdict *verdict, uint64_t from, uint64_t length) {
+    WANT(verdict->kind == FTTCAN_ACCEPTED && verdict->first == from && verdict->second == length);
+}
+
+static void of_closed_standby(void) {
+    fttcan_standby s = {NULL};
+    fttcan_master m = {NULL};
+    fttcan_verdict v = {9, 9, 9, 9, 9, 9, 9};
+    fttcan_follow fault;
+    fttcan_frame frame;
+    uint64_t cycle = 9;
+    memset(&frame, 0, sizeof frame);
+    memset(&fault, 0, sizeof fault);
+    STATUS(FTTCAN_CLOSED, fttcan_standby_change(&s, 1, 0, &first, 1, &v));
+    STATUS(FTTCAN_CLOSED, fttcan_standby_trigger(&s, &frame, 1, &fault));
+    STATUS(FTTCAN_CLOSED, fttcan_standby_next(&s, &cycle));
+    STATUS(FTTCAN_CLOSED, fttcan_standby_take_over(&s, &m));
+    WANT(m.at == NULL && cycle == 9 && v.kind == 9);
+    fttcan_standby_free(&s);
+}
+
+static void of_standby(void) {
+    fttcan_standby s = {NULL}, other = {NULL};
+    fttcan_rules bad = rules;
+    fttcan_master m = {NULL};
+    fttcan_verdict v = {0, 0, 0, 0, 0, 0, 0};
+    fttcan_follow fault;
+    fttcan_trigger trigger = {{0x20, 0}, 0, 135};
+    fttcan_frame frame;
+    fttcan_op op = first;
+    fttcan_order order = {0, {0, 0}, 0, 0};
+    size_t count = 0;
+    uint64_t next = 9;
+    memset(&frame, 0, sizeof frame);
+    memset(&fault, 0, sizeof fault);
+    STATUS(FTTCAN_OK, fttcan_standby_new(&s, &rules));
+    STATUS(FTTCAN_OPEN, fttcan_standby_new(&s, &rules));
+    bad.nodes = 31;
+    STATUS(FTTCAN_ARGUMENT, fttcan_standby_new(&other, &bad));
+    WANT(other.at == NULL);
+    STATUS(FTTCAN_ARGUMENT, fttcan_standby_change(&s, 9, 0, &first, 1, &v));
+    op.kind = 200;
+    STATUS(FTTCAN_ARGUMENT, fttcan_standby_change(&s, 1, 0, &op, 1, &v));
+    STATUS(FTTCAN_OK, fttcan_standby_change(&s, 1, 0, &first, 1, &v));
+    is_accepted(&v, 0, 2);
+    STATUS(FTTCAN_NO, fttcan_standby_change(&s, 1, 0, &first, 1, &v));
+    WANT(v.kind == FTTCAN_MALFORMED && v.why == 10);
+    trigger.cycle = 1;
+    STATUS(FTTCAN_OK, fttcan_trigger_encode(40, &trigger, &frame, 1, &count));
+    STATUS(FTTCAN_NO, fttcan_standby_trigger(&s, &frame, 1, &fault));
+    WANT(fault.kind == 0 && fault.first == 0);
+    trigger.cycle = 0;
+    trigger.flags.low = 0;
+    trigger.window = 0;
+    STATUS(FTTCAN_OK, fttcan_trigger_encode(40, &trigger, &frame, 1, &count));
+    STATUS(FTTCAN_NO, fttcan_standby_trigger(&s, &frame, 1, &fault));
+    WANT(fault.kind == 1 && fault.first == 0 && fault.heard.low == 0 && fault.planned.low == 0x20);
+    trigger.flags.low = 0x20;
+    trigger.window = 134;
+    STATUS(FTTCAN_OK, fttcan_trigger_encode(40, &trigger, &frame, 1, &count));
+    STATUS(FTTCAN_NO, fttcan_standby_trigger(&s, &frame, 1, &fault));
+    WANT(fault.kind == 2 && fault.first == 134 && fault.second == 135);
+    trigger.window = 135;
+    STATUS(FTTCAN_OK, fttcan_trigger_encode(40, &trigger, &frame, 1, &count));
+    STATUS(FTTCAN_NO, fttcan_standby_trigger(&s, &frame, 0, &fault));
+    WANT(fault.kind == 0);
+    STATUS(FTTCAN_OK, fttcan_standby_next(&s, &next));
+    WANT(next == 0);
+    STATUS(FTTCAN_OK, fttcan_standby_trigger(&s, &frame, 1, &fault));
+    STATUS(FTTCAN_OK, fttcan_standby_next(&s, &next));
+    WANT(next == 1);
+    frame.len = 9;
+    STATUS(FTTCAN_ARGUMENT, fttcan_standby_trigger(&s, &frame, 1, &fault));
+    STATUS(FTTCAN_OK, fttcan_standby_take_over(&s, &m));
+    WANT(s.at == NULL && m.at != NULL);
+    STATUS(FTTCAN_OK, fttcan_master_open(&m, &order));
+    WANT(order.cycle == 1 && order.flags.low == 0);
+    STATUS(FTTCAN_OK, fttcan_standby_new(&s, &rules));
+    STATUS(FTTCAN_OPEN, fttcan_standby_take_over(&s, &m));
+    WANT(s.at != NULL);
+    fttcan_standby_free(&s);
+    fttcan_master_free(&m);
+}
+
+int main(void) {
+    of_closed_standby();
+    of_standby();
+    return ended("calls_standby");
+}
