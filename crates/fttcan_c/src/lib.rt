@@ -1,0 +1,30 @@
+//! fttcan for C: frames, the admission of changes, plans and their checker.
+//!
+//! Each export answers a status, and writes its results through references. It tests all that it is handed. After a
+//! status other than `OK` every result is as before, unless the export says otherwise.
+#![tactic(auto)]
+
+mod admit;
+mod checked;
+mod frames;
+pub mod laws;
+mod plain;
+mod plain_in;
+mod plain_out;
+mod refusal;
+mod room;
+mod triggers;
+mod version;
+
+pub use admit::{fttcan_decide, fttcan_open};
+pub use checked::fttcan_check;
+pub use frames::{
+    fttcan_fits, fttcan_payload, fttcan_read_wire, fttcan_wire_bits, fttcan_wire_length,
+};
+pub use plain::{
+    FttBreach, FttEntry, FttFrame, FttLayout, FttMask, FttOp, FttPlaced, FttPlan, FttRules,
+    FttState, FttTrigger, FttVerdict,
+};
+pub use refusal::{OK, Refusal};
+pub use triggers::{fttcan_trigger_decode, fttcan_trigger_encode};
+pub use version::fttcan_version;
