@@ -6,19 +6,20 @@ use Rattle.requirement_table.specs.Slots.{most_slots}
 use Rattle.requirement_table.specs.Table.{IsWellPlaced}
 use Rattle.planner_policies.specs.declared.state.PlanState.{PlanState}
 use Rattle.planner_policies.specs.Loop.{RepeatsFrom}
-use Rattle.planner_policies.specs.Plan.{HasNoMiss, NeverMisses, Planning, is_missed_at, pending_at, pending_before}
+use Rattle.planner_policies.specs.Plan.{HasNoMiss, IsValid, NeverMisses, Planning, is_missed_at, pending_at, pending_before}
 use Rattle.planner_policies.proofs.Shared.{on-missed, on-pending}
 use Rattle.plan_check.specs.Certificate.{CertificateView, length_of}
 use Rattle.plan_check.specs.PlanKept.{IsTaken}
 use Rattle.admission_rules.specs.declared.Rules.{Rules}
 use Rattle.admission.specs.declared.verdict.Verdict.TheVariants.{Accepted}
-use Rattle.admission.specs.Certified.{IsCertificateOf, end_of}
+use Rattle.admission.specs.Certified.{IsCertificateFrom, IsCertificateOf, IsRepeated, end_of}
 use Rattle.admission.specs.Recurrence.{IsRecurrence}
 use Rattle.admission.specs.Verdict.{IsVerdictOnPlan, masks_of, plan_from}
-use Rattle.requirement_table.proofs.Shared.{set_of-same}
+use Rattle.requirement_table.proofs.Shared.{contains_slot-none, set_of-same}
 use Rattle.admission.proofs.Divided.{divided-along, divided-gap}
 use Rattle.admission.proofs.Listed.{later_plan, masks-length, on-masks}
 use Rattle.admission.proofs.Once.{repeat-never}
+use Rattle.admission.proofs.Onward.{rounds-alike}
 use Rattle.admission.proofs.Reduced.{settled-by}
 use Rattle.admission.proofs.Row.{PlanLaws, row, row-length, row-taken}
 
@@ -106,25 +107,28 @@ module _ (rules : Rules) (placed : List Placed) (cycle pending : ℕ) (left : pe
           divided = λ live. divided-along _ recurrence.period d (recurrence.least_common.common.divided i x within live) whole_periods;
         }
 
+    none-valid : IsValid placed 0 0
+    none-valid slot has = let none = contains_slot-none slot in absurd (cc)
+
     row-is : (certificate : CertificateView) → certificate.from ≡ 0 → certificate.pending ≡ 0 → certificate.first ≡ b → certificate.masks ≡ opened ++ planned
-        → row laws rules placed b d well some ≡ certificate
+        → row laws rules placed 0 0 b d well none-valid some ≡ certificate
     row-is certificate from pends first masks =
-        ap (λ (n : ℕ). record (row laws rules placed b d well some) { from = n }) (sym from)
-        ∙ ap (λ (n : ℕ). record (row laws rules placed b d well some) { from = certificate.from; pending = n }) (sym pends)
-        ∙ ap (λ (n : ℕ). record (row laws rules placed b d well some) { from = certificate.from; pending = certificate.pending; first = n }) (sym first)
+        ap (λ (n : ℕ). record (row laws rules placed 0 0 b d well none-valid some) { from = n }) (sym from)
+        ∙ ap (λ (n : ℕ). record (row laws rules placed 0 0 b d well none-valid some) { from = certificate.from; pending = n }) (sym pends)
+        ∙ ap (λ (n : ℕ). record (row laws rules placed 0 0 b d well none-valid some) { from = certificate.from; pending = certificate.pending; first = n }) (zero-add b ∙ sym first)
         ∙ ap (λ (list : List ℕ). record certificate { masks = list }) (sym (masks ∙ listed-whole))
 
     -- the certificate that is made of them
     module _ (certificate : CertificateView) (from : certificate.from ≡ 0) (pends : certificate.pending ≡ 0) (first : certificate.first ≡ b)
         (masks : certificate.masks ≡ opened ++ planned) where
-      same : row laws rules placed b d well some ≡ certificate
+      same : row laws rules placed 0 0 b d well none-valid some ≡ certificate
       same = row-is certificate from pends first masks
 
       taken-is : IsTaken placed rules.window certificate
-      taken-is = subst (λ (c : CertificateView). IsTaken placed rules.window c) same (row-taken laws rules placed b d well some repeats again never)
+      taken-is = subst (λ (c : CertificateView). IsTaken placed rules.window c) same (row-taken laws rules placed 0 0 b d well none-valid some (subst (λ n. All (RepeatsFrom n d) placed) (sym (zero-add b)) repeats) again never)
 
       length-is : length_of certificate ≡ d
-      length-is = ap length_of (sym same) ∙ row-length laws rules placed b d well some
+      length-is = ap length_of (sym same) ∙ row-length laws rules placed 0 0 b d well none-valid some
 
       end-is : end_of certificate ≡ b + d
       end-is = let all = length-is in omega arith
@@ -152,3 +156,70 @@ module _ (rules : Rules) (placed : List Placed) (cycle pending : ℕ) (left : pe
         let all : length masks ≡ b + d = ap length (is ∙ listed-whole) ∙ masks-length whole (b + d) in
         let more = some in
         omega arith
+
+-- the certificate of a plan from a state on
+module _ (laws : PlanLaws) (rules : Rules) (placed : List Placed) (cycle pending first : ℕ) (masks : List ℕ) (well : IsWellPlaced placed)
+    (valid : IsValid placed cycle pending) (made : IsRepeated rules placed (record { cycle = cycle; pending = pending }) first masks) where
+  abbrev going : Planning
+  going = plan_from rules placed cycle pending
+
+  again-at : IsRecurrence going first made.length
+  again-at = made.repeats.1
+
+  listed-there : masks ≡ masks_of going (again-at.number + made.length)
+  listed-there =
+      let at = again-at.at in
+      let same : first - cycle + made.length ≡ again-at.number + made.length = omega arith in
+      made.listed ∙ ap (masks_of going) same
+
+  pub from-after : cycle ≤ first
+  from-after = let at = again-at.at in omega arith
+
+  pub from-within : first < cycle + length masks
+  from-within =
+      let at = again-at.at in
+      let some = again-at.some_cycles in
+      let all : length masks ≡ again-at.number + made.length = ap length listed-there ∙ masks-length going (again-at.number + made.length) in
+      omega arith
+
+  rounds-there : All (RepeatsFrom (cycle + again-at.number) made.length) placed
+  rounds-there =
+      let some = again-at.some_cycles in
+      let gap : again-at.number + made.length - again-at.number ≡ made.length = omega arith in
+      subst (λ n. All (RepeatsFrom (cycle + again-at.number) n) placed) gap
+      (rounds-alike going again-at.period again-at.number (again-at.number + made.length) again-at.least_common.common (omega arith) again-at.alike)
+
+  never-there : NeverMisses going
+  never-there = repeat-never laws.never_missed going first made.length rules.horizon well again-at made.repeats.2 made.repeats.0
+
+  abbrev row-there : CertificateView
+  row-there = row laws rules placed cycle pending again-at.number made.length well valid again-at.some_cycles
+
+  module _ (certificate : CertificateView) (from_is : certificate.from ≡ cycle) (pending_is : certificate.pending ≡ pending) (first_is : certificate.first ≡ first)
+      (masks_are : certificate.masks ≡ masks) where
+    row-made : row-there ≡ certificate
+    row-made =
+        ap (λ (n : ℕ). record row-there { from = n }) (sym from_is)
+        ∙ ap (λ (n : ℕ). record row-there { from = certificate.from; pending = n }) (sym pending_is)
+        ∙ ap (λ (n : ℕ). record row-there { from = certificate.from; pending = certificate.pending; first = n }) (sym again-at.at ∙ sym first_is)
+        ∙ ap (λ (list : List ℕ). record certificate { masks = list }) (sym (masks_are ∙ listed-there))
+
+    pub taken-from : IsTaken placed rules.window certificate
+    taken-from =
+        subst (λ (c : CertificateView). IsTaken placed rules.window c) row-made
+        (row-taken laws rules placed cycle pending again-at.number made.length well valid again-at.some_cycles rounds-there again-at.alike.pending never-there)
+
+    pub certificate-from : IsCertificateFrom rules placed (record { cycle = cycle; pending = pending }) certificate
+    certificate-from =
+        let length_is : length_of certificate ≡ made.length = ap length_of (sym row-made)
+        ∙ row-length laws rules placed cycle pending again-at.number made.length well valid again-at.some_cycles in
+        let at = again-at.at in
+        let behind : again-at.number + made.length ≡ end_of certificate - cycle = omega arith in
+        record {
+          start = from_is;
+          before = pending_is;
+          listed = masks_are ∙ listed-there ∙ ap (masks_of going) behind;
+          repeats =
+              subst (λ n. IsVerdictOnPlan rules.horizon going (Accepted n (length_of certificate))) (sym first_is)
+              (subst (λ n. IsVerdictOnPlan rules.horizon going (Accepted first n)) (sym length_is) made.repeats);
+        }

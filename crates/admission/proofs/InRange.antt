@@ -1,18 +1,18 @@
 -- A certificate of a table is in the range of the checker, and its text in that of the reader.
-use Rattle.std.proofs.Common.{◌≡◌, ℕ, zero, suc, ◌+◌, ◌<◌, ◌≤◌, true, List, [], ◌∷◌, All, length, refl, ap, ◌∙◌, subst, sym, arith}
+use Rattle.std.proofs.Common.{◌≡◌, ℕ, zero, suc, ◌+◌, ◌-◌, ◌<◌, ◌≤◌, true, List, [], ◌∷◌, All, length, refl, ap, ◌∙◌, subst, sym, arith}
 use Rattle.std.proofs.lemmas.List.Elements.{All-append, All-cons, All-nil}
 use Rattle.profile.specs.Limits.{cycles_end, openings_end}
 use Rattle.requirement_table.specs.declared.entries.Placed.{Placed}
 use Rattle.requirement_table.specs.Slots.{contains_slot, most_slots}
 use Rattle.requirement_table.proofs.Shared.{contains_slot-none, set_of-below}
-use Rattle.planner_policies.specs.Plan.{Planning, mask_at, planned_at}
+use Rattle.planner_policies.specs.Plan.{IsValid, Planning, mask_at, planned_at}
 use Rattle.planner_policies.specs.declared.state.PlanState.{PlanState}
 use Rattle.plan_check.specs.Certificate.{CertificateView, length_of}
 use Rattle.plan_check.specs.PlanKept.{HasPending}
 use Rattle.plan_check.specs.PlanText.{IsPlanOf, mask_bound, plan_text}
 use Rattle.plan_check.specs.declared.plan_runs.Version.TheVariants.{Two}
 use Rattle.admission_rules.specs.declared.Rules.{Rules}
-use Rattle.admission.specs.Certified.{IsCertificateOf, end_of}
+use Rattle.admission.specs.Certified.{IsCertificateFrom, IsCertificateOf, end_of}
 use Rattle.admission.specs.Verdict.{IsRules, masks_of, plan_from}
 use Rattle.admission.proofs.Listed.{masks-length}
 
@@ -67,3 +67,20 @@ module _ (rules : Rules) (placed : List Placed) (opened : List ℕ) (state : Pla
           };
           text = refl;
         }
+
+-- the certificate from a state on
+module _ (rules : Rules) (placed : List Placed) (state : PlanState) (certificate : CertificateView) (made : IsCertificateFrom rules placed state certificate) where
+  pub pending-from : IsValid placed state.cycle state.pending → HasPending placed certificate.from (contains_slot certificate.pending)
+  pending-from valid =
+      subst (λ c. HasPending placed c (contains_slot certificate.pending)) (sym made.start)
+      (subst (λ n. HasPending placed state.cycle (contains_slot n)) (sym made.before) valid)
+
+  pub cycles-from : IsRules rules → state.cycle ≤ openings_end → certificate.from + length certificate.masks ≤ cycles_end
+  cycles-from ranges low =
+      let start = made.start in
+      let within = made.repeats.2 in
+      let at = made.repeats.1.at in
+      let near = ranges.near_horizon in
+      let all : length certificate.masks ≡ end_of certificate - state.cycle =
+      ap length made.listed ∙ masks-length (plan_from rules placed state.cycle state.pending) (end_of certificate - state.cycle) in
+      omega arith

@@ -11,11 +11,13 @@ mod Left
 mod Listed
 mod Multiples
 mod Once
+mod Onward
 mod Planned
 mod Reduced
 mod Repeats
 mod Row
 mod Same
+mod SameLeft
 mod States
 mod Places
 mod Stretched

@@ -1,24 +1,25 @@
--- A certificate that lists a plan from cycle 0 on up to the end of a repeat: its endless row of masks is the plan, and
--- keeps the table.
-use Rattle.std.proofs.Common.{◌≡◌, ℕ, zero, suc, ◌+◌, ◌-◌, ◌*◌, ◌/◌, ◌%◌, ◌<◌, ◌≤◌, max, Bool, true, false, not, ◌&&◌, ◌||◌, nat_eq, nat_le, nat_lt, Option, Some, None, IfSome, IsSome, List, All, Contains, get_or, refl, sym, ap, ◌∙◌, subst, ⊎_elim, zero-add, arith}
+-- A certificate that lists a plan from its first cycle on up to the end of a repeat: its endless row of masks is the
+-- plan, and keeps the table.
+use Rattle.std.proofs.Common.{◌≡◌, ℕ, zero, suc, ◌+◌, ◌-◌, ◌*◌, ◌/◌, ◌%◌, ◌<◌, ◌≤◌, Bool, true, false, not, ◌&&◌, ◌||◌, nat_eq, nat_le, nat_lt, Option, Some, None, List, All, get_or, refl, sym, ap, ◌∙◌, subst, ⊎_elim, arith}
 use Rattle.std.specs.Option.{option_map, option_map_or}
 use Rattle.std.proofs.Math.Nat.{mod-lt}
 use Rattle.std.proofs.lemmas.Bool.{cases_lt, cond-false, cond-true, eq-eqb, le-leb, lt-ltb}
 use Rattle.std.proofs.lemmas.Bool.Decides.{nat_tests}
-use Rattle.std.proofs.lemmas.List.Elements.{All-contains}
 use Rattle.std.proofs.lemmas.List.Folds.{list_any_none}
 use Rattle.std.proofs.lemmas.Nat.{div-add-mod'}
 use Rattle.requirement_table.specs.declared.entries.Placed.{Placed}
-use Rattle.requirement_table.specs.Flags.{IsFlaggedOnce, IsGoodCycle}
-use Rattle.requirement_table.specs.Instance.{Exists, Instance, IsLastCycle, MaySend, release_of}
+use Rattle.requirement_table.specs.Flags.{IsGoodCycle, waits}
 use Rattle.requirement_table.specs.Slots.{contains_slot, most_slots}
-use Rattle.requirement_table.specs.Table.{IsInRange, IsWellPlaced, held_before, instance_in, releases_in, width_in, worst_in}
-use Rattle.requirement_table.proofs.Shared.{contains_slot-none, instance_in-sound, sum_where-same}
+use Rattle.requirement_table.specs.Table.{IsWellPlaced, held_before, is_last_in, releases_in, width_in, worst_in}
+use Rattle.requirement_table.proofs.Shared.{sum_where-same}
 use Rattle.planner_policies.specs.Loop.{RepeatsFrom}
-use Rattle.planner_policies.specs.Plan.{HasNoMiss, IsValid, NeverMisses, Planning, flags_of as flags_planned, pending_at, pending_before, planned_at, planned_in}
-use Rattle.planner_policies.proofs.Shared.{pending-test, planned-fits, planned-sendable, state-planned, valid-along}
-use Rattle.plan_check.specs.Certificate.{CertificateView, flags_of, length_of, place_of}
-use Rattle.plan_check.specs.PlanKept.{IsOwed, IsOwedIn, IsTaken, NoSlot, differ, goes_round, is_bad, is_held, is_open}
+use Rattle.planner_policies.specs.Plan.{HasNoMiss, IsValid, NeverMisses, Planning, flags_of as flags_planned, pending_at, pending_before, planned_at}
+use Rattle.planner_policies.proofs.Shared.{pending-test, planned-fits}
+use Rattle.plan_check.specs.declared.breach.Breach.{Breach}
+use Rattle.plan_check.specs.declared.breach.Breach.TheVariants.{BadLoop, NotReleased, TooWide, Missed, NotClosed}
+use Rattle.plan_check.specs.Breaches.{IsBreach, IsGoodAt, IsLeastSlot, is_flagged, is_missed, is_unreleased, is_waiting, width_at}
+use Rattle.plan_check.specs.Certificate.{CertificateView, IsCertificate, flags_of, length_of, place_of}
+use Rattle.plan_check.specs.PlanKept.{HasPending, IsTaken, NoSlot, differ, goes_round, is_bad, is_held, is_open}
 use Rattle.admission_rules.specs.declared.Rules.{Rules}
 use Rattle.admission.specs.Verdict.{masks_of, plan_from}
 use Rattle.admission.proofs.Cycles.{agree-set}
@@ -35,19 +36,19 @@ pub record PlanLaws : Type 0 where
       → held_before plan.placed (flags_planned plan) plan.from (contains_slot plan.pending) n slot ≡ pending_before plan n slot
   pub good : (plan : Planning) (n m : ℕ) → HasNoMiss plan n → m < n
       → IsGoodCycle plan.placed (flags_planned plan) plan.from (contains_slot plan.pending) m
-  pub once : (placed : List Placed) (flags : ℕ → ℕ → Bool) (from n : ℕ) (held : ℕ → Bool) → IsWellPlaced placed
-      → ((m : ℕ) → m < n → IsGoodCycle placed flags from held m)
-      → (p : Placed) (k last : ℕ) → Contains placed p → Exists p (release_of p k) → from ≤ release_of p k
-      → IsLastCycle p k last → last < from + n → IsFlaggedOnce flags p.entry.slot (release_of p k) last
+  pub taken : (placed : List Placed) (window : ℕ) (certificate : CertificateView) → IsWellPlaced placed
+      → HasPending placed certificate.from (contains_slot certificate.pending)
+      → IsCertificate certificate.from certificate.first certificate.masks
+      → ((breach : Breach) → ¬ IsBreach placed window certificate breach) → IsTaken placed window certificate
 
 -- what is held by flags that agree for the slot
 held-same : (placed : List Placed) (flags others : ℕ → ℕ → Bool) (from : ℕ) (held : ℕ → Bool) (n slot : ℕ)
-    → ((c : ℕ) → flags c slot ≡ others c slot) → held_before placed flags from held n slot ≡ held_before placed others from held n slot
+    → ((m : ℕ) → flags (from + m) slot ≡ others (from + m) slot) → held_before placed flags from held n slot ≡ held_before placed others from held n slot
 unfolding held_before
 held-same placed flags others from held zero slot same = refl
 held-same placed flags others from held (suc n) slot same =
     ap (λ b. (b || releases_in placed (from + n) slot) && not (flags (from + n) slot)) (held-same placed flags others from held n slot same)
-    ∙ ap (λ b. (held_before placed others from held n slot || releases_in placed (from + n) slot) && not b) (same (from + n))
+    ∙ ap (λ b. (held_before placed others from held n slot || releases_in placed (from + n) slot) && not b) (same n)
 
 -- an entry that repeats goes round
 round-by : (b d : ℕ) (p : Placed) (end : Option ℕ) → p.end ≡ end
@@ -73,40 +74,35 @@ not-differ false false same = refl
 not-differ true false same = absurd (cc)
 not-differ false true same = absurd (cc)
 
-instance-of : (o : Option Instance) (P : Instance → Type 0) → IsSome o → IfSome o P → (i : Instance) × (o ≡ Some i) × P i
-instance-of None P some holds = absurd (cc)
-instance-of (Some i) P some holds = (i, refl, holds)
+none-but : (a b : Bool) → (a ≡ true → b ≡ true) → (a && not b) ≡ false
+none-but true b holds = ap not (holds refl)
+none-but false b holds = refl
 
-once-same : (flags others : ℕ → ℕ → Bool) (slot first last : ℕ) → ((c : ℕ) → others c slot ≡ flags c slot)
-    → IsFlaggedOnce flags slot first last → IsFlaggedOnce others slot first last
-once-same flags others slot first last same once = record {
-  cycle = once.cycle;
-  after = once.after;
-  before = once.before;
-  flagged = same once.cycle ∙ once.flagged;
-  alone = λ c behind before flagged. once.alone c behind before (sym (same c) ∙ flagged);
-}
+none-late : (a b c : Bool) → (a ≡ true → b ≡ true → c ≡ true) → (a && b && not c) ≡ false
+none-late true true c holds = ap not (holds refl refl)
+none-late true false c holds = refl
+none-late false b c holds = refl
 
-module _ (laws : PlanLaws) (rules : Rules) (placed : List Placed) (b d : ℕ) (well : IsWellPlaced placed) (some : 0 < d) where
+module _ (laws : PlanLaws) (rules : Rules) (placed : List Placed) (from pending b d : ℕ) (well : IsWellPlaced placed) (valid : IsValid placed from pending)
+    (some : 0 < d) where
   abbrev plan : Planning
-  plan = plan_from rules placed 0 0
+  plan = plan_from rules placed from pending
 
   abbrev pub row : CertificateView
-  row = record { from = 0; pending = 0; first = b; masks = masks_of (plan_from rules placed 0 0) (b + d) }
+  row = record { from = from; pending = pending; first = from + b; masks = masks_of (plan_from rules placed from pending) (b + d) }
 
   pub row-length : length_of row ≡ d
   row-length = let all = masks-length plan (b + d) in omega arith
 
-  module _ (repeats : All (RepeatsFrom b d) placed) (again : pending_at (plan_from rules placed 0 0) b ≡ pending_at (plan_from rules placed 0 0) (b + d))
-      (never : NeverMisses (plan_from rules placed 0 0)) where
+  module _ (repeats : All (RepeatsFrom (from + b) d) placed)
+      (again : pending_at (plan_from rules placed from pending) b ≡ pending_at (plan_from rules placed from pending) (b + d))
+      (never : NeverMisses (plan_from rules placed from pending)) where
     -- The row is the plan
 
     plan-again : (k slot : ℕ) → slot < most_slots → planned_at plan (b + d + k) slot ≡ planned_at plan (b + k) slot
     plan-again k slot known =
-        let start : b ≡ 0 + b = omega arith in
         let gap : d ≡ b + d - b = omega arith in
-        laws.round plan b (b + d) k slot well (omega arith)
-        (subst (λ n. All (RepeatsFrom n (b + d - b)) placed) start (subst (λ n. All (RepeatsFrom b n) placed) gap repeats)) again known
+        laws.round plan b (b + d) k slot well (omega arith) (subst (λ n. All (RepeatsFrom (from + b) n) placed) gap repeats) again known
 
     plan-round : (q k slot : ℕ) → slot < most_slots → planned_at plan (b + (q * d + k)) slot ≡ planned_at plan (b + k) slot
     plan-round zero k slot known = let at : b + (0 * d + k) ≡ b + k = grind arith in ap (λ n. planned_at plan n slot) at
@@ -114,60 +110,66 @@ module _ (laws : PlanLaws) (rules : Rules) (placed : List Placed) (b d : ℕ) (w
         let at : b + (suc q * d + k) ≡ b + d + (q * d + k) = grind arith in
         ap (λ n. planned_at plan n slot) at ∙ plan-again (q * d + k) slot known ∙ plan-round q k slot known
 
-    place-before : (c : ℕ) → c < b → place_of row c ≡ c
-    place-before c before =
-        let here = cond-true (nat_lt c b) (c - 0) (b - 0 + (c - b) % length_of row) (lt-ltb c b before) in
+    place-before : (n : ℕ) → n < b → place_of row (from + n) ≡ n
+    place-before n before =
+        let here = cond-true (nat_lt (from + n) (from + b)) (from + n - from) (from + b - from + (from + n - (from + b)) % length_of row)
+        (lt-ltb (from + n) (from + b) (omega arith)) in
         omega arith
 
-    place-after : (c : ℕ) → b ≤ c → place_of row c ≡ b + (c - b) % d
-    place-after c after =
-        let test : nat_lt c b ≡ false = grind (arith, nat_tests) in
-        let here = cond-false (nat_lt c b) (c - 0) (b - 0 + (c - b) % length_of row) test in
-        let same : (c - b) % length_of row ≡ (c - b) % d = ap (λ n. (c - b) % n) row-length in
+    place-after : (n : ℕ) → b ≤ n → place_of row (from + n) ≡ b + (n - b) % d
+    place-after n after =
+        let test : nat_lt (from + n) (from + b) ≡ false = grind (arith, nat_tests) in
+        let here = cond-false (nat_lt (from + n) (from + b)) (from + n - from) (from + b - from + (from + n - (from + b)) % length_of row) test in
+        let gap : from + n - (from + b) ≡ n - b = omega arith in
+        let same : (from + n - (from + b)) % length_of row ≡ (n - b) % d = ap (λ k. k % length_of row) gap ∙ ap (λ k. (n - b) % k) row-length in
         omega arith
 
-    listed : (c place slot : ℕ) → place_of row c ≡ place → place < b + d → slot < most_slots → flags_of row c slot ≡ planned_at plan place slot
+    listed : (n place slot : ℕ) → place_of row (from + n) ≡ place → place < b + d → slot < most_slots
+        → flags_of row (from + n) slot ≡ planned_at plan place slot
     unfolding flags_of
-    listed c place slot is within known =
-        ap (λ n. contains_slot (get_or (masks_of plan (b + d)) n 0) slot) is
+    listed n place slot is within known =
+        ap (λ k. contains_slot (get_or (masks_of plan (b + d)) k 0) slot) is
         ∙ ap (λ mask. contains_slot mask slot) (masks-at plan (b + d) place within)
         ∙ agree-set (planned_at plan place) slot known
 
-    pub row-flags : (c slot : ℕ) → slot < most_slots → flags_of row c slot ≡ planned_at plan c slot
-    row-flags c slot known =
+    pub row-flags : (n slot : ℕ) → slot < most_slots → flags_of row (from + n) slot ≡ planned_at plan n slot
+    row-flags n slot known =
         ⊎_elim
-        (λ (before : c < b). listed c c slot (place-before c before) (omega arith) known)
-        (λ (after : b ≤ c).
-        let rest = mod-lt (c - b) some in
-        let parts = div-add-mod' (c - b) d in
-        let at : b + ((c - b) / d * d + (c - b) % d) ≡ c = omega arith in
-        listed c (b + (c - b) % d) slot (place-after c after) (omega arith) known
-        ∙ sym (plan-round ((c - b) / d) ((c - b) % d) slot known)
-        ∙ ap (λ n. planned_at plan n slot) at)
-        (cases_lt c b)
+        (λ (before : n < b). listed n n slot (place-before n before) (omega arith) known)
+        (λ (after : b ≤ n).
+        let rest = mod-lt (n - b) some in
+        let parts = div-add-mod' (n - b) d in
+        let at : b + ((n - b) / d * d + (n - b) % d) ≡ n = omega arith in
+        listed n (b + (n - b) % d) slot (place-after n after) (omega arith) known
+        ∙ sym (plan-round ((n - b) / d) ((n - b) % d) slot known)
+        ∙ ap (λ k. planned_at plan k slot) at)
+        (cases_lt n b)
 
-    row-planned : (c slot : ℕ) → slot < most_slots → flags_of row c slot ≡ flags_planned plan c slot
-    row-planned c slot known = let at : c ≡ c - 0 = omega arith in row-flags c slot known ∙ ap (λ n. planned_at plan n slot) at
+    row-planned : (n slot : ℕ) → slot < most_slots → flags_of row (from + n) slot ≡ flags_planned plan (from + n) slot
+    row-planned n slot known = let at : n ≡ from + n - from = omega arith in row-flags n slot known ∙ ap (λ k. planned_at plan k slot) at
+
+    row-before : (n slot : ℕ) → slot < most_slots
+        → is_held placed row n slot ≡ held_before placed (flags_planned plan) from (contains_slot pending) n slot
+    row-before n slot known = held-same placed (flags_of row) (flags_planned plan) from (contains_slot pending) n slot (λ m. row-planned m slot known)
 
     row-held : (n slot : ℕ) → slot < most_slots → is_held placed row n slot ≡ pending_before plan n slot
-    row-held n slot known =
-        held-same placed (flags_of row) (flags_planned plan) 0 (contains_slot 0) n slot (λ c. row-planned c slot known) ∙ laws.held plan n slot
+    row-held n slot known = row-before n slot known ∙ laws.held plan n slot
 
     -- The loop
 
     rounds : NoSlot (is_bad placed row)
     rounds slot known =
-        list_any_none (λ p. nat_eq p.entry.slot slot && not (goes_round b (length_of row) p)) placed
+        list_any_none (λ p. nat_eq p.entry.slot slot && not (goes_round (from + b) (length_of row) p)) placed
         (λ i x within.
         let p : Placed = get_or placed i x in
-        not-bad (nat_eq p.entry.slot slot) (goes_round b (length_of row) p)
-        (ap (λ n. goes_round b n p) row-length ∙ goes_round-repeats b d p (repeats i x within)))
+        not-bad (nat_eq p.entry.slot slot) (goes_round (from + b) (length_of row) p)
+        (ap (λ n. goes_round (from + b) n p) row-length ∙ goes_round-repeats (from + b) d p (repeats i x within)))
 
     closed : NoSlot (is_open placed row)
     closed slot known =
-        let before : b - 0 ≡ b = omega arith in
-        let behind : b - 0 + length_of row ≡ b + d = let all = row-length in omega arith in
-        not-differ (is_held placed row (b - 0) slot) (is_held placed row (b - 0 + length_of row) slot)
+        let before : from + b - from ≡ b = omega arith in
+        let behind : from + b - from + length_of row ≡ b + d = let all = row-length in omega arith in
+        not-differ (is_held placed row (from + b - from) slot) (is_held placed row (from + b - from + length_of row) slot)
         (ap (λ n. is_held placed row n slot) before
         ∙ row-held b slot known
         ∙ sym (pending-test plan b slot known)
@@ -176,62 +178,46 @@ module _ (laws : PlanLaws) (rules : Rules) (placed : List Placed) (b d : ℕ) (w
         ∙ sym (row-held (b + d) slot known)
         ∙ ap (λ n. is_held placed row n slot) (sym behind))
 
-    -- The table is kept
+    -- The cycles
 
-    good-ever : (n m : ℕ) → m < n → IsGoodCycle placed (flags_planned plan) 0 (contains_slot 0) m
-    good-ever n m below = laws.good plan n m (λ c slot _ known. never c slot known) below
+    good-planned : (n : ℕ) → IsGoodCycle placed (flags_planned plan) from (contains_slot pending) n
+    good-planned n = laws.good plan (suc n) n (λ m slot _ known. never m slot known) (omega arith)
 
-    each : (p : Placed) (k last : ℕ) → IsOwed placed 0 (contains_slot 0) p k → IsLastCycle p k last
-        → IsFlaggedOnce (flags_of row) p.entry.slot (max 0 (release_of p k)) last
-    each p k last owed is_last =
-        let range = All-contains IsInRange placed p well.in_range owed.stands in
-        let start : release_of p k ≡ max 0 (release_of p k) = omega arith in
-        once-same (flags_planned plan) (flags_of row) p.entry.slot (max 0 (release_of p k)) last (λ c. row-planned c p.entry.slot range.entry.slot)
-        (subst (λ n. IsFlaggedOnce (flags_planned plan) p.entry.slot n last) start
-        (laws.once placed (flags_planned plan) 0 (suc last) (contains_slot 0) well (good-ever (suc last)) p k last owed.stands owed.exists (omega arith) is_last
-        (omega arith)))
+    waits-same : (n slot : ℕ) → slot < most_slots
+        → is_waiting placed row n slot ≡ waits placed (flags_planned plan) from (contains_slot pending) n slot
+    waits-same n slot known = ap (λ held. held || releases_in placed (from + n) slot) (row-before n slot known)
 
-    valid-at : (c : ℕ) → IsValid placed (0 + c) (pending_at plan c)
-    valid-at c =
-        valid-along plan c well (λ slot held. let none = contains_slot-none slot in absurd (cc)) (λ m slot below known. never m slot known)
-
-    only : (c slot : ℕ) → 0 ≤ c → slot < most_slots → flags_of row c slot ≡ true → IsOwedIn placed 0 (contains_slot 0) c slot
-    only c slot after known flagged =
-        let planned : planned_in plan (0 + c) (contains_slot (pending_at plan c)) slot ≡ true =
-        sym (agree-set (planned_in plan (0 + c) (contains_slot (pending_at plan c))) slot known)
-        ∙ ap (λ mask. contains_slot mask slot) (state-planned plan c)
-        ∙ agree-set (planned_at plan c) slot known
-        ∙ sym (row-flags c slot known)
-        ∙ flagged in
-        let has : IsSome (instance_in placed slot c) =
-        subst (λ n. IsSome (instance_in placed slot n)) (zero-add c) (planned-sendable plan (0 + c) (pending_at plan c) slot well (valid-at c) planned) in
-        let found = instance-of (instance_in placed slot c)
-        (λ i. Contains placed i.placed × (i.placed.entry.slot ≡ slot) × MaySend i.placed i.number c) has (instance_in-sound placed slot c) in
-        let i : Instance = found.0 in
-        let sends = found.2.2 in
-        let in_time = sends.in_time in
-        record {
-          entry = i.placed;
-          number = i.number;
-          owed = record { stands = found.2.0; exists = sends.exists; in_time = omega arith; waiting = λ before. absurd (omega arith) };
-          of_slot = found.2.1;
-          sends = sends;
-        }
-
-    fits : (c : ℕ) → 0 ≤ c → width_in placed c (flags_of row c) ≤ rules.window
-    fits c after =
-        let same : width_in placed c (flags_of row c) ≡ width_in placed c (planned_at plan c) =
-        sum_where-same most_slots (flags_of row c) (planned_at plan c) (worst_in placed c) (λ slot known. row-flags c slot known) in
-        let planned = subst (λ n. width_in placed n (planned_in plan n (pending_before plan c)) ≤ rules.window) (zero-add c)
-        (planned-fits plan (0 + c) (pending_before plan c)) in
-        let start : planned_in plan (0 + c) (pending_before plan c) ≡ planned_in plan c (pending_before plan c)
-        = ap (λ n. planned_in plan n (pending_before plan c)) (zero-add c) in
-        let here : width_in placed c (planned_at plan c) ≡ width_in placed c (planned_in plan c (pending_before plan c))
-        = ap (λ (p : ℕ → Bool). width_in placed c p) start in
+    fits : (n : ℕ) → width_at placed row n ≤ rules.window
+    fits n =
+        let same : width_at placed row n ≡ width_in placed (from + n) (planned_at plan n) =
+        sum_where-same most_slots (is_flagged row n) (planned_at plan n) (worst_in placed (from + n)) (λ slot known. row-flags n slot known) in
+        let planned = planned-fits plan (from + n) (pending_before plan n) in
         omega arith
 
-    pub row-taken : IsTaken placed rules.window row
-    row-taken = record {
-      loop = record { rounds = rounds; closed = closed };
-      kept = record { each = each; only = only; fits = fits };
+    good : (n : ℕ) → IsGoodAt placed rules.window row n
+    good n = record {
+      released = λ slot known.
+          none-but (is_flagged row n slot) (is_waiting placed row n slot)
+          (λ flagged. waits-same n slot known ∙ (good-planned n).holding slot known (sym (row-planned n slot known) ∙ flagged));
+      fits = fits n;
+      in_time = λ slot known.
+          none-late (is_waiting placed row n slot) (is_last_in placed (from + n) slot) (is_flagged row n slot)
+          (λ waiting last. row-planned n slot known ∙ (good-planned n).in_time slot known (sym (waits-same n slot known) ∙ waiting) last);
     }
+
+    -- So the checker finds nothing, and the table is kept
+
+    passed : (test : ℕ → Bool) (slot : ℕ) → NoSlot test → IsLeastSlot test slot → ⊥
+    passed test slot none found = let both : true ≡ false = sym found.passes ∙ none slot found.known in cc
+
+    unbroken : (breach : Breach) → ¬ IsBreach placed rules.window row breach
+    unbroken (BadLoop slot) is = passed (is_bad placed row) slot rounds is
+    unbroken (NotReleased cycle slot) is = passed (is_unreleased placed row is.number) slot (good is.number).released is.slot_is
+    unbroken (TooWide cycle sum) is = let wide = is.wide in let all = is.sum_is in let within = fits is.number in omega arith
+    unbroken (Missed slot release cycle) is = passed (is_missed placed row is.number) slot (good is.number).in_time is.slot_is
+    unbroken (NotClosed slot) is = passed (is_open placed row) slot closed is.slot_is
+
+    pub row-taken : IsTaken placed rules.window row
+    row-taken =
+        let all = masks-length plan (b + d) in
+        laws.taken placed rules.window row well valid (record { after = omega arith; within = omega arith }) unbroken

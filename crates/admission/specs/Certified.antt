@@ -28,6 +28,24 @@ pub record IsCertificateOf (rules : Rules) (placed : List Placed) (opened : List
   pub repeats : IsVerdictOnPlan rules.horizon (plan_from rules placed state.cycle state.pending)
       (Accepted certificate.first (length_of certificate))
 
+-- the plan that goes on from the state was planned up to the end of its first repeat, which is found within the horizon
+-- and begins in the cycle `first`
+pub record IsRepeated (rules : Rules) (placed : List Placed) (state : PlanState) (first : ℕ) (masks : List ℕ) : Type 0 where
+  pub length : ℕ
+  pub listed : masks ≡ masks_of (plan_from rules placed state.cycle state.pending) (first - state.cycle + length)
+  pub repeats : IsVerdictOnPlan rules.horizon (plan_from rules placed state.cycle state.pending) (Accepted first length)
+
+-- the certificate begins at the state, with the slots that are pending before it. It lists the plan that goes on from
+-- there, and the part that is repeated is the recurrence of that plan, which is found within the horizon
+pub record IsCertificateFrom (rules : Rules) (placed : List Placed) (state : PlanState) (certificate : CertificateView)
+    : Type 0 where
+  pub start : certificate.from ≡ state.cycle
+  pub before : certificate.pending ≡ state.pending
+  pub listed : certificate.masks
+      ≡ masks_of (plan_from rules placed state.cycle state.pending) (end_of certificate - state.cycle)
+  pub repeats : IsVerdictOnPlan rules.horizon (plan_from rules placed state.cycle state.pending)
+      (Accepted certificate.first (length_of certificate))
+
 -- there is no certificate exactly where the plan that goes on has a first miss within the horizon, or else no
 -- recurrence within it; want of memory says nothing
 abbrev pub IsFaultOnPlan : ℕ → Planning → CertifyFault → Type 0

@@ -1,4 +1,5 @@
 pub mod Recurrence
+pub mod Safe
 pub mod Verdict
 pub mod Course
 pub mod Period

@@ -3,9 +3,10 @@
 ghost use Rattle.std.specs.Prelude.{◌≡◌, ◌+◌, ◌<◌, ◌≤◌, ◌++◌, IfErr, IfOk};
 ghost use Rattle.profile.specs.Limits.{greatest_horizon, openings_end};
 ghost use Rattle.requirement_table.specs.Table.{IsWellPlaced};
-ghost use Rattle.planner_policies.specs.Plan.{HasNoMiss, pending_at, planning_of};
+ghost use Rattle.planner_policies.specs.Plan.{HasNoMiss, IsValid, pending_at, planning_of};
 ghost use Rattle.plan_check.specs.PlanKept.{IsTaken};
-ghost use Rattle.admission.specs.Certified.{IsCertificateOf, IsFaultOnPlan, IsMissBehind, end_of};
+ghost use Rattle.admission.specs.Certified.{IsCertificateFrom, IsCertificateOf, IsFaultOnPlan, IsMissBehind};
+ghost use Rattle.admission.specs.Certified.{IsRepeated, end_of};
 ghost use Rattle.admission.specs.Verdict.{IsRules, masks_of, plan_from};
 
 use crate::certify_fault::CertifyFault;
@@ -13,10 +14,10 @@ use crate::deciding::{miss, plan_cycles, walk_over};
 use crate::walk::PlanWalk;
 use admission_rules::Rules;
 use plan_check::Certificate;
+use plan_check::laws::taken_without_breach;
 use planner_policies::laws::{keeping, loops, valid_states};
 use planner_policies::{Miss, PlanState};
 use recurrence_check::{Repeat, WalkEnd, lasso_keyed};
-use requirement_table::laws::flagged_once;
 use requirement_table::{Mask, Placed};
 use std::alloc::{AllocError, Global};
 
@@ -55,13 +56,67 @@ pub fn certify(
     keeping();
     loops();
     valid_states();
-    flagged_once();
+    taken_without_breach();
+    let (first, planned) = repeated(alloc, rules, placed, state)?;
+    let masks = joined(alloc, opened, planned.as_slice())?;
+    Ok(Certificate::new(0, Mask::empty(), first, masks))
+}
+
+/// The certificate of a table from a state on: the plan from its cycle on with its pending slots, up to the end of the
+/// first repeat. It asks for no masks of cycles that were opened before.
+///
+/// The state is one that can be planned from, and its cycle is at most 2^41. The rules have 1 to 30 nodes, 40 or 96
+/// slots, a window of 55 to 16,383 bit times and a horizon of 1 to 100,000 cycles. It takes time for about twice the
+/// cycles that are walked and the instances that are pending in them, and memory for their states and masks.
+///
+/// # Errors
+///
+/// `Miss` exactly where an instance would miss its deadline in a cycle below the state's cycle + horizon. `NoRepeat`
+/// exactly where none would and the plan has no repeat at or below that. `Memory` says nothing of the table.
+pub fn certify_from(
+    alloc: Global,
+    rules: &Rules,
+    placed: &[Placed],
+    state: &PlanState,
+) -> Result<Certificate, CertifyFault>
+    requires rules { IsRules rules.now }
+    requires well_placed { IsWellPlaced placed.now }
+    requires valid { IsValid placed.now state.now.cycle state.now.pending }
+    requires next { state.now.cycle ≤ openings_end }
+    ensures certificate { IfOk result (IsCertificateFrom rules.now placed.now state.now) }
+    ensures taken { IfOk result (IsTaken placed.now rules.now.window) }
+    ensures fault { IfErr result
+        (IsFaultOnPlan rules.now.horizon (plan_from rules.now placed.now state.now.cycle state.now.pending)) }
+{
+    keeping();
+    loops();
+    taken_without_breach();
+    let (first, masks) = repeated(alloc, rules, placed, state)?;
+    Ok(Certificate::new(state.cycle, state.pending, first, masks))
+}
+
+/// The plan from a state on, up to the end of its first repeat: the cycle in which the part begins that is repeated,
+/// and the masks of all cycles.
+fn repeated(
+    alloc: Global,
+    rules: &Rules,
+    placed: &[Placed],
+    state: &PlanState,
+) -> Result<(u64, Vec<Mask>), CertifyFault>
+    requires rules { IsRules rules.now }
+    requires well_placed { IsWellPlaced placed.now }
+    requires valid { IsValid placed.now state.now.cycle state.now.pending }
+    requires next { state.now.cycle ≤ openings_end }
+    ensures planned { IfOk result (λ r. IsRepeated rules.now placed.now state.now r.0 r.1.items) }
+    ensures fault { IfErr result
+        (IsFaultOnPlan rules.now.horizon (plan_from rules.now placed.now state.now.cycle state.now.pending)) }
+{
+    loops();
     let walk = walk_over(alloc, rules, placed, state)?;
     match lasso_keyed(alloc, &walk, rules.horizon) {
         Ok(Repeat { first, length }) => {
             let (planned, _) = plan_cycles(alloc, &walk, first + length)?;
-            let masks = joined(alloc, opened, planned.as_slice())?;
-            Ok(Certificate::new(0, Mask::empty(), state.cycle + first, masks))
+            Ok((state.cycle + first, planned))
         }
         Err(WalkEnd::Broken { at }) => {
             let Miss {

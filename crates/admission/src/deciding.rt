@@ -93,7 +93,7 @@ fn refusal(alloc: Global, verdict: Verdict) -> Decision
 }
 
 /// Decides of the list that a change makes.
-fn decide_list(
+pub fn decide_list(
     alloc: Global,
     rules: &Rules,
     list: Vec<Placed>,

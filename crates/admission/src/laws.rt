@@ -8,16 +8,20 @@ ghost use Rattle.requirement_table.specs.Table.{IsWellPlaced};
 ghost use Rattle.change_protocol.specs.declared.operations.Change.{Change};
 ghost use Rattle.change_protocol.specs.Applied.{applied};
 ghost use Rattle.change_protocol.specs.Operations.{HasTypes};
+ghost use Rattle.change_protocol.specs.Pruned.{pruned};
 ghost use Rattle.planner_policies.specs.Plan.{HasNoMiss, IsValid, NeverMisses, Planning, mask_at, pending_at};
 ghost use Rattle.planner_policies.specs.declared.state.PlanState.{PlanState};
 ghost use Rattle.plan_check.specs.Certificate.{CertificateView};
 ghost use Rattle.plan_check.specs.PlanKept.{HasPending};
 ghost use Rattle.plan_check.specs.PlanText.{IsPlanOf, plan_text};
 ghost use Rattle.admission_rules.specs.declared.Rules.{Rules};
-ghost use Rattle.admission.specs.Certified.{IsCertificateOf, end_of};
+ghost use Rattle.admission.specs.Certified.{IsCertificateFrom, IsCertificateOf, end_of};
 ghost use Rattle.admission.specs.declared.verdict.Verdict.{Verdict};
 ghost use Rattle.admission.specs.Recurrence.{IsRecurrence};
-ghost use Rattle.admission.specs.Verdict.{IsInTime, IsRules, IsTakenWhereDue, IsVerdict, masks_of, plan_from};
+ghost use Rattle.admission.specs.Safe.{HasRepeat, IsSafeWithin};
+ghost use Rattle.admission.specs.Verdict.{IsInTime, IsRules, IsTakenWhereDue, IsVerdict, IsVerdictOnPlan};
+ghost use Rattle.admission.specs.Verdict.{masks_of, plan_from, trail_of};
+ghost use Rattle.admission.specs.declared.verdict.Verdict.TheVariants.{Accepted};
 
 use planner_policies::laws::{loops, valid_states};
 
@@ -69,7 +73,8 @@ pub fn taken_where_due()
 /// The certificate of a table, which is the plan from cycle 0 on, is in the range of the checker. It has a mask for each
 /// cycle, of slots that a set has room for. Nothing is pending before it, and its cycles are below the end of cycle
 /// numbers. Where at most 100,000 cycles were opened, its text is that of a plan in the ranges of the reader too. So
-/// reading gives it back, and it is never refused for its form.
+/// reading gives it back, and it is never refused for its form. The certificate from a state on is in the range of the
+/// checker too: each slot that is pending before it has an instance, as the state has, and its cycles are below that end.
 pub fn certificates_in_range()
     ensures count { (plan : Planning) (n : ℕ) → length (masks_of plan n) ≡ n }
     ensures masks { (plan : Planning) (n : ℕ) → All (λ mask. mask < 2 ^ most_slots) (masks_of plan n) }
@@ -86,4 +91,53 @@ pub fn certificates_in_range()
         → IsCertificateOf rules placed opened state certificate
         → certificate.masks ≡ masks_of (plan_from rules placed 0 0) (end_of certificate)
         → IsPlanOf (plan_text certificate) certificate }
+    ensures pending_from { (rules : Rules) (placed : List Placed) (state : PlanState) (certificate : CertificateView)
+        → IsCertificateFrom rules placed state certificate → IsValid placed state.cycle state.pending
+        → HasPending placed certificate.from (contains_slot certificate.pending) }
+    ensures cycles_from { (rules : Rules) (placed : List Placed) (state : PlanState) (certificate : CertificateView)
+        → IsCertificateFrom rules placed state certificate → IsRules rules → state.cycle ≤ openings_end
+        → certificate.from + length certificate.masks ≤ cycles_end }
 {}
+
+/// A list that is pruned by a cycle has the verdict of the whole list on each change that is planned from that cycle or
+/// a later one.
+pub fn pruned_lists()
+    ensures verdict { (rules : Rules) (c from pending next : ℕ) (placed : List Placed) (change : Change)
+        (verdict : Verdict) → c ≤ from → IsWellPlaced placed → rules.slots ≤ most_slots → All HasTypes change.ops
+        → IsVerdict rules (pruned c placed) pending from next change verdict
+        → IsVerdict rules placed pending from next change verdict }
+    ensures trail { (rules : Rules) (c from pending next : ℕ) (placed : List Placed) (change : Change)
+        (verdict : Verdict) → c ≤ from → IsWellPlaced placed → rules.slots ≤ most_slots → All HasTypes change.ops
+        → IsVerdict rules (pruned c placed) pending from next change verdict
+        → trail_of (plan_from rules (applied (pruned c placed) change) from pending) verdict
+        ≡ trail_of (plan_from rules (applied placed change) from pending) verdict }
+    ensures well_placed { (c : ℕ) (placed : List Placed) → IsWellPlaced placed → IsWellPlaced (pruned c placed) }
+    ensures due { (rules : Rules) (c from pending next : ℕ) (placed : List Placed) (change : Change)
+        (verdict : Verdict) → c ≤ from → IsWellPlaced placed → rules.slots ≤ most_slots → All HasTypes change.ops
+        → (IsInTime rules (pruned c placed) next change
+        → IsTakenWhereDue rules (plan_from rules (applied (pruned c placed) change) from pending) verdict)
+        → IsInTime rules placed next change
+        → IsTakenWhereDue rules (plan_from rules (applied placed change) from pending) verdict }
+{}
+
+/// What an accepted change makes is safe within the horizon, and stays so: at each later cycle that is opened, with the
+/// slots that the plan leaves pending, and where the list is pruned by that cycle or an earlier one. A pruned list has
+/// the plan of the whole one.
+pub fn safe_states()
+    ensures found { (horizon : ℕ) (plan : Planning) (first length : ℕ)
+        → IsVerdictOnPlan horizon plan (Accepted first length) → HasRepeat plan horizon }
+    ensures later { (rules : Rules) (placed : List Placed) (from pending n : ℕ) → from + n ≤ openings_end
+        → IsSafeWithin rules placed from pending
+        → IsSafeWithin rules placed (from + n) (pending_at (plan_from rules placed from pending) n) }
+    ensures pruned { (rules : Rules) (placed : List Placed) (c from pending : ℕ) → c ≤ from
+        → IsSafeWithin rules placed from pending → IsSafeWithin rules (pruned c placed) from pending }
+    ensures pending { (rules : Rules) (placed : List Placed) (c from pending n : ℕ) → c ≤ from → IsWellPlaced placed
+        → pending_at (plan_from rules (pruned c placed) from pending) n
+        ≡ pending_at (plan_from rules placed from pending) n }
+    ensures planned { (rules : Rules) (placed : List Placed) (c from pending n : ℕ) → c ≤ from → IsWellPlaced placed
+        → masks_of (plan_from rules (pruned c placed) from pending) n
+        ≡ masks_of (plan_from rules placed from pending) n }
+{
+    loops();
+    valid_states();
+}

@@ -11,12 +11,14 @@ mod decision;
 mod entries;
 pub mod laws;
 mod periods;
+mod safety;
 mod verdict;
 mod walk;
 
 pub use admission_rules::Rules;
 pub use certify_fault::CertifyFault;
-pub use certifying::certify;
+pub use certifying::{certify, certify_from};
 pub use deciding::decide;
 pub use decision::{Decision, Trail};
+pub use safety::{are_rules, safe_list};
 pub use verdict::Verdict;

@@ -5,11 +5,12 @@ ghost use Rattle.std.specs.Option.{option_map};
 ghost use Rattle.requirement_table.specs.declared.entries.Placed.{Placed};
 ghost use Rattle.requirement_table.specs.Slots.{most_slots};
 ghost use Rattle.requirement_table.specs.Instance.{Instance, release_of};
-ghost use Rattle.requirement_table.specs.Table.{IsWellPlaced, instance_in, is_last_in};
+ghost use Rattle.requirement_table.specs.Table.{IsWellPlaced, instance_in, is_last_in, not_over};
 ghost use Rattle.requirement_table.specs.Table.{released_in, releases_in, worst_in};
 ghost use Rattle.change_protocol.specs.declared.operations.Change.{Change};
 ghost use Rattle.change_protocol.specs.Applied.{IsChangedAt, IsKept, IsNewFrom, applied, without_end};
-ghost use Rattle.change_protocol.specs.Malformed.{Bounds, IsWellFormed};
+ghost use Rattle.change_protocol.specs.Malformed.{Bounds, IsWellFormed, faults};
+ghost use Rattle.change_protocol.specs.Pruned.{pruned};
 ghost use Rattle.change_protocol.specs.WellFormed.{BreaksNoRule};
 ghost use Rattle.change_protocol.specs.Operations.{HasTypes};
 
@@ -66,4 +67,18 @@ pub fn instances_released_before_the_start()
     ensures last { (start c slot : ℕ) (old new : List Placed) (i : Instance) → IsChangedAt start old new
         → instance_in old slot c ≡ Some i → release_of i.placed i.number < start
         → is_last_in new c slot ≡ is_last_in old c slot }
+{}
+
+/// A list that is pruned by a cycle finds the same faults in each change as the whole list does. From that cycle on the
+/// same entries are not over, of the lists themselves and of what a change makes of them. A list may be pruned at any
+/// time: what is pruned again later is as if it had not been pruned before.
+pub fn pruned_lists()
+    ensures faults { (c : ℕ) (placed : List Placed) (bounds : Bounds) (change : Change) → IsWellPlaced placed
+        → faults (pruned c placed) bounds change ≡ faults placed bounds change }
+    ensures left { (c from : ℕ) (placed : List Placed) → c ≤ from
+        → not_over from (pruned c placed) ≡ not_over from placed }
+    ensures applied { (c from : ℕ) (placed : List Placed) (change : Change) → c ≤ from
+        → not_over from (applied (pruned c placed) change) ≡ not_over from (applied placed change) }
+    ensures again { (early late : ℕ) (placed : List Placed) (change : Change) → early ≤ late
+        → pruned late (applied (pruned early placed) change) ≡ pruned late (applied placed change) }
 {}

@@ -8,9 +8,11 @@ mod applying;
 pub mod laws;
 mod malformed;
 mod operations;
+mod pruning;
 mod rules;
 mod slots;
 
 pub use applying::apply;
 pub use malformed::{ApplyFault, Why};
 pub use operations::{Act, Change, Op, Ops};
+pub use pruning::prune;

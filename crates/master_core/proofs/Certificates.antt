@@ -27,7 +27,7 @@ use Rattle.master_core.specs.Keeping.{IsKept}
 use Rattle.master_core.specs.Openings.{opening_of, openings_of}
 use Rattle.master_core.proofs.Earlier.{AreOpened, IsBy, opened-of_legal, range-more}
 use Rattle.master_core.proofs.Histories.{openings_of-push}
-use Rattle.master_core.proofs.NextPlan.{kept-in_time, kept-well_placed}
+use Rattle.master_core.proofs.Keeping.{kept-in_time, kept-well_placed}
 use Rattle.master_core.proofs.Repeating.{GoesRound, recurs-of_legal, recurs-onward}
 
 -- The opened cycles

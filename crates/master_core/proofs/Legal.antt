@@ -88,7 +88,7 @@ one-more : (rules : Rules) (history : List Event) (event : Event) → IsSound ru
 one-more rules history event sound right =
     subst (IsAfter rules (next_of history) (placed_of history)) (sym (placed_of-push history event)) (after-event rules history event sound right)
 
-nothing-missed : (rules : Rules) → NeverMisses (plan_of rules [])
+pub nothing-missed : (rules : Rules) → NeverMisses (plan_of rules [])
 nothing-missed rules m slot known = and-false (left_after (plan_of rules []) (0 + m) (pending_before (plan_of rules []) m) slot)
 
 pub sound-of_legal : (rules : Rules) (history : List Event) → IsLegal rules history → IsSound rules (placed_of history)

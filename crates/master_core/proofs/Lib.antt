@@ -1,16 +1,20 @@
 mod Accepted
 mod Anew
 mod Certificates
+mod CoreSteps
 mod Earlier
 mod Events
 mod Histories
+mod Keeping
 mod KnownSlots
 mod Legal
-mod NextOrder
 mod NextPlan
+mod Onward
 mod Passing
 mod Recurring
 mod Repeating
 mod Settling
 pub mod Shared
+mod States
 mod Unfelt
+mod Whole

@@ -1,20 +1,22 @@
 -- Answers that are not in the history yet.
-use Rattle.std.specs.Prelude.{◌≡◌, ℕ, Bool, false, true, nat_lt, if◌then◌else◌, List, [], Option, Some, None, All}
+use Rattle.std.specs.Prelude.{◌≡◌, ℕ, Bool, false, true, nat_lt, ◌+◌, ◌-◌, ◌≤◌, if◌then◌else◌, List, [], Option, Some, None, All, length}
 use Rattle.std.specs.Prelude.{option_map}
 use Rattle.requirement_table.specs.declared.entries.Placed.{Placed}
 use Rattle.requirement_table.specs.Table.{not_over}
 use Rattle.change_protocol.specs.Applied.{applied}
 use Rattle.change_protocol.specs.Operations.{HasTypes}
+use Rattle.planner_policies.specs.Plan.{pending_at}
 use Rattle.planner_policies.specs.declared.state.PlanState.{PlanState}
 use Rattle.admission_rules.specs.declared.Rules.{Rules}
 use Rattle.admission.specs.declared.decision.Decision.{Decision}
 use Rattle.admission.specs.declared.verdict.Verdict.{Verdict}
 use Rattle.admission.specs.declared.verdict.Verdict.TheVariants.{Malformed, Passed, Miss, Horizon, Accepted}
-use Rattle.admission.specs.Verdict.{IsDecision, is_accepted, ranking_by}
+use Rattle.admission.specs.Verdict.{IsDecision, IsVerdict, is_accepted, plan_from, ranking_by}
 use Rattle.master_core.specs.declared.answer.Answer.{Answer}
 use Rattle.master_core.specs.declared.answer.Made.{Made}
 use Rattle.master_core.specs.declared.event.Event.{Event}
 use Rattle.master_core.specs.declared.table.Table.{Table}
+use Rattle.master_core.specs.Cores.{CoreView, kept_by}
 use Rattle.master_core.specs.History.{IsRightAnswer, placed_of}
 
 -- what an accepted change makes: the list to which it was applied, to be planned from the cycle `from` on, and the same
@@ -81,3 +83,46 @@ answer_at next answer =
 abbrev pub IsTakenOver : Option Made → Table → Table → Option (List Placed) → Option (List Placed) → Type 0
 IsTakenOver None old new old_learned new_learned = (new ≡ old) × (new_learned ≡ old_learned)
 IsTakenOver (Some made) old new old_learned new_learned = (new ≡ made.table) × (new_learned ≡ Some made.learned)
+
+-- what is kept of what was made, planned from a cycle on: the lists that are kept of both lists
+pub record IsMadeKept (forgets : Bool) (from : ℕ) (made kept : Made) : Type 0 where
+  pub placed : kept.table.placed.items ≡ kept_by forgets from made.table.placed.items
+  pub since : kept.table.since ≡ made.table.since
+  pub ranked : kept.table.planner.ranking ≡ made.table.planner.ranking
+  pub learned : kept.learned ≡ kept_by forgets from made.learned
+
+abbrev pub AreKept : Bool → ℕ → Option Made → Option Made → Type 0
+AreKept forgets from None None = Unit {0}
+AreKept forgets from None (Some kept) = ⊥
+AreKept forgets from (Some made) None = ⊥
+AreKept forgets from (Some made) (Some kept) = IsMadeKept forgets from made kept
+
+-- how many entries the list has that is made
+abbrev pub entries_of : Option Made → ℕ
+entries_of None = 0
+entries_of (Some made) = length made.table.placed.items
+
+-- what an accepted change makes of a core: what is kept of the list to which it was applied, and the same list to be
+-- learned
+pub record IsMadeTo (core : CoreView) (answer : Answer) (made : Made) : Type 0 where
+  pub accepted : is_accepted answer.verdict ≡ true
+  pub placed : made.table.placed.items ≡ kept_by core.forgets answer.from (applied core.placed answer.change)
+  pub since : made.table.since ≡ answer.from
+  pub ranked : made.table.planner.ranking
+      ≡ ranking_by core.rules (not_over made.table.since made.table.placed.items)
+  pub learned : made.learned ≡ made.table.placed.items
+
+abbrev pub AreMadeTo : CoreView → Answer → Option Made → Type 0
+AreMadeTo core answer None = is_accepted answer.verdict ≡ false
+AreMadeTo core answer (Some made) = IsMadeTo core answer made
+
+-- the answer is one to this core: the change was planned from a cycle that is not above the next one, and the plan from
+-- that cycle on leads to the state of the core
+pub record IsAnswerTo (core : CoreView) (answer : Answer) : Type 0 where
+  pub types : All HasTypes answer.change.ops
+  pub early : answer.from ≤ core.cycle
+  pub pending : ℕ
+  pub leads : core.pending
+      ≡ pending_at (plan_from core.rules core.placed answer.from pending) (core.cycle - answer.from)
+  pub verdict : IsVerdict core.rules core.placed pending answer.from core.cycle answer.change answer.verdict
+  pub made : AreMadeTo core answer answer.made

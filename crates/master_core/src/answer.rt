@@ -1,16 +1,18 @@
 //! An answer that is not in the history yet.
 
-ghost use Rattle.std.specs.Prelude.{◌≡◌, ◌≤◌, IfOk};
+ghost use Rattle.std.specs.Prelude.{◌≡◌, ◌≤◌, IfOk, IfSome};
 ghost use Rattle.profile.specs.Limits.{openings_end};
 ghost use Rattle.requirement_table.specs.Table.{IsWellPlaced};
 ghost use Rattle.change_protocol.specs.Applied.{applied};
 ghost use Rattle.planner_policies.specs.Plan.{IsValid};
 ghost use Rattle.admission.specs.Verdict.{IsInTime, IsRules, IsTakenWhereDue, plan_from};
-ghost use Rattle.master_core.specs.Answers.{IsPlannedFrom, IsTableOf, IsTakenOver, answer_at, is_passed_by};
+ghost use Rattle.master_core.specs.Answers.{AreKept, IsMadeKept, IsPlannedFrom, IsTableOf, IsTakenOver};
+ghost use Rattle.master_core.specs.Answers.{answer_at, entries_of, is_passed_by};
+ghost use Rattle.change_protocol.specs.Pruned.{pruned};
 
 use crate::table::{Table, copy_of, list_of};
 use admission::{Decision, Rules, Trail, Verdict, decide};
-use change_protocol::Change;
+use change_protocol::{Change, prune};
 use planner_policies::PlanState;
 use requirement_table::{Placed, PlacedList};
 use std::alloc::{AllocError, Global};
@@ -66,6 +68,16 @@ impl Answer {
             made: None,
         }
     }
+
+    /// How many entries the list has that it makes: none where it makes no list.
+    pub fn entries(&self) -> usize
+        ensures entries { result ≡ entries_of self.now.made }
+    {
+        match &self.made {
+            None => 0,
+            Some(made) => made.table.placed.len(),
+        }
+    }
 }
 
 /// Whether a change with this verdict is refused when `next` is the next cycle, since its start has passed by then.
@@ -92,6 +104,7 @@ pub fn answer_of(
     requires next { state.now.cycle ≤ openings_end }
     ensures planned { IfOk result (IsPlannedFrom rules.now placed.now state.now) }
     ensures change { IfOk result (λ answer. answer.change ≡ change.now) }
+    ensures well_placed { IfOk result (λ answer. IfSome answer.made (λ made. IsWellPlaced made.learned)) }
     ensures complete { let plan = plan_from rules.now (applied placed.now change.now)
         state.now.cycle state.now.pending in
         IfOk result (λ answer. IsInTime rules.now placed.now state.now.cycle change.now
@@ -128,6 +141,46 @@ fn made_of(alloc: Global, list: PlacedList, from: u64, rules: &Rules) -> Result<
     let learned = list_of(alloc, list.as_slice())?;
     let table = Table::of(alloc, list, from, rules)?;
     Ok(Made { table, learned })
+}
+
+/// What is kept of what was made, planned from cycle `from` on: where entries are forgotten, both lists are pruned. It
+/// takes no memory.
+pub fn keep(made: Option<Made>, forgets: bool, from: u64) -> Option<Made>
+    requires well_placed { IfSome made (λ made. IsWellPlaced made.learned) }
+    requires same { IfSome made (λ made. made.table.placed.items ≡ made.learned) }
+    ensures kept { AreKept forgets from made result }
+{
+    match made {
+        None => None,
+        Some(made) => Some(keep_made(made, forgets, from)),
+    }
+}
+
+/// What is kept of what was made, planned from cycle `from` on.
+fn keep_made(made: Made, forgets: bool, from: u64) -> Made
+    requires well_placed { IsWellPlaced made.learned }
+    requires same { made.table.placed.items ≡ made.learned }
+    ensures kept { IsMadeKept forgets from made result }
+{
+    if !forgets {
+        return made;
+    }
+    let Made { mut table, learned } = made;
+    prune(&mut table.placed, from);
+    Made {
+        table,
+        learned: pruned_list(learned, from),
+    }
+}
+
+/// The list without the entries that no answer needs any more.
+fn pruned_list(list: PlacedList, from: u64) -> PlacedList
+    requires well_placed { IsWellPlaced list }
+    ensures pruned { result ≡ pruned from list }
+{
+    let mut list = list.into_vec();
+    prune(&mut list, from);
+    PlacedList::of(list)
 }
 
 /// Puts what was made in the place of a table and of a list to be learned. Where nothing was made, both stay.

@@ -5,17 +5,23 @@
 #![tactic(auto)]
 
 mod answer;
+mod answered;
 mod apart;
+mod cores;
 mod event;
 pub mod laws;
 mod master;
 mod opened;
 mod planning;
 mod room;
+mod saved;
 mod table;
 mod upcoming;
 
+pub use answered::Answered;
 pub use apart::{Planned, Snapshot, plan_apart};
+pub use cores::{Core, MOST_KEPT};
 pub use event::Event;
 pub use master::Master;
+pub use saved::Saved;
 pub use upcoming::Upcoming;

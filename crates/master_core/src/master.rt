@@ -15,51 +15,45 @@ ghost use Rattle.master_core.specs.declared.event.Event.TheVariants.{Submit, Loo
 ghost use Rattle.master_core.specs.History.{IsLegal, IsPlainlyLegal, accepted_of, next_of, placed_of, plan_of};
 ghost use Rattle.master_core.specs.Orders.{IsOrder, IsUpcoming};
 
-use crate::answer::{Answer, answer_of, take_over};
+use crate::answer::Answer;
+use crate::answered::Answered;
 use crate::apart::{Planned, Snapshot};
+use crate::cores::Core;
 use crate::event::Event;
 use crate::opened::opened_masks;
-use crate::planning::plan_next;
 use crate::room::{make_room, put};
-use crate::table::{Table, list_of};
+use crate::table::list_of;
 use crate::upcoming::Upcoming;
 use admission::{CertifyFault, Rules, Verdict, certify};
 use change_protocol::Change;
 use plan_check::Certificate;
+use planner_policies::PlanState;
 use planner_policies::laws::loops;
-use planner_policies::{PlanState, cycle_mask};
-use requirement_table::{Mask, Order, Placed, PlacedList};
+use requirement_table::{Mask, Order, Placed};
 use std::alloc::{AllocError, Global};
 use std::marker::Model;
 
 /// A master. Contracts see its rules, its history, and the number of events that it has room for.
 #[derive(Drop, Debug)]
 pub struct Master {
-    rules: Rules,
+    /// It keeps all placed entries.
+    core: Core,
     history: Vec<Event>,
     /// The number of further events that the history has room for.
     spare: usize,
-    table: Table,
-    /// The next cycle, and the slots that are pending before it.
-    state: PlanState,
-    /// The placed entries as the nodes are to learn them, where they changed since the last opening.
-    learned: Option<PlacedList>,
-    /// The number of changes that were accepted.
-    accepted: u64,
 }
 
 impl Model for Master {
-    ghost use Rattle.std.specs.Prelude.{◌≡◌, length, vec_capacity};
-    ghost use Rattle.master_core.specs.History.{accepted_of};
-    ghost use Rattle.master_core.specs.Keeping.{HasRoom, IsKept, MasterView};
+    ghost use Rattle.std.specs.Prelude.{◌≡◌, false, length, vec_capacity};
+    ghost use Rattle.master_core.specs.Cores.{IsStateOf};
+    ghost use Rattle.master_core.specs.Keeping.{HasRoom, MasterView};
 
     ghost Value = { MasterView };
 
-    ghost view = { λ m. record { rules = m.rules; history = m.history.items; spare = m.spare } };
+    ghost view = { λ m. record { rules = m.core.rules; history = m.history.items; spare = m.spare } };
 
-    ghost invariant = { λ m. IsKept m.rules m.history.items m.table.placed.items m.table.since m.table.planner.ranking m.state.cycle m.state.pending m.learned
-        × HasRoom (length m.history.items) (vec_capacity m.history) m.spare
-        × (m.accepted ≡ accepted_of m.history.items) };
+    ghost invariant = { λ m. IsStateOf m.history.items m.core × (m.core.forgets ≡ false)
+        × HasRoom (length m.history.items) (vec_capacity m.history) m.spare };
 }
 
 impl Master {
@@ -74,18 +68,11 @@ impl Master {
         ensures rules { IfOk result (λ master. master.rules ≡ rules) }
         ensures history { IfOk result (λ master. master.history ≡ []) }
     {
-        let table = Table::of(alloc, Vec::new(alloc), 0, &rules)?;
+        let core = Core::new(alloc, rules, false)?;
         Ok(Master {
-            rules,
+            core,
             history: Vec::new(alloc),
             spare: 0,
-            table,
-            state: PlanState {
-                cycle: 0,
-                pending: Mask::empty(),
-            },
-            learned: None,
-            accepted: 0,
         })
     }
 
@@ -154,12 +141,13 @@ impl Master {
         ensures legal { IsLegal self.now.rules self.now.history }
         ensures few { length self.now.history + self.now.spare < 2 ^ 61 }
     {
-        let placed = list_of(alloc, self.table.placed.as_slice())?;
+        self.core.known();
+        let placed = list_of(alloc, self.core.placed())?;
         Ok(Snapshot {
-            rules: self.rules,
+            rules: self.core.rules(),
             placed,
-            state: self.state,
-            accepted: self.accepted,
+            state: self.core.state(),
+            accepted: self.core.accepted(),
         })
     }
 
@@ -214,11 +202,12 @@ impl Master {
         ensures legal { IsLegal self.now.rules self.now.history }
         ensures few { length self.now.history + self.now.spare < 2 ^ 61 }
     {
-        if planned.accepted != self.accepted {
+        self.core.known();
+        if planned.accepted != self.core.accepted() {
             return self.plan_change(alloc, change);
         }
         let Planned { answer, .. } = planned;
-        Ok(answer.at_next(alloc, self.state.cycle))
+        Ok(answer.at_next(alloc, self.core.next()))
     }
 
     /// Makes room for one event, where there is none. Where memory runs out, nothing is changed.
@@ -250,13 +239,8 @@ impl Master {
         ensures legal { IsLegal self.now.rules self.now.history }
         ensures few { length self.now.history + self.now.spare < 2 ^ 61 }
     {
-        answer_of(
-            alloc,
-            &self.rules,
-            self.table.placed.as_slice(),
-            &self.state,
-            change,
-        )
+        self.core.known();
+        self.core.plan_change(alloc, change)
     }
 
     /// Makes room for one event more. Where memory runs out, nothing is changed.
@@ -289,15 +273,13 @@ impl Master {
             → IsPlainlyLegal self.new.rules self.new.history }
         ensures few { length self.new.history + self.new.spare < 2 ^ 61 }
     {
-        let Answer {
-            change,
+        self.core.known();
+        let (change, answered) = self.core.put(answer);
+        let Answered {
             from,
             verdict,
             trail,
-            made,
-        } = answer;
-        take_over(made, &mut self.table, &mut self.learned);
-        self.accepted += u64::from(verdict.is_accepted());
+        } = answered;
         put(
             &mut self.history,
             Event::Submit {
@@ -325,7 +307,7 @@ impl Master {
             → IsPlainlyLegal self.new.rules self.new.history }
         ensures few { length self.new.history + self.new.spare < 2 ^ 61 }
     {
-        let next = self.state.cycle;
+        let next = self.core.next();
         put(&mut self.history, Event::Look { caller, next });
         self.spare -= 1;
         next
@@ -345,12 +327,9 @@ impl Master {
             → IsPlainlyLegal self.new.rules self.new.history }
         ensures few { length self.new.history + self.new.spare < 2 ^ 61 }
     {
-        let planned = self.table.plan_next(self.rules.window, &self.state);
-        self.open_upcoming(Upcoming {
-            mask: planned.mask,
-            l: planned.width,
-            next: planned.next,
-        })
+        self.core.known();
+        let upcoming = self.core.plan_next();
+        self.open_upcoming(upcoming)
     }
 
     /// What `open` would open now; the next cycle is below 2^41. It takes no memory.
@@ -358,16 +337,8 @@ impl Master {
         requires next { next_of self.now.history < openings_end }
         ensures upcoming { IsUpcoming self.now.rules self.now.history result }
     {
-        let planner_policies::Planned { mask, width, next } = plan_next(
-            self.table.planner.ranked(),
-            self.rules.window,
-            &self.state,
-        );
-        Upcoming {
-            mask,
-            l: width,
-            next,
-        }
+        self.core.known();
+        self.core.upcoming()
     }
 
     /// Opens the next cycle, below 2^41, as `open` does, by what is upcoming now: the cycle is not planned again. It
@@ -385,18 +356,13 @@ impl Master {
             → IsPlainlyLegal self.new.rules self.new.history }
         ensures few { length self.new.history + self.new.spare < 2 ^ 61 }
     {
-        let cycle = self.state.cycle;
-        let Upcoming { mask, l, next } = upcoming;
-        self.table.pass(&next);
-        self.state = next;
+        self.core.known();
+        let order = self.core.open_upcoming(upcoming);
+        let cycle = order.cycle;
+        let mask = order.mask;
         put(&mut self.history, Event::Open { cycle, mask });
         self.spare -= 1;
-        Order {
-            cycle,
-            mask,
-            l,
-            learned: self.learned.take(),
-        }
+        order
     }
 
     /// The slots that `open` would flag now; the next cycle is below 2^41.
@@ -405,7 +371,8 @@ impl Master {
         ensures mask { result
             ≡ mask_at (plan_of self.now.rules (placed_of self.now.history)) (next_of self.now.history) }
     {
-        cycle_mask(self.table.planner.ranked(), self.rules.window, &self.state)
+        self.core.known();
+        self.core.planned()
     }
 
     /// The next cycle, and the slots that are pending before it: what `open` plans from.
@@ -414,7 +381,7 @@ impl Master {
         ensures pending { result.pending
             ≡ pending_at (plan_of self.now.rules (placed_of self.now.history)) (next_of self.now.history) }
     {
-        self.state
+        self.core.state()
     }
 
     /// The certificate of the table: its plan from cycle 0 on, before which nothing is pending, up to the end of the
@@ -433,9 +400,12 @@ impl Master {
         ensures cycles { IfOk result (λ certificate. end_of certificate ≤ cycles_end) }
     {
         loops();
-        let placed = self.table.placed.as_slice();
+        self.core.known();
+        let rules = self.core.rules();
+        let placed = self.core.placed();
+        let state = self.core.state();
         let opened = opened_masks(alloc, self.history.as_slice())?;
-        match certify(alloc, &self.rules, placed, opened.as_slice(), &self.state) {
+        match certify(alloc, &rules, placed, opened.as_slice(), &state) {
             Ok(certificate) => Ok(certificate),
             Err(CertifyFault::Memory) => Err(AllocError),
             Err(CertifyFault::Miss { .. }) => unreachable!(),
@@ -447,14 +417,14 @@ impl Master {
     pub fn next(&self) -> u64
         ensures next { result ≡ next_of self.now.history }
     {
-        self.state.cycle
+        self.core.next()
     }
 
     /// The placed entries, in the order of their placing.
     pub fn placed(&self) -> &[Placed]
         ensures list { result.now ≡ placed_of self.now.history }
     {
-        self.table.placed.as_slice()
+        self.core.placed()
     }
 
     /// All calls with their answers, in their order.
@@ -470,6 +440,6 @@ impl Master {
     pub fn rules(&self) -> Rules
         ensures rules { result ≡ self.now.rules }
     {
-        self.rules
+        self.core.rules()
     }
 }

@@ -1,4 +1,4 @@
-use Rattle.admission.proofs.InRange.{cycles-within, masks-below, nothing-pending, text-read}
+use Rattle.admission.proofs.InRange.{cycles-from, cycles-within, masks-below, nothing-pending, pending-from, text-read}
 use Rattle.admission.proofs.Listed.{masks-length}
 use Rattle.admission.proofs.laws.certificates_in_range.Goals as goal
 
@@ -18,3 +18,9 @@ returns-clause-cycles c rules placed opened state certificate ranges low made wh
 pub returns-clause-read : goal.returns-clause-read
 returns-clause-read c rules placed opened state certificate ranges low made whole =
     text-read rules placed opened state certificate made ranges whole low
+
+pub returns-clause-pending_from : goal.returns-clause-pending_from
+returns-clause-pending_from c rules placed state certificate made valid = pending-from rules placed state certificate made valid
+
+pub returns-clause-cycles_from : goal.returns-clause-cycles_from
+returns-clause-cycles_from c rules placed state certificate made ranges low = cycles-from rules placed state certificate made ranges low

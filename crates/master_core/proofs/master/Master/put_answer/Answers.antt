@@ -1,32 +1,62 @@
-use Rattle.std.proofs.Common.{◌≡◌, ◌∙◌, ap, arith, refl, subst, sym}
-use mir.Val.{bool_byte}
-use Rattle.master_core.specs.Answers.{IsAnswer}
+use Rattle.std.proofs.Common.{◌≡◌, ◌∙◌, ◌≤◌, true, ap, arith, subst, sym}
+use Rattle.master_core.specs.Answers.{IsAnswer, entries_of}
+use Rattle.master_core.specs.Cores.{CoreView, most_kept}
 use Rattle.master_core.specs.History.{IsPlainlyLegal, next_of}
 use Rattle.master_core.specs.Keeping.{MasterView}
-use Rattle.master_core.proofs.Events.{counted, kept-put, legal-put, room-used}
-use Rattle.master_core.proofs.Histories.{plain-push}
+use Rattle.master_core.proofs.Events.{few-accepted, room-used}
+use Rattle.master_core.proofs.Whole.{answered-same, core-answer, plain-more, whole-held}
 use Rattle.master_core.proofs.master.Master.put_answer.Goals as goal
+
+pub put-change-requires-clause-few : goal.put-change-requires-clause-few
+put-change-requires-clause-few c =
+    let less = few-accepted c.self.inside.history.items c.self.inside.core.accepted c.self.invariant.0.counted in
+    let few = c.self.invariant.2.few in
+    omega arith
+
+pub put-change-requires-clause-short : goal.put-change-requires-clause-short
+put-change-requires-clause-short c = λ on. let all = c.self.invariant.1 in absurd (cc)
+
+pub put-change-requires-clause-answer : goal.put-change-requires-clause-answer
+put-change-requires-clause-answer c =
+    core-answer _ _ c.known.ensures.core c.self.invariant.0 c.self.invariant.1 c.args.answer
+    (subst (λ (v : MasterView). IsAnswer v.rules v.history c.args.answer) (sym c.self.view_is) c.requires.answer)
 
 pub invariant_of-self : goal.invariant_of-self
 invariant_of-self c =
     let spare = c.requires.spare in
     let same : c.self.inside.spare ≡ c.args.self.now.spare = ap (λ (v : MasterView). v.spare) c.self.view_is in
     let is = subst (λ (v : MasterView). IsAnswer v.rules v.history c.args.answer) (sym c.self.view_is) c.requires.answer in
-    rw c.put.ensures.events (
-      kept-put _ _ _ _ _ _ _ _ c.self.invariant.0 c.args.caller c.args.answer is.right c.args.answer.made _ _ _ _ is.made c.take_over.ensures refl refl refl refl,
-      room-used _ _ _ _ _ c.self.invariant.1 (omega arith) c.put.ensures.room,
-      counted c.self.inside.history.items c.args.caller c.args.answer c.self.inside.accepted _ c.self.invariant.2 (c.from.ensures ∙ ap bool_byte c.is_accepted.ensures.test),
+    let by = answered-same c.self.inside.core c.args.answer.from c.args.answer.change c.args.answer.verdict in
+    rw (c.put.ensures.events, c.put-change.ensures.change, c.put-change.ensures.answered) (
+      c.put-change.ensures.history _ c.args.caller c.self.invariant.0 (whole-held _ _ c.known.ensures.core c.self.invariant.0 c.self.invariant.1 c.args.answer.from)
+          is.right,
+      ap (λ (v : CoreView). v.forgets) c.put-change.ensures.state ∙ by.1 ∙ c.self.invariant.1,
+      room-used _ _ _ _ _ c.self.invariant.2 (omega arith) c.put.ensures.room,
     )
+
+pub returns-clause-rules : goal.returns-clause-rules
+returns-clause-rules c =
+    ap (λ (v : CoreView). v.rules) c.put-change.ensures.state
+    ∙ (answered-same c.self.inside.core c.args.answer.from c.args.answer.change c.args.answer.verdict).0
+    ∙ ap (λ (v : MasterView). v.rules) c.self.view_is
 
 pub returns-clause-legal : goal.returns-clause-legal
 returns-clause-legal c =
     let is = subst (λ (v : MasterView). IsAnswer v.rules v.history c.args.answer) (sym c.self.view_is) c.requires.answer in
-    rw c.put.ensures.events (legal-put _ _ _ _ _ _ _ _ c.self.invariant.0 c.args.caller c.args.answer is.right)
+    rw (c.put.ensures.events, c.put-change.ensures.change, c.put-change.ensures.answered)
+    (c.put-change.ensures.history _ c.args.caller c.self.invariant.0 (whole-held _ _ c.known.ensures.core c.self.invariant.0 c.self.invariant.1 c.args.answer.from)
+    is.right).legal
 
 pub returns-clause-plain : goal.returns-clause-plain
 returns-clause-plain c from plain =
     let is = subst (λ (v : MasterView). IsAnswer v.rules v.history c.args.answer) (sym c.self.view_is) c.requires.answer in
     let was = subst (λ (v : MasterView). IsPlainlyLegal v.rules v.history) (sym c.self.view_is) plain in
     let now = subst (λ (v : MasterView). c.args.answer.from ≡ next_of v.history) (sym c.self.view_is) from in
-    rw c.put.ensures.events
-    (plain-push c.self.inside.rules c.self.inside.history.items _ now (legal-put _ _ _ _ _ _ _ _ c.self.invariant.0 c.args.caller c.args.answer is.right) was)
+    rw (c.put.ensures.events, c.put-change.ensures.change, c.put-change.ensures.answered)
+    (plain-more _ _ c.self.inside.core _
+    (ap (λ (v : CoreView). v.rules) c.put-change.ensures.state
+    ∙ (answered-same c.self.inside.core c.args.answer.from c.args.answer.change c.args.answer.verdict).0)
+    now
+    (c.put-change.ensures.history _ c.args.caller c.self.invariant.0 (whole-held _ _ c.known.ensures.core c.self.invariant.0 c.self.invariant.1 c.args.answer.from)
+    is.right)
+    was)

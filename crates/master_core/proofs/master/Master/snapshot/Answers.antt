@@ -1,11 +1,25 @@
-use Rattle.master_core.proofs.NextPlan.{kept-valid, kept-well_placed}
+use Rattle.std.proofs.Common.{◌≡◌, ℕ, ◌∙◌, List, ap, subst}
+use Rattle.requirement_table.specs.declared.entries.Placed.{Placed}
+use Rattle.admission_rules.specs.declared.Rules.{Rules}
+use Rattle.master_core.specs.declared.apart.Snapshot.{Snapshot}
+use Rattle.master_core.specs.Apart.{snapshot_of}
+use Rattle.master_core.specs.Keeping.{MasterView}
+use Rattle.master_core.proofs.Whole.{whole-snapshot}
 use Rattle.master_core.proofs.master.Master.snapshot.Goals as goal
+
+pub returns-clause-snapshot : goal.returns-clause-snapshot
+returns-clause-snapshot c =
+    rw (c.rules.ensures.rules, c.in_ok-placed.ensures.same, c.placed.ensures.list, c.state.ensures.cycle, c.state.ensures.pending, c.accepted.ensures.accepted)
+    (subst (λ (v : MasterView). record {
+      rules = c.self.inside.core.rules;
+      placed = c.self.inside.core.placed;
+      state = record { cycle = c.self.inside.core.cycle; pending = c.self.inside.core.pending };
+      accepted = c.self.inside.core.accepted;
+    } ≡ snapshot_of v.rules v.history) c.self.view_is
+    (whole-snapshot _ _ c.known.ensures.core c.self.invariant.0 c.self.invariant.1))
 
 pub returns-clause-plannable : goal.returns-clause-plannable
 returns-clause-plannable c =
-    rw (c.in_ok-placed.ensures.same, c.as_slice.ensures.value) (record {
-      rules = c.self.invariant.0.ranges;
-      well_placed = kept-well_placed _ _ _ _ _ _ _ _ c.self.invariant.0;
-      valid = kept-valid _ _ _ _ _ _ _ _ c.self.invariant.0;
-      next = c.self.invariant.0.near;
-    })
+    rw (c.rules.ensures.rules, c.in_ok-placed.ensures.same, c.placed.ensures.list, c.state.ensures.cycle, c.state.ensures.pending, c.accepted.ensures.accepted)
+    (let is = c.known.ensures.core in
+    record { rules = is.ranges; well_placed = is.safe.well_placed; valid = is.safe.held; next = is.near })

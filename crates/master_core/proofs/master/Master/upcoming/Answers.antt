@@ -1,25 +1,12 @@
 use Rattle.std.proofs.Common.{subst}
 use Rattle.master_core.specs.Keeping.{MasterView}
 use Rattle.master_core.specs.Orders.{IsUpcoming}
-use Rattle.master_core.proofs.NextOrder.{upcoming-is}
-use Rattle.master_core.proofs.NextPlan.{ranked-in_time, ranked-valid}
+use Rattle.master_core.proofs.States.{state-upcoming}
 use Rattle.master_core.proofs.master.Master.upcoming.Goals as goal
-
-pub plan_next-mask-requires-clause-valid : goal.plan_next-mask-requires-clause-valid
-plan_next-mask-requires-clause-valid c = rw c.ranked.ensures.ranking (ranked-valid _ _ _ _ _ _ _ _ c.self.invariant.0)
-
-pub plan_next-mask-requires-clause-in_time : goal.plan_next-mask-requires-clause-in_time
-plan_next-mask-requires-clause-in_time c = rw c.ranked.ensures.ranking (ranked-in_time _ _ _ _ _ _ _ _ c.self.invariant.0)
 
 pub returns : goal.returns
 returns c = record {
   upcoming =
-      subst (λ (v : MasterView). IsUpcoming v.rules v.history (record {
-        mask = c.plan_next-mask.result.mask;
-        l = c.plan_next-mask.result.width;
-        next = c.plan_next-mask.result.next;
-      })) c.self.view_is
-      (upcoming-is _ _ _ _ _ _ _ _ c.self.invariant.0 _ _ _ (rw (← c.ranked.ensures.ranking) c.plan_next-mask.ensures.mask)
-      (rw (← c.ranked.ensures.ranking) c.plan_next-mask.ensures.width) c.plan_next-mask.ensures.cycle
-      (rw (← c.ranked.ensures.ranking) c.plan_next-mask.ensures.pending));
+      subst (λ (v : MasterView). IsUpcoming v.rules v.history c.upcoming.result) c.self.view_is
+      (state-upcoming _ _ c.known.ensures.core c.self.invariant.0 c.upcoming.result c.upcoming.ensures.upcoming);
 }

@@ -1,0 +1,68 @@
+-- The entries of a list that stay when it is pruned are moved to its end, from the last one on.
+use Rattle.std.proofs.Common.{◌≡◌, ℕ, ◌+◌, ◌-◌, ◌≤◌, Bool, ◌&&◌, ◌||◌, nat_eq, if◌then◌else◌, List, ◌∷◌, All, length, take, drop, get_or, sym, ap, ◌∙◌, subst, arith}
+use Rattle.std.proofs.lemmas.Bool.Decides.{nat_tests}
+use Rattle.std.proofs.lemmas.List.{drop_more, get_or-take, take-take}
+use Rattle.requirement_table.specs.declared.entries.Placed.{Placed}
+use Rattle.requirement_table.specs.Slots.{contains_slot}
+use Rattle.requirement_table.specs.Table.{IsInRange, is_over}
+use Rattle.change_protocol.specs.Pruned.{has_slot, pruned}
+
+-- behind the place, those that stay are the ones from `first` on, and `slots` are the slots of all; those before it are
+-- as they were
+pub record IsMovedFrom (cycle : ℕ) (old list : List Placed) (first slots place : ℕ) : Type 0 where
+  pub within : place ≤ first
+  pub end : first ≤ length old
+  pub same : length list ≡ length old
+  pub front : take place list ≡ take place old
+  pub kept : drop first list ≡ pruned cycle (drop place old)
+  pub has : (slot : ℕ) → contains_slot slots slot ≡ has_slot slot (drop place old)
+
+eq-flips : (a b : ℕ) → nat_eq a b ≡ nat_eq b a
+eq-flips a b = grind (arith, nat_tests)
+
+-- an entry before the place is the one that was there
+pub kept-there : (cycle : ℕ) (old list : List Placed) (first slots place n : ℕ) (p : Placed) → place ≡ n + 1 → IsMovedFrom cycle old list first slots place
+    → get_or list n p ≡ p → get_or old n p ≡ p
+kept-there cycle old list first slots place n p is moved at =
+    let within = moved.within in
+    let end = moved.end in
+    sym (get_or-take place old n p (omega arith)) ∙ ap (λ (l : List Placed). get_or l n p) (sym moved.front) ∙ get_or-take place list n p (omega arith) ∙ at
+
+pub range-there : (cycle : ℕ) (old list : List Placed) (first slots place n : ℕ) (p : Placed) → place ≡ n + 1 → IsMovedFrom cycle old list first slots place
+    → get_or list n p ≡ p → All IsInRange old → IsInRange p
+range-there cycle old list first slots place n p is moved at range =
+    let within = moved.within in
+    let end = moved.end in
+    subst (λ (q : Placed). IsInRange q) (kept-there cycle old list first slots place n p is moved at) (range n p (omega arith))
+
+-- one entry more is looked at
+pub moved-more : (cycle : ℕ) (old list new : List Placed) (first next slots more place n : ℕ) (p : Placed) (goes : Bool) → place ≡ n + 1
+    → IsMovedFrom cycle old list first slots place → get_or list n p ≡ p → goes ≡ (is_over cycle p && contains_slot slots p.entry.slot)
+    → length new ≡ length list → first ≤ next + 1 → next ≤ first → take (first - 1) new ≡ take (first - 1) list
+    → drop next new ≡ (if goes then drop first list else p ∷ drop first list)
+    → ((slot : ℕ) → contains_slot more slot ≡ (nat_eq slot p.entry.slot || contains_slot slots slot)) → IsMovedFrom cycle old new next more n
+moved-more cycle old list new first next slots more place n p goes is moved at tested same before after front kept has =
+    let within = moved.within in
+    let end = moved.end in
+    let old_at = kept-there cycle old list first slots place n p is moved at in
+    let behind : drop n old ≡ p ∷ drop place old =
+    drop_more old n p (omega arith) ∙ ap (λ (q : Placed). q ∷ drop (n + 1) old) old_at ∙ ap (λ k. p ∷ drop k old) (sym is) in
+    let may : goes ≡ (is_over cycle p && has_slot p.entry.slot (drop place old)) = tested ∙ ap (λ b. is_over cycle p && b) (moved.has p.entry.slot) in
+    record {
+      within = omega arith;
+      end = omega arith;
+      same = same ∙ moved.same;
+      front =
+          sym (take-take n (first - 1) new (omega arith)) ∙ ap (take n) front ∙ take-take n (first - 1) list (omega arith)
+          ∙ sym (take-take n place list (omega arith)) ∙ ap (take n) moved.front ∙ take-take n place old (omega arith);
+      kept =
+          kept
+          ∙ ap (λ (l : List Placed). if goes then l else p ∷ l) moved.kept
+          ∙ ap (λ (b : Bool). if b then pruned cycle (drop place old) else p ∷ pruned cycle (drop place old)) may
+          ∙ ap (pruned cycle) (sym behind);
+      has = λ slot.
+          has slot
+          ∙ ap (λ b. b || contains_slot slots slot) (eq-flips slot p.entry.slot)
+          ∙ ap (λ b. nat_eq p.entry.slot slot || b) (moved.has slot)
+          ∙ ap (has_slot slot) (sym behind);
+    }

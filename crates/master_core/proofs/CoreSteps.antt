@@ -1,0 +1,292 @@
+-- What each call keeps of a core.
+use Rattle.std.proofs.Common.{◌≡◌, ℕ, suc, ◌+◌, ◌-◌, ◌^◌, ◌<◌, ◌≤◌, Bool, true, false, cond, if◌then◌else◌, List, [], Option, Some, None, All, length, option_map, refl, sym, ap, ◌∙◌, subst, arith}
+use Rattle.std.proofs.lemmas.List.Elements.{All-nil}
+use mir.Val.{bool_byte}
+use Rattle.profile.specs.Limits.{openings_end}
+use Rattle.requirement_table.specs.declared.entries.Placed.{Placed}
+use Rattle.requirement_table.specs.Slots.{contains_slot, most_slots}
+use Rattle.requirement_table.specs.Table.{IsWellPlaced, not_over}
+use Rattle.requirement_table.proofs.Shared.{contains_slot-none, set_of-below, set_of-contains_slot, set_of-same}
+use Rattle.change_protocol.specs.declared.operations.Change.{Change}
+use Rattle.change_protocol.specs.Applied.{applied}
+use Rattle.change_protocol.specs.Pruned.{pruned}
+use Rattle.change_protocol.proofs.Shared.{changed-applied, not_over-pruned}
+use Rattle.planner_policies.specs.Plan.{IsValid, NeverMisses, Ranking, pending_at, pending_before}
+use Rattle.planner_policies.proofs.Shared.{before-first}
+use Rattle.admission_rules.specs.declared.Rules.{Rules}
+use Rattle.admission.specs.Verdict.{IsRules, IsVerdict, IsVerdictOnPlan, bounds_by, is_accepted, placed_with, plan_from, ranking_by}
+use Rattle.admission.specs.declared.verdict.Verdict.{Verdict}
+use Rattle.admission.specs.declared.verdict.Verdict.TheVariants.{Malformed, Passed, Miss, Horizon, Accepted}
+use Rattle.master_core.specs.declared.answer.Answer.{Answer}
+use Rattle.master_core.specs.declared.answer.Made.{Made}
+use Rattle.master_core.specs.declared.table.Table.{Table}
+use Rattle.master_core.specs.declared.upcoming.Upcoming.{Upcoming}
+use Rattle.master_core.specs.Answers.{AreKept, AreMadeTo, AreTablesOf, IsAnswerTo, IsMadeTo, IsPlannedFrom, IsTakenOver, entries_of}
+use Rattle.master_core.specs.Cores.{CoreView, IsCore, IsCoreUpcoming, IsRanked, RepeatsWithin, answered_by, kept_by, most_kept, new_core, onward, opened}
+use Rattle.master_core.proofs.KnownSlots.{HasSlot, both-none, slots-applied}
+use Rattle.master_core.proofs.Legal.{nothing-missed}
+use Rattle.master_core.proofs.Onward.{GoesOn, all-pruned, goes-accepted, goes-later, goes-pruned, later_plan, well_placed-made}
+use Rattle.master_core.proofs.Repeating.{GoesRound, Recurs, empty-recurs}
+use Rattle.master_core.proofs.NextPlan.{ranked-valid}
+use Rattle.master_core.proofs.Settling.{refused-is, taken-is}
+
+goes-on : (core : CoreView) → IsCore core → GoesOn (onward core) core.rules.horizon
+goes-on core is = record { well_placed = is.safe.well_placed; held = is.safe.held; in_time = is.safe.in_time; repeats = is.repeats }
+
+-- A new core
+
+pub core-new : (rules : Rules) (forgets : Bool) → IsRules rules → IsCore (new_core rules forgets)
+core-new rules forgets ranges =
+    let empty = empty-recurs rules ranges in
+    let within = empty.within in
+    record {
+      ranges = ranges;
+      near = omega arith;
+      known = omega arith;
+      safe = record {
+        well_placed = record { in_range = λ i d within. absurd (omega arith); in_order = λ i j d order within. absurd (omega arith) };
+        held = λ slot held. let none = contains_slot-none slot in absurd (cc);
+        in_time = nothing-missed rules;
+      };
+      slots = All-nil (HasSlot rules.slots);
+      repeats = record {
+        period = empty.period;
+        least_common = empty.least_common;
+        first = empty.first;
+        cycles = empty.cycles;
+        some_cycles = empty.some_cycles;
+        alike = empty.alike;
+        within = omega arith;
+      };
+      to_learn = tt;
+      counted = omega arith;
+      few = λ on. omega arith;
+    }
+
+-- An opening
+
+pub core-opened : GoesRound → (core : CoreView) → core.cycle < openings_end → IsCore core → IsCore (opened core)
+core-opened round core before is =
+    let goes = goes-later round (onward core) core.rules.horizon 1 (goes-on core is) in
+    record {
+      ranges = is.ranges;
+      near = omega arith;
+      known = set_of-below most_slots (pending_before (onward core) 1);
+      safe = record { well_placed = goes.well_placed; held = goes.held; in_time = goes.in_time };
+      slots = is.slots;
+      repeats = goes.repeats;
+      to_learn = tt;
+      counted = is.counted;
+      few = is.few;
+    }
+
+-- An answer
+
+abbrev pub WellLaw : Type 0
+WellLaw = (c : ℕ) (placed : List Placed) → IsWellPlaced placed → IsWellPlaced (pruned c placed)
+
+kept-goes : WellLaw → (rules : Rules) (forgets : Bool) (c from pending horizon : ℕ) (placed : List Placed) → c ≤ from
+    → GoesOn (plan_from rules placed from pending) horizon → GoesOn (plan_from rules (kept_by forgets c placed) from pending) horizon
+kept-goes wells rules true c from pending horizon placed early goes =
+    goes-pruned rules c from pending horizon placed early (wells c placed goes.well_placed) goes
+kept-goes wells rules false c from pending horizon placed early goes = goes
+
+left-kept : (forgets : Bool) (from : ℕ) (placed : List Placed) → not_over from (kept_by forgets from placed) ≡ not_over from placed
+left-kept true from placed = not_over-pruned from from placed (omega arith)
+left-kept false from placed = refl
+
+kept-slots : (slots : ℕ) (forgets : Bool) (c : ℕ) (placed : List Placed) → All (HasSlot slots) placed → All (HasSlot slots) (kept_by forgets c placed)
+kept-slots slots true c placed low = all-pruned (HasSlot slots) c placed low
+kept-slots slots false c placed low = low
+
+module _ (round : GoesRound) (wells : WellLaw) (core : CoreView) (is : IsCore core) (answer : Answer) (to : IsAnswerTo core answer) where
+  abbrev new : List Placed
+  new = applied core.placed answer.change
+
+  accepted-goes : (verdict : Verdict) → is_accepted verdict ≡ true
+      → IsVerdict core.rules core.placed to.pending answer.from core.cycle answer.change verdict
+      → GoesOn (plan_from core.rules new core.cycle core.pending) core.rules.horizon × All (HasSlot core.rules.slots) new
+  accepted-goes (Malformed op why) accepted decided = absurd (cc)
+  accepted-goes (Passed start next) accepted decided = absurd (cc)
+  accepted-goes (Miss slot release cycle) accepted decided = absurd (cc)
+  accepted-goes (Horizon from walked) accepted decided = absurd (cc)
+  accepted-goes (Accepted first length) accepted decided =
+      let in_time = decided.0 in
+      let well = is.safe.well_placed in
+      let formed = both-none _ _ in_time.well_formed in (
+        goes-accepted round core.rules core.placed new answer.change.start answer.from core.cycle to.pending core.pending
+            (changed-applied core.placed answer.change well.in_range)
+            (well_placed-made core.rules core.placed answer.change is.ranges.few_slots well to.types in_time.well_formed) is.safe.held to.early in_time.ahead to.leads first
+            length decided.1,
+        slots-applied core.placed (bounds_by core.rules) answer.change formed.1 is.slots,
+      )
+
+  -- the core with the list that an accepted change makes
+  core-taken : is_accepted answer.verdict ≡ true → core.accepted + 1 < 2 ^ 64
+      → (core.forgets ≡ true → length (kept_by core.forgets answer.from new) ≤ most_kept)
+      → IsCore
+      (record core {
+        placed = kept_by core.forgets answer.from new;
+        learned = Some (kept_by core.forgets answer.from new);
+        accepted = core.accepted + 1;
+      })
+  core-taken accepted few short =
+      let (whole, slots) = accepted-goes answer.verdict accepted to.verdict in
+      let goes = kept-goes wells core.rules core.forgets answer.from core.cycle core.pending core.rules.horizon new to.early whole in
+      record {
+        ranges = is.ranges;
+        near = is.near;
+        known = is.known;
+        safe = record { well_placed = goes.well_placed; held = goes.held; in_time = goes.in_time };
+        slots = kept-slots core.rules.slots core.forgets answer.from new slots;
+        repeats = goes.repeats;
+        to_learn = refl;
+        counted = few;
+        few = short;
+      }
+
+  -- what is taken over
+  module _ (few : core.accepted + 1 < 2 ^ 64) where
+    pub core-put : (made : Option Made) → AreMadeTo core answer made → (core.forgets ≡ true → entries_of made ≤ most_kept)
+        → IsCore (answered_by core answer.from answer.change answer.verdict)
+    core-put None refused short =
+        subst (λ (b : Bool). IsCore (if b then record core {
+          placed = kept_by core.forgets answer.from new;
+          learned = Some (kept_by core.forgets answer.from new);
+          accepted = core.accepted + 1;
+        } else core)) (sym refused) is
+    core-put (Some made) by short =
+        subst (λ (b : Bool). IsCore (if b then record core {
+          placed = kept_by core.forgets answer.from new;
+          learned = Some (kept_by core.forgets answer.from new);
+          accepted = core.accepted + 1;
+        } else core)) (sym by.accepted)
+        (core-taken by.accepted few (λ on. subst (λ (l : List Placed). length l ≤ most_kept) by.placed (short on)))
+
+-- The fields of a core after an opening
+
+module _ (core : CoreView) (since : ℕ) (ranked : Ranking) (is : IsCore core) (ranks : IsRanked core since ranked) (round : GoesRound) (before : core.cycle < openings_end)
+    (upcoming : Upcoming) (up : IsCoreUpcoming core upcoming) where
+  pub since-behind : since ≤ upcoming.next.cycle
+  since-behind =
+      let passed = ranks.passed in
+      let next = up.next in
+      omega arith
+
+  pub valid-behind : IsValid ranked.placed upcoming.next.cycle upcoming.next.pending
+  valid-behind =
+      let passed = ranks.passed in
+      rw (up.next, up.pending)
+      (ranked-valid (opened core) since ranked (core-opened round core before is) (record { passed = omega arith; left = ranks.left }))
+
+  module _ (list : List Placed) (by : ℕ) (fewer : Ranking) (same : list ≡ core.placed) (passed : by ≤ upcoming.next.cycle)
+      (left : fewer ≡ record ranked { placed = not_over by list }) where
+    abbrev behind : CoreView
+    behind = record core { placed = list; cycle = upcoming.next.cycle; pending = upcoming.next.pending; learned = None }
+
+    pub behind-is : behind ≡ opened core
+    behind-is = rw (same, up.next, up.pending) refl
+
+    pub core-behind : IsCore behind × IsRanked behind by fewer
+    core-behind = (
+      subst IsCore (sym behind-is) (core-opened round core before is),
+      record { passed = passed; left = left ∙ ap (λ (r : Ranking). record r { placed = not_over by list }) ranks.left },
+    )
+
+-- The fields of a core after an answer
+
+one-more : (b : Bool) → bool_byte b ≡ cond b 1 0
+one-more true = refl
+one-more false = refl
+
+module _ (core : CoreView) (since : ℕ) (ranked : Ranking) (is : IsCore core) (ranks : IsRanked core since ranked) (round : GoesRound) (wells : WellLaw)
+    (answer : Answer) (to : IsAnswerTo core answer) (few : core.accepted + 1 < 2 ^ 64) where
+  abbrev with_answer : Bool → CoreView
+  with_answer b =
+      if b then record core {
+        placed = kept_by core.forgets answer.from (applied core.placed answer.change);
+        learned = Some (kept_by core.forgets answer.from (applied core.placed answer.change));
+        accepted = core.accepted + 1;
+      } else core
+
+  abbrev taken_by : Table → Option (List Placed) → ℕ → CoreView
+  taken_by table learned accepted = record core { placed = table.placed.items; learned = learned; accepted = accepted }
+
+  put-is : (made : Option Made) (old new : Table) (old_learned new_learned : Option (List Placed)) (more : ℕ) → AreMadeTo core answer made
+      → IsTakenOver made old new old_learned new_learned → core.placed ≡ old.placed.items → core.learned ≡ old_learned
+      → more ≡ cond (is_accepted answer.verdict) 1 0 → taken_by new new_learned (core.accepted + more) ≡ answered_by core answer.from answer.change answer.verdict
+  put-is None old new old_learned new_learned more refused same list_is learned_is more_is =
+      let none : more ≡ 0 = more_is ∙ ap (λ (b : Bool). cond b 1 0) refused in
+      let count : core.accepted + more ≡ core.accepted = omega arith in
+      rw (same.0, same.1, ← list_is, ← learned_is, count) (ap with_answer (sym refused))
+  put-is (Some made) old new old_learned new_learned more by same list_is learned_is more_is =
+      let one : more ≡ 1 = more_is ∙ ap (λ (b : Bool). cond b 1 0) by.accepted in
+      rw (same.0, same.1, one, by.learned, by.placed) (ap with_answer (sym by.accepted))
+
+  put-ranked : (made : Option Made) (old new : Table) (old_learned new_learned : Option (List Placed)) (accepted : ℕ) → AreMadeTo core answer made
+      → IsTakenOver made old new old_learned new_learned → core.placed ≡ old.placed.items → since ≡ old.since → ranked ≡ old.planner.ranking
+      → IsRanked (taken_by new new_learned accepted) new.since new.planner.ranking
+  put-ranked None old new old_learned new_learned accepted refused same list_is since_is ranked_is =
+      rw (same.0, ← since_is, ← ranked_is, ← list_is) (record { passed = ranks.passed; left = ranks.left })
+  put-ranked (Some made) old new old_learned new_learned accepted by same list_is since_is ranked_is =
+      let early = to.early in
+      let from_is = by.since in
+      rw same.0 (record { passed = omega arith; left = by.ranked })
+
+  module _ (old new : Table) (old_learned new_learned : Option (List Placed)) (more : ℕ) (taken : IsTakenOver answer.made old new old_learned new_learned)
+      (list_is : core.placed ≡ old.placed.items) (learned_is : core.learned ≡ old_learned) (more_is : more ≡ bool_byte (is_accepted answer.verdict)) where
+    pub put-then : taken_by new new_learned (core.accepted + more) ≡ answered_by core answer.from answer.change answer.verdict
+    put-then = put-is answer.made old new old_learned new_learned more to.made taken list_is learned_is (more_is ∙ one-more (is_accepted answer.verdict))
+
+    pub core-after : (core.forgets ≡ true → entries_of answer.made ≤ most_kept) → since ≡ old.since → ranked ≡ old.planner.ranking
+        → IsCore (taken_by new new_learned (core.accepted + more)) × IsRanked (taken_by new new_learned (core.accepted + more)) new.since new.planner.ranking
+    core-after short since_is ranked_is = (
+      subst IsCore (sym put-then) (core-put round wells core is answer to few answer.made to.made short),
+      put-ranked answer.made old new old_learned new_learned (core.accepted + more) to.made taken list_is since_is ranked_is,
+    )
+
+-- An answer that was planned from the next cycle on
+
+module _ (core : CoreView) (is : IsCore core) where
+  state-here : core.pending ≡ pending_at (plan_from core.rules core.placed core.cycle core.pending) (core.cycle - core.cycle)
+  state-here =
+      let none : core.cycle - core.cycle ≡ 0 = omega arith in
+      sym
+      (ap (pending_at (onward core)) none
+      ∙ set_of-same most_slots (pending_before (onward core) 0) (contains_slot core.pending) (λ slot known. before-first (onward core) slot)
+      ∙ sym (set_of-contains_slot most_slots core.pending is.known))
+
+  made-to : (answer : Answer) (plain : Option Made) (made : Option Made) → option_map (λ m. m.learned) plain ≡ placed_with (applied core.placed answer.change) answer.verdict
+      → AreTablesOf core.rules answer.from plain → AreKept core.forgets answer.from plain made → AreMadeTo core answer made
+  made-to answer None None none tables kept = refused-is (applied core.placed answer.change) answer.verdict (sym none)
+  made-to answer None (Some made) none tables kept = absurd kept
+  made-to answer (Some plain) None some tables kept = absurd kept
+  made-to answer (Some plain) (Some made) some tables kept =
+      let taken = taken-is (applied core.placed answer.change) plain.learned answer.verdict (sym some) in
+      record {
+        accepted = taken.0;
+        placed = kept.placed ∙ ap (kept_by core.forgets answer.from) (tables.placed ∙ sym taken.1);
+        since = kept.since ∙ tables.since;
+        ranked =
+            kept.ranked
+            ∙ tables.ranked
+            ∙ ap (ranking_by core.rules)
+            (sym
+            (ap (λ (n : ℕ). not_over n made.table.placed.items) (kept.since ∙ tables.since)
+            ∙ ap (not_over answer.from) (kept.placed ∙ ap (kept_by core.forgets answer.from) tables.placed)
+            ∙ left-kept core.forgets answer.from plain.learned));
+        learned = kept.learned ∙ sym (kept.placed ∙ ap (kept_by core.forgets answer.from) tables.placed);
+      }
+
+  pub answer-to : (answer : Answer) (made : Option Made) → IsPlannedFrom core.rules core.placed (record { cycle = core.cycle; pending = core.pending }) answer
+      → AreKept core.forgets answer.from answer.made made → IsAnswerTo core (record answer { made = made })
+  answer-to answer made planned kept = record {
+    types = planned.types;
+    early = let from = planned.from in omega arith;
+    pending = core.pending;
+    leads =
+        subst (λ (n : ℕ). core.pending ≡ pending_at (plan_from core.rules core.placed n core.pending) (core.cycle - n)) (sym planned.from) state-here;
+    verdict =
+        subst (λ (n : ℕ). IsVerdict core.rules core.placed core.pending n core.cycle answer.change answer.verdict) (sym planned.from) planned.decided.answer;
+    made = made-to (record answer { made = made }) answer.made made planned.decided.list planned.made kept;
+  }

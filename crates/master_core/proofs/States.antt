@@ -1,0 +1,277 @@
+-- Cores as the states after histories.
+use Rattle.std.proofs.Common.{◌≡◌, ℕ, ◌+◌, ◌-◌, ◌^◌, ◌<◌, ◌≤◌, Bool, true, false, cond, if◌then◌else◌, List, [], ◌∷◌, ◌++◌, Option, Some, None, All, refl, sym, ap, ◌∙◌, subst, zero-add, add-zero, arith}
+use Rattle.requirement_table.specs.declared.entries.Order.{Order}
+use Rattle.requirement_table.specs.declared.entries.Placed.{Placed}
+use Rattle.requirement_table.specs.Instance.{Instance, worst_of}
+use Rattle.requirement_table.specs.Slots.{contains_slot, most_slots}
+use Rattle.requirement_table.specs.Table.{IsWellPlaced, instance_in, not_over, width_in, worst_in}
+use Rattle.requirement_table.proofs.Shared.{set_of-contains_slot, set_of-same}
+use Rattle.std.specs.Option.{option_map_or}
+use Rattle.change_protocol.specs.declared.operations.Change.{Change}
+use Rattle.change_protocol.specs.Applied.{applied}
+use Rattle.change_protocol.specs.Operations.{HasTypes}
+use Rattle.change_protocol.specs.Pruned.{pruned}
+use Rattle.change_protocol.proofs.Shared.{not_over-pruned, pruned-again}
+use Rattle.planner_policies.specs.Plan.{Planning, mask_at, pending_at, pending_before, planned_at}
+use Rattle.planner_policies.proofs.Shared.{before-first, on-planned, sum_where-costs}
+use Rattle.admission_rules.specs.declared.Rules.{Rules}
+use Rattle.admission.specs.declared.verdict.Verdict.{Verdict}
+use Rattle.admission.specs.Verdict.{IsVerdict, is_accepted, plan_from, trail_of}
+use Rattle.master_core.specs.declared.answered.Answered.{Answered}
+use Rattle.master_core.specs.declared.event.Event.{Event}
+use Rattle.master_core.specs.declared.event.Event.TheVariants.{Submit, Look, Open}
+use Rattle.master_core.specs.Cores.{CoreView, IsAnswered, IsCore, IsCoreOrder, IsCoreUpcoming, IsHeld, IsStateOf, answered_by, kept_by, new_core, onward, opened}
+use Rattle.master_core.specs.History.{IsLegal, IsRightAnswer, IsSince, accepted_of, is_changed, is_changed_after, learned_of, next_of, placed_after, placed_of, plan_of}
+use Rattle.master_core.specs.declared.upcoming.Upcoming.{Upcoming}
+use Rattle.master_core.specs.Orders.{IsOrder, IsUpcoming}
+use Rattle.master_core.proofs.Earlier.{same-of_legal}
+use Rattle.master_core.proofs.Events.{accepted_of-push, not-counted}
+use Rattle.master_core.proofs.Histories.{is_changed-push, legal-push, next_of-push, placed_of-push}
+use Rattle.master_core.proofs.Legal.{sound-of_legal}
+use Rattle.master_core.proofs.Onward.{later-pending, later_plan, left-instances, left-mask, left-pending}
+use Rattle.master_core.proofs.Settling.{right-by, since-now}
+
+-- what is kept of the placed entries has the same entries that are not over
+left-of : (forgets : Bool) (cycle : ℕ) (whole list : List Placed) → IsHeld forgets cycle whole list → not_over cycle list ≡ not_over cycle whole
+left-of true cycle whole list held = ap (not_over cycle) held.is ∙ not_over-pruned held.by cycle whole held.early
+left-of false cycle whole list held = ap (not_over cycle) held
+
+held-later : (forgets : Bool) (cycle later : ℕ) (whole list : List Placed) → cycle ≤ later → IsHeld forgets cycle whole list → IsHeld forgets later whole list
+held-later true cycle later whole list after held = let early = held.early in record { by = held.by; early = omega arith; is = held.is }
+held-later false cycle later whole list after held = held
+
+-- an accepted change is applied to both
+held-applied : (forgets : Bool) (from cycle : ℕ) (whole list : List Placed) (change : Change) → from ≤ cycle → IsHeld forgets from whole list
+    → IsHeld forgets cycle (applied whole change) (kept_by forgets from (applied list change))
+held-applied true from cycle whole list change early held = record {
+  by = from;
+  early = early;
+  is = ap (λ (l : List Placed). pruned from (applied l change)) held.is ∙ pruned-again held.by from whole change held.early;
+}
+held-applied false from cycle whole list change early held = ap (λ (l : List Placed). applied l change) held
+
+-- a core that was not called yet
+pub state-new : (rules : Rules) (forgets : Bool) → IsStateOf [] (new_core rules forgets)
+state-new rules forgets = record {
+  legal = tt;
+  held = nothing-held forgets;
+  next = refl;
+  waiting =
+      set_of-contains_slot most_slots 0 (omega arith)
+      ∙ sym (set_of-same most_slots (pending_before (plan_of rules []) 0) (contains_slot 0) (λ slot known. before-first (plan_of rules []) slot));
+  to_learn = refl;
+  counted = refl;
+}
+  where
+    nothing-held : (forgets : Bool) → IsHeld forgets 0 [] []
+    nothing-held true = record { by = 0; early = omega arith; is = refl }
+    nothing-held false = refl
+
+module _ (history : List Event) (core : CoreView) (is : IsCore core) (of : IsStateOf history core) where
+  abbrev whole : List Placed
+  whole = placed_of history
+
+  abbrev rules : Rules
+  rules = core.rules
+
+  whole-well : IsWellPlaced whole
+  whole-well = (sound-of_legal rules history of.legal).well_placed
+
+  left : not_over core.cycle core.placed ≡ not_over core.cycle whole
+  left = left-of core.forgets core.cycle whole core.placed of.held
+
+  later-is : later_plan (plan_of rules whole) core.cycle ≡ plan_from rules whole core.cycle core.pending
+  later-is =
+      ap (λ (n : ℕ). plan_from rules whole n (pending_at (plan_of rules whole) core.cycle)) (zero-add core.cycle)
+      ∙ ap (λ (q : ℕ). plan_from rules whole core.cycle q) (sym of.waiting)
+
+  -- the plan of the next cycle
+  pub mask-is : mask_at (plan_of rules whole) core.cycle ≡ mask_at (onward core) 0
+  mask-is =
+      let at : core.cycle + 0 ≡ core.cycle = omega arith in
+      ap (mask_at (plan_of rules whole)) (sym at)
+      ∙ set_of-same most_slots (planned_at (plan_of rules whole) (core.cycle + 0)) (planned_at (later_plan (plan_of rules whole) core.cycle) 0)
+      (λ slot known. on-planned (plan_of rules whole) core.cycle 0 slot known)
+      ∙ ap (λ (p : Planning). mask_at p 0) later-is
+      ∙ sym (left-mask rules core.cycle core.pending whole core.placed whole-well is.safe.well_placed left 0)
+
+  -- and what it leaves
+  pending-is : pending_at (plan_of rules whole) (core.cycle + 1) ≡ pending_at (onward core) 1
+  pending-is =
+      later-pending (plan_of rules whole) core.cycle 1
+      ∙ ap (λ (p : Planning). pending_at p 1) later-is
+      ∙ sym (left-pending rules core.cycle core.pending whole core.placed whole-well is.safe.well_placed left 1)
+
+  instance-is : (slot : ℕ) → instance_in core.placed slot core.cycle ≡ instance_in whole slot core.cycle
+  instance-is slot =
+      let at : core.cycle + 0 ≡ core.cycle = omega arith in
+      subst (λ (c : ℕ). instance_in core.placed slot c ≡ instance_in whole slot c) at
+      (left-instances rules core.cycle core.pending whole core.placed whole-well is.safe.well_placed left 0 slot)
+
+  width-is : (slots : ℕ → Bool) → width_in core.placed core.cycle slots ≡ width_in whole core.cycle slots
+  width-is slots =
+      sum_where-costs most_slots slots (worst_in core.placed core.cycle) (worst_in whole core.cycle)
+      (λ slot known. ap (λ (o : Option Instance). option_map_or worst_of o 0) (instance-is slot))
+
+  -- the order of the core is that of the history, but for what the nodes are to learn
+  pub state-order : (order : Order) → IsCoreOrder core order → IsOrder rules history (record order { learned = learned_of history })
+  state-order order by = record {
+    cycle = by.cycle ∙ of.next;
+    mask = by.mask ∙ sym mask-is ∙ ap (mask_at (plan_of rules whole)) of.next;
+    window =
+        by.window ∙ width-is (contains_slot order.mask) ∙ ap (λ (n : ℕ). width_in whole n (contains_slot order.mask)) of.next;
+    learned = refl;
+    fits = by.fits;
+    slots = by.slots;
+    present = λ slot known flagged.
+        let found = by.present slot known flagged in
+        (found.0, subst (λ (n : ℕ). instance_in whole slot n ≡ Some found.0) of.next (sym (instance-is slot) ∙ found.1));
+  }
+
+  pub state-upcoming : (upcoming : Upcoming) → IsCoreUpcoming core upcoming → IsUpcoming rules history upcoming
+  state-upcoming upcoming by = record {
+    order =
+        subst (λ (n : ℕ). IsOrder rules history (record { cycle = n; mask = upcoming.mask; l = upcoming.l; learned = learned_of history })) of.next
+        (state-order (record { cycle = core.cycle; mask = upcoming.mask; l = upcoming.l; learned = core.learned }) by.order);
+    next = by.next ∙ ap (λ (n : ℕ). n + 1) of.next;
+    pending = by.pending ∙ sym pending-is ∙ ap (λ (n : ℕ). pending_at (plan_of rules whole) (n + 1)) of.next;
+  }
+
+  -- what is upcoming after the history is upcoming for the core
+  pub core-upcoming : (upcoming : Upcoming) → IsUpcoming rules history upcoming → IsCoreUpcoming core upcoming
+  core-upcoming upcoming by = record {
+    order = record {
+      cycle = refl;
+      mask = by.order.mask ∙ ap (mask_at (plan_of rules whole)) (sym of.next) ∙ mask-is;
+      window =
+          by.order.window
+          ∙ ap (λ (n : ℕ). width_in whole n (contains_slot upcoming.mask)) (sym of.next)
+          ∙ sym (width-is (contains_slot upcoming.mask));
+      learned = refl;
+      fits = by.order.fits;
+      slots = by.order.slots;
+      present = λ slot known flagged.
+          let found = by.order.present slot known flagged in
+          (found.0, instance-is slot ∙ subst (λ (n : ℕ). instance_in whole slot n ≡ Some found.0) (sym of.next) found.1);
+    };
+    next = by.next ∙ ap (λ (n : ℕ). n + 1) (sym of.next);
+    pending = by.pending ∙ ap (λ (n : ℕ). pending_at (plan_of rules whole) (n + 1)) (sym of.next) ∙ pending-is;
+  }
+
+  -- A look
+
+  pub state-looked : (caller : ℕ) → IsStateOf (history ++ Look caller core.cycle ∷ []) core
+  state-looked caller = record {
+    legal = legal-push rules history (Look caller core.cycle) of.legal of.next;
+    held = subst (λ (l : List Placed). IsHeld core.forgets core.cycle l core.placed) (sym (placed_of-push history (Look caller core.cycle))) of.held;
+    next = of.next ∙ sym (next_of-push history (Look caller core.cycle) ∙ add-zero (next_of history));
+    waiting = of.waiting ∙ ap (λ (l : List Placed). pending_at (plan_of rules l) core.cycle) (sym (placed_of-push history (Look caller core.cycle)));
+    to_learn = of.to_learn ∙ ap (λ (b : Bool). if b then Some core.placed else None) (sym (is_changed-push history (Look caller core.cycle)));
+    counted = not-counted history (Look caller core.cycle) core.accepted refl of.counted;
+  }
+
+  -- An opening
+
+  pub state-opened : (mask : ℕ) → mask ≡ mask_at (onward core) 0 → IsStateOf (history ++ Open core.cycle mask ∷ []) (opened core)
+  state-opened mask by = record {
+    legal = legal-push rules history (Open core.cycle mask) of.legal (of.next, by ∙ sym mask-is);
+    held =
+        subst (λ (l : List Placed). IsHeld core.forgets (core.cycle + 1) l core.placed) (sym (placed_of-push history (Open core.cycle mask)))
+        (held-later core.forgets core.cycle (core.cycle + 1) whole core.placed (omega arith) of.held);
+    next = ap (λ (n : ℕ). n + 1) of.next ∙ sym (next_of-push history (Open core.cycle mask));
+    waiting = sym pending-is ∙ ap (λ (l : List Placed). pending_at (plan_of rules l) (core.cycle + 1)) (sym (placed_of-push history (Open core.cycle mask)));
+    to_learn = ap (λ (b : Bool). if b then Some core.placed else None) (sym (is_changed-push history (Open core.cycle mask)));
+    counted = not-counted history (Open core.cycle mask) core.accepted refl of.counted;
+  }
+
+  -- An answer
+
+  module _ (caller : ℕ) (change : Change) (from : ℕ) (verdict : Verdict) (trail : List ℕ) (early : from ≤ core.cycle)
+      (held : IsHeld core.forgets from (placed_of history) core.placed) (right : IsRightAnswer core.rules history change from verdict trail) where
+    abbrev event : Event
+    event = Submit caller change from verdict trail
+
+    placed-by : (b : Bool) → is_accepted verdict ≡ b → placed_of (history ++ event ∷ []) ≡ (if b then applied whole change else whole)
+    placed-by b by = placed_of-push history event ∙ ap (λ (t : Bool). if t then applied whole change else whole) by
+
+    waiting-then : core.pending ≡ pending_at (plan_of rules (placed_of (history ++ event ∷ []))) core.cycle
+    waiting-then =
+        let next = of.next in
+        of.waiting ∙ sym ((same-of_legal rules history event of.legal right).pending core.cycle (omega arith))
+
+    next-then : core.cycle ≡ next_of (history ++ event ∷ [])
+    next-then = of.next ∙ sym (next_of-push history event ∙ add-zero (next_of history))
+
+    changed-then : (b : Bool) → is_accepted verdict ≡ b → is_changed (history ++ event ∷ []) ≡ (if b then true else is_changed history)
+    changed-then b by = is_changed-push history event ∙ ap (λ (t : Bool). if t then true else is_changed history) by
+
+    counted-then : (b : Bool) → is_accepted verdict ≡ b → core.accepted + cond b 1 0 ≡ accepted_of (history ++ event ∷ [])
+    counted-then b by =
+        ap (λ (n : ℕ). n + cond b 1 0) of.counted ∙ sym (accepted_of-push history event ∙ ap (λ (t : Bool). accepted_of history + cond t 1 0) by)
+
+    state-by : (b : Bool) → is_accepted verdict ≡ b
+        → IsStateOf (history ++ event ∷ [])
+        (if b then record core {
+          placed = kept_by core.forgets from (applied core.placed change);
+          learned = Some (kept_by core.forgets from (applied core.placed change));
+          accepted = core.accepted + 1;
+        } else core)
+    state-by true by = record {
+      legal = legal-push rules history event of.legal right;
+      held =
+          subst (λ (l : List Placed). IsHeld core.forgets core.cycle l (kept_by core.forgets from (applied core.placed change))) (sym (placed-by true by))
+          (held-applied core.forgets from core.cycle whole core.placed change early held);
+      next = next-then;
+      waiting = waiting-then;
+      to_learn = ap (λ (b : Bool). if b then Some (kept_by core.forgets from (applied core.placed change)) else None) (sym (changed-then true by));
+      counted = counted-then true by;
+    }
+    state-by false by = record {
+      legal = legal-push rules history event of.legal right;
+      held = subst (λ (l : List Placed). IsHeld core.forgets core.cycle l core.placed) (sym (placed-by false by)) of.held;
+      next = next-then;
+      waiting = waiting-then;
+      to_learn = of.to_learn ∙ ap (λ (b : Bool). if b then Some core.placed else None) (sym (changed-then false by));
+      counted = sym (add-zero core.accepted) ∙ counted-then false by;
+    }
+
+    pub state-answered : IsStateOf (history ++ event ∷ []) (answered_by core from change verdict)
+    state-answered = state-by (is_accepted verdict) refl
+
+  -- what is decided of the list that is kept is right
+
+  abbrev pub VerdictLaw : Type 0
+  VerdictLaw = (rules : Rules) (c from pending next : ℕ) (placed : List Placed) (change : Change) (verdict : Verdict) → c ≤ from → IsWellPlaced placed → rules.slots ≤ most_slots
+      → All HasTypes change.ops → IsVerdict rules (pruned c placed) pending from next change verdict → IsVerdict rules placed pending from next change verdict
+
+  abbrev pub TrailLaw : Type 0
+  TrailLaw = (rules : Rules) (c from pending next : ℕ) (placed : List Placed) (change : Change) (verdict : Verdict) → c ≤ from → IsWellPlaced placed → rules.slots ≤ most_slots
+      → All HasTypes change.ops → IsVerdict rules (pruned c placed) pending from next change verdict
+      → trail_of (plan_from rules (applied (pruned c placed) change) from pending) verdict ≡ trail_of (plan_from rules (applied placed change) from pending) verdict
+
+  module _ (verdicts : VerdictLaw) (trails : TrailLaw) (change : Change) (types : All HasTypes change.ops) (verdict : Verdict)
+      (decided : IsVerdict core.rules core.placed core.pending core.cycle core.cycle change verdict) where
+    verdict-whole : (forgets : Bool) → IsHeld forgets core.cycle whole core.placed
+        → IsVerdict rules whole core.pending core.cycle core.cycle change verdict
+        × (trail_of (plan_from rules (applied core.placed change) core.cycle core.pending) verdict ≡ trail_of (plan_from rules (applied whole change) core.cycle core.pending) verdict)
+    verdict-whole true held =
+        let on_pruned = subst (λ (l : List Placed). IsVerdict rules l core.pending core.cycle core.cycle change verdict) held.is decided in (
+          verdicts rules held.by core.cycle core.pending core.cycle whole change verdict held.early whole-well is.ranges.few_slots types on_pruned,
+          ap (λ (l : List Placed). trail_of (plan_from rules (applied l change) core.cycle core.pending) verdict) held.is
+              ∙ trails rules held.by core.cycle core.pending core.cycle whole change verdict held.early whole-well is.ranges.few_slots types on_pruned,
+        )
+    verdict-whole false held = (
+      subst (λ (l : List Placed). IsVerdict rules l core.pending core.cycle core.cycle change verdict) held decided,
+      ap (λ (l : List Placed). trail_of (plan_from rules (applied l change) core.cycle core.pending) verdict) held,
+    )
+
+    pub state-right : (trail : List ℕ) → trail ≡ trail_of (plan_from rules (applied core.placed change) core.cycle core.pending) verdict
+        → IsRightAnswer rules history change core.cycle verdict trail
+    state-right trail by =
+        let next = of.next in
+        let on_whole = verdict-whole core.forgets of.held in
+        right-by rules history whole is.ranges.few_slots refl change core.cycle verdict trail types
+        (subst (λ (n : ℕ). IsSince history n) (sym next) (since-now history)) (omega arith)
+        (subst (λ (n : ℕ). IsVerdict rules whole (pending_at (plan_of rules whole) core.cycle) core.cycle n change verdict) next
+        (subst (λ (q : ℕ). IsVerdict rules whole q core.cycle core.cycle change verdict) of.waiting on_whole.0))
+        (by ∙ on_whole.1 ∙ ap (λ (q : ℕ). trail_of (plan_from rules (applied whole change) core.cycle q) verdict) of.waiting)

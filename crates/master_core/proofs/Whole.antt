@@ -1,0 +1,133 @@
+-- A core that forgets nothing keeps all placed entries of its history.
+use Rattle.std.proofs.Common.{◌≡◌, ℕ, ◌+◌, ◌-◌, ◌^◌, ◌<◌, ◌≤◌, Bool, true, false, if◌then◌else◌, List, [], ◌∷◌, ◌++◌, Option, Some, None, Result, Ok, Err, IfOk, length, refl, sym, ap, ◌∙◌, subst, zero-add, arith}
+use Rattle.requirement_table.specs.declared.entries.Order.{Order}
+use Rattle.requirement_table.specs.declared.entries.Placed.{Placed}
+use Rattle.requirement_table.specs.Table.{not_over}
+use Rattle.change_protocol.specs.declared.operations.Change.{Change}
+use Rattle.change_protocol.specs.Applied.{applied}
+use Rattle.planner_policies.specs.Plan.{Planning, pending_at}
+use Rattle.admission.specs.declared.verdict.Verdict.{Verdict}
+use Rattle.admission.specs.Verdict.{IsVerdict, is_accepted, plan_from, ranking_by}
+use Rattle.master_core.specs.declared.answer.Answer.{Answer}
+use Rattle.master_core.specs.declared.answer.Made.{Made}
+use Rattle.master_core.specs.declared.event.Event.{Event}
+use Rattle.master_core.specs.declared.event.Event.TheVariants.{Submit}
+use Rattle.master_core.specs.Apart.{snapshot_of}
+use Rattle.master_core.specs.Answers.{AreMadeTo, IsAnswer, IsAnswerTo, IsMade}
+use Rattle.master_core.specs.Cores.{CoreView, IsCore, IsCoreOrder, IsHeld, IsStateOf, answered_by, kept_by}
+use Rattle.admission_rules.specs.declared.Rules.{Rules}
+use Rattle.master_core.specs.History.{IsPlainlyLegal, IsPlannedNow, IsRightAnswer, is_changed, learned_of, next_of, placed_of, plan_of}
+use Rattle.master_core.specs.Keeping.{IsKept}
+use Rattle.master_core.specs.Orders.{IsOrder}
+use Rattle.master_core.proofs.Histories.{plain-push}
+use Rattle.master_core.proofs.Onward.{later-pending, later_plan}
+use Rattle.master_core.proofs.States.{state-order}
+
+module _ (history : List Event) (core : CoreView) (is : IsCore core) (of : IsStateOf history core) (all : core.forgets ≡ false) where
+  pub placed-is : core.placed ≡ placed_of history
+  placed-is = subst (λ (b : Bool). IsHeld b core.cycle (placed_of history) core.placed) all of.held
+
+  pub learned-is : core.learned ≡ learned_of history
+  learned-is = of.to_learn ∙ ap (λ (l : List Placed). if is_changed history then Some l else None) placed-is
+
+  pub whole-held : (from : ℕ) → IsHeld core.forgets from (placed_of history) core.placed
+  whole-held from = subst (λ (b : Bool). IsHeld b from (placed_of history) core.placed) (sym all) placed-is
+
+  pub whole-kept : IsKept core.rules history core.placed core.cycle (ranking_by core.rules (not_over core.cycle core.placed)) core.cycle core.pending core.learned
+  whole-kept = record {
+    ranges = is.ranges;
+    legal = of.legal;
+    placed = placed-is;
+    next = of.next;
+    near = is.near;
+    waiting = of.waiting ∙ ap (λ (l : List Placed). pending_at (plan_of core.rules l) core.cycle) (sym placed-is);
+    passed = omega arith;
+    left = refl;
+    to_learn = learned-is;
+  }
+
+  pub whole-order : (order : Order) → IsCoreOrder core order → IsOrder core.rules history order
+  whole-order order by =
+      subst (λ (o : Option (List Placed)). IsOrder core.rules history (record order { learned = o })) (sym (by.learned ∙ learned-is))
+      (state-order history core is of order by)
+
+  pub whole-snapshot : record {
+    rules = core.rules;
+    placed = core.placed;
+    state = record { cycle = core.cycle; pending = core.pending };
+    accepted = core.accepted;
+  } ≡ snapshot_of core.rules history
+  whole-snapshot = rw (of.waiting, of.counted, placed-is, of.next) refl
+
+  -- an answer to the core is one after the history, and the other way round
+  module _ (answer : Answer) where
+    kept-all : (from : ℕ) (placed : List Placed) → kept_by core.forgets from placed ≡ placed
+    kept-all from placed = ap (λ (b : Bool). kept_by b from placed) all
+
+    whole-made : (made : Option Made) → AreMadeTo core answer made → IsMade core.rules history answer made
+    whole-made None refused = refused
+    whole-made (Some made) by = record {
+      accepted = by.accepted;
+      placed = by.placed ∙ kept-all answer.from (applied core.placed answer.change) ∙ ap (λ (l : List Placed). applied l answer.change) placed-is;
+      since = by.since;
+      ranked = by.ranked;
+      learned = by.learned;
+    }
+
+    core-made : (made : Option Made) → IsMade core.rules history answer made → AreMadeTo core answer made
+    core-made None refused = refused
+    core-made (Some made) by = record {
+      accepted = by.accepted;
+      placed = by.placed ∙ ap (λ (l : List Placed). applied l answer.change) (sym placed-is) ∙ sym (kept-all answer.from (applied core.placed answer.change));
+      since = by.since;
+      ranked = by.ranked;
+      learned = by.learned;
+    }
+
+    pub whole-answer : IsRightAnswer core.rules history answer.change answer.from answer.verdict answer.trail → IsAnswerTo core answer
+        → IsAnswer core.rules history answer
+    whole-answer right to = record { right = right; made = whole-made answer.made to.made }
+
+    pub core-answer : IsAnswer core.rules history answer → IsAnswerTo core answer
+    core-answer by =
+        let right = by.right in
+        let opened = right.opened in
+        let next = of.next in
+        let early : answer.from ≤ core.cycle = omega arith in
+        let there : answer.from + (core.cycle - answer.from) ≡ core.cycle = omega arith in
+        let set : ℕ = pending_at (plan_of core.rules (placed_of history)) answer.from in
+        record {
+          types = right.types;
+          early = early;
+          pending = set;
+          leads =
+              of.waiting
+              ∙ ap (pending_at (plan_of core.rules (placed_of history))) (sym there)
+              ∙ later-pending (plan_of core.rules (placed_of history)) answer.from (core.cycle - answer.from)
+              ∙ ap (λ (n : ℕ). pending_at (plan_from core.rules (placed_of history) n set) (core.cycle - answer.from)) (zero-add answer.from)
+              ∙ ap (λ (l : List Placed). pending_at (plan_from core.rules l answer.from set) (core.cycle - answer.from)) (sym placed-is);
+          verdict =
+              subst (λ (l : List Placed). IsVerdict core.rules l set answer.from core.cycle answer.change answer.verdict) (sym placed-is)
+              (subst (λ (n : ℕ). IsVerdict core.rules (placed_of history) set answer.from n answer.change answer.verdict) (sym of.next) right.answer);
+          made = core-made answer.made by.made;
+        }
+
+-- an answer changes neither the rules nor whether a core forgets
+of-either : (b : Bool) (one other : CoreView) → one.rules ≡ other.rules → one.forgets ≡ other.forgets
+    → ((if b then one else other).rules ≡ other.rules) × ((if b then one else other).forgets ≡ other.forgets)
+of-either true one other rules forgets = (rules, forgets)
+of-either false one other rules forgets = (refl, refl)
+
+pub answered-same : (core : CoreView) (from : ℕ) (change : Change) (verdict : Verdict)
+    → ((answered_by core from change verdict).rules ≡ core.rules) × ((answered_by core from change verdict).forgets ≡ core.forgets)
+answered-same core from change verdict = of-either (is_accepted verdict) _ core refl refl
+
+pub plain-more : (history : List Event) (event : Event) (old new : CoreView) → new.rules ≡ old.rules → IsPlannedNow history event
+    → IsStateOf (history ++ event ∷ []) new → IsPlainlyLegal old.rules history → IsPlainlyLegal new.rules (history ++ event ∷ [])
+plain-more history event old new same now of was =
+    plain-push new.rules history event now of.legal (subst (λ (r : Rules). IsPlainlyLegal r history) (sym same) was)
+
+-- where both hold of a result, what follows from both holds of it
+pub both-ok : {X E : Type 0} (result : Result X E) (P Q R : X → Type 0) → ((x : X) → P x → Q x → R x) → IfOk result P → IfOk result Q → IfOk result R
+both-ok (Ok x) P Q R by p q = by x p q
+both-ok (Err e) P Q R by p q = tt

@@ -1,0 +1,336 @@
+//! The core of a master: what it keeps besides its history.
+
+ghost use Rattle.std.specs.Prelude.{◌≡◌, ◌+◌, ◌^◌, ◌<◌, ◌≤◌, ◌++◌, ◌∷◌, [], List, ℕ, true, IfOk, OnErr, length};
+ghost use Rattle.profile.specs.Limits.{openings_end};
+ghost use Rattle.change_protocol.specs.Applied.{applied};
+ghost use Rattle.planner_policies.specs.Plan.{mask_at};
+ghost use Rattle.admission.specs.Verdict.{IsInTime, IsRules, IsTakenWhereDue, plan_from};
+ghost use Rattle.master_core.specs.Answers.{IsAnswerTo, entries_of};
+ghost use Rattle.master_core.specs.Cores.{IsAnswered, IsCore, IsCoreOrder, IsCoreUpcoming, IsHeld, IsStateOf};
+ghost use Rattle.master_core.specs.Cores.{answered_by, most_kept, new_core, onward, opened};
+ghost use Rattle.master_core.specs.History.{IsRightAnswer, placed_of};
+ghost use Rattle.master_core.specs.declared.event.Event.{Event};
+ghost use Rattle.master_core.specs.declared.event.Event.TheVariants.{Submit, Look, Open};
+
+use crate::answer::{Answer, answer_of, keep, take_over};
+use crate::answered::Answered;
+use crate::planning::plan_next;
+use crate::table::Table;
+use crate::upcoming::Upcoming;
+use admission::Rules;
+use admission::laws::pruned_lists;
+use change_protocol::Change;
+use planner_policies::laws::loops;
+use planner_policies::{PlanState, cycle_mask};
+use requirement_table::{Mask, Order, Placed, PlacedList};
+use std::alloc::{AllocError, Global};
+use std::marker::Model;
+
+/// The most entries that a core keeps where it forgets.
+pub const MOST_KEPT: usize = 4_096;
+
+/// The core of a master: the rules, the placed entries, where their plan stands, and what the nodes are to learn. It
+/// has no history, and its memory does not grow with the cycles that it opens.
+#[derive(Drop, Debug)]
+pub struct Core {
+    rules: Rules,
+    table: Table,
+    /// The next cycle, and the slots that are pending before it.
+    state: PlanState,
+    /// The placed entries as the nodes are to learn them, where they changed since the last opening.
+    learned: Option<PlacedList>,
+    /// The number of changes that were accepted.
+    accepted: u64,
+    /// Whether the entries that no answer needs any more are dropped where a change is accepted.
+    forgets: bool,
+}
+
+impl Model for Core {
+    ghost use Rattle.master_core.specs.Cores.{CoreView, IsCore, IsRanked};
+
+    ghost Value = { CoreView };
+
+    ghost view = { λ m. record {
+      rules = m.rules;
+      placed = m.table.placed.items;
+      cycle = m.state.cycle;
+      pending = m.state.pending;
+      learned = m.learned;
+      accepted = m.accepted;
+      forgets = m.forgets;
+    } };
+
+    ghost invariant = { λ m. let core : CoreView = record {
+      rules = m.rules;
+      placed = m.table.placed.items;
+      cycle = m.state.cycle;
+      pending = m.state.pending;
+      learned = m.learned;
+      accepted = m.accepted;
+      forgets = m.forgets;
+    } in IsCore core × IsRanked core m.table.since m.table.planner.ranking };
+}
+
+impl Core {
+    /// A core with these rules, which was not called yet. The rules have 1 to 30 nodes, 40 or 96 slots, a window of 55
+    /// to 16,383 bit times and a horizon of 1 to 100,000 cycles. Where it forgets, it drops the entries that no answer
+    /// needs any more, each time that it accepts a change.
+    ///
+    /// # Errors
+    ///
+    /// Only where memory runs out.
+    pub fn new(alloc: Global, rules: Rules, forgets: bool) -> Result<Core, AllocError>
+        requires rules { IsRules rules }
+        ensures core { IfOk result (λ core. core ≡ new_core rules forgets) }
+        ensures history { IfOk result (IsStateOf []) }
+    {
+        let table = Table::of(alloc, Vec::new(alloc), 0, &rules)?;
+        Ok(Core {
+            rules,
+            table,
+            state: PlanState {
+                cycle: 0,
+                pending: Mask::empty(),
+            },
+            learned: None,
+            accepted: 0,
+            forgets,
+        })
+    }
+
+    /// Answers a change, which is planned from the next cycle on. The list changes only where the verdict is
+    /// `Accepted`.
+    ///
+    /// # Errors
+    ///
+    /// Where memory runs out, where 2^64 - 1 changes were accepted, and where the core forgets and its list would have
+    /// more than 4,096 entries. Nothing is changed then, and the call may be made again.
+    pub fn submit(&mut self, alloc: Global, change: &Change) -> Result<Answered, AllocError>
+        ensures answer { IfOk result (IsAnswered self.old change.now) }
+        ensures state { IfOk result (λ answered.
+            self.new ≡ answered_by self.old answered.from change.now answered.verdict) }
+        ensures same { OnErr result (self.new ≡ self.old) }
+        ensures complete { let plan = plan_from self.old.rules (applied self.old.placed change.now)
+            self.old.cycle self.old.pending in
+            IfOk result (λ answered. IsInTime self.old.rules self.old.placed self.old.cycle change.now
+            → IsTakenWhereDue self.old.rules plan answered.verdict) }
+        ensures history { IfOk result (λ answered. (history : List Event) (caller : ℕ) → IsStateOf history self.old
+            → IsStateOf (history
+            ++ Submit caller change.now answered.from answered.verdict answered.trail ∷ []) self.new) }
+    {
+        let answer = self.plan_change(alloc, change)?;
+        if !self.has_room(&answer) {
+            return Err(AllocError);
+        }
+        let (_, answered) = self.put(answer);
+        Ok(answered)
+    }
+
+    /// Plans a change from the next cycle on, and takes all memory that its answer needs.
+    pub(crate) fn plan_change(&self, alloc: Global, change: &Change) -> Result<Answer, AllocError>
+        ensures answer { IfOk result (IsAnswerTo self.now) }
+        ensures change { IfOk result (λ answer. answer.change ≡ change.now) }
+        ensures answered { IfOk result (λ answer. IsAnswered self.now change.now
+            (record { from = answer.from; verdict = answer.verdict; trail = answer.trail })) }
+        ensures complete { let plan = plan_from self.now.rules (applied self.now.placed change.now)
+            self.now.cycle self.now.pending in
+            IfOk result (λ answer. IsInTime self.now.rules self.now.placed self.now.cycle change.now
+            → IsTakenWhereDue self.now.rules plan answer.verdict) }
+        ensures right { IfOk result (λ answer. (history : List Event) → IsStateOf history self.now
+            → IsRightAnswer self.now.rules history answer.change answer.from answer.verdict answer.trail) }
+    {
+        pruned_lists();
+        let Answer {
+            change,
+            from,
+            verdict,
+            trail,
+            made,
+        } = answer_of(
+            alloc,
+            &self.rules,
+            self.table.placed.as_slice(),
+            &self.state,
+            change,
+        )?;
+        let made = keep(made, self.forgets, from);
+        Ok(Answer {
+            change,
+            from,
+            verdict,
+            trail,
+            made,
+        })
+    }
+
+    /// Whether one accepted change more can be counted, and the list that the answer makes may be kept.
+    fn has_room(&self, answer: &Answer) -> bool
+        ensures few { result ≡ true → self.now.accepted + 1 < 2 ^ 64 }
+        ensures short { result ≡ true → self.now.forgets ≡ true → entries_of answer.now.made ≤ most_kept }
+    {
+        self.accepted < u64::MAX && (!self.forgets || answer.entries() <= MOST_KEPT)
+    }
+
+    /// Takes what an answer made, and gives the change back, with what is answered. It takes no memory.
+    pub(crate) fn put(&mut self, answer: Answer) -> (Change, Answered)
+        requires few { self.old.accepted + 1 < 2 ^ 64 }
+        requires short { self.old.forgets ≡ true → entries_of answer.made ≤ most_kept }
+        requires answer { IsAnswerTo self.old answer }
+        ensures change { result.0 ≡ answer.change }
+        ensures answered { result.1
+            ≡ record { from = answer.from; verdict = answer.verdict; trail = answer.trail } }
+        ensures state { self.new ≡ answered_by self.old answer.from answer.change answer.verdict }
+        ensures history { (history : List Event) (caller : ℕ) → IsStateOf history self.old
+            → IsHeld self.old.forgets answer.from (placed_of history) self.old.placed
+            → IsRightAnswer self.old.rules history answer.change answer.from answer.verdict answer.trail
+            → IsStateOf (history
+            ++ Submit caller answer.change answer.from answer.verdict answer.trail ∷ []) self.new }
+    {
+        loops();
+        pruned_lists();
+        let Answer {
+            change,
+            from,
+            verdict,
+            trail,
+            made,
+        } = answer;
+        take_over(made, &mut self.table, &mut self.learned);
+        self.accepted += u64::from(verdict.is_accepted());
+        let answered = Answered {
+            from,
+            verdict,
+            trail,
+        };
+        (change, answered)
+    }
+
+    /// Plans and opens the next cycle, below 2^41. No deadline is missed in it, nor in any later one. It takes no
+    /// memory.
+    pub fn open(&mut self) -> Order
+        requires next { self.old.cycle < openings_end }
+        ensures order { IsCoreOrder self.old result }
+        ensures state { self.new ≡ opened self.old }
+        ensures history { (history : List Event) → IsStateOf history self.old
+            → IsStateOf (history ++ Open result.cycle result.mask ∷ []) self.new }
+    {
+        let upcoming = self.plan_next();
+        self.open_upcoming(upcoming)
+    }
+
+    /// Plans the next cycle, below 2^41, and leaves the core as it is. It takes no memory.
+    pub(crate) fn plan_next(&mut self) -> Upcoming
+        requires next { self.old.cycle < openings_end }
+        ensures same { self.new ≡ self.old }
+        ensures upcoming { IsCoreUpcoming self.old result }
+    {
+        let planned = self.table.plan_next(self.rules.window, &self.state);
+        Upcoming {
+            mask: planned.mask,
+            l: planned.width,
+            next: planned.next,
+        }
+    }
+
+    /// What `open` would open now; the next cycle is below 2^41. It takes no memory.
+    pub fn upcoming(&self) -> Upcoming
+        requires next { self.now.cycle < openings_end }
+        ensures upcoming { IsCoreUpcoming self.now result }
+    {
+        let planner_policies::Planned { mask, width, next } = plan_next(
+            self.table.planner.ranked(),
+            self.rules.window,
+            &self.state,
+        );
+        Upcoming {
+            mask,
+            l: width,
+            next,
+        }
+    }
+
+    /// Opens the next cycle, below 2^41, as `open` does, by what is upcoming now: the cycle is not planned again. It
+    /// takes no memory.
+    pub fn open_upcoming(&mut self, upcoming: Upcoming) -> Order
+        requires next { self.old.cycle < openings_end }
+        requires upcoming { IsCoreUpcoming self.old upcoming }
+        ensures order { IsCoreOrder self.old result }
+        ensures state { self.new ≡ opened self.old }
+        ensures history { (history : List Event) → IsStateOf history self.old
+            → IsStateOf (history ++ Open result.cycle result.mask ∷ []) self.new }
+    {
+        loops();
+        let cycle = self.state.cycle;
+        let Upcoming { mask, l, next } = upcoming;
+        self.table.pass(&next);
+        self.state = next;
+        Order {
+            cycle,
+            mask,
+            l,
+            learned: self.learned.take(),
+        }
+    }
+
+    /// The slots that `open` would flag now; the next cycle is below 2^41.
+    pub fn planned(&self) -> Mask
+        requires next { self.now.cycle < openings_end }
+        ensures mask { result ≡ mask_at (onward self.now) 0 }
+    {
+        cycle_mask(self.table.planner.ranked(), self.rules.window, &self.state)
+    }
+
+    /// The next cycle to be opened, at most 2^41. An operator who looks at it leaves the core as it is.
+    pub fn next(&self) -> u64
+        ensures next { result ≡ self.now.cycle }
+        ensures near { result ≤ openings_end }
+        ensures looked { (history : List Event) (caller : ℕ) → IsStateOf history self.now
+            → IsStateOf (history ++ Look caller result ∷ []) self.now }
+    {
+        self.state.cycle
+    }
+
+    /// The next cycle, and the slots that are pending before it: what `open` plans from.
+    pub fn state(&self) -> PlanState
+        ensures cycle { result.cycle ≡ self.now.cycle }
+        ensures pending { result.pending ≡ self.now.pending }
+    {
+        self.state
+    }
+
+    /// The placed entries that are kept, in the order of their placing.
+    pub fn placed(&self) -> &[Placed]
+        ensures list { result.now ≡ self.now.placed }
+        ensures few { self.now.forgets ≡ true → length result.now ≤ most_kept }
+    {
+        self.table.placed.as_slice()
+    }
+
+    /// Law: what holds of every core.
+    pub fn known(&self)
+        ensures core { IsCore self.now }
+    {
+        let _accepted = self.accepted;
+    }
+
+    /// The rules by which changes are judged.
+    pub fn rules(&self) -> Rules
+        ensures rules { result ≡ self.now.rules }
+    {
+        self.rules
+    }
+
+    /// Whether it drops the entries that no answer needs any more.
+    pub fn forgets(&self) -> bool
+        ensures forgets { result ≡ self.now.forgets }
+    {
+        self.forgets
+    }
+
+    /// The number of changes that were accepted.
+    pub fn accepted(&self) -> u64
+        ensures accepted { result ≡ self.now.accepted }
+    {
+        self.accepted
+    }
+}
