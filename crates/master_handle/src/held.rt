@@ -1,0 +1,14 @@
+//! What a handle can hold.
+
+use admission::Trail;
+use master_core::Core;
+use standby::Standby;
+
+/// What a handle holds.
+#[derive(Drop)]
+pub enum Held {
+    /// A master, and the slots that were flagged up to the miss that its last answer told: nothing after other answers.
+    Master { core: Core, trail: Trail },
+    /// A standby that follows.
+    Standby { standby: Standby },
+}
