@@ -1,1 +1,2 @@
 mod Silent
+mod Safe

@@ -1,7 +1,9 @@
 pub mod Admit
 pub mod Checked
 pub mod Framing
+pub mod Mastering
 pub mod Plain
+pub mod Reading
 pub mod Refused
 pub mod Room
 pub mod Told

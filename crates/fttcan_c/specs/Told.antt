@@ -10,6 +10,11 @@ use Rattle.change_protocol.specs.declared.malformed.Why.TheVariants.{NoOps, TooM
 use Rattle.change_protocol.specs.declared.malformed.Why.TheVariants.{SlotTwice, NodeUnknown, LengthRange}
 use Rattle.change_protocol.specs.declared.malformed.Why.TheVariants.{PeriodZero, DeadlineRange, SlotBusy, SlotEmpty}
 use Rattle.change_protocol.specs.Code.{code_of}
+use Rattle.planner_policies.specs.declared.Policy.{Policy}
+use Rattle.planner_policies.specs.declared.Policy.TheVariants.{Rm, Dm, Edf}
+use Rattle.planner_policies.specs.declared.Fill.{Fill}
+use Rattle.planner_policies.specs.declared.Fill.TheVariants.{Prefix, Skip}
+use Rattle.admission_rules.specs.declared.Rules.{Rules}
 use Rattle.plan_check.specs.declared.breach.Breach.{Breach}
 use Rattle.plan_check.specs.declared.breach.Breach.TheVariants as breach
 use Rattle.admission.specs.declared.verdict.Verdict.{Verdict}
@@ -18,6 +23,7 @@ use Rattle.fttcan_c.specs.declared.plain.FttBreach.{FttBreach}
 use Rattle.fttcan_c.specs.declared.plain.FttFrame.{FttFrame}
 use Rattle.fttcan_c.specs.declared.plain.FttMask.{FttMask}
 use Rattle.fttcan_c.specs.declared.plain.FttPlaced.{FttPlaced}
+use Rattle.fttcan_c.specs.declared.plain.FttRules.{FttRules}
 use Rattle.fttcan_c.specs.declared.plain.FttVerdict.{FttVerdict}
 
 -- the two words of a set of slots
@@ -41,6 +47,26 @@ place_told count (wire.Crc sent computed) = count
 place_told count (wire.Short have) = have
 place_told count (wire.Tail place) = place
 place_told count wire.Memory = count
+
+-- rules
+abbrev pub policy_told : Policy → ℕ
+policy_told Rm = 0
+policy_told Dm = 1
+policy_told Edf = 2
+
+abbrev pub fill_told : Fill → ℕ
+fill_told Prefix = 0
+fill_told Skip = 1
+
+abbrev pub rules_told : Rules → FttRules
+rules_told rules = record {
+  horizon = rules.horizon;
+  window = rules.window;
+  nodes = rules.nodes;
+  slots = rules.slots;
+  policy = policy_told rules.policy;
+  fill = fill_told rules.fill;
+}
 
 -- whether there is an end, and which
 abbrev pub end_told : Option ℕ → ℕ × ℕ

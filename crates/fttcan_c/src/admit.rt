@@ -4,7 +4,7 @@ ghost use Rattle.std.specs.Prelude.{◌≡◌, ◌≢◌, ◌<◌, ◌≤◌, �
 ghost use Rattle.profile.specs.Limits.{cycles_end, openings_end};
 ghost use Rattle.planner_policies.specs.Plan.{IsValid};
 ghost use Rattle.requirement_table.specs.Table.{IsWellPlaced};
-ghost use Rattle.admission.specs.Verdict.{IsRules, ranking_by};
+ghost use Rattle.admission.specs.Verdict.{IsRules, IsSafe, ranking_by};
 ghost use Rattle.fttcan_c.specs.declared.plain.FttPlaced.{FttPlaced as FttPlacedOf};
 ghost use Rattle.fttcan_c.specs.declared.plain.FttVerdict.{FttVerdict as FttVerdictOf};
 ghost use Rattle.fttcan_c.specs.declared.refusal.Refusal.{Refusal as RefusalOf};
@@ -212,6 +212,11 @@ pub extern "C" fn fttcan_open(
     plan: &mut FttPlan,
 ) -> u32
     ensures opened { result ≡ 0 → IsOpened rules.now placed.now state.old state.new plan.new }
+    ensures safe { result ≡ 0
+        → IsSafe (rules_of rules.now) (table_of placed.now) state.old.cycle (mask_of state.old.pending)
+        → IsSafe (rules_of rules.now) (table_of placed.now) state.new.cycle (mask_of state.new.pending) }
+    ensures in_time { IsSafe (rules_of rules.now) (table_of placed.now) state.old.cycle (mask_of state.old.pending)
+        → result ≢ 6 }
     ensures refused { result ≢ 0 → (state.new ≡ state.old) × (plan.new ≡ plan.old)
         × ((refusal : RefusalOf) × (result ≡ status_of refusal)
         × RefusesOpening rules.now placed.now state.old refusal) }

@@ -8,11 +8,15 @@ mod admit;
 mod checked;
 mod frames;
 pub mod laws;
+mod master;
 mod plain;
 mod plain_in;
 mod plain_out;
+mod reading;
 mod refusal;
 mod room;
+#[cfg(test)]
+mod tests;
 mod triggers;
 mod version;
 
@@ -21,9 +25,15 @@ pub use checked::fttcan_check;
 pub use frames::{
     fttcan_fits, fttcan_payload, fttcan_read_wire, fttcan_wire_bits, fttcan_wire_length,
 };
+pub use master::{fttcan_master_free, fttcan_master_new, fttcan_master_open, fttcan_master_submit};
+pub use master_handle::FttHandle;
 pub use plain::{
-    FttBreach, FttEntry, FttFrame, FttLayout, FttMask, FttOp, FttPlaced, FttPlan, FttRules,
-    FttState, FttTrigger, FttVerdict,
+    FttBreach, FttEntry, FttFrame, FttLayout, FttMask, FttOp, FttOrder, FttPlaced, FttPlan,
+    FttRules, FttState, FttTrigger, FttVerdict,
+};
+pub use reading::{
+    fttcan_master_look, fttcan_master_next, fttcan_master_planned, fttcan_master_rules,
+    fttcan_master_table, fttcan_master_trail,
 };
 pub use refusal::{OK, Refusal};
 pub use triggers::{fttcan_trigger_decode, fttcan_trigger_encode};

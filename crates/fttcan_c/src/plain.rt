@@ -104,6 +104,17 @@ pub struct FttPlan {
     pub window: u32,
 }
 
+/// What a master orders for a cycle: its number, the flagged slots, and the length of its synchronous window in bit
+/// times. `learned` is 1 where the table changed since the last opening, so that the nodes are to be told it.
+#[repr(C)]
+#[derive(Clone, Copy, PartialEq, Eq, Debug)]
+pub struct FttOrder {
+    pub cycle: u64,
+    pub flags: FttMask,
+    pub window: u32,
+    pub learned: u8,
+}
+
 /// Why a plan does not keep a table. Its kind is 0 badloop (the slot), 1 notreleased (the cycle `first`, the slot), 2
 /// toowide (the cycle `first`, the sum `second` in bit times), 3 missed (the slot, the release `first`, the last cycle
 /// `second`) and 4 notclosed (the slot). A number that its kind does not name is 0.

@@ -2,13 +2,14 @@
 
 ghost use Rattle.std.specs.Prelude.{◌≡◌, IfOk, map};
 ghost use Rattle.fttcan_c.specs.Plain.{mask_of};
-ghost use Rattle.fttcan_c.specs.Told.{breach_told, frame_told, mask_told, put_of, told};
+ghost use Rattle.fttcan_c.specs.Told.{breach_told, frame_told, mask_told, put_of, rules_told, told};
 
-use crate::plain::{FttBreach, FttEntry, FttFrame, FttMask, FttPlaced, FttVerdict};
-use admission::Verdict;
+use crate::plain::{FttBreach, FttEntry, FttFrame, FttMask, FttPlaced, FttRules, FttVerdict};
+use admission::{Rules, Verdict};
 use can_frame::Frame;
 use change_protocol::Why;
 use plan_check::Breach;
+use planner_policies::{Fill, Policy};
 use requirement_table::{Mask, Placed};
 use std::alloc::{AllocError, Global};
 
@@ -72,6 +73,34 @@ pub fn table_out(alloc: Global, placed: &[Placed]) -> Result<Vec<FttPlaced>, All
     ensures list { IfOk result (λ list. list.items ≡ map put_of placed.now) }
 {
     placed.iter().map(one_placed_out).collect(alloc)
+}
+
+/// Sets of slots.
+pub fn masks_out(alloc: Global, masks: &[Mask]) -> Result<Vec<FttMask>, AllocError>
+    ensures list { IfOk result (λ list. list.items ≡ map mask_told masks.now) }
+{
+    masks.iter().map(|mask| mask_out(*mask)).collect(alloc)
+}
+
+/// Rules.
+pub fn rules_out(rules: &Rules) -> FttRules
+    ensures told { result ≡ rules_told rules.now }
+{
+    FttRules {
+        horizon: rules.horizon,
+        window: rules.window,
+        nodes: rules.nodes,
+        slots: rules.slots,
+        policy: match rules.policy {
+            Policy::Rm => 0,
+            Policy::Dm => 1,
+            Policy::Edf => 2,
+        },
+        fill: match rules.fill {
+            Fill::Prefix => 0,
+            Fill::Skip => 1,
+        },
+    }
 }
 
 /// A verdict.
