@@ -1,11 +1,10 @@
 -- A change that is accepted by a plan from an earlier cycle is accepted too where it is planned from the next cycle.
 use Rattle.std.proofs.Common.{◌≡◌, ℕ, ◌+◌, ◌≤◌, true, false, List, refl, sym, ap, ◌∙◌, subst, zero-add, arith}
-use Rattle.std.proofs.Math.Nat.{le_trans}
 use Rattle.requirement_table.specs.declared.entries.Placed.{Placed}
 use Rattle.change_protocol.specs.declared.operations.Change.{Change}
 use Rattle.change_protocol.specs.Applied.{applied}
 use Rattle.change_protocol.proofs.Shared.{changed-applied}
-use Rattle.planner_policies.specs.Plan.{NeverMisses, Planning, is_missed_at, pending_at}
+use Rattle.planner_policies.specs.Plan.{NeverMisses, is_missed_at, pending_at}
 use Rattle.planner_policies.proofs.Shared.{on-missed}
 use Rattle.admission_rules.specs.declared.Rules.{Rules}
 use Rattle.admission.specs.declared.verdict.Verdict.{Verdict}

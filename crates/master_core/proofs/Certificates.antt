@@ -16,11 +16,12 @@ use Rattle.admission_rules.specs.declared.Rules.{Rules}
 use Rattle.admission.specs.declared.certify_fault.CertifyFault.{CertifyFault}
 use Rattle.admission.specs.declared.certify_fault.CertifyFault.TheVariants.{Memory, Miss, NoRepeat}
 use Rattle.admission.specs.declared.verdict.Verdict.{Verdict}
-use Rattle.admission.specs.Certified.{IsCertificateOf, IsFaultOnPlan, end_of}
+use Rattle.admission.specs.Certified.{IsCertificateFrom, IsCertificateOf, IsFaultOnPlan, end_of}
 use Rattle.admission.specs.Recurrence.{HasNoRecurrence, IsRecurrence}
 use Rattle.admission.specs.Verdict.{IsInTime, IsTakenWhereDue, masks_of, plan_from}
 use Rattle.master_core.specs.declared.event.Event.{Event}
 use Rattle.master_core.specs.declared.event.Event.TheVariants.{Submit, Look, Open}
+use Rattle.master_core.specs.Cores.{CoreView, IsCore, onward, state_of}
 use Rattle.master_core.specs.Certificates.{IsCertificateOfPlan, onward_of}
 use Rattle.master_core.specs.History.{next_of, placed_of, plan_of}
 use Rattle.master_core.specs.Keeping.{IsKept}
@@ -95,6 +96,26 @@ fault-memory horizon plan (Miss slot release cycle) never recurs is =
     absurd (let both : true ≡ false = sym miss.missed ∙ not in cc)
 fault-memory horizon plan (NoRepeat walked) never recurs is = absurd (recurs is.1)
 fault-memory horizon plan Memory never recurs is = refl
+
+-- a core has a certificate
+
+pub core-no_fault : (core : CoreView) → IsCore core → (fault : CertifyFault) → IsFaultOnPlan core.rules.horizon (onward core) fault → fault ≡ Memory
+core-no_fault core is fault at =
+    fault-memory core.rules.horizon (onward core) fault is.safe.safe.in_time
+    (λ none.
+    let repeat = is.safe.repeats in
+    let within = repeat.within in
+    let past = none repeat.period repeat.one repeat.other repeat.least_common repeat.before repeat.alike in
+    omega arith)
+    at
+
+pub core-end : (core : CoreView) → IsCore core → (certificate : CertificateView) → IsCertificateFrom core.rules core.placed (state_of core) certificate
+    → end_of certificate ≤ 2 ^ 42
+core-end core is certificate of =
+    let within = of.repeats.2 in
+    let near = is.safe.near in
+    let few = is.safe.in_range.near_horizon in
+    omega arith
 
 -- what is known of the verdict on a change behind a history
 abbrev pub IsDue : Rules → List Event → Change → Verdict → Type 0

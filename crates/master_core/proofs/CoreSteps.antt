@@ -1,37 +1,34 @@
 -- What each call keeps of a core.
-use Rattle.std.proofs.Common.{◌≡◌, ℕ, suc, ◌+◌, ◌-◌, ◌^◌, ◌<◌, ◌≤◌, Bool, true, false, cond, if◌then◌else◌, List, [], Option, Some, None, All, length, option_map, refl, sym, ap, ◌∙◌, subst, arith}
+use Rattle.std.proofs.Common.{◌≡◌, ℕ, ◌+◌, ◌-◌, ◌^◌, ◌<◌, ◌≤◌, Bool, true, false, cond, if◌then◌else◌, List, Option, Some, None, IfSome, All, is_some, length, option_map, refl, sym, ap, ◌∙◌, subst, arith}
 use Rattle.std.proofs.lemmas.List.Elements.{All-nil}
 use mir.Val.{bool_byte}
 use Rattle.profile.specs.Limits.{openings_end}
 use Rattle.requirement_table.specs.declared.entries.Placed.{Placed}
 use Rattle.requirement_table.specs.Slots.{contains_slot, most_slots}
-use Rattle.requirement_table.specs.Table.{IsWellPlaced, not_over}
+use Rattle.requirement_table.specs.Table.{not_over}
 use Rattle.requirement_table.proofs.Shared.{contains_slot-none, set_of-below, set_of-contains_slot, set_of-same}
-use Rattle.change_protocol.specs.declared.operations.Change.{Change}
 use Rattle.change_protocol.specs.Applied.{applied}
-use Rattle.change_protocol.specs.Pruned.{pruned}
 use Rattle.change_protocol.proofs.Shared.{changed-applied, not_over-pruned}
-use Rattle.planner_policies.specs.Plan.{IsValid, NeverMisses, Ranking, pending_at, pending_before}
+use Rattle.planner_policies.specs.Plan.{IsValid, Ranking, pending_at, pending_before}
 use Rattle.planner_policies.proofs.Shared.{before-first}
 use Rattle.admission_rules.specs.declared.Rules.{Rules}
-use Rattle.admission.specs.Verdict.{IsRules, IsVerdict, IsVerdictOnPlan, bounds_by, is_accepted, placed_with, plan_from, ranking_by}
+use Rattle.admission.specs.Safe.{IsSafeWithin}
+use Rattle.admission.specs.Verdict.{IsRules, IsVerdict, bounds_by, is_accepted, placed_with, plan_from, ranking_by}
 use Rattle.admission.specs.declared.verdict.Verdict.{Verdict}
 use Rattle.admission.specs.declared.verdict.Verdict.TheVariants.{Malformed, Passed, Miss, Horizon, Accepted}
 use Rattle.master_core.specs.declared.answer.Answer.{Answer}
 use Rattle.master_core.specs.declared.answer.Made.{Made}
+use Rattle.master_core.specs.declared.saved.Saved.{Saved}
 use Rattle.master_core.specs.declared.table.Table.{Table}
 use Rattle.master_core.specs.declared.upcoming.Upcoming.{Upcoming}
-use Rattle.master_core.specs.Answers.{AreKept, AreMadeTo, AreTablesOf, IsAnswerTo, IsMadeTo, IsPlannedFrom, IsTakenOver, entries_of}
-use Rattle.master_core.specs.Cores.{CoreView, IsCore, IsCoreUpcoming, IsRanked, RepeatsWithin, answered_by, kept_by, most_kept, new_core, onward, opened}
+use Rattle.master_core.specs.Answers.{AreKept, AreMadeTo, AreTablesOf, IsAnswerTo, IsPlannedFrom, IsTakenOver, entries_of}
+use Rattle.master_core.specs.Cores.{CoreView, IsCore, IsCoreUpcoming, IsRanked, answered_by, kept_by, core_of, most_kept, new_core, onward, opened, saved_of}
 use Rattle.master_core.proofs.KnownSlots.{HasSlot, both-none, slots-applied}
 use Rattle.master_core.proofs.Legal.{nothing-missed}
-use Rattle.master_core.proofs.Onward.{GoesOn, all-pruned, goes-accepted, goes-later, goes-pruned, later_plan, well_placed-made}
-use Rattle.master_core.proofs.Repeating.{GoesRound, Recurs, empty-recurs}
+use Rattle.master_core.proofs.Onward.{FoundLaw, LaterLaw, PrunedLaw, all-pruned, safe-accepted, well_placed-made}
+use Rattle.master_core.proofs.Repeating.{empty-recurs}
 use Rattle.master_core.proofs.NextPlan.{ranked-valid}
 use Rattle.master_core.proofs.Settling.{refused-is, taken-is}
-
-goes-on : (core : CoreView) → IsCore core → GoesOn (onward core) core.rules.horizon
-goes-on core is = record { well_placed = is.safe.well_placed; held = is.safe.held; in_time = is.safe.in_time; repeats = is.repeats }
 
 -- A new core
 
@@ -39,57 +36,49 @@ pub core-new : (rules : Rules) (forgets : Bool) → IsRules rules → IsCore (ne
 core-new rules forgets ranges =
     let empty = empty-recurs rules ranges in
     let within = empty.within in
+    let some = empty.some_cycles in
     record {
-      ranges = ranges;
-      near = omega arith;
-      known = omega arith;
       safe = record {
-        well_placed = record { in_range = λ i d within. absurd (omega arith); in_order = λ i j d order within. absurd (omega arith) };
-        held = λ slot held. let none = contains_slot-none slot in absurd (cc);
-        in_time = nothing-missed rules;
+        in_range = ranges;
+        near = omega arith;
+        safe = record {
+          well_placed = record { in_range = λ i d within. absurd (omega arith); in_order = λ i j d order within. absurd (omega arith) };
+          held = λ slot held. let none = contains_slot-none slot in absurd (cc);
+          in_time = nothing-missed rules;
+        };
+        repeats = record {
+          period = empty.period;
+          least_common = empty.least_common;
+          one = empty.first;
+          other = empty.first + empty.cycles;
+          before = omega arith;
+          within = omega arith;
+          alike = empty.alike;
+        };
       };
+      known = omega arith;
       slots = All-nil (HasSlot rules.slots);
-      repeats = record {
-        period = empty.period;
-        least_common = empty.least_common;
-        first = empty.first;
-        cycles = empty.cycles;
-        some_cycles = empty.some_cycles;
-        alike = empty.alike;
-        within = omega arith;
-      };
       to_learn = tt;
-      counted = omega arith;
       few = λ on. omega arith;
     }
 
 -- An opening
 
-pub core-opened : GoesRound → (core : CoreView) → core.cycle < openings_end → IsCore core → IsCore (opened core)
-core-opened round core before is =
-    let goes = goes-later round (onward core) core.rules.horizon 1 (goes-on core is) in
-    record {
-      ranges = is.ranges;
-      near = omega arith;
-      known = set_of-below most_slots (pending_before (onward core) 1);
-      safe = record { well_placed = goes.well_placed; held = goes.held; in_time = goes.in_time };
-      slots = is.slots;
-      repeats = goes.repeats;
-      to_learn = tt;
-      counted = is.counted;
-      few = is.few;
-    }
+pub core-opened : LaterLaw → (core : CoreView) → core.cycle < openings_end → IsCore core → IsCore (opened core)
+core-opened later core before is = record {
+  safe = later core.rules core.placed core.cycle core.pending 1 (omega arith) is.safe;
+  known = set_of-below most_slots (pending_before (onward core) 1);
+  slots = is.slots;
+  to_learn = tt;
+  few = is.few;
+}
 
 -- An answer
 
-abbrev pub WellLaw : Type 0
-WellLaw = (c : ℕ) (placed : List Placed) → IsWellPlaced placed → IsWellPlaced (pruned c placed)
-
-kept-goes : WellLaw → (rules : Rules) (forgets : Bool) (c from pending horizon : ℕ) (placed : List Placed) → c ≤ from
-    → GoesOn (plan_from rules placed from pending) horizon → GoesOn (plan_from rules (kept_by forgets c placed) from pending) horizon
-kept-goes wells rules true c from pending horizon placed early goes =
-    goes-pruned rules c from pending horizon placed early (wells c placed goes.well_placed) goes
-kept-goes wells rules false c from pending horizon placed early goes = goes
+kept-safe : PrunedLaw → (rules : Rules) (forgets : Bool) (c from pending : ℕ) (placed : List Placed) → c ≤ from → IsSafeWithin rules placed from pending
+    → IsSafeWithin rules (kept_by forgets c placed) from pending
+kept-safe prunes rules true c from pending placed early safe = prunes rules placed c from pending early safe
+kept-safe prunes rules false c from pending placed early safe = safe
 
 left-kept : (forgets : Bool) (from : ℕ) (placed : List Placed) → not_over from (kept_by forgets from placed) ≡ not_over from placed
 left-kept true from placed = not_over-pruned from from placed (omega arith)
@@ -99,30 +88,30 @@ kept-slots : (slots : ℕ) (forgets : Bool) (c : ℕ) (placed : List Placed) →
 kept-slots slots true c placed low = all-pruned (HasSlot slots) c placed low
 kept-slots slots false c placed low = low
 
-module _ (round : GoesRound) (wells : WellLaw) (core : CoreView) (is : IsCore core) (answer : Answer) (to : IsAnswerTo core answer) where
+module _ (found : FoundLaw) (later : LaterLaw) (prunes : PrunedLaw) (core : CoreView) (is : IsCore core) (answer : Answer) (to : IsAnswerTo core answer) where
   abbrev new : List Placed
   new = applied core.placed answer.change
 
-  accepted-goes : (verdict : Verdict) → is_accepted verdict ≡ true
+  accepted-safe : (verdict : Verdict) → is_accepted verdict ≡ true
       → IsVerdict core.rules core.placed to.pending answer.from core.cycle answer.change verdict
-      → GoesOn (plan_from core.rules new core.cycle core.pending) core.rules.horizon × All (HasSlot core.rules.slots) new
-  accepted-goes (Malformed op why) accepted decided = absurd (cc)
-  accepted-goes (Passed start next) accepted decided = absurd (cc)
-  accepted-goes (Miss slot release cycle) accepted decided = absurd (cc)
-  accepted-goes (Horizon from walked) accepted decided = absurd (cc)
-  accepted-goes (Accepted first length) accepted decided =
+      → IsSafeWithin core.rules new core.cycle core.pending × All (HasSlot core.rules.slots) new
+  accepted-safe (Malformed op why) accepted decided = absurd (cc)
+  accepted-safe (Passed start next) accepted decided = absurd (cc)
+  accepted-safe (Miss slot release cycle) accepted decided = absurd (cc)
+  accepted-safe (Horizon from walked) accepted decided = absurd (cc)
+  accepted-safe (Accepted first length) accepted decided =
       let in_time = decided.0 in
-      let well = is.safe.well_placed in
+      let well = is.safe.safe.well_placed in
       let formed = both-none _ _ in_time.well_formed in (
-        goes-accepted round core.rules core.placed new answer.change.start answer.from core.cycle to.pending core.pending
-            (changed-applied core.placed answer.change well.in_range)
-            (well_placed-made core.rules core.placed answer.change is.ranges.few_slots well to.types in_time.well_formed) is.safe.held to.early in_time.ahead to.leads first
-            length decided.1,
+        safe-accepted found later core.rules core.placed new answer.change.start answer.from core.cycle to.pending core.pending
+            (changed-applied core.placed answer.change well.in_range) is.safe.in_range is.safe.near
+            (well_placed-made core.rules core.placed answer.change is.safe.in_range.few_slots well to.types in_time.well_formed) to.held to.early in_time.ahead to.leads
+            first length decided.1,
         slots-applied core.placed (bounds_by core.rules) answer.change formed.1 is.slots,
       )
 
   -- the core with the list that an accepted change makes
-  core-taken : is_accepted answer.verdict ≡ true → core.accepted + 1 < 2 ^ 64
+  core-taken : is_accepted answer.verdict ≡ true
       → (core.forgets ≡ true → length (kept_by core.forgets answer.from new) ≤ most_kept)
       → IsCore
       (record core {
@@ -130,42 +119,36 @@ module _ (round : GoesRound) (wells : WellLaw) (core : CoreView) (is : IsCore co
         learned = Some (kept_by core.forgets answer.from new);
         accepted = core.accepted + 1;
       })
-  core-taken accepted few short =
-      let (whole, slots) = accepted-goes answer.verdict accepted to.verdict in
-      let goes = kept-goes wells core.rules core.forgets answer.from core.cycle core.pending core.rules.horizon new to.early whole in
+  core-taken accepted short =
+      let (whole, slots) = accepted-safe answer.verdict accepted to.verdict in
       record {
-        ranges = is.ranges;
-        near = is.near;
+        safe = kept-safe prunes core.rules core.forgets answer.from core.cycle core.pending new to.early whole;
         known = is.known;
-        safe = record { well_placed = goes.well_placed; held = goes.held; in_time = goes.in_time };
         slots = kept-slots core.rules.slots core.forgets answer.from new slots;
-        repeats = goes.repeats;
         to_learn = refl;
-        counted = few;
         few = short;
       }
 
   -- what is taken over
-  module _ (few : core.accepted + 1 < 2 ^ 64) where
-    pub core-put : (made : Option Made) → AreMadeTo core answer made → (core.forgets ≡ true → entries_of made ≤ most_kept)
-        → IsCore (answered_by core answer.from answer.change answer.verdict)
-    core-put None refused short =
-        subst (λ (b : Bool). IsCore (if b then record core {
-          placed = kept_by core.forgets answer.from new;
-          learned = Some (kept_by core.forgets answer.from new);
-          accepted = core.accepted + 1;
-        } else core)) (sym refused) is
-    core-put (Some made) by short =
-        subst (λ (b : Bool). IsCore (if b then record core {
-          placed = kept_by core.forgets answer.from new;
-          learned = Some (kept_by core.forgets answer.from new);
-          accepted = core.accepted + 1;
-        } else core)) (sym by.accepted)
-        (core-taken by.accepted few (λ on. subst (λ (l : List Placed). length l ≤ most_kept) by.placed (short on)))
+  pub core-put : (made : Option Made) → AreMadeTo core answer made → (core.forgets ≡ true → entries_of made ≤ most_kept)
+      → IsCore (answered_by core answer.from answer.change answer.verdict)
+  core-put None refused short =
+      subst (λ (b : Bool). IsCore (if b then record core {
+        placed = kept_by core.forgets answer.from new;
+        learned = Some (kept_by core.forgets answer.from new);
+        accepted = core.accepted + 1;
+      } else core)) (sym refused) is
+  core-put (Some made) by short =
+      subst (λ (b : Bool). IsCore (if b then record core {
+        placed = kept_by core.forgets answer.from new;
+        learned = Some (kept_by core.forgets answer.from new);
+        accepted = core.accepted + 1;
+      } else core)) (sym by.accepted)
+      (core-taken by.accepted (λ on. subst (λ (l : List Placed). length l ≤ most_kept) by.placed (short on)))
 
 -- The fields of a core after an opening
 
-module _ (core : CoreView) (since : ℕ) (ranked : Ranking) (is : IsCore core) (ranks : IsRanked core since ranked) (round : GoesRound) (before : core.cycle < openings_end)
+module _ (core : CoreView) (since : ℕ) (ranked : Ranking) (is : IsCore core) (ranks : IsRanked core since ranked) (later : LaterLaw) (before : core.cycle < openings_end)
     (upcoming : Upcoming) (up : IsCoreUpcoming core upcoming) where
   pub since-behind : since ≤ upcoming.next.cycle
   since-behind =
@@ -177,7 +160,7 @@ module _ (core : CoreView) (since : ℕ) (ranked : Ranking) (is : IsCore core) (
   valid-behind =
       let passed = ranks.passed in
       rw (up.next, up.pending)
-      (ranked-valid (opened core) since ranked (core-opened round core before is) (record { passed = omega arith; left = ranks.left }))
+      (ranked-valid (opened core) since ranked (core-opened later core before is) (record { passed = omega arith; left = ranks.left }))
 
   module _ (list : List Placed) (by : ℕ) (fewer : Ranking) (same : list ≡ core.placed) (passed : by ≤ upcoming.next.cycle)
       (left : fewer ≡ record ranked { placed = not_over by list }) where
@@ -189,7 +172,7 @@ module _ (core : CoreView) (since : ℕ) (ranked : Ranking) (is : IsCore core) (
 
     pub core-behind : IsCore behind × IsRanked behind by fewer
     core-behind = (
-      subst IsCore (sym behind-is) (core-opened round core before is),
+      subst IsCore (sym behind-is) (core-opened later core before is),
       record { passed = passed; left = left ∙ ap (λ (r : Ranking). record r { placed = not_over by list }) ranks.left },
     )
 
@@ -199,8 +182,8 @@ one-more : (b : Bool) → bool_byte b ≡ cond b 1 0
 one-more true = refl
 one-more false = refl
 
-module _ (core : CoreView) (since : ℕ) (ranked : Ranking) (is : IsCore core) (ranks : IsRanked core since ranked) (round : GoesRound) (wells : WellLaw)
-    (answer : Answer) (to : IsAnswerTo core answer) (few : core.accepted + 1 < 2 ^ 64) where
+module _ (core : CoreView) (since : ℕ) (ranked : Ranking) (is : IsCore core) (ranks : IsRanked core since ranked) (found : FoundLaw) (later : LaterLaw) (prunes : PrunedLaw)
+    (answer : Answer) (to : IsAnswerTo core answer) where
   abbrev with_answer : Bool → CoreView
   with_answer b =
       if b then record core {
@@ -241,14 +224,14 @@ module _ (core : CoreView) (since : ℕ) (ranked : Ranking) (is : IsCore core) (
     pub core-after : (core.forgets ≡ true → entries_of answer.made ≤ most_kept) → since ≡ old.since → ranked ≡ old.planner.ranking
         → IsCore (taken_by new new_learned (core.accepted + more)) × IsRanked (taken_by new new_learned (core.accepted + more)) new.since new.planner.ranking
     core-after short since_is ranked_is = (
-      subst IsCore (sym put-then) (core-put round wells core is answer to few answer.made to.made short),
+      subst IsCore (sym put-then) (core-put found later prunes core is answer to answer.made to.made short),
       put-ranked answer.made old new old_learned new_learned (core.accepted + more) to.made taken list_is since_is ranked_is,
     )
 
 -- An answer that was planned from the next cycle on
 
 module _ (core : CoreView) (is : IsCore core) where
-  state-here : core.pending ≡ pending_at (plan_from core.rules core.placed core.cycle core.pending) (core.cycle - core.cycle)
+  pub state-here : core.pending ≡ pending_at (plan_from core.rules core.placed core.cycle core.pending) (core.cycle - core.cycle)
   state-here =
       let none : core.cycle - core.cycle ≡ 0 = omega arith in
       sym
@@ -256,7 +239,7 @@ module _ (core : CoreView) (is : IsCore core) where
       ∙ set_of-same most_slots (pending_before (onward core) 0) (contains_slot core.pending) (λ slot known. before-first (onward core) slot)
       ∙ sym (set_of-contains_slot most_slots core.pending is.known))
 
-  made-to : (answer : Answer) (plain : Option Made) (made : Option Made) → option_map (λ m. m.learned) plain ≡ placed_with (applied core.placed answer.change) answer.verdict
+  pub made-to : (answer : Answer) (plain : Option Made) (made : Option Made) → option_map (λ m. m.learned) plain ≡ placed_with (applied core.placed answer.change) answer.verdict
       → AreTablesOf core.rules answer.from plain → AreKept core.forgets answer.from plain made → AreMadeTo core answer made
   made-to answer None None none tables kept = refused-is (applied core.placed answer.change) answer.verdict (sym none)
   made-to answer None (Some made) none tables kept = absurd kept
@@ -284,9 +267,36 @@ module _ (core : CoreView) (is : IsCore core) where
     types = planned.types;
     early = let from = planned.from in omega arith;
     pending = core.pending;
+    held = subst (λ (n : ℕ). IsValid core.placed n core.pending) (sym planned.from) is.safe.safe.held;
     leads =
         subst (λ (n : ℕ). core.pending ≡ pending_at (plan_from core.rules core.placed n core.pending) (core.cycle - n)) (sym planned.from) state-here;
     verdict =
         subst (λ (n : ℕ). IsVerdict core.rules core.placed core.pending n core.cycle answer.change answer.verdict) (sym planned.from) planned.decided.answer;
     made = made-to (record answer { made = made }) answer.made made planned.decided.list planned.made kept;
   }
+
+-- Cores as plain data
+
+learned-again : (placed : List Placed) (learned : Option (List Placed)) → IfSome learned (λ list. list ≡ placed)
+    → (if is_some learned then Some placed else None) ≡ learned
+learned-again placed None is = refl
+learned-again placed (Some list) is = ap (λ (l : List Placed). Some l) (sym is)
+
+pub core-again : (core : CoreView) → IsCore core → core_of (saved_of core) ≡ core
+core-again core is =
+    ap (λ (o : Option (List Placed)). record core { learned = o }) (learned-again core.placed core.learned is.to_learn)
+
+learned-or : (placed : List Placed) (learns : Bool) → IfSome (if learns then Some placed else None) (λ list. list ≡ placed)
+learned-or placed true = refl
+learned-or placed false = tt
+
+-- what was tested is a core
+pub core-tested : (saved : Saved) → IsSafeWithin saved.rules saved.placed saved.state.cycle saved.state.pending → saved.state.pending < 2 ^ most_slots
+    → All (HasSlot saved.rules.slots) saved.placed → (saved.forgets ≡ true → length saved.placed ≤ most_kept) → IsCore (core_of saved)
+core-tested saved safe known slots few = record {
+  safe = safe;
+  known = known;
+  slots = slots;
+  to_learn = learned-or saved.placed saved.learns;
+  few = few;
+}

@@ -1,5 +1,5 @@
 -- What holds of the list and the state of a master that keeps all placed entries.
-use Rattle.std.proofs.Common.{◌≡◌, ℕ, List, Option, sym, subst}
+use Rattle.std.proofs.Common.{ℕ, List, Option, sym, subst}
 use Rattle.requirement_table.specs.declared.entries.Placed.{Placed}
 use Rattle.requirement_table.specs.Table.{IsWellPlaced}
 use Rattle.planner_policies.specs.Plan.{NeverMisses, Ranking}

@@ -1,6 +1,7 @@
 mod Accepted
 mod Anew
 mod Certificates
+mod CorePlans
 mod CoreSteps
 mod Earlier
 mod Events

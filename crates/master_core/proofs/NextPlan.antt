@@ -1,8 +1,7 @@
 -- The plan of the next cycle of a core, made from the entries that are not over.
-use Rattle.std.proofs.Common.{◌≡◌, ℕ, zero, suc, ◌+◌, ◌^◌, ◌<◌, ◌≤◌, ◌&&◌, Bool, true, not, List, Option, Some, None, IsSome, All, refl, sym, ap, ◌∙◌, subst, arith}
+use Rattle.std.proofs.Common.{◌≡◌, ℕ, ◌+◌, ◌^◌, ◌<◌, ◌≤◌, ◌&&◌, Bool, true, not, Option, Some, None, IsSome, All, refl, sym, ap, ◌∙◌, subst, arith}
 use Rattle.std.proofs.lemmas.Bool.{lt-ltb}
 use Rattle.std.proofs.lemmas.List.Elements.{All-filter}
-use Rattle.requirement_table.specs.declared.entries.Placed.{Placed}
 use Rattle.requirement_table.specs.Slots.{contains_slot, set_of, most_slots}
 use Rattle.requirement_table.specs.Table.{IsWellPlaced, instance_in, is_over, not_over, width_in, worst_in}
 use Rattle.requirement_table.specs.Instance.{Instance, worst_of}
@@ -32,7 +31,7 @@ module _ (core : CoreView) (since : ℕ) (ranked : Ranking) (is : IsCore core) (
       let later : since ≤ core.cycle + 0 = omega arith in
       alike-from_same core.rules.policy core.placed (not_over since core.placed) (core.cycle + 0) core.cycle (sym here)
       (λ slot known. instance_in-not_over since core.placed slot (core.cycle + 0) later)
-      (λ slot known. releases_in-not_over since core.placed slot (core.cycle + 0) is.safe.well_placed later)
+      (λ slot known. releases_in-not_over since core.placed slot (core.cycle + 0) is.safe.safe.well_placed later)
 
   agree : (slot : ℕ) → slot < most_slots → contains_slot core.pending slot ≡ pending_before (onward core) 0 slot
   agree slot known = sym (before-first (onward core) slot)
@@ -41,7 +40,7 @@ module _ (core : CoreView) (since : ℕ) (ranked : Ranking) (is : IsCore core) (
   ranked-valid =
       subst (λ (r : Ranking). IsValid r.placed core.cycle core.pending) (sym ranks.left)
       (λ slot held.
-      let of_list = is.safe.held slot held in
+      let of_list = is.safe.safe.held slot held in
       record {
         instance = of_list.instance;
         found = instance_in-not_over since core.placed slot core.cycle ranks.passed ∙ of_list.found;
@@ -54,7 +53,7 @@ module _ (core : CoreView) (since : ℕ) (ranked : Ranking) (is : IsCore core) (
       (λ slot known.
       missed-alike (onward core) (not_over since core.placed) core.cycle core.pending (core.cycle + 0) core.cycle (pending_before (onward core) 0)
       (contains_slot core.pending) alike agree slot known
-      ∙ is.safe.in_time 0 slot known)
+      ∙ is.safe.safe.in_time 0 slot known)
 
   planned-here : (slot : ℕ) → slot < most_slots
       → planned_in (planning_of not_yet_over core.rules.window core.cycle core.pending) core.cycle (contains_slot core.pending) slot
@@ -108,7 +107,7 @@ module _ (core : CoreView) (since : ℕ) (ranked : Ranking) (is : IsCore core) (
       (instance_in-not_over since core.placed slot core.cycle ranks.passed)
 
   ranked-well_placed : IsWellPlaced ranked.placed
-  ranked-well_placed = subst (λ (r : Ranking). IsWellPlaced r.placed) (sym ranks.left) (not_over-well_placed since core.placed is.safe.well_placed)
+  ranked-well_placed = subst (λ (r : Ranking). IsWellPlaced r.placed) (sym ranks.left) (not_over-well_placed since core.placed is.safe.safe.well_placed)
 
   ranked-slots : All (HasSlot core.rules.slots) ranked.placed
   ranked-slots =
@@ -123,7 +122,7 @@ module _ (core : CoreView) (since : ℕ) (ranked : Ranking) (is : IsCore core) (
   -- what is planned has slots of the rules
   planned-below : set_of most_slots (planned_in (planning_of ranked core.rules.window core.cycle core.pending) core.cycle (contains_slot core.pending)) < 2 ^ core.rules.slots
   planned-below =
-      set-below core.rules.slots (planned_in (planning_of ranked core.rules.window core.cycle core.pending) core.cycle (contains_slot core.pending)) is.ranges.few_slots
+      set-below core.rules.slots (planned_in (planning_of ranked core.rules.window core.cycle core.pending) core.cycle (contains_slot core.pending)) is.safe.in_range.few_slots
       (λ slot known planned. instance-slot core.rules.slots slot core.cycle ranked.placed ranked-slots (planned-some slot planned))
 
   flagged-planned : (mask slot : ℕ)

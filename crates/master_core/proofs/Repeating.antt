@@ -30,7 +30,7 @@ above : (placed : List Placed) (from b : ℕ) → bound_of from placed ≤ b →
 above [] from b within = within
 above (p ∷ placed) from b within = let rest = above placed (max from (settled_at p)) b within in omega arith
 
-pub bound-within : (placed : List Placed) (from other b : ℕ) → bound_of from placed ≤ b → other ≤ b → bound_of other placed ≤ b
+bound-within : (placed : List Placed) (from other b : ℕ) → bound_of from placed ≤ b → other ≤ b → bound_of other placed ≤ b
 bound-within [] from other b within small = small
 bound-within (p ∷ placed) from other b within small =
     let here = above placed (max from (settled_at p)) b within in
@@ -185,7 +185,7 @@ abbrev pub GoesRound : Type 0
 GoesRound = (plan : Planning) (n m k slot : ℕ) → IsWellPlaced plan.placed → n < m → All (RepeatsFrom (plan.from + n) (m - n)) plan.placed
     → pending_at plan n ≡ pending_at plan m → slot < most_slots → pending_before plan (m + k) slot ≡ pending_before plan (n + k) slot
 
-pub same-place : (c more period : ℕ) → more % period ≡ 0 → c % period ≡ (c + more) % period
+same-place : (c more period : ℕ) → more % period ≡ 0 → c % period ≡ (c + more) % period
 same-place c more period divided =
     let parts = div-add-mod' more period in
     let whole : c + more ≡ c + more / period * period = omega arith in

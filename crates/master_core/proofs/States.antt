@@ -1,5 +1,5 @@
 -- Cores as the states after histories.
-use Rattle.std.proofs.Common.{◌≡◌, ℕ, ◌+◌, ◌-◌, ◌^◌, ◌<◌, ◌≤◌, Bool, true, false, cond, if◌then◌else◌, List, [], ◌∷◌, ◌++◌, Option, Some, None, All, refl, sym, ap, ◌∙◌, subst, zero-add, add-zero, arith}
+use Rattle.std.proofs.Common.{◌≡◌, ℕ, ◌+◌, ◌≤◌, Bool, true, false, cond, if◌then◌else◌, List, [], ◌∷◌, ◌++◌, Option, Some, None, All, refl, sym, ap, ◌∙◌, subst, zero-add, add-zero, arith}
 use Rattle.requirement_table.specs.declared.entries.Order.{Order}
 use Rattle.requirement_table.specs.declared.entries.Placed.{Placed}
 use Rattle.requirement_table.specs.Instance.{Instance, worst_of}
@@ -17,11 +17,10 @@ use Rattle.planner_policies.proofs.Shared.{before-first, on-planned, sum_where-c
 use Rattle.admission_rules.specs.declared.Rules.{Rules}
 use Rattle.admission.specs.declared.verdict.Verdict.{Verdict}
 use Rattle.admission.specs.Verdict.{IsVerdict, is_accepted, plan_from, trail_of}
-use Rattle.master_core.specs.declared.answered.Answered.{Answered}
 use Rattle.master_core.specs.declared.event.Event.{Event}
 use Rattle.master_core.specs.declared.event.Event.TheVariants.{Submit, Look, Open}
-use Rattle.master_core.specs.Cores.{CoreView, IsAnswered, IsCore, IsCoreOrder, IsCoreUpcoming, IsHeld, IsStateOf, answered_by, kept_by, new_core, onward, opened}
-use Rattle.master_core.specs.History.{IsLegal, IsRightAnswer, IsSince, accepted_of, is_changed, is_changed_after, learned_of, next_of, placed_after, placed_of, plan_of}
+use Rattle.master_core.specs.Cores.{CoreView, IsCore, IsCoreOrder, IsCoreUpcoming, IsHeld, IsStateOf, answered_by, kept_by, new_core, onward, opened}
+use Rattle.master_core.specs.History.{IsRightAnswer, IsSince, accepted_of, is_changed, learned_of, next_of, placed_of, plan_of}
 use Rattle.master_core.specs.declared.upcoming.Upcoming.{Upcoming}
 use Rattle.master_core.specs.Orders.{IsOrder, IsUpcoming}
 use Rattle.master_core.proofs.Earlier.{same-of_legal}
@@ -49,6 +48,33 @@ held-applied true from cycle whole list change early held = record {
   is = ap (λ (l : List Placed). pruned from (applied l change)) held.is ∙ pruned-again held.by from whole change held.early;
 }
 held-applied false from cycle whole list change early held = ap (λ (l : List Placed). applied l change) held
+
+-- what is decided of the list that is kept is decided of the whole one
+
+abbrev pub VerdictLaw : Type 0
+VerdictLaw = (rules : Rules) (c from pending next : ℕ) (placed : List Placed) (change : Change) (verdict : Verdict) → c ≤ from → IsWellPlaced placed → rules.slots ≤ most_slots
+    → All HasTypes change.ops → IsVerdict rules (pruned c placed) pending from next change verdict → IsVerdict rules placed pending from next change verdict
+
+abbrev pub TrailLaw : Type 0
+TrailLaw = (rules : Rules) (c from pending next : ℕ) (placed : List Placed) (change : Change) (verdict : Verdict) → c ≤ from → IsWellPlaced placed → rules.slots ≤ most_slots
+    → All HasTypes change.ops → IsVerdict rules (pruned c placed) pending from next change verdict
+    → trail_of (plan_from rules (applied (pruned c placed) change) from pending) verdict ≡ trail_of (plan_from rules (applied placed change) from pending) verdict
+
+pub verdict-held : VerdictLaw → TrailLaw → (rules : Rules) (whole list : List Placed) → IsWellPlaced whole → rules.slots ≤ most_slots → (change : Change)
+    → All HasTypes change.ops → (from pending next : ℕ) (verdict : Verdict) → IsVerdict rules list pending from next change verdict → (forgets : Bool)
+    → IsHeld forgets from whole list
+    → IsVerdict rules whole pending from next change verdict
+    × (trail_of (plan_from rules (applied list change) from pending) verdict ≡ trail_of (plan_from rules (applied whole change) from pending) verdict)
+verdict-held verdicts trails rules whole list well room change types from pending next verdict decided true held =
+    let on_pruned = subst (λ (l : List Placed). IsVerdict rules l pending from next change verdict) held.is decided in (
+      verdicts rules held.by from pending next whole change verdict held.early well room types on_pruned,
+      ap (λ (l : List Placed). trail_of (plan_from rules (applied l change) from pending) verdict) held.is
+          ∙ trails rules held.by from pending next whole change verdict held.early well room types on_pruned,
+    )
+verdict-held verdicts trails rules whole list well room change types from pending next verdict decided false held = (
+  subst (λ (l : List Placed). IsVerdict rules l pending from next change verdict) held decided,
+  ap (λ (l : List Placed). trail_of (plan_from rules (applied l change) from pending) verdict) held,
+)
 
 -- a core that was not called yet
 pub state-new : (rules : Rules) (forgets : Bool) → IsStateOf [] (new_core rules forgets)
@@ -85,28 +111,29 @@ module _ (history : List Event) (core : CoreView) (is : IsCore core) (of : IsSta
       ap (λ (n : ℕ). plan_from rules whole n (pending_at (plan_of rules whole) core.cycle)) (zero-add core.cycle)
       ∙ ap (λ (q : ℕ). plan_from rules whole core.cycle q) (sym of.waiting)
 
-  -- the plan of the next cycle
+  -- the plan that goes on
+  pub masks-are : (n : ℕ) → mask_at (plan_of rules whole) (core.cycle + n) ≡ mask_at (onward core) n
+  masks-are n =
+      set_of-same most_slots (planned_at (plan_of rules whole) (core.cycle + n)) (planned_at (later_plan (plan_of rules whole) core.cycle) n)
+      (λ slot known. on-planned (plan_of rules whole) core.cycle n slot known)
+      ∙ ap (λ (p : Planning). mask_at p n) later-is
+      ∙ sym (left-mask rules core.cycle core.pending whole core.placed whole-well is.safe.safe.well_placed left n)
+
   pub mask-is : mask_at (plan_of rules whole) core.cycle ≡ mask_at (onward core) 0
-  mask-is =
-      let at : core.cycle + 0 ≡ core.cycle = omega arith in
-      ap (mask_at (plan_of rules whole)) (sym at)
-      ∙ set_of-same most_slots (planned_at (plan_of rules whole) (core.cycle + 0)) (planned_at (later_plan (plan_of rules whole) core.cycle) 0)
-      (λ slot known. on-planned (plan_of rules whole) core.cycle 0 slot known)
-      ∙ ap (λ (p : Planning). mask_at p 0) later-is
-      ∙ sym (left-mask rules core.cycle core.pending whole core.placed whole-well is.safe.well_placed left 0)
+  mask-is = let at : core.cycle + 0 ≡ core.cycle = omega arith in ap (mask_at (plan_of rules whole)) (sym at) ∙ masks-are 0
 
   -- and what it leaves
   pending-is : pending_at (plan_of rules whole) (core.cycle + 1) ≡ pending_at (onward core) 1
   pending-is =
       later-pending (plan_of rules whole) core.cycle 1
       ∙ ap (λ (p : Planning). pending_at p 1) later-is
-      ∙ sym (left-pending rules core.cycle core.pending whole core.placed whole-well is.safe.well_placed left 1)
+      ∙ sym (left-pending rules core.cycle core.pending whole core.placed whole-well is.safe.safe.well_placed left 1)
 
   instance-is : (slot : ℕ) → instance_in core.placed slot core.cycle ≡ instance_in whole slot core.cycle
   instance-is slot =
       let at : core.cycle + 0 ≡ core.cycle = omega arith in
       subst (λ (c : ℕ). instance_in core.placed slot c ≡ instance_in whole slot c) at
-      (left-instances rules core.cycle core.pending whole core.placed whole-well is.safe.well_placed left 0 slot)
+      (left-instances rules core.cycle core.pending whole core.placed whole-well is.safe.safe.well_placed left 0 slot)
 
   width-is : (slots : ℕ → Bool) → width_in core.placed core.cycle slots ≡ width_in whole core.cycle slots
   width-is slots =
@@ -238,39 +265,16 @@ module _ (history : List Event) (core : CoreView) (is : IsCore core) (of : IsSta
     pub state-answered : IsStateOf (history ++ event ∷ []) (answered_by core from change verdict)
     state-answered = state-by (is_accepted verdict) refl
 
-  -- what is decided of the list that is kept is right
-
-  abbrev pub VerdictLaw : Type 0
-  VerdictLaw = (rules : Rules) (c from pending next : ℕ) (placed : List Placed) (change : Change) (verdict : Verdict) → c ≤ from → IsWellPlaced placed → rules.slots ≤ most_slots
-      → All HasTypes change.ops → IsVerdict rules (pruned c placed) pending from next change verdict → IsVerdict rules placed pending from next change verdict
-
-  abbrev pub TrailLaw : Type 0
-  TrailLaw = (rules : Rules) (c from pending next : ℕ) (placed : List Placed) (change : Change) (verdict : Verdict) → c ≤ from → IsWellPlaced placed → rules.slots ≤ most_slots
-      → All HasTypes change.ops → IsVerdict rules (pruned c placed) pending from next change verdict
-      → trail_of (plan_from rules (applied (pruned c placed) change) from pending) verdict ≡ trail_of (plan_from rules (applied placed change) from pending) verdict
-
   module _ (verdicts : VerdictLaw) (trails : TrailLaw) (change : Change) (types : All HasTypes change.ops) (verdict : Verdict)
       (decided : IsVerdict core.rules core.placed core.pending core.cycle core.cycle change verdict) where
-    verdict-whole : (forgets : Bool) → IsHeld forgets core.cycle whole core.placed
-        → IsVerdict rules whole core.pending core.cycle core.cycle change verdict
-        × (trail_of (plan_from rules (applied core.placed change) core.cycle core.pending) verdict ≡ trail_of (plan_from rules (applied whole change) core.cycle core.pending) verdict)
-    verdict-whole true held =
-        let on_pruned = subst (λ (l : List Placed). IsVerdict rules l core.pending core.cycle core.cycle change verdict) held.is decided in (
-          verdicts rules held.by core.cycle core.pending core.cycle whole change verdict held.early whole-well is.ranges.few_slots types on_pruned,
-          ap (λ (l : List Placed). trail_of (plan_from rules (applied l change) core.cycle core.pending) verdict) held.is
-              ∙ trails rules held.by core.cycle core.pending core.cycle whole change verdict held.early whole-well is.ranges.few_slots types on_pruned,
-        )
-    verdict-whole false held = (
-      subst (λ (l : List Placed). IsVerdict rules l core.pending core.cycle core.cycle change verdict) held decided,
-      ap (λ (l : List Placed). trail_of (plan_from rules (applied l change) core.cycle core.pending) verdict) held,
-    )
-
     pub state-right : (trail : List ℕ) → trail ≡ trail_of (plan_from rules (applied core.placed change) core.cycle core.pending) verdict
         → IsRightAnswer rules history change core.cycle verdict trail
     state-right trail by =
         let next = of.next in
-        let on_whole = verdict-whole core.forgets of.held in
-        right-by rules history whole is.ranges.few_slots refl change core.cycle verdict trail types
+        let on_whole =
+        verdict-held verdicts trails rules whole core.placed whole-well is.safe.in_range.few_slots change types core.cycle core.pending core.cycle verdict decided
+        core.forgets of.held in
+        right-by rules history whole is.safe.in_range.few_slots refl change core.cycle verdict trail types
         (subst (λ (n : ℕ). IsSince history n) (sym next) (since-now history)) (omega arith)
         (subst (λ (n : ℕ). IsVerdict rules whole (pending_at (plan_of rules whole) core.cycle) core.cycle n change verdict) next
         (subst (λ (q : ℕ). IsVerdict rules whole q core.cycle core.cycle change verdict) of.waiting on_whole.0))

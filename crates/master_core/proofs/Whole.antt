@@ -1,26 +1,28 @@
 -- A core that forgets nothing keeps all placed entries of its history.
-use Rattle.std.proofs.Common.{◌≡◌, ℕ, ◌+◌, ◌-◌, ◌^◌, ◌<◌, ◌≤◌, Bool, true, false, if◌then◌else◌, List, [], ◌∷◌, ◌++◌, Option, Some, None, Result, Ok, Err, IfOk, length, refl, sym, ap, ◌∙◌, subst, zero-add, arith}
+use Rattle.std.proofs.Common.{◌≡◌, ℕ, ◌+◌, ◌-◌, ◌≤◌, Bool, true, false, if◌then◌else◌, List, [], ◌∷◌, ◌++◌, Option, Some, None, Result, Ok, Err, IfOk, refl, sym, ap, ◌∙◌, subst, zero-add, arith}
 use Rattle.requirement_table.specs.declared.entries.Order.{Order}
 use Rattle.requirement_table.specs.declared.entries.Placed.{Placed}
 use Rattle.requirement_table.specs.Table.{not_over}
 use Rattle.change_protocol.specs.declared.operations.Change.{Change}
 use Rattle.change_protocol.specs.Applied.{applied}
-use Rattle.planner_policies.specs.Plan.{Planning, pending_at}
+use Rattle.requirement_table.proofs.Shared.{contains_slot-none}
+use Rattle.planner_policies.specs.Plan.{IsValid, pending_at}
+use Rattle.planner_policies.proofs.Shared.{valid-along}
 use Rattle.admission.specs.declared.verdict.Verdict.{Verdict}
 use Rattle.admission.specs.Verdict.{IsVerdict, is_accepted, plan_from, ranking_by}
 use Rattle.master_core.specs.declared.answer.Answer.{Answer}
 use Rattle.master_core.specs.declared.answer.Made.{Made}
 use Rattle.master_core.specs.declared.event.Event.{Event}
-use Rattle.master_core.specs.declared.event.Event.TheVariants.{Submit}
 use Rattle.master_core.specs.Apart.{snapshot_of}
 use Rattle.master_core.specs.Answers.{AreMadeTo, IsAnswer, IsAnswerTo, IsMade}
 use Rattle.master_core.specs.Cores.{CoreView, IsCore, IsCoreOrder, IsHeld, IsStateOf, answered_by, kept_by}
 use Rattle.admission_rules.specs.declared.Rules.{Rules}
-use Rattle.master_core.specs.History.{IsPlainlyLegal, IsPlannedNow, IsRightAnswer, is_changed, learned_of, next_of, placed_of, plan_of}
+use Rattle.master_core.specs.History.{IsPlainlyLegal, IsPlannedNow, IsRightAnswer, is_changed, learned_of, placed_of, plan_of}
 use Rattle.master_core.specs.Keeping.{IsKept}
 use Rattle.master_core.specs.Orders.{IsOrder}
 use Rattle.master_core.proofs.Histories.{plain-push}
-use Rattle.master_core.proofs.Onward.{later-pending, later_plan}
+use Rattle.master_core.proofs.Legal.{sound-of_legal}
+use Rattle.master_core.proofs.Onward.{later-pending}
 use Rattle.master_core.proofs.States.{state-order}
 
 module _ (history : List Event) (core : CoreView) (is : IsCore core) (of : IsStateOf history core) (all : core.forgets ≡ false) where
@@ -35,11 +37,11 @@ module _ (history : List Event) (core : CoreView) (is : IsCore core) (of : IsSta
 
   pub whole-kept : IsKept core.rules history core.placed core.cycle (ranking_by core.rules (not_over core.cycle core.placed)) core.cycle core.pending core.learned
   whole-kept = record {
-    ranges = is.ranges;
+    ranges = is.safe.in_range;
     legal = of.legal;
     placed = placed-is;
     next = of.next;
-    near = is.near;
+    near = is.safe.near;
     waiting = of.waiting ∙ ap (λ (l : List Placed). pending_at (plan_of core.rules l) core.cycle) (sym placed-is);
     passed = omega arith;
     left = refl;
@@ -50,6 +52,14 @@ module _ (history : List Event) (core : CoreView) (is : IsCore core) (of : IsSta
   whole-order order by =
       subst (λ (o : Option (List Placed)). IsOrder core.rules history (record order { learned = o })) (sym (by.learned ∙ learned-is))
       (state-order history core is of order by)
+
+  -- the state of each cycle can be planned from
+  valid-at : (n : ℕ) → IsValid (placed_of history) n (pending_at (plan_of core.rules (placed_of history)) n)
+  valid-at n =
+      let sound = sound-of_legal core.rules history of.legal in
+      subst (λ (m : ℕ). IsValid (placed_of history) m (pending_at (plan_of core.rules (placed_of history)) n)) (zero-add n)
+      (valid-along (plan_of core.rules (placed_of history)) n sound.well_placed (λ slot held. let none = contains_slot-none slot in absurd (cc))
+      (λ m slot below known. sound.in_time m slot known))
 
   pub whole-snapshot : record {
     rules = core.rules;
@@ -100,6 +110,7 @@ module _ (history : List Event) (core : CoreView) (is : IsCore core) (of : IsSta
           types = right.types;
           early = early;
           pending = set;
+          held = subst (λ (l : List Placed). IsValid l answer.from set) (sym placed-is) (valid-at answer.from);
           leads =
               of.waiting
               ∙ ap (pending_at (plan_of core.rules (placed_of history))) (sym there)

@@ -1,11 +1,11 @@
 -- Answers that are not in the history yet.
-use Rattle.std.specs.Prelude.{◌≡◌, ℕ, Bool, false, true, nat_lt, ◌+◌, ◌-◌, ◌≤◌, if◌then◌else◌, List, [], Option, Some, None, All, length}
+use Rattle.std.specs.Prelude.{◌≡◌, ℕ, Bool, false, true, nat_lt, ◌-◌, ◌≤◌, if◌then◌else◌, List, [], Option, Some, None, All, length}
 use Rattle.std.specs.Prelude.{option_map}
 use Rattle.requirement_table.specs.declared.entries.Placed.{Placed}
 use Rattle.requirement_table.specs.Table.{not_over}
 use Rattle.change_protocol.specs.Applied.{applied}
 use Rattle.change_protocol.specs.Operations.{HasTypes}
-use Rattle.planner_policies.specs.Plan.{pending_at}
+use Rattle.planner_policies.specs.Plan.{IsValid, pending_at}
 use Rattle.planner_policies.specs.declared.state.PlanState.{PlanState}
 use Rattle.admission_rules.specs.declared.Rules.{Rules}
 use Rattle.admission.specs.declared.decision.Decision.{Decision}
@@ -122,6 +122,7 @@ pub record IsAnswerTo (core : CoreView) (answer : Answer) : Type 0 where
   pub types : All HasTypes answer.change.ops
   pub early : answer.from ≤ core.cycle
   pub pending : ℕ
+  pub held : IsValid core.placed answer.from pending
   pub leads : core.pending
       ≡ pending_at (plan_from core.rules core.placed answer.from pending) (core.cycle - answer.from)
   pub verdict : IsVerdict core.rules core.placed pending answer.from core.cycle answer.change answer.verdict

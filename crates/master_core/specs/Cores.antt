@@ -1,8 +1,7 @@
 -- *Cores*: what a master keeps whose memory does not grow. A core has no history. Whoever keeps one, or has one in mind,
 -- knows by `IsStateOf` that the core is the state after it. Cycles are elementary cycles, counted from 0.
-use Rattle.std.specs.Prelude.{◌≡◌, ℕ, ◌+◌, ◌-◌, ◌^◌, ◌<◌, ◌≤◌, Bool, true, false, List, [], Option, Some, None, IfSome, All, length}
+use Rattle.std.specs.Prelude.{◌≡◌, ℕ, ◌+◌, ◌^◌, ◌<◌, ◌≤◌, Bool, true, false, List, [], Option, Some, None, IfSome, All, is_some, length}
 use Rattle.std.specs.Prelude.{if◌then◌else◌}
-use Rattle.profile.specs.Limits.{openings_end}
 use Rattle.requirement_table.specs.declared.entries.Order.{Order}
 use Rattle.requirement_table.specs.declared.entries.Placed.{Placed}
 use Rattle.requirement_table.specs.Instance.{Instance}
@@ -11,13 +10,15 @@ use Rattle.requirement_table.specs.Table.{instance_in, not_over, width_in}
 use Rattle.change_protocol.specs.declared.operations.Change.{Change}
 use Rattle.change_protocol.specs.Applied.{applied}
 use Rattle.change_protocol.specs.Pruned.{pruned}
+use Rattle.planner_policies.specs.declared.state.PlanState.{PlanState}
 use Rattle.planner_policies.specs.Plan.{Planning, Ranking, mask_at, pending_at}
 use Rattle.admission_rules.specs.declared.Rules.{Rules}
 use Rattle.admission.specs.declared.verdict.Verdict.{Verdict}
-use Rattle.admission.specs.Recurrence.{AreAlike, IsLeastCommonPeriod}
-use Rattle.admission.specs.Verdict.{IsRules, IsSafe, IsVerdict, is_accepted, plan_from, ranking_by, trail_of}
+use Rattle.admission.specs.Safe.{IsSafeWithin}
+use Rattle.admission.specs.Verdict.{IsVerdict, is_accepted, plan_from, ranking_by, trail_of}
 use Rattle.master_core.specs.declared.answered.Answered.{Answered}
 use Rattle.master_core.specs.declared.event.Event.{Event}
+use Rattle.master_core.specs.declared.saved.Saved.{Saved}
 use Rattle.master_core.specs.declared.upcoming.Upcoming.{Upcoming}
 use Rattle.master_core.specs.History.{IsLegal, accepted_of, is_changed, next_of, placed_of, plan_of}
 
@@ -106,33 +107,48 @@ opened core = record core {
 
 -- What holds of every core
 
--- the plan is in one state twice within so many cycles
-pub record RepeatsWithin (plan : Planning) (horizon : ℕ) : Type 0 where
-  pub period : ℕ
-  pub least_common : IsLeastCommonPeriod plan.placed period
-  pub first : ℕ
-  pub cycles : ℕ
-  pub some_cycles : 0 < cycles
-  pub alike : AreAlike plan period first (first + cycles)
-  pub within : first + cycles ≤ horizon
-
--- the rules are in range; no deadline is missed at any later cycle; the plan repeats within the horizon from the next
--- cycle on; and the nodes are to learn the list or nothing
+-- the rules are in range, no deadline is missed at any later cycle, and the plan repeats within the horizon; the entries
+-- have slots of the rules; and the nodes are to learn the list or nothing
 pub record IsCore (core : CoreView) : Type 0 where
-  pub ranges : IsRules core.rules
-  pub near : core.cycle ≤ openings_end
+  pub safe : IsSafeWithin core.rules core.placed core.cycle core.pending
   pub known : core.pending < 2 ^ most_slots
-  pub safe : IsSafe core.rules core.placed core.cycle core.pending
   pub slots : All (λ p. p.entry.slot < core.rules.slots) core.placed
-  pub repeats : RepeatsWithin (onward core) core.rules.horizon
   pub to_learn : IfSome core.learned (λ list. list ≡ core.placed)
-  pub counted : core.accepted < 2 ^ 64
   pub few : core.forgets ≡ true → length core.placed ≤ most_kept
 
 -- the plan is made from the entries that were not over by the cycle `since`
 pub record IsRanked (core : CoreView) (since : ℕ) (ranked : Ranking) : Type 0 where
   pub passed : since ≤ core.cycle
   pub left : ranked ≡ ranking_by core.rules (not_over since core.placed)
+
+-- Cores as plain data
+
+-- the next cycle, and the slots that are pending before it
+abbrev pub state_of : CoreView → PlanState
+state_of core = record { cycle = core.cycle; pending = core.pending }
+
+-- what is saved of a core
+abbrev pub saved_of : CoreView → Saved
+saved_of core = record {
+  rules = core.rules;
+  placed = core.placed;
+  state = state_of core;
+  accepted = core.accepted;
+  forgets = core.forgets;
+  learns = is_some core.learned;
+}
+
+-- the core of which this is saved
+abbrev pub core_of : Saved → CoreView
+core_of saved = record {
+  rules = saved.rules;
+  placed = saved.placed;
+  cycle = saved.state.cycle;
+  pending = saved.state.pending;
+  learned = if saved.learns then Some saved.placed else None;
+  accepted = saved.accepted;
+  forgets = saved.forgets;
+}
 
 -- Histories
 

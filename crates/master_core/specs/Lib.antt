@@ -2,6 +2,7 @@ pub mod Answers
 pub mod Apart
 pub mod Calls
 pub mod Certificates
+pub mod CorePlans
 pub mod Cores
 pub mod History
 pub mod Keeping

@@ -69,6 +69,30 @@ impl Answer {
         }
     }
 
+    /// The same answer with what is kept of what it makes: where entries are forgotten, the lists are pruned. It takes
+    /// no memory.
+    pub fn kept(self, forgets: bool) -> Answer
+        requires well_placed { IfSome self.made (λ made. IsWellPlaced made.learned) }
+        requires same { IfSome self.made (λ made. made.table.placed.items ≡ made.learned) }
+        ensures same { result ≡ record self { made = result.made } }
+        ensures made { AreKept forgets self.from self.made result.made }
+    {
+        let Answer {
+            change,
+            from,
+            verdict,
+            trail,
+            made,
+        } = self;
+        Answer {
+            change,
+            from,
+            verdict,
+            trail,
+            made: keep(made, forgets, from),
+        }
+    }
+
     /// How many entries the list has that it makes: none where it makes no list.
     pub fn entries(&self) -> usize
         ensures entries { result ≡ entries_of self.now.made }
@@ -145,7 +169,7 @@ fn made_of(alloc: Global, list: PlacedList, from: u64, rules: &Rules) -> Result<
 
 /// What is kept of what was made, planned from cycle `from` on: where entries are forgotten, both lists are pruned. It
 /// takes no memory.
-pub fn keep(made: Option<Made>, forgets: bool, from: u64) -> Option<Made>
+fn keep(made: Option<Made>, forgets: bool, from: u64) -> Option<Made>
     requires well_placed { IfSome made (λ made. IsWellPlaced made.learned) }
     requires same { IfSome made (λ made. made.table.placed.items ≡ made.learned) }
     ensures kept { AreKept forgets from made result }

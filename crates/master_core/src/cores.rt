@@ -1,26 +1,35 @@
 //! The core of a master: what it keeps besides its history.
 
-ghost use Rattle.std.specs.Prelude.{◌≡◌, ◌+◌, ◌^◌, ◌<◌, ◌≤◌, ◌++◌, ◌∷◌, [], List, ℕ, true, IfOk, OnErr, length};
-ghost use Rattle.profile.specs.Limits.{openings_end};
+ghost use Rattle.std.specs.Prelude.{◌≡◌, ◌+◌, ◌^◌, ◌<◌, ◌≤◌, ◌++◌, ◌∷◌, [], List, ℕ, true, Some, None, IfOk, IfSome, OnErr, if◌then◌else◌, length};
+ghost use Rattle.profile.specs.Limits.{cycles_end, openings_end};
 ghost use Rattle.change_protocol.specs.Applied.{applied};
+ghost use Rattle.plan_check.specs.PlanKept.{IsTaken};
 ghost use Rattle.planner_policies.specs.Plan.{mask_at};
+ghost use Rattle.admission.specs.Certified.{IsCertificateFrom, end_of};
 ghost use Rattle.admission.specs.Verdict.{IsInTime, IsRules, IsTakenWhereDue, plan_from};
 ghost use Rattle.master_core.specs.Answers.{IsAnswerTo, entries_of};
+ghost use Rattle.master_core.specs.Apart.{IsPlannable};
+ghost use Rattle.master_core.specs.CorePlans.{CanSettleFrom, IsAnsweredFrom, IsLedTo, snapshot_of_core};
 ghost use Rattle.master_core.specs.Cores.{IsAnswered, IsCore, IsCoreOrder, IsCoreUpcoming, IsHeld, IsStateOf};
+ghost use Rattle.master_core.specs.Cores.{CoreView, core_of, saved_of, state_of};
 ghost use Rattle.master_core.specs.Cores.{answered_by, most_kept, new_core, onward, opened};
 ghost use Rattle.master_core.specs.History.{IsRightAnswer, placed_of};
 ghost use Rattle.master_core.specs.declared.event.Event.{Event};
 ghost use Rattle.master_core.specs.declared.event.Event.TheVariants.{Submit, Look, Open};
 
-use crate::answer::{Answer, answer_of, keep, take_over};
+use crate::answer::{Answer, answer_of, take_over};
 use crate::answered::Answered;
+use crate::apart::Snapshot;
+use crate::core_plans::{CorePlanned, CoreSnapshot, leads, same_list, same_rules};
+use crate::laws::saved_cores;
 use crate::planning::plan_next;
-use crate::table::Table;
+use crate::saved::{Saved, can_keep};
+use crate::table::{Table, list_of};
 use crate::upcoming::Upcoming;
-use admission::Rules;
-use admission::laws::pruned_lists;
+use admission::laws::{pruned_lists, safe_states};
+use admission::{CertifyFault, Rules, certify_from, safe_list};
 use change_protocol::Change;
-use planner_policies::laws::loops;
+use plan_check::Certificate;
 use planner_policies::{PlanState, cycle_mask};
 use requirement_table::{Mask, Order, Placed, PlacedList};
 use std::alloc::{AllocError, Global};
@@ -126,6 +135,74 @@ impl Core {
         Ok(answered)
     }
 
+    /// What a change is planned from, apart from this core.
+    ///
+    /// # Errors
+    ///
+    /// Only where memory runs out.
+    pub fn snapshot(&self, alloc: Global) -> Result<CoreSnapshot, AllocError>
+        ensures snapshot { IfOk result (λ snapshot. snapshot ≡ snapshot_of_core self.now) }
+    {
+        let placed = list_of(alloc, self.table.placed.as_slice())?;
+        Ok(CoreSnapshot {
+            snapshot: Snapshot {
+                rules: self.rules,
+                placed,
+                state: self.state,
+                accepted: self.accepted,
+            },
+        })
+    }
+
+    /// Answers a change that was planned apart. Where its plan leads to this core, and no change was accepted since, that
+    /// plan decides, from its cycle on; only a start that has passed since is refused. Else the change is planned anew,
+    /// from the next cycle on. So a plan of another core does no harm.
+    ///
+    /// # Errors
+    ///
+    /// As those of `submit`. The plan is dropped then, and the core is as before.
+    pub fn settle(&mut self, alloc: Global, planned: CorePlanned) -> Result<Answered, AllocError>
+        ensures answer { IfOk result (IsAnsweredFrom self.old planned.change) }
+        ensures state { IfOk result (λ answered.
+            self.new ≡ answered_by self.old answered.from planned.change answered.verdict) }
+        ensures same { OnErr result (self.new ≡ self.old) }
+        ensures history { IfOk result (λ answered. (history : List Event) (caller : ℕ) → IsStateOf history self.old
+            → CanSettleFrom history self.old.forgets planned.snapshot → IsStateOf (history
+            ++ Submit caller planned.change answered.from answered.verdict answered.trail ∷ []) self.new) }
+    {
+        let CorePlanned { snapshot, answer } = planned;
+        if !self.is_led_to(alloc, &snapshot)? {
+            return self.submit(alloc, &answer.change);
+        }
+        pruned_lists();
+        let answer = answer.at_next(alloc, self.state.cycle);
+        let answer = answer.kept(self.forgets);
+        if !self.has_room(&answer) {
+            return Err(AllocError);
+        }
+        let (_, answered) = self.put(answer);
+        Ok(answered)
+    }
+
+    /// Whether the plan from a snapshot leads to this core, which has the same rules, entries and number of accepted
+    /// changes.
+    fn is_led_to(&self, alloc: Global, snapshot: &Snapshot) -> Result<bool, AllocError>
+        requires plannable { IsPlannable snapshot.now }
+        ensures led { IfOk result (λ led. led ≡ true → IsLedTo self.now snapshot.now) }
+    {
+        let placed = self.table.placed.as_slice();
+        if snapshot.accepted != self.accepted || snapshot.state.cycle > self.state.cycle {
+            return Ok(false);
+        }
+        if !same_rules(&snapshot.rules, &self.rules) {
+            return Ok(false);
+        }
+        if !same_list(snapshot.placed.as_slice(), placed) {
+            return Ok(false);
+        }
+        leads(alloc, &self.rules, placed, &snapshot.state, &self.state)
+    }
+
     /// Plans a change from the next cycle on, and takes all memory that its answer needs.
     pub(crate) fn plan_change(&self, alloc: Global, change: &Change) -> Result<Answer, AllocError>
         ensures answer { IfOk result (IsAnswerTo self.now) }
@@ -140,27 +217,9 @@ impl Core {
             → IsRightAnswer self.now.rules history answer.change answer.from answer.verdict answer.trail) }
     {
         pruned_lists();
-        let Answer {
-            change,
-            from,
-            verdict,
-            trail,
-            made,
-        } = answer_of(
-            alloc,
-            &self.rules,
-            self.table.placed.as_slice(),
-            &self.state,
-            change,
-        )?;
-        let made = keep(made, self.forgets, from);
-        Ok(Answer {
-            change,
-            from,
-            verdict,
-            trail,
-            made,
-        })
+        let placed = self.table.placed.as_slice();
+        let answer = answer_of(alloc, &self.rules, placed, &self.state, change)?;
+        Ok(answer.kept(self.forgets))
     }
 
     /// Whether one accepted change more can be counted, and the list that the answer makes may be kept.
@@ -186,8 +245,7 @@ impl Core {
             → IsStateOf (history
             ++ Submit caller answer.change answer.from answer.verdict answer.trail ∷ []) self.new }
     {
-        loops();
-        pruned_lists();
+        safe_states();
         let Answer {
             change,
             from,
@@ -259,7 +317,7 @@ impl Core {
         ensures history { (history : List Event) → IsStateOf history self.old
             → IsStateOf (history ++ Open result.cycle result.mask ∷ []) self.new }
     {
-        loops();
+        safe_states();
         let cycle = self.state.cycle;
         let Upcoming { mask, l, next } = upcoming;
         self.table.pass(&next);
@@ -278,6 +336,90 @@ impl Core {
         ensures mask { result ≡ mask_at (onward self.now) 0 }
     {
         cycle_mask(self.table.planner.ranked(), self.rules.window, &self.state)
+    }
+
+    /// The certificate of the entries: their plan from the next cycle on, with the slots that are pending before it, up
+    /// to the end of its first repeat. That is within the horizon, and no deadline is missed at any cycle.
+    ///
+    /// It takes time for about twice the cycles up to the end of the repeat times the entries that are not over, and
+    /// memory for the masks and the states.
+    ///
+    /// # Errors
+    ///
+    /// Only where memory runs out.
+    pub fn certificate(&self, alloc: Global) -> Result<Certificate, AllocError>
+        ensures certificate { IfOk result (IsCertificateFrom self.now.rules self.now.placed (state_of self.now)) }
+        ensures taken { IfOk result (IsTaken self.now.placed self.now.rules.window) }
+        ensures cycles { IfOk result (λ certificate. end_of certificate ≤ cycles_end) }
+    {
+        let placed = self.table.placed.as_slice();
+        match certify_from(alloc, &self.rules, placed, &self.state) {
+            Ok(certificate) => Ok(certificate),
+            Err(CertifyFault::Memory) => Err(AllocError),
+            Err(CertifyFault::Miss { .. }) => unreachable!(),
+            Err(CertifyFault::NoRepeat { .. }) => unreachable!(),
+        }
+    }
+
+    /// The core as plain data.
+    ///
+    /// # Errors
+    ///
+    /// Only where memory runs out.
+    pub fn save(&self, alloc: Global) -> Result<Saved, AllocError>
+        ensures saved { IfOk result (λ saved. saved ≡ saved_of self.now) }
+    {
+        let placed = list_of(alloc, self.table.placed.as_slice())?;
+        Ok(Saved {
+            rules: self.rules,
+            placed,
+            state: self.state,
+            accepted: self.accepted,
+            forgets: self.forgets,
+            learns: self.learned.is_some(),
+        })
+    }
+
+    /// The core that was saved so. The answer is `None` where no core is saved so: where the rules are out of range, a
+    /// deadline would be missed at a later cycle, the plan does not repeat within the horizon, or there are too many
+    /// entries. It takes the time and the memory of an answer to a change.
+    ///
+    /// # Errors
+    ///
+    /// Only where memory runs out.
+    pub fn restore(alloc: Global, saved: Saved) -> Result<Option<Core>, AllocError>
+        ensures found { IfOk result (λ found. IfSome found (λ core. (core ≡ core_of saved) × IsCore core)) }
+        ensures complete { IsCore (core_of saved) → IfOk result (λ found. found ≡ Some (core_of saved)) }
+        ensures saved { (core : CoreView) → IsCore core → saved ≡ saved_of core
+            → IfOk result (λ found. found ≡ Some core) }
+    {
+        saved_cores();
+        let Saved {
+            rules,
+            placed,
+            state,
+            accepted,
+            forgets,
+            learns,
+        } = saved;
+        state.pending.known();
+        if !can_keep(&rules, placed.as_slice(), forgets) {
+            return Ok(None);
+        }
+        let placed = match safe_list(alloc, &rules, placed.into_vec(), &state)? {
+            None => return Ok(None),
+            Some(placed) => placed,
+        };
+        let learned = learned_list(alloc, placed.as_slice(), learns)?;
+        let table = Table::of(alloc, placed.into_vec(), state.cycle, &rules)?;
+        Ok(Some(Core {
+            rules,
+            table,
+            state,
+            learned,
+            accepted,
+            forgets,
+        }))
     }
 
     /// The next cycle to be opened, at most 2^41. An operator who looks at it leaves the core as it is.
@@ -333,4 +475,18 @@ impl Core {
     {
         self.accepted
     }
+}
+
+/// The list, where the nodes are to learn it.
+fn learned_list(
+    alloc: Global,
+    placed: &[Placed],
+    learns: bool,
+) -> Result<Option<PlacedList>, AllocError>
+    ensures learned { IfOk result (λ learned. learned ≡ (if learns then Some placed.now else None)) }
+{
+    if !learns {
+        return Ok(None);
+    }
+    Ok(Some(list_of(alloc, placed)?))
 }

@@ -1,7 +1,8 @@
 //! Laws about histories. Each function has an empty body, and its contract is the law.
 
-ghost use Rattle.std.specs.Prelude.{◌≡◌, ℕ, ◌<◌, ◌≤◌, ◌++◌, ◌∷◌, [], List, All, map, option_map, true};
+ghost use Rattle.std.specs.Prelude.{◌≡◌, ℕ, ◌+◌, ◌<◌, ◌≤◌, ◌++◌, ◌∷◌, [], List, All, map, option_map, true};
 ghost use Rattle.std.specs.List.{range_with_len};
+ghost use Rattle.requirement_table.specs.declared.entries.Order.{Order};
 ghost use Rattle.requirement_table.specs.Table.{IsWellPlaced, instance_in};
 ghost use Rattle.change_protocol.specs.declared.operations.Change.{Change};
 ghost use Rattle.change_protocol.specs.Applied.{IsChangedAt, without_end};
@@ -10,7 +11,9 @@ ghost use Rattle.admission_rules.specs.declared.Rules.{Rules};
 ghost use Rattle.admission.specs.declared.verdict.Verdict.{Verdict};
 ghost use Rattle.admission.specs.Verdict.{IsRules, IsVerdict, is_accepted};
 ghost use Rattle.master_core.specs.declared.event.Event.{Event};
-ghost use Rattle.master_core.specs.History.{IsLegal, IsRightAnswer, next_of, placed_of, plan_of};
+ghost use Rattle.master_core.specs.Cores.{CoreView, IsCore, IsCoreOrder, IsStateOf, core_of, onward, saved_of};
+ghost use Rattle.master_core.specs.History.{IsLegal, IsRightAnswer, learned_of, next_of, placed_of, plan_of};
+ghost use Rattle.master_core.specs.Orders.{IsOrder};
 ghost use Rattle.master_core.specs.Openings.{openings_of};
 
 use planner_policies::laws::loops;
@@ -74,3 +77,17 @@ pub fn accepted_anew()
 {
     loops();
 }
+
+/// A core that is the state after a history goes on with the plan of the placed entries of the history. What it orders for
+/// the next cycle is what is ordered after the history. But the nodes are to learn the list that it keeps.
+pub fn cores_after_histories()
+    ensures masks { (history : List Event) (core : CoreView) (n : ℕ) → IsCore core → IsStateOf history core
+        → mask_at (onward core) n ≡ mask_at (plan_of core.rules (placed_of history)) (next_of history + n) }
+    ensures order { (history : List Event) (core : CoreView) (order : Order) → IsCore core → IsStateOf history core
+        → IsCoreOrder core order → IsOrder core.rules history (record order { learned = learned_of history }) }
+{}
+
+/// What is saved of a core is saved of no other one.
+pub fn saved_cores()
+    ensures saved { (core : CoreView) → IsCore core → core_of (saved_of core) ≡ core }
+{}

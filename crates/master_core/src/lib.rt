@@ -7,6 +7,7 @@
 mod answer;
 mod answered;
 mod apart;
+mod core_plans;
 mod cores;
 mod event;
 pub mod laws;
@@ -20,6 +21,7 @@ mod upcoming;
 
 pub use answered::Answered;
 pub use apart::{Planned, Snapshot, plan_apart};
+pub use core_plans::{CorePlanned, CoreSnapshot};
 pub use cores::{Core, MOST_KEPT};
 pub use event::Event;
 pub use master::Master;

@@ -1,8 +1,12 @@
 //! A core as plain data.
 
+ghost use Rattle.std.specs.Prelude.{◌≡◌, ◌<◌, ◌≤◌, ◌↔◌, true, All, IsTrue, length};
+ghost use Rattle.master_core.specs.Cores.{CoreView, IsCore, core_of, most_kept, saved_of};
+
+use crate::cores::MOST_KEPT;
 use admission::Rules;
 use planner_policies::PlanState;
-use requirement_table::PlacedList;
+use requirement_table::{Placed, PlacedList};
 
 /// A core as plain data, from which it can be made again.
 #[derive(Drop, Debug)]
@@ -19,4 +23,21 @@ pub struct Saved {
     pub forgets: bool,
     /// Whether the nodes are to learn the placed entries.
     pub learns: bool,
+}
+
+/// Whether the entries have slots of the rules, and are no more than a core keeps where it forgets.
+pub(crate) fn can_keep(rules: &Rules, placed: &[Placed], forgets: bool) -> bool
+    ensures slots { IsTrue result → All (λ p. p.entry.slot < rules.now.slots) placed.now }
+    ensures few { IsTrue result → forgets ≡ true → length placed.now ≤ most_kept }
+    ensures complete { All (λ p. p.entry.slot < rules.now.slots) placed.now
+        → (forgets ≡ true → length placed.now ≤ most_kept) → IsTrue result }
+{
+    have_slots(placed, rules.slots) && (!forgets || placed.len() <= MOST_KEPT)
+}
+
+/// Whether all entries have slots below this number.
+fn have_slots(placed: &[Placed], slots: u8) -> bool
+    ensures slots { IsTrue result ↔ All (λ p. p.entry.slot < slots) placed.now }
+{
+    placed.iter().all(|p| p.entry.slot < slots)
 }

@@ -1,6 +1,4 @@
-use Rattle.std.proofs.Common.{◌≡◌, ℕ, [], List, None, Option, arith, refl, subst, sym}
-use Rattle.requirement_table.specs.declared.entries.Placed.{Placed}
-use Rattle.master_core.specs.Cores.{CoreView, IsStateOf}
+use Rattle.std.proofs.Common.{arith, refl}
 use Rattle.master_core.proofs.CoreSteps.{core-new}
 use Rattle.master_core.proofs.States.{state-new}
 use Rattle.master_core.proofs.cores.Core.new.Goals as goal

@@ -10,14 +10,14 @@ pub pass-requires-clause-valid : goal.pass-requires-clause-valid
 pass-requires-clause-valid c =
     let is = subst (λ (v : CoreView). IsCoreUpcoming v c.args.upcoming) (sym c.self.view_is) c.requires.upcoming in
     let near = subst (λ (v : CoreView). v.cycle < 2 ^ 41) (sym c.self.view_is) c.requires.next in
-    valid-behind _ _ _ c.self.invariant.0 c.self.invariant.1 c.loops.ensures.pending near c.args.upcoming is
+    valid-behind _ _ _ c.self.invariant.0 c.self.invariant.1 c.safe_states.ensures.later near c.args.upcoming is
 
 pub invariant_of-self : goal.invariant_of-self
 invariant_of-self c =
     let is = subst (λ (v : CoreView). IsCoreUpcoming v c.args.upcoming) (sym c.self.view_is) c.requires.upcoming in
     let near = subst (λ (v : CoreView). v.cycle < 2 ^ 41) (sym c.self.view_is) c.requires.next in
     rw c.take.ensures.after
-    (core-behind _ _ _ c.self.invariant.0 c.self.invariant.1 c.loops.ensures.pending near c.args.upcoming is _ _ _ c.pass.ensures.placed c.pass.ensures.since
+    (core-behind _ _ _ c.self.invariant.0 c.self.invariant.1 c.safe_states.ensures.later near c.args.upcoming is _ _ _ c.pass.ensures.placed c.pass.ensures.since
     c.pass.ensures.ranking)
 
 pub returns-clause-history : goal.returns-clause-history
@@ -40,6 +40,6 @@ returns-clause-history c =
     (λ history of.
     subst (IsStateOf (history ++ Open c.self.inside.state.cycle c.args.upcoming.mask ∷ []))
     (sym
-    (behind-is _ _ _ c.self.invariant.0 c.self.invariant.1 c.loops.ensures.pending near c.args.upcoming is c.pass.new.self.placed.items c.pass.new.self.since
+    (behind-is _ _ _ c.self.invariant.0 c.self.invariant.1 c.safe_states.ensures.later near c.args.upcoming is c.pass.new.self.placed.items c.pass.new.self.since
     c.pass.new.self.planner.ranking c.pass.ensures.placed c.pass.ensures.since c.pass.ensures.ranking))
     (state-opened history _ c.self.invariant.0 of c.args.upcoming.mask is.order.mask)))

@@ -2,7 +2,6 @@ use Rattle.std.proofs.Common.{◌≡◌, ◌∙◌, List, subst, IfOk}
 use Rattle.std.proofs.lemmas.Result.{IfOk-weaker}
 use Rattle.change_protocol.specs.Applied.{applied}
 use Rattle.admission.specs.Verdict.{IsInTime, IsTakenWhereDue, plan_from}
-use Rattle.master_core.specs.declared.answer.Answer.{Answer}
 use Rattle.master_core.specs.declared.event.Event.{Event}
 use Rattle.master_core.specs.Answers.{IsAnswer, IsAnswerTo}
 use Rattle.master_core.specs.Cores.{IsAnswered, IsStateOf}

@@ -1,6 +1,6 @@
-use Rattle.std.proofs.Common.{◌≡◌, ◌∙◌, ◌≤◌, true, ap, arith, subst, sym}
-use Rattle.master_core.specs.Answers.{IsAnswer, entries_of}
-use Rattle.master_core.specs.Cores.{CoreView, most_kept}
+use Rattle.std.proofs.Common.{◌≡◌, ◌∙◌, ap, arith, subst, sym}
+use Rattle.master_core.specs.Answers.{IsAnswer}
+use Rattle.master_core.specs.Cores.{CoreView}
 use Rattle.master_core.specs.History.{IsPlainlyLegal, next_of}
 use Rattle.master_core.specs.Keeping.{MasterView}
 use Rattle.master_core.proofs.Events.{few-accepted, room-used}

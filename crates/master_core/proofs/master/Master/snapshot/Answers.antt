@@ -1,7 +1,4 @@
-use Rattle.std.proofs.Common.{◌≡◌, ℕ, ◌∙◌, List, ap, subst}
-use Rattle.requirement_table.specs.declared.entries.Placed.{Placed}
-use Rattle.admission_rules.specs.declared.Rules.{Rules}
-use Rattle.master_core.specs.declared.apart.Snapshot.{Snapshot}
+use Rattle.std.proofs.Common.{◌≡◌, subst}
 use Rattle.master_core.specs.Apart.{snapshot_of}
 use Rattle.master_core.specs.Keeping.{MasterView}
 use Rattle.master_core.proofs.Whole.{whole-snapshot}
@@ -22,4 +19,4 @@ pub returns-clause-plannable : goal.returns-clause-plannable
 returns-clause-plannable c =
     rw (c.rules.ensures.rules, c.in_ok-placed.ensures.same, c.placed.ensures.list, c.state.ensures.cycle, c.state.ensures.pending, c.accepted.ensures.accepted)
     (let is = c.known.ensures.core in
-    record { rules = is.ranges; well_placed = is.safe.well_placed; valid = is.safe.held; next = is.near })
+    record { rules = is.safe.in_range; well_placed = is.safe.safe.well_placed; valid = is.safe.safe.held; next = is.safe.near })

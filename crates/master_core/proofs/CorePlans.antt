@@ -1,0 +1,232 @@
+-- Changes that were planned apart are settled where their plan leads to the core.
+use Rattle.std.proofs.Common.{◌≡◌, ℕ, ◌+◌, ◌-◌, ◌≤◌, Bool, true, false, if◌then◌else◌, List, [], ◌++◌, Option, Some, None, refl, sym, ap, ◌∙◌, subst, arith}
+use Rattle.requirement_table.specs.declared.entries.Placed.{Placed}
+use Rattle.change_protocol.specs.declared.operations.Change.{Change}
+use Rattle.change_protocol.specs.Applied.{applied}
+use Rattle.planner_policies.specs.declared.state.PlanState.{PlanState}
+use Rattle.requirement_table.specs.Slots.{contains_slot, most_slots, set_of}
+use Rattle.requirement_table.specs.Table.{IsWellPlaced, not_over}
+use Rattle.requirement_table.proofs.Shared.{not_over-well_placed, set_of-same}
+use Rattle.planner_policies.specs.Plan.{IsValid, Planning, left_after, pending_at, pending_before, planning_of}
+use Rattle.planner_policies.proofs.Shared.{before-first, state-left}
+use Rattle.admission_rules.specs.declared.Rules.{Rules}
+use Rattle.admission.specs.declared.verdict.Verdict.{Verdict}
+use Rattle.admission.specs.declared.verdict.Verdict.TheVariants.{Passed}
+use Rattle.admission.specs.Verdict.{IsVerdict, plan_from, ranking_by, trail_of}
+use Rattle.master_core.specs.declared.answer.Answer.{Answer}
+use Rattle.master_core.specs.declared.answer.Made.{Made}
+use Rattle.master_core.specs.declared.answered.Answered.{Answered}
+use Rattle.master_core.specs.declared.apart.Snapshot.{Snapshot}
+use Rattle.master_core.specs.declared.event.Event.{Event}
+use Rattle.master_core.specs.declared.event.Event.TheVariants.{Submit}
+use Rattle.master_core.specs.Answers.{AreKept, AreMadeTo, IsAnswerTo, IsPlannedFrom, answer_at, is_passed_by}
+use Rattle.master_core.specs.Apart.{IsPlannable}
+use Rattle.master_core.specs.CorePlans.{CanSettleFrom, IsAnsweredFrom, IsLedTo, Leads}
+use Rattle.master_core.specs.Cores.{CoreView, IsAnswered, IsCore, IsHeld, IsStateOf}
+use Rattle.master_core.specs.History.{IsRightAnswer, IsSince, accepted_of, next_of, placed_of, plan_of}
+use Rattle.master_core.proofs.CoreSteps.{made-to, state-here}
+use Rattle.master_core.proofs.Onward.{left-pending}
+use Rattle.master_core.proofs.Passing.{not_over-again}
+use Rattle.master_core.proofs.Legal.{sound-of_legal}
+use Rattle.master_core.proofs.Settling.{gone, next-append, none-behind, right-by, same-placed, since-then, still}
+use Rattle.master_core.proofs.States.{TrailLaw, VerdictLaw, verdict-held}
+
+-- an answer by a plan from the next cycle on
+pub answered-from : (core : CoreView) → IsCore core → (change : Change) (answered : Answered) → IsAnswered core change answered → IsAnsweredFrom core change answered
+answered-from core is change answered by = record {
+  pending = core.pending;
+  leads = record {
+    early = let from = by.from in omega arith;
+    pending =
+        subst (λ (n : ℕ). core.pending ≡ pending_at (plan_from core.rules core.placed n core.pending) (core.cycle - n)) (sym by.from) (state-here core is);
+  };
+  verdict = subst (λ (n : ℕ). IsVerdict core.rules core.placed core.pending n core.cycle change answered.verdict) (sym by.from) by.verdict;
+  trail =
+      by.trail
+      ∙ ap (λ (n : ℕ). trail_of (plan_from core.rules (applied core.placed change) n core.pending) answered.verdict) (sym by.from);
+}
+
+-- what is answered, and the event
+
+abbrev pub told_of : Answer → Answered
+told_of answer = record { from = answer.from; verdict = answer.verdict; trail = answer.trail }
+
+pub submit-same : (caller from of : ℕ) (one other : Change) (first second : Verdict) (trail also : List ℕ) → one ≡ other → from ≡ of → first ≡ second → trail ≡ also
+    → Submit caller one from first trail ≡ Submit caller other of second also
+submit-same caller from of one other first second trail also a b c d = rw (a, b, c, d) refl
+
+-- from state to state
+
+pub first-pending : (plan : Planning) → plan.pending ≡ set_of most_slots (contains_slot plan.pending) → plan.pending ≡ pending_at plan 0
+first-pending plan known =
+    known ∙ sym (set_of-same most_slots (pending_before plan 0) (contains_slot plan.pending) (λ slot below. before-first plan slot))
+
+pub step-pending : (rules : Rules) (left : List Placed) (from pending n cycle set : ℕ) → cycle ≡ from + n → set ≡ pending_at (plan_from rules left from pending) n
+    → set_of most_slots (left_after (planning_of (ranking_by rules left) rules.window cycle set) cycle (contains_slot set))
+    ≡ pending_at (plan_from rules left from pending) (n + 1)
+step-pending rules left from pending n cycle set here is = rw (here, is) (state-left (plan_from rules left from pending) n)
+
+pub leads-by : (rules : Rules) (placed : List Placed) (from to : PlanState) → IsWellPlaced placed → from.cycle ≤ to.cycle
+    → to.pending ≡ pending_at (plan_from rules (not_over from.cycle placed) from.cycle from.pending) (to.cycle - from.cycle) → Leads rules placed from to
+leads-by rules placed from to well order is = record {
+  early = order;
+  pending =
+      is
+      ∙ left-pending rules from.cycle from.pending placed (not_over from.cycle placed) well (not_over-well_placed from.cycle placed well)
+      (not_over-again from.cycle from.cycle placed (omega arith)) (to.cycle - from.cycle);
+}
+
+none-kept : (forgets : Bool) (from : ℕ) (made : Option Made) → AreKept forgets from None made → made ≡ None
+none-kept forgets from None kept = refl
+none-kept forgets from (Some made) kept = absurd kept
+
+module _ (core : CoreView) (is : IsCore core) (snapshot : Snapshot) (plannable : IsPlannable snapshot) (led : IsLedTo core snapshot) (answer : Answer)
+    (was : IsPlannedFrom snapshot.rules snapshot.placed snapshot.state answer) where
+  planned : IsPlannedFrom core.rules core.placed snapshot.state answer
+  planned =
+      subst (λ (r : Rules). IsPlannedFrom r core.placed snapshot.state answer) led.rules
+      (subst (λ (l : List Placed). IsPlannedFrom snapshot.rules l snapshot.state answer) led.placed was)
+
+  early : answer.from ≤ core.cycle
+  early = let from = planned.from in let before = led.leads.early in omega arith
+
+  held : IsValid core.placed answer.from snapshot.state.pending
+  held =
+      subst (λ (n : ℕ). IsValid core.placed n snapshot.state.pending) (sym planned.from)
+      (subst (λ (l : List Placed). IsValid l snapshot.state.cycle snapshot.state.pending) led.placed plannable.valid)
+
+  leads : core.pending ≡ pending_at (plan_from core.rules core.placed answer.from snapshot.state.pending) (core.cycle - answer.from)
+  leads =
+      subst (λ (n : ℕ). core.pending ≡ pending_at (plan_from core.rules core.placed n snapshot.state.pending) (core.cycle - n)) (sym planned.from)
+      led.leads.pending
+
+  decided : IsVerdict core.rules core.placed snapshot.state.pending answer.from answer.from answer.change answer.verdict
+  decided =
+      subst (λ (n : ℕ). IsVerdict core.rules core.placed snapshot.state.pending n n answer.change answer.verdict) (sym planned.from) planned.decided.answer
+
+  trail-is : answer.trail ≡ trail_of (plan_from core.rules (applied core.placed answer.change) answer.from snapshot.state.pending) answer.verdict
+  trail-is =
+      planned.decided.plan
+      ∙ ap (λ (n : ℕ). trail_of (plan_from core.rules (applied core.placed answer.change) n snapshot.state.pending) answer.verdict) (sym planned.from)
+
+  -- the answer with the cycle that is the next one now
+  pub record IsSettled (now : Answer) (made : Option Made) : Type 0 where
+    pub to : IsAnswerTo core (record now { made = made })
+    pub by : IsAnsweredFrom core answer.change (record { from = now.from; verdict = now.verdict; trail = now.trail })
+    pub same : now.from ≡ answer.from
+    pub change_is : now.change ≡ answer.change
+    pub verdict_is : IsVerdict core.rules core.placed snapshot.state.pending answer.from core.cycle answer.change now.verdict
+    pub trail_is : now.trail ≡ trail_of (plan_from core.rules (applied core.placed answer.change) answer.from snapshot.state.pending) now.verdict
+
+  settled-by : (made : Option Made) (b : Bool) → is_passed_by core.cycle answer.change.start answer.verdict ≡ b
+      → AreKept core.forgets (if b then record answer { verdict = Passed answer.change.start core.cycle; trail = []; made = None } else answer).from
+      (if b then record answer { verdict = Passed answer.change.start core.cycle; trail = []; made = None } else answer).made made
+      → IsSettled (if b then record answer { verdict = Passed answer.change.start core.cycle; trail = []; made = None } else answer) made
+  settled-by made true passed kept =
+      let refused = gone core.rules core.placed snapshot.state.pending answer.from core.cycle answer.change early answer.verdict passed decided in
+      record {
+        to = record {
+          types = planned.types;
+          early = early;
+          pending = snapshot.state.pending;
+          held = held;
+          leads = leads;
+          verdict = refused;
+          made =
+              subst (λ (o : Option Made). AreMadeTo core (record answer { verdict = Passed answer.change.start core.cycle; trail = []; made = made }) o)
+              (sym (none-kept core.forgets answer.from made kept)) refl;
+        };
+        by = record {
+          pending = snapshot.state.pending;
+          leads = record { early = early; pending = leads };
+          verdict = refused;
+          trail = refl;
+        };
+        same = refl;
+        change_is = refl;
+        verdict_is = refused;
+        trail_is = refl;
+      }
+  settled-by made false ahead kept =
+      let stays = still core.rules core.placed snapshot.state.pending answer.from core.cycle answer.change early answer.verdict ahead decided in
+      record {
+        to = record {
+          types = planned.types;
+          early = early;
+          pending = snapshot.state.pending;
+          held = held;
+          leads = leads;
+          verdict = stays;
+          made = made-to core is (record answer { made = made }) answer.made made planned.decided.list planned.made kept;
+        };
+        by = record {
+          pending = snapshot.state.pending;
+          leads = record { early = early; pending = leads };
+          verdict = stays;
+          trail = trail-is;
+        };
+        same = refl;
+        change_is = refl;
+        verdict_is = stays;
+        trail_is = trail-is;
+      }
+
+  pub settled : (made : Option Made) → AreKept core.forgets (answer_at core.cycle answer).from (answer_at core.cycle answer).made made → IsSettled (answer_at core.cycle answer) made
+  settled made kept = settled-by made (is_passed_by core.cycle answer.change.start answer.verdict) refl kept
+
+  -- it is right after a history at some place of which the snapshot was taken
+  module _ (verdicts : VerdictLaw) (trails : TrailLaw) (history : List Event) (of : IsStateOf history core) (can : CanSettleFrom history core.forgets snapshot)
+      (now : Answer) (made : Option Made) (by : IsSettled now made) where
+    abbrev whole : List Placed
+    whole = placed_of history
+
+    pub right-then : IsRightAnswer core.rules history now.change now.from now.verdict now.trail × IsHeld core.forgets now.from whole core.placed
+    right-then =
+        let place = can (led.accepted ∙ of.counted) in
+        let front = place.front in
+        let back = place.begins.0 in
+        let earlier = place.core in
+        let fo = place.of in
+        let is_of = place.is in
+        let accepted_is : accepted_of front ≡ accepted_of history =
+        sym fo.counted ∙ sym (ap (λ (s : Snapshot). s.accepted) is_of) ∙ led.accepted ∙ of.counted in
+        let none = none-behind front back (accepted_is ∙ ap accepted_of (sym place.begins.1)) in
+        let whole_is : placed_of front ≡ whole = sym (same-placed front back none) ∙ ap placed_of place.begins.1 in
+        let from_is : now.from ≡ earlier.cycle = by.same ∙ planned.from ∙ ap (λ (s : Snapshot). s.state.cycle) is_of in
+        let first_is : now.from ≡ next_of front = from_is ∙ fo.next in
+        let rules_is : earlier.rules ≡ core.rules = sym (ap (λ (s : Snapshot). s.rules) is_of) ∙ led.rules in
+        let list_is : earlier.placed ≡ core.placed = sym (ap (λ (s : Snapshot). s.placed) is_of) ∙ led.placed in
+        let set_is : snapshot.state.pending ≡ pending_at (plan_of core.rules whole) now.from =
+        ap (λ (s : Snapshot). s.state.pending) is_of
+        ∙ fo.waiting
+        ∙ ap (λ (r : Rules). pending_at (plan_of r (placed_of front)) earlier.cycle) rules_is
+        ∙ ap (λ (l : List Placed). pending_at (plan_of core.rules l) earlier.cycle) whole_is
+        ∙ ap (λ (n : ℕ). pending_at (plan_of core.rules whole) n) (sym from_is) in
+        let kept : IsHeld core.forgets now.from whole core.placed =
+        subst (λ (b : Bool). IsHeld b now.from whole core.placed) place.same
+        (subst (λ (n : ℕ). IsHeld earlier.forgets n whole core.placed) (sym from_is)
+        (subst (λ (w : List Placed). IsHeld earlier.forgets earlier.cycle w core.placed) whole_is
+        (subst (λ (l : List Placed). IsHeld earlier.forgets earlier.cycle (placed_of front) l) list_is fo.held))) in
+        let more = next-append front back in
+        let all : next_of (front ++ back) ≡ next_of history = ap next_of place.begins.1 in
+        let room = is.safe.in_range.few_slots in
+        let sound = (sound-of_legal core.rules history of.legal).well_placed in
+        let decided_now : IsVerdict core.rules core.placed snapshot.state.pending now.from core.cycle answer.change now.verdict =
+        subst (λ (n : ℕ). IsVerdict core.rules core.placed snapshot.state.pending n core.cycle answer.change now.verdict) (sym by.same) by.verdict_is in
+        let trail_now : now.trail ≡ trail_of (plan_from core.rules (applied core.placed answer.change) now.from snapshot.state.pending) now.verdict =
+        by.trail_is
+        ∙ ap (λ (n : ℕ). trail_of (plan_from core.rules (applied core.placed answer.change) n snapshot.state.pending) now.verdict) (sym by.same) in
+        let on_whole =
+        verdict-held verdicts trails core.rules whole core.placed sound room answer.change planned.types now.from snapshot.state.pending core.cycle now.verdict
+        decided_now core.forgets kept in (
+          subst (λ (ch : Change). IsRightAnswer core.rules history ch now.from now.verdict now.trail) (sym by.change_is)
+              (right-by core.rules history whole room refl answer.change now.from now.verdict now.trail planned.types
+              (subst (IsSince history) (sym first_is) (subst (λ (h : List Event). IsSince h (next_of front)) place.begins.1 (since-then front back none)))
+              (omega arith)
+              (subst (λ (n : ℕ). IsVerdict core.rules whole (pending_at (plan_of core.rules whole) now.from) now.from n answer.change now.verdict) of.next
+              (subst (λ (q : ℕ). IsVerdict core.rules whole q now.from core.cycle answer.change now.verdict) set_is on_whole.0))
+              (trail_now
+              ∙ on_whole.1
+              ∙ ap (λ (q : ℕ). trail_of (plan_from core.rules (applied whole answer.change) now.from q) now.verdict) set_is)),
+          kept,
+        )

@@ -1,0 +1,73 @@
+-- Changes that are planned apart from a core, and settled later.
+use Rattle.std.specs.Prelude.{◌≡◌, ℕ, ◌-◌, ◌≤◌, Bool, List}
+use mathlib.Core.List.{IsPrefix}
+use Rattle.requirement_table.specs.declared.entries.Placed.{Placed}
+use Rattle.change_protocol.specs.declared.operations.Change.{Change}
+use Rattle.change_protocol.specs.Applied.{applied}
+use Rattle.planner_policies.specs.declared.state.PlanState.{PlanState}
+use Rattle.planner_policies.specs.Plan.{pending_at}
+use Rattle.admission_rules.specs.declared.Rules.{Rules}
+use Rattle.admission.specs.declared.decision.Decision.{Decision}
+use Rattle.admission.specs.Verdict.{IsDecision, IsVerdict, plan_from, trail_of}
+use Rattle.master_core.specs.declared.answered.Answered.{Answered}
+use Rattle.master_core.specs.declared.apart.Snapshot.{Snapshot}
+use Rattle.master_core.specs.declared.event.Event.{Event}
+use Rattle.master_core.specs.Cores.{CoreView, IsStateOf, state_of}
+use Rattle.master_core.specs.History.{accepted_of}
+
+-- the snapshot of a core
+abbrev pub snapshot_of_core : CoreView → Snapshot
+snapshot_of_core core = record {
+  rules = core.rules;
+  placed = core.placed;
+  state = state_of core;
+  accepted = core.accepted;
+}
+
+-- what contracts see of a change that was planned from a snapshot of a core
+pub record CorePlannedView : Type 0 where
+  pub snapshot : Snapshot
+  pub change : Change
+  pub decision : Decision
+
+-- it is what is decided of this change from this snapshot
+pub record IsCorePlan (snapshot : Snapshot) (change : Change) (planned : CorePlannedView) : Type 0 where
+  pub snapshot_is : planned.snapshot ≡ snapshot
+  pub asked : planned.change ≡ change
+  pub decided : IsDecision snapshot.rules snapshot.placed snapshot.state.pending snapshot.state.cycle change
+      planned.decision
+
+-- the plan of the list from the one state on leads to the other one
+pub record Leads (rules : Rules) (placed : List Placed) (from to : PlanState) : Type 0 where
+  pub early : from.cycle ≤ to.cycle
+  pub pending : to.pending ≡ pending_at (plan_from rules placed from.cycle from.pending) (to.cycle - from.cycle)
+
+-- the plan from the snapshot leads to the core: they have the same rules, entries and number of accepted changes
+pub record IsLedTo (core : CoreView) (snapshot : Snapshot) : Type 0 where
+  pub rules : snapshot.rules ≡ core.rules
+  pub placed : snapshot.placed ≡ core.placed
+  pub accepted : snapshot.accepted ≡ core.accepted
+  pub leads : Leads core.rules core.placed snapshot.state (state_of core)
+
+-- a change is answered by a plan of the entries that leads to the state of the core, from its first cycle on; where the
+-- start has passed by the next cycle, it is refused for that
+pub record IsAnsweredFrom (core : CoreView) (change : Change) (answered : Answered) : Type 0 where
+  pub pending : ℕ
+  pub leads : Leads core.rules core.placed (record { cycle = answered.from; pending = pending }) (state_of core)
+  pub verdict : IsVerdict core.rules core.placed pending answered.from core.cycle change answered.verdict
+  pub trail : answered.trail
+      ≡ trail_of (plan_from core.rules (applied core.placed change) answered.from pending) answered.verdict
+
+-- the snapshot is one of a core that forgets so, and that was the state at some place of the history
+pub record IsSnapshotIn (history : List Event) (forgets : Bool) (snapshot : Snapshot) : Type 0 where
+  pub front : List Event
+  pub begins : IsPrefix front history
+  pub core : CoreView
+  pub of : IsStateOf front core
+  pub same : core.forgets ≡ forgets
+  pub is : snapshot ≡ snapshot_of_core core
+
+-- a plan from the snapshot can be settled after the history: where no change was accepted since, the snapshot was taken
+-- at some place of the history
+abbrev pub CanSettleFrom : List Event → Bool → Snapshot → Type 0
+CanSettleFrom history forgets snapshot = snapshot.accepted ≡ accepted_of history → IsSnapshotIn history forgets snapshot
