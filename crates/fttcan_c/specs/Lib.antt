@@ -1,4 +1,5 @@
 pub mod Admit
+pub mod Apart
 pub mod Checked
 pub mod Framing
 pub mod Mastering

@@ -1,9 +1,13 @@
 -- What C is told of a master, which stays as it is.
 use Rattle.std.specs.Prelude.{◌≡◌, ℕ, ◌≤◌, ◌++◌, ◌∷◌, [], List, map}
 use Rattle.planner_policies.specs.Plan.{mask_at}
+use Rattle.plan_check.specs.Certificate.{CertificateView}
+use Rattle.plan_check.specs.PlanKept.{IsTaken}
+use Rattle.plan_check.specs.PlanText.{plan_text}
+use Rattle.admission.specs.Certified.{IsCertificateFrom}
 use Rattle.master_core.specs.declared.event.Event.{Event}
 use Rattle.master_core.specs.declared.event.Event.TheVariants.{Look}
-use Rattle.master_core.specs.Cores.{CoreView, IsStateOf, onward}
+use Rattle.master_core.specs.Cores.{CoreView, IsStateOf, onward, state_of}
 use Rattle.master_handle.specs.declared.held.Held.{Held}
 use Rattle.master_handle.specs.declared.held.Held.TheVariants.{Master}
 use Rattle.fttcan_c.specs.declared.plain.FttMask.{FttMask}
@@ -56,6 +60,17 @@ pub record HasTrail (masks : List FttMask) (held : Held) : Type 0 where
   pub trail : List ℕ
   pub is : held ≡ Master core trail
   pub masks_are : masks ≡ map mask_told trail
+
+-- the text is that of a plan of the placed entries that goes on from the next cycle, with the slots pending that are
+-- pending before it, up to the end of its first repeat. It keeps the entries for ever
+pub record HasPlanText (text : List ℕ) (held : Held) : Type 0 where
+  pub core : CoreView
+  pub trail : List ℕ
+  pub is : held ≡ Master core trail
+  pub certificate : CertificateView
+  pub onward : IsCertificateFrom core.rules core.placed (state_of core) certificate
+  pub taken : IsTaken core.placed core.rules.window certificate
+  pub text_is : text ≡ plan_text certificate
 
 -- why a master is not read: none is held; want of memory says nothing
 abbrev pub RefusesRead : Held → Refusal → Type 0

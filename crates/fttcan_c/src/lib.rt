@@ -5,6 +5,7 @@
 #![tactic(auto)]
 
 mod admit;
+mod apart;
 mod checked;
 mod frames;
 pub mod laws;
@@ -15,12 +16,17 @@ mod plain_out;
 mod reading;
 mod refusal;
 mod room;
+mod settling;
 #[cfg(test)]
 mod tests;
 mod triggers;
 mod version;
 
 pub use admit::{fttcan_decide, fttcan_open};
+pub use apart::{
+    fttcan_master_snapshot, fttcan_plan_apart, fttcan_planned_free, fttcan_planned_verdict,
+    fttcan_snapshot_free,
+};
 pub use checked::fttcan_check;
 pub use frames::{
     fttcan_fits, fttcan_payload, fttcan_read_wire, fttcan_wire_bits, fttcan_wire_length,
@@ -32,9 +38,10 @@ pub use plain::{
     FttRules, FttState, FttTrigger, FttVerdict,
 };
 pub use reading::{
-    fttcan_master_look, fttcan_master_next, fttcan_master_planned, fttcan_master_rules,
-    fttcan_master_table, fttcan_master_trail,
+    fttcan_master_certificate, fttcan_master_look, fttcan_master_next, fttcan_master_planned,
+    fttcan_master_rules, fttcan_master_table, fttcan_master_trail,
 };
 pub use refusal::{OK, Refusal};
+pub use settling::fttcan_master_settle;
 pub use triggers::{fttcan_trigger_decode, fttcan_trigger_encode};
 pub use version::fttcan_version;

@@ -133,7 +133,7 @@ fn submitted(
             *trail = shown;
             Ok(verdict_out(&verdict))
         }
-        Held::Standby { .. } => Err(Refusal::Closed),
+        _ => Err(Refusal::Closed),
     }
 }
 
@@ -207,7 +207,7 @@ fn opened(held: &mut Held) -> Result<FttOrder, Refusal>
 {
     match held {
         Held::Master { core, trail: _ } => opened_next(core),
-        Held::Standby { .. } => Err(Refusal::Closed),
+        _ => Err(Refusal::Closed),
     }
 }
 

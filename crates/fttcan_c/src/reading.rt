@@ -8,7 +8,7 @@ ghost use Rattle.fttcan_c.specs.declared.plain.FttPlaced.{FttPlaced as FttPlaced
 ghost use Rattle.fttcan_c.specs.declared.refusal.Refusal.{Refusal as RefusalOf};
 ghost use Rattle.fttcan_c.specs.Mastering.{Holds, RefusesOpen};
 ghost use Rattle.fttcan_c.specs.Plain.{mask_of};
-ghost use Rattle.fttcan_c.specs.Reading.{HasTable, HasTrail, IsLookedAt, IsNextOf, IsPlannedOf, IsRulesOf, RefusesLook, RefusesRead};
+ghost use Rattle.fttcan_c.specs.Reading.{HasPlanText, HasTable, HasTrail, IsLookedAt, IsNextOf, IsPlannedOf, IsRulesOf, RefusesLook, RefusesRead};
 ghost use Rattle.fttcan_c.specs.Refused.{status_of};
 ghost use Rattle.fttcan_c.specs.Room.{IsFilled, IsShort};
 ghost use Rattle.fttcan_c.specs.Told.{mask_told, put_of, rules_told};
@@ -18,6 +18,7 @@ use crate::plain_out::{mask_out, masks_out, rules_out, table_out};
 use crate::refusal::{OK, Refusal};
 use crate::room::put;
 use master_handle::{FttHandle, Held};
+use plan_check::write_plan;
 use profile::OPENINGS_END;
 use std::alloc::Global;
 use std::mem;
@@ -32,7 +33,7 @@ fn next_in(held: &Held) -> Result<u64, Refusal>
 {
     match held {
         Held::Master { core, trail: _ } => Ok(core.next()),
-        Held::Standby { .. } => Err(Refusal::Closed),
+        _ => Err(Refusal::Closed),
     }
 }
 
@@ -70,7 +71,7 @@ fn looked_at(held: &Held, caller: u8) -> Result<u64, Refusal>
     }
     match held {
         Held::Master { core, trail: _ } => Ok(core.next()),
-        Held::Standby { .. } => Err(Refusal::Closed),
+        _ => Err(Refusal::Closed),
     }
 }
 
@@ -115,7 +116,7 @@ fn planned_in(held: &Held) -> Result<FttMask, Refusal>
             }
             Ok(mask_out(core.planned()))
         }
-        Held::Standby { .. } => Err(Refusal::Closed),
+        _ => Err(Refusal::Closed),
     }
 }
 
@@ -154,7 +155,7 @@ fn rules_of_held(held: &Held) -> Result<FttRules, Refusal>
 {
     match held {
         Held::Master { core, trail: _ } => Ok(rules_out(&core.rules())),
-        Held::Standby { .. } => Err(Refusal::Closed),
+        _ => Err(Refusal::Closed),
     }
 }
 
@@ -192,7 +193,7 @@ fn table_in(alloc: Global, held: &Held) -> Result<Vec<FttPlaced>, Refusal>
             let list = table_out(alloc, core.placed())?;
             Ok(list)
         }
-        Held::Standby { .. } => Err(Refusal::Closed),
+        _ => Err(Refusal::Closed),
     }
 }
 
@@ -238,7 +239,7 @@ fn trail_in(alloc: Global, held: &Held) -> Result<Vec<FttMask>, Refusal>
             let masks = masks_out(alloc, trail.as_slice())?;
             Ok(masks)
         }
-        Held::Standby { .. } => Err(Refusal::Closed),
+        _ => Err(Refusal::Closed),
     }
 }
 
@@ -268,6 +269,55 @@ pub extern "C" fn fttcan_master_trail(
     *m = FttHandle::of(held);
     match answer {
         Ok(masks) => match put(masks.as_slice(), room, count) {
+            Ok(()) => OK,
+            Err(refusal) => refusal.status(),
+        },
+        Err(refusal) => refusal.status(),
+    }
+}
+
+/// The text of the certificate of a master: the plan of its entries from the next cycle on, up to the end of its first
+/// repeat.
+fn text_in(alloc: Global, held: &Held) -> Result<Vec<u8>, Refusal>
+    ensures text { IfOk result (λ text. HasPlanText text.items held.now) }
+    ensures refused { IfErr result (RefusesRead held.now) }
+{
+    match held {
+        Held::Master { core, trail: _ } => {
+            let certificate = core.certificate(alloc)?;
+            let text = write_plan(alloc, &certificate)?;
+            Ok(text)
+        }
+        _ => Err(Refusal::Closed),
+    }
+}
+
+/// The plan of a master as a text, from the next cycle on, up to the end of its first repeat. `fttcan_check` takes it with
+/// the table and the longest window of the rules. `len` is how many bytes it has, also where the room is too small.
+#[unsafe(no_mangle)]
+pub extern "C" fn fttcan_master_certificate(
+    m: &mut FttHandle,
+    alloc: Global,
+    room: &mut [u8],
+    len: &mut usize,
+) -> u32
+    ensures same { m.new.value ≡ m.old.value }
+    ensures text { result ≡ 0 → Holds m.old.value (λ held. (text : List ℕ) × HasPlanText text held
+        × IsFilled text room.old room.new len.new) }
+    ensures short { result ≡ 5 → Holds m.old.value (λ held. (text : List ℕ) × HasPlanText text held
+        × IsShort text room.old room.new len.new) }
+    ensures refused { result ≢ 0 → result ≢ 5 → (room.new ≡ room.old) × (len.new ≡ len.old) }
+    ensures why { result ≢ 0 → result ≢ 5 → (held : HeldOf) → m.old.value ≡ Some held
+        → (refusal : RefusalOf) × (result ≡ status_of refusal) × RefusesRead held refusal }
+    ensures empty { m.old.value ≡ None → result ≡ 7 }
+{
+    let Some(held) = mem::replace(m, FttHandle::none()).into_box(alloc) else {
+        return Refusal::Closed.status();
+    };
+    let answer = text_in(alloc, &held);
+    *m = FttHandle::of(held);
+    match answer {
+        Ok(text) => match put(text.as_slice(), room, len) {
             Ok(()) => OK,
             Err(refusal) => refusal.status(),
         },

@@ -56,13 +56,22 @@ fn frames_are_written_and_read(rt: HostRuntime) {
     assert_eq!(rt; bits, 53);
     let mut room = [0; 49];
     let mut count = 0;
-    assert_eq!(rt; fttcan_wire_bits(rt.alloc(), 0x7ef, &[], &mut room, &mut count), 0);
+    assert_eq!(rt;
+        fttcan_wire_bits(rt.alloc(), 0x7ef, &[], &mut room, &mut count),
+        0
+    );
     assert_eq!(rt; count, 49);
     let mut frame = NO_FRAME;
     let mut place = 0;
-    assert_eq!(rt; fttcan_read_wire(rt.alloc(), &room, &mut frame, &mut place), 0);
+    assert_eq!(rt;
+        fttcan_read_wire(rt.alloc(), &room, &mut frame, &mut place),
+        0
+    );
     assert_eq!(rt; frame.id, 0x7ef);
-    assert_eq!(rt; fttcan_read_wire(rt.alloc(), &[0; 3], &mut frame, &mut place), 9);
+    assert_eq!(rt;
+        fttcan_read_wire(rt.alloc(), &[0; 3], &mut frame, &mut place),
+        9
+    );
     assert_eq!(rt; place, 3);
 }
 

@@ -1,7 +1,7 @@
 //! What a handle can hold.
 
 use admission::Trail;
-use master_core::Core;
+use master_core::{Core, CorePlanned, CoreSnapshot};
 use standby::Standby;
 
 /// What a handle holds.
@@ -11,4 +11,10 @@ pub enum Held {
     Master { core: Core, trail: Trail },
     /// A standby that follows.
     Standby { standby: Standby },
+    /// What a change is planned from in another thread.
+    Snapshot { snapshot: CoreSnapshot },
+    /// A change that was planned so.
+    Planned { planned: CorePlanned },
+    /// Nothing any more: what was held was moved out.
+    Moved,
 }
