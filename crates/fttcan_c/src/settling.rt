@@ -26,7 +26,8 @@ fn settled_by(
     ensures settled { IfOk result (IsCoreSettled _caller planned core.old core.new) }
     ensures same { OnErr result (core.new ≡ core.old) }
 {
-    core.settle(alloc, planned)
+    let answered = core.settle(alloc, planned)?;
+    Ok(answered)
 }
 
 /// Has a master settle what another handle holds, which is moved out of it, and tells the verdict. Where memory runs out
