@@ -1,0 +1,111 @@
+-- What is decided of a change, and what is planned of a cycle, where C keeps the table and the state of its plan.
+use Rattle.std.specs.Prelude.{◌≡◌, ℕ, ◌+◌, ◌<◌, ◌≤◌, List, All, IfSome}
+use Rattle.profile.specs.Limits.{openings_end}
+use Rattle.requirement_table.specs.declared.entries.Placed.{Placed}
+use Rattle.requirement_table.specs.Slots.{contains_slot, most_slots, set_of}
+use Rattle.requirement_table.specs.Table.{IsWellPlaced, width_in}
+use Rattle.change_protocol.specs.Applied.{applied}
+use Rattle.change_protocol.specs.declared.operations.Change.{Change}
+use Rattle.planner_policies.specs.Plan.{HasNoMissIn, IsMissIn, IsValid, Planning, left_after, planned_in}
+use Rattle.planner_policies.specs.declared.state.PlanState.{PlanState}
+use Rattle.admission_rules.specs.declared.Rules.{Rules}
+use Rattle.admission.specs.declared.decision.Decision.{Decision}
+use Rattle.admission.specs.Verdict.{IsDecision, IsInTime, IsSafe, IsTakenWhereDue, plan_from}
+use Rattle.fttcan_c.specs.declared.plain.FttOp.{FttOp}
+use Rattle.fttcan_c.specs.declared.plain.FttPlaced.{FttPlaced}
+use Rattle.fttcan_c.specs.declared.plain.FttPlan.{FttPlan}
+use Rattle.fttcan_c.specs.declared.plain.FttRules.{FttRules}
+use Rattle.fttcan_c.specs.declared.plain.FttState.{FttState}
+use Rattle.fttcan_c.specs.declared.plain.FttVerdict.{FttVerdict}
+use Rattle.fttcan_c.specs.declared.refusal.Refusal.{Refusal}
+use Rattle.fttcan_c.specs.declared.refusal.Refusal.TheVariants.{Memory, Argument, Table, State, Room, Miss, Closed, Open, Text, No}
+use Rattle.fttcan_c.specs.Plain.{AreRules, IsMask, IsOp, change_of, mask_of, rules_of, state_of, table_of}
+use Rattle.fttcan_c.specs.Told.{table_told, told}
+
+-- the plan of a list of placed entries goes on from the state
+pub record IsStanding (placed : List Placed) (state : FttState) : Type 0 where
+  pub mask : IsMask state.pending
+  pub near : state.cycle ≤ openings_end
+  pub held : IsValid placed state.cycle (mask_of state.pending)
+
+abbrev pub IsStateOf : List FttPlaced → FttState → Type 0
+IsStateOf placed state = IsStanding (table_of placed) state
+
+-- why a table and a state are refused; want of memory says nothing of them
+abbrev pub RefusesStanding : FttRules → List FttPlaced → FttState → Refusal → Type 0
+RefusesStanding rules placed state Memory = Unit {0}
+RefusesStanding rules placed state Argument = AreRules rules → ⊥
+RefusesStanding rules placed state Table = IsWellPlaced (table_of placed) → ⊥
+RefusesStanding rules placed state State = IsStateOf placed state → ⊥
+RefusesStanding rules placed state Room = ⊥
+RefusesStanding rules placed state Miss = ⊥
+RefusesStanding rules placed state Closed = ⊥
+RefusesStanding rules placed state Open = ⊥
+RefusesStanding rules placed state Text = ⊥
+RefusesStanding rules placed state No = ⊥
+
+-- the planning of the table that goes on from the state
+abbrev pub plan_at : FttRules → List FttPlaced → FttState → Planning
+plan_at rules placed state = plan_from (rules_of rules) (table_of placed) state.cycle (mask_of state.pending)
+
+-- a change of a list was decided, whose plan goes on from the state: what C is told of the verdict, and the changed
+-- list, which there is where the change is accepted. From it no deadline is missed at any later cycle
+pub record IsDecidedOn (rules : Rules) (list : List Placed) (state : PlanState) (change : Change) (verdict : FttVerdict)
+    (made : List FttPlaced) : Type 0 where
+  pub decision : Decision
+  pub decided : IsDecision rules list state.pending state.cycle change decision
+  pub verdict_is : verdict ≡ told decision.verdict
+  pub made_is : made ≡ table_told decision.placed
+  pub safe : IfSome decision.placed (λ list. IsSafe rules list state.cycle state.pending)
+  pub due : IsInTime rules list state.cycle change
+      → IsTakenWhereDue rules (plan_from rules (applied list change) state.cycle state.pending) decision.verdict
+
+abbrev pub IsDecided : FttRules → List FttPlaced → FttState → ℕ → List FttOp → FttVerdict → List FttPlaced → Type 0
+IsDecided rules placed state start ops verdict made =
+    IsDecidedOn (rules_of rules) (table_of placed) (state_of state) (change_of start ops) verdict made
+
+-- why a change is not decided
+abbrev pub RefusesChange : FttRules → List FttPlaced → FttState → List FttOp → Refusal → Type 0
+RefusesChange rules placed state ops Memory = Unit {0}
+RefusesChange rules placed state ops Argument = AreRules rules × (All IsOp ops) → ⊥
+RefusesChange rules placed state ops Table = IsWellPlaced (table_of placed) → ⊥
+RefusesChange rules placed state ops State = IsStateOf placed state → ⊥
+RefusesChange rules placed state ops Room = ⊥
+RefusesChange rules placed state ops Miss = ⊥
+RefusesChange rules placed state ops Closed = ⊥
+RefusesChange rules placed state ops Open = ⊥
+RefusesChange rules placed state ops Text = ⊥
+RefusesChange rules placed state ops No = ⊥
+
+-- the cycle of a state was planned: the flagged slots and the length of their window, and the state behind it. No
+-- deadline is missed in it
+pub record IsOpened (rules : FttRules) (placed : List FttPlaced) (old new : FttState) (plan : FttPlan) : Type 0 where
+  pub cycle : new.cycle ≡ old.cycle + 1
+  pub pending : mask_of new.pending
+      ≡ set_of most_slots (left_after (plan_at rules placed old) old.cycle (contains_slot (mask_of old.pending)))
+  pub flags : mask_of plan.flags
+      ≡ set_of most_slots (planned_in (plan_at rules placed old) old.cycle (contains_slot (mask_of old.pending)))
+  pub window : plan.window ≡ width_in (table_of placed) old.cycle
+      (planned_in (plan_at rules placed old) old.cycle (contains_slot (mask_of old.pending)))
+  pub fits : plan.window ≤ rules.window
+  pub held : IsValid (table_of placed) new.cycle (mask_of new.pending)
+  pub in_time : HasNoMissIn (plan_at rules placed old) old.cycle (contains_slot (mask_of old.pending))
+
+-- the state can be planned from, and its cycle may be opened
+pub record CanOpen (placed : List FttPlaced) (state : FttState) : Type 0 where
+  pub state_is : IsStateOf placed state
+  pub next : state.cycle < openings_end
+
+-- why a cycle is not planned: at a miss an instance would miss its deadline in it
+abbrev pub RefusesOpening : FttRules → List FttPlaced → FttState → Refusal → Type 0
+RefusesOpening rules placed state Memory = Unit {0}
+RefusesOpening rules placed state Argument = AreRules rules → ⊥
+RefusesOpening rules placed state Table = IsWellPlaced (table_of placed) → ⊥
+RefusesOpening rules placed state State = CanOpen placed state → ⊥
+RefusesOpening rules placed state Room = ⊥
+RefusesOpening rules placed state Miss = (slot release : ℕ)
+    × IsMissIn (plan_at rules placed state) state.cycle (contains_slot (mask_of state.pending)) slot release
+RefusesOpening rules placed state Closed = ⊥
+RefusesOpening rules placed state Open = ⊥
+RefusesOpening rules placed state Text = ⊥
+RefusesOpening rules placed state No = ⊥

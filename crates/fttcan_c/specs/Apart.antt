@@ -1,0 +1,107 @@
+-- Changes that are planned apart from a master, in another thread, and settled later.
+use Rattle.std.specs.Prelude.{◌≡◌, ℕ, ◌≤◌, ◌++◌, ◌∷◌, [], List, All}
+use Rattle.change_protocol.specs.declared.operations.Change.{Change}
+use Rattle.master_core.specs.declared.answered.Answered.{Answered}
+use Rattle.master_core.specs.declared.apart.Snapshot.{Snapshot as SnapshotOf}
+use Rattle.master_core.specs.declared.event.Event.{Event}
+use Rattle.master_core.specs.declared.event.Event.TheVariants.{Submit}
+use Rattle.master_core.specs.CorePlans.{CanSettleFrom, CorePlannedView, IsAnsweredFrom, IsCorePlan, snapshot_of_core}
+use Rattle.master_core.specs.Cores.{CoreView, IsStateOf, answered_by}
+use Rattle.master_handle.specs.declared.held.Held.{Held}
+use Rattle.master_handle.specs.declared.held.Held.TheVariants.{Master, Snapshot, Planned}
+use Rattle.fttcan_c.specs.declared.plain.FttOp.{FttOp}
+use Rattle.fttcan_c.specs.declared.plain.FttVerdict.{FttVerdict}
+use Rattle.fttcan_c.specs.declared.refusal.Refusal.{Refusal}
+use Rattle.fttcan_c.specs.declared.refusal.Refusal.TheVariants as refused
+use Rattle.fttcan_c.specs.Mastering.{IsMaster}
+use Rattle.fttcan_c.specs.Plain.{IsOp}
+use Rattle.fttcan_c.specs.Told.{told}
+
+-- a snapshot of a master is held
+pub record IsSnapshotOf (master made : Held) : Type 0 where
+  pub core : CoreView
+  pub trail : List ℕ
+  pub of : master ≡ Master core trail
+  pub is : made ≡ Snapshot (snapshot_of_core core)
+
+-- a change was planned from a snapshot
+pub record IsPlannedApart (change : Change) (old new : Held) : Type 0 where
+  pub snapshot : SnapshotOf
+  pub planned : CorePlannedView
+  pub from : old ≡ Snapshot snapshot
+  pub is : new ≡ Planned planned
+  pub plan : IsCorePlan snapshot change planned
+
+-- a snapshot is held, or a planned change
+pub record IsSnapshot (held : Held) : Type 0 where
+  pub snapshot : SnapshotOf
+  pub is : held ≡ Snapshot snapshot
+
+pub record IsPlanned (held : Held) : Type 0 where
+  pub planned : CorePlannedView
+  pub is : held ≡ Planned planned
+
+-- why nothing is planned: no snapshot is held; want of memory says nothing
+abbrev pub RefusesPlanning : Held → Refusal → Type 0
+RefusesPlanning held refused.Memory = Unit {0}
+RefusesPlanning held refused.Argument = ⊥
+RefusesPlanning held refused.Table = ⊥
+RefusesPlanning held refused.State = ⊥
+RefusesPlanning held refused.Room = ⊥
+RefusesPlanning held refused.Miss = ⊥
+RefusesPlanning held refused.Closed = IsSnapshot held → ⊥
+RefusesPlanning held refused.Open = ⊥
+RefusesPlanning held refused.Text = ⊥
+RefusesPlanning held refused.No = ⊥
+
+-- why a change is not planned apart; want of memory says nothing
+abbrev pub RefusesApart : List FttOp → Held → Refusal → Type 0
+RefusesApart ops held refused.Memory = Unit {0}
+RefusesApart ops held refused.Argument = All IsOp ops → ⊥
+RefusesApart ops held refused.Table = ⊥
+RefusesApart ops held refused.State = ⊥
+RefusesApart ops held refused.Room = ⊥
+RefusesApart ops held refused.Miss = ⊥
+RefusesApart ops held refused.Closed = IsSnapshot held → ⊥
+RefusesApart ops held refused.Open = ⊥
+RefusesApart ops held refused.Text = ⊥
+RefusesApart ops held refused.No = ⊥
+
+-- C is told what was decided of a planned change
+pub record IsPlannedTold (verdict : FttVerdict) (held : Held) : Type 0 where
+  pub planned : CorePlannedView
+  pub is : held ≡ Planned planned
+  pub verdict_is : verdict ≡ told planned.decision.verdict
+
+-- a core settled a change that was planned apart: by its plan, where that leads to this core, and else planned anew
+pub record IsCoreSettled (caller : ℕ) (planned : CorePlannedView) (old new : CoreView) (answered : Answered) : Type 0 where
+  pub after : new ≡ answered_by old answered.from planned.change answered.verdict
+  pub answer : IsAnsweredFrom old planned.change answered
+  pub history : (history : List Event) → IsStateOf history old → CanSettleFrom history old.forgets planned.snapshot
+      → IsStateOf (history ++ Submit caller planned.change answered.from answered.verdict answered.trail ∷ []) new
+
+-- a master settled what another handle held, C is told the verdict, and the trail is kept
+pub record IsSettled (caller : ℕ) (verdict : FttVerdict) (from old new : Held) : Type 0 where
+  pub planned : CorePlannedView
+  pub core : CoreView
+  pub trail : List ℕ
+  pub next : CoreView
+  pub answered : Answered
+  pub of : from ≡ Planned planned
+  pub before : old ≡ Master core trail
+  pub after : new ≡ Master next answered.trail
+  pub answer : IsCoreSettled caller planned core next answered
+  pub verdict_is : verdict ≡ told answered.verdict
+
+-- why nothing is settled; want of memory says nothing
+abbrev pub RefusesSettle : Held → Held → Refusal → Type 0
+RefusesSettle held from refused.Memory = Unit {0}
+RefusesSettle held from refused.Argument = ⊥
+RefusesSettle held from refused.Table = ⊥
+RefusesSettle held from refused.State = ⊥
+RefusesSettle held from refused.Room = ⊥
+RefusesSettle held from refused.Miss = ⊥
+RefusesSettle held from refused.Closed = IsMaster held × IsPlanned from → ⊥
+RefusesSettle held from refused.Open = ⊥
+RefusesSettle held from refused.Text = ⊥
+RefusesSettle held from refused.No = ⊥

@@ -1,0 +1,65 @@
+-- What is found of the text of a plan, beside a table and a window.
+use Rattle.std.specs.Prelude.{◌≡◌, ℕ, ◌+◌, ◌<◌, ◌≤◌, List, length}
+use Rattle.profile.specs.Limits.{cycles_end}
+use Rattle.requirement_table.specs.declared.entries.Placed.{Placed}
+use Rattle.requirement_table.specs.Slots.{contains_slot}
+use Rattle.requirement_table.specs.Table.{IsWellPlaced}
+use Rattle.plan_check.specs.declared.breach.Breach.{Breach}
+use Rattle.plan_check.specs.Breaches.{IsBreach}
+use Rattle.plan_check.specs.Certificate.{CertificateView}
+use Rattle.plan_check.specs.PlanKept.{HasPending, IsTaken}
+use Rattle.plan_check.specs.PlanText.{IsFirstWrongLine, IsPlanOf}
+use Rattle.fttcan_c.specs.declared.checked.Finding.{Finding}
+use Rattle.fttcan_c.specs.declared.checked.Finding.TheVariants.{Kept, Broken, Unread}
+use Rattle.fttcan_c.specs.declared.plain.FttBreach.{FttBreach}
+use Rattle.fttcan_c.specs.declared.plain.FttPlaced.{FttPlaced}
+use Rattle.fttcan_c.specs.declared.refusal.Refusal.{Refusal}
+use Rattle.fttcan_c.specs.declared.refusal.Refusal.TheVariants.{Memory, Argument, Table, State, Room, Miss, Closed, Open, Text, No}
+use Rattle.fttcan_c.specs.Plain.{table_of}
+use Rattle.fttcan_c.specs.Told.{breach_told}
+
+-- the text is that of a plan which keeps the table for ever
+pub record IsPlanTaken (placed : List Placed) (window : ℕ) (text : List ℕ) : Type 0 where
+  pub certificate : CertificateView
+  pub read : IsPlanOf text certificate
+  pub taken : IsTaken placed window certificate
+
+-- the text is that of a plan whose first breach C is told
+pub record IsPlanBroken (placed : List Placed) (window : ℕ) (text : List ℕ) (told : FttBreach) : Type 0 where
+  pub certificate : CertificateView
+  pub read : IsPlanOf text certificate
+  pub breach : Breach
+  pub found : IsBreach placed window certificate breach
+  pub told_is : told ≡ breach_told breach
+
+abbrev pub IsFound : List Placed → ℕ → List ℕ → Finding → Type 0
+IsFound placed window text Kept = IsPlanTaken placed window text
+IsFound placed window text (Broken breach) = IsPlanBroken placed window text breach
+IsFound placed window text (Unread number) = IsFirstWrongLine text number
+
+-- the plan begins where slots are pending that have an instance then, and its cycles are in range
+pub record BeginsRight (placed : List Placed) (certificate : CertificateView) : Type 0 where
+  pub pending : HasPending placed certificate.from (contains_slot certificate.pending)
+  pub cycles : certificate.from + length certificate.masks ≤ cycles_end
+
+-- the text is that of a plan that begins wrongly
+pub record IsPlanAstray (placed : List Placed) (text : List ℕ) : Type 0 where
+  pub certificate : CertificateView
+  pub read : IsPlanOf text certificate
+  pub astray : BeginsRight placed certificate → ⊥
+
+-- why nothing is found; want of memory says nothing
+abbrev pub RefusesPlanOf : List Placed → List ℕ → Refusal → Type 0
+RefusesPlanOf placed text Memory = Unit {0}
+RefusesPlanOf placed text Argument = ⊥
+RefusesPlanOf placed text Table = IsWellPlaced placed → ⊥
+RefusesPlanOf placed text State = IsPlanAstray placed text
+RefusesPlanOf placed text Room = ⊥
+RefusesPlanOf placed text Miss = ⊥
+RefusesPlanOf placed text Closed = ⊥
+RefusesPlanOf placed text Open = ⊥
+RefusesPlanOf placed text Text = ⊥
+RefusesPlanOf placed text No = ⊥
+
+abbrev pub RefusesPlan : List FttPlaced → List ℕ → Refusal → Type 0
+RefusesPlan placed text refusal = RefusesPlanOf (table_of placed) text refusal

@@ -1,0 +1,11 @@
+pub mod Admit
+pub mod Apart
+pub mod Checked
+pub mod Framing
+pub mod Mastering
+pub mod Plain
+pub mod Reading
+pub mod Refused
+pub mod Room
+pub mod Told
+pub mod Triggers

@@ -1,0 +1,99 @@
+-- What C is told of a master, which stays as it is.
+use Rattle.std.specs.Prelude.{◌≡◌, ℕ, ◌≤◌, ◌++◌, ◌∷◌, [], List, map}
+use Rattle.planner_policies.specs.Plan.{mask_at}
+use Rattle.plan_check.specs.Certificate.{CertificateView}
+use Rattle.plan_check.specs.PlanKept.{IsTaken}
+use Rattle.plan_check.specs.PlanText.{plan_text}
+use Rattle.admission.specs.Certified.{IsCertificateFrom}
+use Rattle.master_core.specs.declared.event.Event.{Event}
+use Rattle.master_core.specs.declared.event.Event.TheVariants.{Look}
+use Rattle.master_core.specs.Cores.{CoreView, IsStateOf, onward, state_of}
+use Rattle.master_handle.specs.declared.held.Held.{Held}
+use Rattle.master_handle.specs.declared.held.Held.TheVariants.{Master}
+use Rattle.fttcan_c.specs.declared.plain.FttMask.{FttMask}
+use Rattle.fttcan_c.specs.declared.plain.FttPlaced.{FttPlaced}
+use Rattle.fttcan_c.specs.declared.plain.FttRules.{FttRules}
+use Rattle.fttcan_c.specs.declared.refusal.Refusal.{Refusal}
+use Rattle.fttcan_c.specs.declared.refusal.Refusal.TheVariants as refused
+use Rattle.fttcan_c.specs.Mastering.{IsMaster}
+use Rattle.fttcan_c.specs.Plain.{mask_of}
+use Rattle.fttcan_c.specs.Told.{mask_told, put_of, rules_told}
+
+-- the cycle is the next one of a master
+pub record IsNextOf (cycle : ℕ) (held : Held) : Type 0 where
+  pub core : CoreView
+  pub trail : List ℕ
+  pub is : held ≡ Master core trail
+  pub cycle_is : cycle ≡ core.cycle
+
+-- an operator looked at it; whoever has the history of the master in mind has it with this look behind it
+pub record IsLookedAt (caller cycle : ℕ) (held : Held) : Type 0 where
+  pub core : CoreView
+  pub trail : List ℕ
+  pub is : held ≡ Master core trail
+  pub cycle_is : cycle ≡ core.cycle
+  pub history : (history : List Event) → IsStateOf history core → IsStateOf (history ++ Look caller cycle ∷ []) core
+
+-- the slots that would be flagged now
+pub record IsPlannedOf (flags : FttMask) (held : Held) : Type 0 where
+  pub core : CoreView
+  pub trail : List ℕ
+  pub is : held ≡ Master core trail
+  pub flags_are : mask_of flags ≡ mask_at (onward core) 0
+
+pub record IsRulesOf (rules : FttRules) (held : Held) : Type 0 where
+  pub core : CoreView
+  pub trail : List ℕ
+  pub is : held ≡ Master core trail
+  pub rules_are : rules ≡ rules_told core.rules
+
+-- the placed entries that are kept
+pub record HasTable (list : List FttPlaced) (held : Held) : Type 0 where
+  pub core : CoreView
+  pub trail : List ℕ
+  pub is : held ≡ Master core trail
+  pub list_is : list ≡ map put_of core.placed
+
+-- the trail of the last answer
+pub record HasTrail (masks : List FttMask) (held : Held) : Type 0 where
+  pub core : CoreView
+  pub trail : List ℕ
+  pub is : held ≡ Master core trail
+  pub masks_are : masks ≡ map mask_told trail
+
+-- the text is that of a plan of the placed entries that goes on from the next cycle, with the slots pending that are
+-- pending before it, up to the end of its first repeat. It keeps the entries for ever
+pub record HasPlanText (text : List ℕ) (held : Held) : Type 0 where
+  pub core : CoreView
+  pub trail : List ℕ
+  pub is : held ≡ Master core trail
+  pub certificate : CertificateView
+  pub onward : IsCertificateFrom core.rules core.placed (state_of core) certificate
+  pub taken : IsTaken core.placed core.rules.window certificate
+  pub text_is : text ≡ plan_text certificate
+
+-- why a master is not read: none is held; want of memory says nothing
+abbrev pub RefusesRead : Held → Refusal → Type 0
+RefusesRead held refused.Memory = Unit {0}
+RefusesRead held refused.Argument = ⊥
+RefusesRead held refused.Table = ⊥
+RefusesRead held refused.State = ⊥
+RefusesRead held refused.Room = ⊥
+RefusesRead held refused.Miss = ⊥
+RefusesRead held refused.Closed = IsMaster held → ⊥
+RefusesRead held refused.Open = ⊥
+RefusesRead held refused.Text = ⊥
+RefusesRead held refused.No = ⊥
+
+-- an operator is one of 1 to 8
+abbrev pub RefusesLook : ℕ → Held → Refusal → Type 0
+RefusesLook caller held refused.Memory = ⊥
+RefusesLook caller held refused.Argument = (1 ≤ caller) × (caller ≤ 8) → ⊥
+RefusesLook caller held refused.Table = ⊥
+RefusesLook caller held refused.State = ⊥
+RefusesLook caller held refused.Room = ⊥
+RefusesLook caller held refused.Miss = ⊥
+RefusesLook caller held refused.Closed = IsMaster held → ⊥
+RefusesLook caller held refused.Open = ⊥
+RefusesLook caller held refused.Text = ⊥
+RefusesLook caller held refused.No = ⊥

@@ -1,0 +1,188 @@
+//! A change that is planned in another thread, while cycles are opened.
+
+ghost use Rattle.std.specs.Prelude.{◌≡◌, ◌≢◌, ◌≤◌, None, Some, IfErr, IfOk, OnErr, OnOk};
+ghost use Rattle.master_handle.specs.declared.held.Held.{Held as HeldOf};
+ghost use Rattle.fttcan_c.specs.declared.refusal.Refusal.{Refusal as RefusalOf};
+ghost use Rattle.fttcan_c.specs.declared.refusal.Refusal.TheVariants.{Closed};
+ghost use Rattle.fttcan_c.specs.Apart.{IsPlanned, IsPlannedApart, IsPlannedTold, IsSnapshotOf, RefusesApart, RefusesPlanning};
+ghost use Rattle.fttcan_c.specs.Mastering.{Holds};
+ghost use Rattle.fttcan_c.specs.Plain.{change_of};
+ghost use Rattle.fttcan_c.specs.Reading.{RefusesRead};
+ghost use Rattle.fttcan_c.specs.Refused.{status_of};
+
+use crate::plain::{FttOp, FttVerdict};
+use crate::plain_in::change_in;
+use crate::plain_out::verdict_out;
+use crate::refusal::{OK, Refusal};
+use change_protocol::Change;
+use master_handle::{FttHandle, Held};
+use std::alloc::Global;
+use std::mem;
+
+/// A snapshot of a master, in a box of its own.
+fn snapshot_of(alloc: Global, held: &Held) -> Result<Box<Held>, Refusal>
+    ensures snapshot { IfOk result (λ made. IsSnapshotOf held.now made.value) }
+    ensures refused { IfErr result (RefusesRead held.now) }
+{
+    match held {
+        Held::Master { core, trail: _ } => {
+            let snapshot = core.snapshot(alloc)?;
+            match Box::new(alloc, Held::Snapshot { snapshot }) {
+                Ok(made) => Ok(made),
+                Err(_) => Err(Refusal::Memory),
+            }
+        }
+        _ => Err(Refusal::Closed),
+    }
+}
+
+/// Takes a snapshot of a master, from which a change can be planned in another thread.
+#[unsafe(no_mangle)]
+pub extern "C" fn fttcan_master_snapshot(m: &mut FttHandle, alloc: Global, s: &mut FttHandle) -> u32
+    ensures same { m.new.value ≡ m.old.value }
+    ensures taken { result ≡ 0 → (s.old.value ≡ None)
+        × Holds m.old.value (λ held. Holds s.new.value (IsSnapshotOf held)) }
+    ensures refused { result ≢ 0 → s.new.value ≡ s.old.value }
+    ensures occupied { result ≡ 8 → (held : HeldOf) × (s.old.value ≡ Some held) }
+    ensures why { result ≢ 0 → result ≢ 8 → (held : HeldOf) → m.old.value ≡ Some held
+        → (refusal : RefusalOf) × (result ≡ status_of refusal) × RefusesRead held refusal }
+{
+    if let Some(old) = mem::replace(s, FttHandle::none()).into_box(alloc) {
+        *s = FttHandle::of(old);
+        return Refusal::Open.status();
+    }
+    let Some(held) = mem::replace(m, FttHandle::none()).into_box(alloc) else {
+        return Refusal::Closed.status();
+    };
+    let answer = snapshot_of(alloc, &held);
+    *m = FttHandle::of(held);
+    match answer {
+        Ok(made) => {
+            *s = FttHandle::of(made);
+            OK
+        }
+        Err(refusal) => refusal.status(),
+    }
+}
+
+/// Frees what the handle holds, where it holds something.
+#[unsafe(no_mangle)]
+pub extern "C" fn fttcan_snapshot_free(s: &mut FttHandle, alloc: Global)
+    ensures none { s.new.value ≡ None }
+{
+    drop(mem::replace(s, FttHandle::none()).into_box(alloc));
+}
+
+/// Plans a change from a snapshot, in its box.
+fn planned_apart(alloc: Global, held: &mut Held, start: u64, ops: &[FttOp]) -> Result<(), Refusal>
+    ensures planned { OnOk result (IsPlannedApart (change_of start ops.now) held.old held.new) }
+    ensures same { OnErr result (held.new ≡ held.old) }
+    ensures refused { IfErr result (RefusesApart ops.now held.old) }
+{
+    let change = change_in(alloc, start, ops)?;
+    planned_in_place(alloc, held, &change)
+}
+
+/// Plans a change from a snapshot, and puts the plan in its place.
+fn planned_in_place(alloc: Global, held: &mut Held, change: &Change) -> Result<(), Refusal>
+    ensures planned { OnOk result (IsPlannedApart change.now held.old held.new) }
+    ensures same { OnErr result (held.new ≡ held.old) }
+    ensures refused { IfErr result (RefusesPlanning held.old) }
+{
+    match mem::replace(held, Held::Moved) {
+        Held::Snapshot { snapshot } => match snapshot.plan(alloc, change) {
+            Ok(planned) => {
+                *held = Held::Planned { planned };
+                Ok(())
+            }
+            Err(snapshot) => {
+                *held = Held::Snapshot { snapshot };
+                Err(Refusal::Memory)
+            }
+        },
+        other => {
+            *held = other;
+            Err(Refusal::Closed)
+        }
+    }
+}
+
+/// Plans a change from a snapshot, which it takes: where it is planned, `s` holds nothing and `p` the plan.
+#[unsafe(no_mangle)]
+pub extern "C" fn fttcan_plan_apart(
+    s: &mut FttHandle,
+    alloc: Global,
+    start: u64,
+    ops: &[FttOp],
+    p: &mut FttHandle,
+) -> u32
+    ensures planned { result ≡ 0 → (p.old.value ≡ None) × (s.new.value ≡ None)
+        × Holds s.old.value (λ held. Holds p.new.value (IsPlannedApart (change_of start ops.now) held)) }
+    ensures refused { result ≢ 0 → (s.new.value ≡ s.old.value) × (p.new.value ≡ p.old.value) }
+    ensures occupied { result ≡ 8 → (held : HeldOf) × (p.old.value ≡ Some held) }
+    ensures why { result ≢ 0 → result ≢ 8 → (held : HeldOf) → s.old.value ≡ Some held
+        → (refusal : RefusalOf) × (result ≡ status_of refusal) × RefusesApart ops.now held refusal }
+{
+    if let Some(old) = mem::replace(p, FttHandle::none()).into_box(alloc) {
+        *p = FttHandle::of(old);
+        return Refusal::Open.status();
+    }
+    let Some(mut held) = mem::replace(s, FttHandle::none()).into_box(alloc) else {
+        return Refusal::Closed.status();
+    };
+    match planned_apart(alloc, &mut held, start, ops) {
+        Ok(()) => {
+            *p = FttHandle::of(held);
+            OK
+        }
+        Err(refusal) => {
+            *s = FttHandle::of(held);
+            refusal.status()
+        }
+    }
+}
+
+/// What was decided of a planned change when its snapshot was taken.
+fn verdict_in(held: &Held) -> Result<FttVerdict, Refusal>
+    ensures verdict { IfOk result (λ verdict. IsPlannedTold verdict held.now) }
+    ensures refused { IfErr result (λ refusal. (refusal ≡ Closed) × (IsPlanned held.now → ⊥)) }
+{
+    match held {
+        Held::Planned { planned } => Ok(verdict_out(&planned.verdict())),
+        _ => Err(Refusal::Closed),
+    }
+}
+
+/// What was decided of a planned change when its snapshot was taken.
+#[unsafe(no_mangle)]
+pub extern "C" fn fttcan_planned_verdict(
+    p: &mut FttHandle,
+    alloc: Global,
+    verdict: &mut FttVerdict,
+) -> u32
+    ensures same { p.new.value ≡ p.old.value }
+    ensures verdict { result ≡ 0 → Holds p.old.value (IsPlannedTold verdict.new) }
+    ensures refused { result ≢ 0 → (verdict.new ≡ verdict.old) × (result ≡ 7) }
+    ensures why { result ≢ 0 → (held : HeldOf) → p.old.value ≡ Some held → IsPlanned held → ⊥ }
+{
+    let Some(held) = mem::replace(p, FttHandle::none()).into_box(alloc) else {
+        return Refusal::Closed.status();
+    };
+    let answer = verdict_in(&held);
+    *p = FttHandle::of(held);
+    match answer {
+        Ok(told) => {
+            *verdict = told;
+            OK
+        }
+        Err(refusal) => refusal.status(),
+    }
+}
+
+/// Frees what the handle holds, where it holds something.
+#[unsafe(no_mangle)]
+pub extern "C" fn fttcan_planned_free(p: &mut FttHandle, alloc: Global)
+    ensures none { p.new.value ≡ None }
+{
+    drop(mem::replace(p, FttHandle::none()).into_box(alloc));
+}

@@ -1,0 +1,108 @@
+//! A change that was planned in another thread is settled.
+
+ghost use Rattle.std.specs.Prelude.{◌≡◌, ◌≢◌, ◌≤◌, None, Some, IfErr, IfOk, OnErr};
+ghost use Rattle.fttcan_c.specs.declared.refusal.Refusal.TheVariants.{Memory};
+ghost use Rattle.fttcan_c.specs.Apart.{IsCoreSettled, IsSettled, RefusesSettle};
+ghost use Rattle.fttcan_c.specs.Mastering.{Holds};
+
+use crate::plain::FttVerdict;
+use crate::plain_out::verdict_out;
+use crate::refusal::{OK, Refusal};
+use master_core::{Answered, Core, CorePlanned};
+use master_handle::{FttHandle, Held};
+use std::alloc::{AllocError, Global};
+use std::mem;
+
+/// The greatest number of an operator; the least is 1.
+const MOST_CALLERS: u8 = 8;
+
+/// Has a core settle a planned change of operator `caller`.
+fn settled_by(
+    alloc: Global,
+    core: &mut Core,
+    _caller: u8,
+    planned: CorePlanned,
+) -> Result<Answered, AllocError>
+    ensures settled { IfOk result (IsCoreSettled _caller planned core.old core.new) }
+    ensures same { OnErr result (core.new ≡ core.old) }
+{
+    let answered = core.settle(alloc, planned)?;
+    Ok(answered)
+}
+
+/// Has a master settle what another handle holds, which is moved out of it, and tells the verdict. Where memory runs out
+/// it is moved out too.
+fn settled(
+    alloc: Global,
+    held: &mut Held,
+    caller: u8,
+    from: &mut Held,
+) -> Result<FttVerdict, Refusal>
+    ensures settled { IfOk result (λ verdict. IsSettled caller verdict from.old held.old held.new) }
+    ensures same { OnErr result (held.new ≡ held.old) }
+    ensures kept { IfErr result (λ refusal. refusal ≢ Memory → from.new ≡ from.old) }
+    ensures refused { IfErr result (RefusesSettle held.old from.old) }
+{
+    match held {
+        Held::Master { core, trail } => match mem::replace(from, Held::Moved) {
+            Held::Planned { planned } => {
+                let Answered {
+                    from: _,
+                    verdict,
+                    trail: shown,
+                } = settled_by(alloc, core, caller, planned)?;
+                *trail = shown;
+                Ok(verdict_out(&verdict))
+            }
+            other => {
+                *from = other;
+                Err(Refusal::Closed)
+            }
+        },
+        _ => Err(Refusal::Closed),
+    }
+}
+
+/// Answers a change that operator `caller`, 1 to 8, asks for and that was planned apart. Where its plan leads to this
+/// master, and no change was accepted since its snapshot, that plan decides; else it is planned anew.
+///
+/// `p` holds nothing then. Where memory runs out it holds nothing either, and the master is as before.
+#[unsafe(no_mangle)]
+pub extern "C" fn fttcan_master_settle(
+    m: &mut FttHandle,
+    alloc: Global,
+    caller: u8,
+    p: &mut FttHandle,
+    verdict: &mut FttVerdict,
+) -> u32
+    ensures settled { result ≡ 0 → (p.new.value ≡ None) × Holds m.old.value (λ old. Holds m.new.value
+        (λ new. Holds p.old.value (λ from. IsSettled caller verdict.new from old new))) }
+    ensures known { result ≡ 0 → (1 ≤ caller) × (caller ≤ 8) }
+    ensures refused { result ≢ 0 → (m.new.value ≡ m.old.value) × (verdict.new ≡ verdict.old) }
+    ensures memory { result ≡ 1 → p.new.value ≡ None }
+    ensures kept { result ≢ 0 → result ≢ 1 → p.new.value ≡ p.old.value }
+{
+    if caller < 1 || caller > MOST_CALLERS {
+        return Refusal::Argument.status();
+    }
+    let Some(mut held) = mem::replace(m, FttHandle::none()).into_box(alloc) else {
+        return Refusal::Closed.status();
+    };
+    let Some(mut from) = mem::replace(p, FttHandle::none()).into_box(alloc) else {
+        *m = FttHandle::of(held);
+        return Refusal::Closed.status();
+    };
+    let answer = settled(alloc, &mut held, caller, &mut from);
+    *m = FttHandle::of(held);
+    match answer {
+        Ok(said) => {
+            *verdict = said;
+            OK
+        }
+        Err(Refusal::Memory) => Refusal::Memory.status(),
+        Err(refusal) => {
+            *p = FttHandle::of(from);
+            refusal.status()
+        }
+    }
+}

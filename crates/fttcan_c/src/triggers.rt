@@ -1,0 +1,173 @@
+//! The trigger frames of a cycle, written and read.
+
+ghost use Rattle.std.specs.Prelude.{◌≡◌, ◌≢◌, ◌<◌, ◌≤◌, ◌^◌, ◌↔◌, ◌∷◌, [], All, IfErr, IfOk, IsTrue, OnOk, map};
+ghost use Rattle.cycle_layout.specs.Layout.{IsSlots};
+ghost use Rattle.fttcan_c.specs.declared.refusal.Refusal.{Refusal as RefusalOf};
+ghost use Rattle.fttcan_c.specs.declared.refusal.Refusal.TheVariants.{Room};
+ghost use Rattle.fttcan_c.specs.Plain.{IsFrameIn, IsTriggerIn, frame_of, frames_of, mask_of};
+ghost use Rattle.fttcan_c.specs.Refused.{status_of};
+ghost use Rattle.fttcan_c.specs.Room.{IsFilled, IsShort};
+ghost use Rattle.fttcan_c.specs.Told.{frame_told};
+ghost use Rattle.fttcan_c.specs.Triggers.{IsTold, RefusesOne, RefusesTrigger, RefusesTwo, frames_told};
+
+use crate::plain::{FttFrame, FttMask, FttTrigger};
+use crate::plain_in::{are_slots, frame_in, is_mask, mask_in};
+use crate::plain_out::{frame_out, mask_out};
+use crate::refusal::{OK, Refusal};
+use crate::room::put;
+use profile::LONGEST_WINDOW;
+use trigger_codec::{decode, decode_second, encode, encode_second, flags_of_both};
+
+/// With so many slots one frame flags all of them.
+const SLOTS_OF_ONE: u8 = 40;
+
+/// Whether a set has slots alone that are below 40, or below 96.
+fn has_slots(mask: FttMask, slots: u8) -> bool
+    requires slots { IsSlots slots }
+    ensures within { IsTrue result ↔ (mask_of mask < 2 ^ slots) }
+{
+    if slots == SLOTS_OF_ONE {
+        mask.high == 0 && mask.low < 1 << 40
+    } else {
+        is_mask(mask)
+    }
+}
+
+/// Whether so many slots are flagged by trigger frames, which tell this trigger.
+fn is_trigger(slots: u8, trigger: &FttTrigger) -> bool
+    ensures trigger { IsTrue result ↔ IsTriggerIn slots trigger.now }
+{
+    are_slots(slots) && trigger.window <= LONGEST_WINDOW && has_slots(trigger.flags, slots)
+}
+
+/// Puts the trigger frames of a cycle into the caller's room: one with 40 slots, two with 96.
+fn put_trigger(
+    slots: u8,
+    trigger: &FttTrigger,
+    room: &mut [FttFrame],
+    count: &mut usize,
+) -> Result<(), Refusal>
+    requires trigger { IsTriggerIn slots trigger.now }
+    ensures filled { OnOk result (IsFilled (map frame_told (frames_told slots trigger.now)) room.old room.new count.new) }
+    ensures short { IfErr result (λ refusal. (refusal ≡ Room)
+        × IsShort (map frame_told (frames_told slots trigger.now)) room.old room.new count.new) }
+{
+    let flags = mask_in(trigger.flags);
+    let first = frame_out(&encode(trigger.cycle, trigger.window, flags));
+    if slots == SLOTS_OF_ONE {
+        put(&[first], room, count)
+    } else {
+        let second = frame_out(&encode_second(trigger.cycle, flags));
+        put(&[first, second], room, count)
+    }
+}
+
+/// The trigger frames of a cycle: one with 40 slots, two with 96. The flagged slots are below that number, and the
+/// window is at most 16,383 bit times. `count` is how many frames there are, also where the room is too small.
+#[unsafe(no_mangle)]
+pub extern "C" fn fttcan_trigger_encode(
+    slots: u8,
+    trigger: &FttTrigger,
+    room: &mut [FttFrame],
+    count: &mut usize,
+) -> u32
+    ensures frames { result ≡ 0 → IsTriggerIn slots trigger.now
+        × IsFilled (map frame_told (frames_told slots trigger.now)) room.old room.new count.new }
+    ensures short { result ≡ 5 → IsShort (map frame_told (frames_told slots trigger.now)) room.old room.new count.new }
+    ensures refused { result ≢ 0 → result ≢ 5 → (room.new ≡ room.old) × (count.new ≡ count.old)
+        × (result ≡ 2) × (IsTriggerIn slots trigger.now → ⊥) }
+{
+    if !is_trigger(slots, trigger) {
+        return Refusal::Argument.status();
+    }
+    match put_trigger(slots, trigger, room, count) {
+        Ok(()) => OK,
+        Err(refusal) => refusal.status(),
+    }
+}
+
+/// What one trigger frame says, of a table with 40 slots.
+#[tactic(auto, using(crate::proofs::Silent::none_heard))]
+fn one_decoded(only: &FttFrame) -> Result<FttTrigger, Refusal>
+    ensures trigger { IfOk result (IsTold 40 (frame_of only.now ∷ [])) }
+    ensures known { OnOk result (IsFrameIn only.now) }
+    ensures refused { IfErr result (RefusesOne only.now) }
+{
+    let frame = frame_in(only)?;
+    let Ok(said) = decode(&frame) else {
+        return Err(Refusal::Text);
+    };
+    Ok(FttTrigger {
+        flags: mask_out(said.mask),
+        cycle: u64::from(said.low),
+        window: said.l,
+    })
+}
+
+/// What two trigger frames say, of a table with 96 slots.
+#[tactic(auto, using(crate::proofs::Silent::none_first, crate::proofs::Silent::none_second, crate::proofs::Silent::other_cycle))]
+fn both_decoded(first: &FttFrame, second: &FttFrame) -> Result<FttTrigger, Refusal>
+    ensures trigger { IfOk result (IsTold 96 (frame_of first.now ∷ frame_of second.now ∷ [])) }
+    ensures known { OnOk result (IsFrameIn first.now × IsFrameIn second.now) }
+    ensures refused { IfErr result (RefusesTwo first.now second.now) }
+{
+    let one = frame_in(first)?;
+    let other = frame_in(second)?;
+    let Ok(said) = decode(&one) else {
+        return Err(Refusal::Text);
+    };
+    let Ok(more) = decode_second(&other) else {
+        return Err(Refusal::Text);
+    };
+    if said.low != more.low {
+        return Err(Refusal::Text);
+    }
+    Ok(FttTrigger {
+        flags: mask_out(flags_of_both(said.mask, more.mask)),
+        cycle: u64::from(said.low),
+        window: said.l,
+    })
+}
+
+/// What the trigger frames of a cycle say.
+fn decoded(slots: u8, frames: &[FttFrame]) -> Result<FttTrigger, Refusal>
+    ensures trigger { IfOk result (IsTold slots (frames_of frames.now)) }
+    ensures known { OnOk result (IsSlots slots × All IsFrameIn frames.now) }
+    ensures refused { IfErr result (RefusesTrigger slots frames.now) }
+{
+    if !are_slots(slots) {
+        return Err(Refusal::Argument);
+    }
+    if slots == SLOTS_OF_ONE {
+        match frames {
+            [only] => one_decoded(only),
+            _ => Err(Refusal::Text),
+        }
+    } else {
+        match frames {
+            [first, second] => both_decoded(first, second),
+            _ => Err(Refusal::Text),
+        }
+    }
+}
+
+/// What the trigger frames of a cycle say: one with 40 slots, two with 96. Of the cycle they tell the low 8 bits.
+#[unsafe(no_mangle)]
+pub extern "C" fn fttcan_trigger_decode(
+    slots: u8,
+    frames: &[FttFrame],
+    trigger: &mut FttTrigger,
+) -> u32
+    ensures trigger { result ≡ 0 → IsSlots slots × (All IsFrameIn frames.now)
+        × IsTold slots (frames_of frames.now) trigger.new }
+    ensures refused { result ≢ 0 → (trigger.new ≡ trigger.old)
+        × ((refusal : RefusalOf) × (result ≡ status_of refusal) × RefusesTrigger slots frames.now refusal) }
+{
+    match decoded(slots, frames) {
+        Ok(said) => {
+            *trigger = said;
+            OK
+        }
+        Err(refusal) => refusal.status(),
+    }
+}
