@@ -23,7 +23,7 @@ use Rattle.standby.specs.Core.{core_of}
 use Rattle.standby.specs.Following.{StandbyView}
 use Rattle.handover_run.specs.declared.handed.Handed.{Handed}
 use Rattle.handover_run.specs.Following.{Follows, IsFollowing}
-use Rattle.handover_run.specs.Handed.{HandsSame, IsHanded}
+use Rattle.handover_run.specs.Handed.{CanHand, HandsSame, IsHanded}
 
 -- what is worked out of the core of a history
 pub record OneCore : Type 0 where
@@ -92,6 +92,15 @@ module _ (laws : OneCore) where
         followed = tt;
         quiet = is.quiet;
       }
+
+  -- and the next cycle is that of the first master
+  pub next-taken-over : (run : Handed) (standby : StandbyView) (master : MasterView) → run.standby ≡ Some standby → master.history ≡ standby.history
+      → CanHand run → next_of master.history ≡ next_of run.bus.master.history
+  next-taken-over run standby master there history can =
+      let is = can.3 in
+      let follows : IsFollowing can.0.rules can.1 standby = subst (Follows can.0.rules can.1) there is.followed in
+      let same : core_of can.1 ≡ core_of master.history = follows.same_core ∙ ap core_of (sym history) in
+      laws.next master.history run.bus.master.history (sym same ∙ is.same_core)
 
 -- a run that only made room
 pub still-handed : (setting : Setting) (whole : List Event) (trace : List TimedFrame) (run : Handed) (between : Bus) → GoesStill run.bus between

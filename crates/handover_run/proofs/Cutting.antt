@@ -1,14 +1,20 @@
 -- A run whose rows are heard, and one that is cut short.
-use Rattle.std.proofs.Common.{ℕ, List, [], ◌∷◌, ◌++◌, map, sym, ap, ◌∙◌, subst}
+use Rattle.std.proofs.Common.{◌≡◌, ℕ, Result, Ok, Err, IfErr, IsErrAnd, List, [], ◌∷◌, ◌++◌, map, sym, ap, ◌∙◌, subst}
 use Rattle.std.proofs.lemmas.List.{append-nil}
 use Rattle.can_frame.specs.declared.data_frame.TimedFrame.{TimedFrame}
 use Rattle.bus_trace.specs.EventRows.{rows_of_event}
 use Rattle.bus_trace.specs.Log.{events_rows}
 use Rattle.master_core.specs.Calls.{Call, call_of}
 use Rattle.replay_run.specs.Progress.{HearsLast}
+use Rattle.replay_run.specs.declared.cut.Cut.{Cut}
 use Rattle.replay_run.specs.declared.cut.Cut.TheVariants.{Memory, Write}
 use Rattle.handover_run.specs.declared.handed.Handed.{Handed}
 use Rattle.handover_run.specs.Handed.{CanHand, CanLog, GoesOn, HandsOn, HandsSame, IsCutBehind}
+
+-- what holds of a cause holds of an error of that cause
+pub caused : {T : Type 0} (result : Result T Cut) (P : Cut → Type 0) (why : Cut) → IsErrAnd result (λ cause. cause ≡ why) → P why → IfErr result P
+caused (Ok value) P why is holds = absurd is
+caused (Err cause) P why is holds = subst P (sym is) holds
 
 module _ {L : Type 0} (Heard Broke : L → List ℕ → L → Type 0) where
   pub can-hand : (run : Handed) (told : L) → CanLog Heard run told → CanHand run

@@ -1,5 +1,8 @@
-use Rattle.std.proofs.Common.{[], rules}
+use Rattle.std.proofs.Common.{[], inr, rules}
 use Rattle.replay_run.specs.Progress.{setting_of}
+use Rattle.replay_run.specs.declared.cut.Cut.TheVariants.{Write}
+use Rattle.replay_run.specs.Whole.{IsCutOff}
+use Rattle.handover_run.proofs.Cutting.{caused}
 use Rattle.handover_run.proofs.Whole.{begins-heard, cut-at_end, cut-short, heard-all, not-begun, start_at}
 use Rattle.handover_run.proofs.handing.log_handed.Goals as goal
 
@@ -36,7 +39,9 @@ returns-in_err-hear_end-clause-cut g c =
     })
     g.met.L.Listener.broke_later c.in_ok-handed.handed c.log_calls.new.handed c.log_calls.new.listener c.hear_end.new.self c.next.result
     c.in_ok-handed.ensures.begun c.in_ok-log_calls.ensures.goes_on c.next.ensures.next c.in_err-hear_end.ensures.broke in
-    search (rules, all)
+    caused c.from_residual-in_err-hear_end.result
+    (IsCutOff g.L.Listener.heard g.L.Listener.broke c.args.system.now c.args.steps.now c.args.requests.now c.args.listener.now c.hear_end.new.self) Write
+    c.from_residual-in_err-hear_end.ensures.1 (inr all)
 
 pub returns-clause-heard : goal.returns-clause-heard
 returns-clause-heard g c =

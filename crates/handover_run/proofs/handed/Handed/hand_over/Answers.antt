@@ -1,6 +1,6 @@
 use Rattle.std.proofs.Common.{subst, sym, ◌∙◌}
 use Rattle.handover_run.specs.Handed.{IsHanded}
-use Rattle.handover_run.proofs.Behind.{taken-over}
+use Rattle.handover_run.proofs.Behind.{next-taken-over, taken-over}
 use Rattle.handover_run.proofs.handed.Handed.hand_over.Goals as goal
 
 pub returns-in-Some-clause-same : goal.returns-in-Some-clause-same
@@ -19,3 +19,15 @@ returns-in-Some-clause-same c = λ setting whole trace is.
     })
     run c.in-Some.standby c.take_over.result (sym c.take.ensures.value ∙ c.in-Some.is) c.take_over.ensures.rules c.take_over.ensures.history
     c.take_over.ensures.plain setting whole trace is)
+
+pub returns-in-Some-clause-next : goal.returns-in-Some-clause-next
+returns-in-Some-clause-next c =
+    next-taken-over
+    (record {
+      placed = c.one_core.ensures.placed;
+      next = c.one_core.ensures.next;
+      changed = c.one_core.ensures.changed;
+      openings = c.one_core.ensures.openings;
+      order = c.one_core.ensures.order;
+    })
+    c.args.self.now c.in-Some.standby c.take_over.result (sym c.take.ensures.value ∙ c.in-Some.is) c.take_over.ensures.history
