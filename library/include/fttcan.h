@@ -55,7 +55,7 @@ enum {
 /* Statuses. */
 enum {
     FTTCAN_OK = 0,          /* done */
-    FTTCAN_MEMORY = 1,      /* memory ran out, or the table is full: nothing changed, and the call may be made again */
+    FTTCAN_MEMORY = 1,      /* memory ran out, or the table is full: the call may be made again (settle: see there) */
     FTTCAN_ARGUMENT = 2,    /* an argument is out of its range */
     FTTCAN_TABLE = 3,       /* the table is not well placed: no master can have come to it */
     FTTCAN_STATE = 4,       /* the state can't be planned from, or no cycle may be opened any more */
@@ -304,8 +304,9 @@ void fttcan_planned_free(fttcan_planned *p);
 
 /* Has the master answer a planned change, for operator `caller`, 1 to 8. Where the master has only opened cycles since
  * the snapshot that plan decides, and only a start that has passed since is refused. Else the change is planned anew,
- * in this call. After FTTCAN_OK `p` holds nothing, and `verdict` is the answer. After any other status `p` and the master
- * are as they were. FTTCAN_CLOSED: `m` or `p` holds nothing. FTTCAN_ARGUMENT: the caller. FTTCAN_MEMORY. */
+ * in this call. After FTTCAN_OK `p` holds nothing, and `verdict` is the answer. FTTCAN_MEMORY: `p` holds nothing then either,
+ * and the master is as it was: the change is asked for anew. After any other status `p` and the master are as they were.
+ * FTTCAN_CLOSED: `m` or `p` holds nothing. FTTCAN_ARGUMENT: the caller. */
 uint32_t fttcan_master_settle(fttcan_master *m, uint8_t caller, fttcan_planned *p, fttcan_verdict *verdict);
 
 /* ---- A standby: it is told the accepted changes and hears the triggers, and takes over from there. Each call but _new and
