@@ -99,22 +99,31 @@ fn started(alloc: Global) -> FttHandle {
     m
 }
 
+/// The size and the alignment of a struct.
+fn laid_out<T>() -> (usize, usize) {
+    (size_of::<T>(), align_of::<T>())
+}
+
 #[test]
-fn structs_have_the_sizes_of_the_header(rt: HostRuntime) {
-    assert_eq!(rt; size_of::<FttMask>(), 16);
-    assert_eq!(rt; size_of::<FttFrame>(), 12);
-    assert_eq!(rt; size_of::<FttTrigger>(), 32);
-    assert_eq!(rt; size_of::<FttRules>(), 16);
-    assert_eq!(rt; size_of::<FttEntry>(), 10);
-    assert_eq!(rt; size_of::<FttPlaced>(), 32);
-    assert_eq!(rt; size_of::<FttOp>(), 12);
-    assert_eq!(rt; size_of::<FttState>(), 24);
-    assert_eq!(rt; size_of::<FttVerdict>(), 24);
-    assert_eq!(rt; size_of::<FttPlan>(), 24);
-    assert_eq!(rt; size_of::<FttOrder>(), 32);
-    assert_eq!(rt; size_of::<FttBreach>(), 24);
-    assert_eq!(rt; size_of::<FttLayout>(), 16);
-    assert_eq!(rt; size_of::<FttHandle>(), 8);
+fn structs_are_laid_out_as_in_the_header(rt: HostRuntime) {
+    for (told, wanted) in [
+        (laid_out::<FttMask>(), (16, 8)),
+        (laid_out::<FttFrame>(), (12, 2)),
+        (laid_out::<FttTrigger>(), (32, 8)),
+        (laid_out::<FttRules>(), (16, 8)),
+        (laid_out::<FttEntry>(), (10, 2)),
+        (laid_out::<FttPlaced>(), (32, 8)),
+        (laid_out::<FttOp>(), (12, 2)),
+        (laid_out::<FttState>(), (24, 8)),
+        (laid_out::<FttVerdict>(), (24, 8)),
+        (laid_out::<FttPlan>(), (24, 8)),
+        (laid_out::<FttOrder>(), (32, 8)),
+        (laid_out::<FttBreach>(), (24, 8)),
+        (laid_out::<FttLayout>(), (16, 4)),
+        (laid_out::<FttHandle>(), (8, 8)),
+    ] {
+        assert_eq!(rt; told, wanted);
+    }
 }
 
 // The wire lengths are from a table of frames that another program made.
@@ -180,8 +189,14 @@ fn a_master_tells_what_it_holds(rt: HostRuntime) {
     let mut m = started(alloc);
     let mut next = 0;
     let mut flags = SLOT_5;
-    let mut rules = FttRules { horizon: 1, ..RULES };
-    let mut table = [FttPlaced { origin: 9, ..PLACED }; 2];
+    let mut rules = FttRules {
+        horizon: 1,
+        ..RULES
+    };
+    let mut table = [FttPlaced {
+        origin: 9,
+        ..PLACED
+    }; 2];
     let mut text = [0; 87];
     let mut count = 9;
     assert_eq!(rt; fttcan_master_look(&mut m, alloc, 8, &mut next), 0);
@@ -195,7 +210,10 @@ fn a_master_tells_what_it_holds(rt: HostRuntime) {
     assert_eq!(rt; rules, RULES);
     assert_eq!(rt; fttcan_master_table(&mut m, alloc, &mut [], &mut count), 5);
     assert_eq!(rt; count, 1);
-    assert_eq!(rt; fttcan_master_table(&mut m, alloc, &mut table, &mut count), 0);
+    assert_eq!(rt;
+        fttcan_master_table(&mut m, alloc, &mut table, &mut count),
+        0
+    );
     assert_eq!(rt; table[0], PLACED);
     assert_eq!(rt; fttcan_master_trail(&mut m, alloc, &mut [], &mut count), 0);
     assert_eq!(rt; count, 0);
@@ -206,7 +224,9 @@ fn a_master_tells_what_it_holds(rt: HostRuntime) {
     assert_eq!(rt; count, 87);
     assert_eq!(rt;
         str::from_utf8(&text),
-        Ok("fttcan plan 2\nfrom 1\npending 0000000000\nfirst 1\nlength 2\n0000000000 1\n0000000020 1\nend\n")
+        Ok(
+            "fttcan plan 2\nfrom 1\npending 0000000000\nfirst 1\nlength 2\n0000000000 1\n0000000020 1\nend\n"
+        )
     );
     fttcan_master_free(&mut m, alloc);
 }
@@ -215,9 +235,15 @@ fn a_master_tells_what_it_holds(rt: HostRuntime) {
 #[test]
 fn a_miss_is_told_with_its_trail(rt: HostRuntime) {
     let alloc = rt.alloc();
-    let narrow = FttRules { window: 135, ..RULES };
+    let narrow = FttRules {
+        window: 135,
+        ..RULES
+    };
     let each = FttEntry { period: 1, ..ENTRY };
-    let ops = [6, 7].map(|slot| FttOp { kind: 0, entry: FttEntry { slot, ..each } });
+    let ops = [6, 7].map(|slot| FttOp {
+        kind: 0,
+        entry: FttEntry { slot, ..each },
+    });
     let mut m = FttHandle::none();
     let mut verdict = NO_VERDICT;
     let mut trail = [NO_SLOTS; 2];
@@ -227,8 +253,19 @@ fn a_miss_is_told_with_its_trail(rt: HostRuntime) {
         fttcan_master_submit(&mut m, alloc, 1, 0, &ops, &mut verdict),
         0
     );
-    assert_eq!(rt; verdict, FttVerdict { kind: 2, slot: 7, second: 0, ..ACCEPTED });
-    assert_eq!(rt; fttcan_master_trail(&mut m, alloc, &mut trail, &mut count), 0);
+    assert_eq!(rt;
+        verdict,
+        FttVerdict {
+            kind: 2,
+            slot: 7,
+            second: 0,
+            ..ACCEPTED
+        }
+    );
+    assert_eq!(rt;
+        fttcan_master_trail(&mut m, alloc, &mut trail, &mut count),
+        0
+    );
     assert_eq!(rt; count, 1);
     assert_eq!(rt; trail[0].low, 0x40);
     fttcan_master_free(&mut m, alloc);
@@ -237,26 +274,74 @@ fn a_miss_is_told_with_its_trail(rt: HostRuntime) {
 #[test]
 fn a_table_is_kept_by_its_caller(rt: HostRuntime) {
     let alloc = rt.alloc();
-    let mut state = FttState { cycle: 0, pending: NO_SLOTS };
+    let mut state = FttState {
+        cycle: 0,
+        pending: NO_SLOTS,
+    };
     let mut verdict = NO_VERDICT;
-    let mut table = [FttPlaced { origin: 9, ..PLACED }];
+    let mut table = [FttPlaced {
+        origin: 9,
+        ..PLACED
+    }];
     let mut count = 9;
     assert_eq!(rt;
-        fttcan_decide(alloc, &RULES, &[], &state, 0, &[FIRST], &mut verdict, &mut table, &mut count),
+        fttcan_decide(
+            alloc,
+            &RULES,
+            &[],
+            &state,
+            0,
+            &[FIRST],
+            &mut verdict,
+            &mut table,
+            &mut count
+        ),
         0
     );
     assert_eq!(rt; verdict, ACCEPTED);
     assert_eq!(rt; count, 1);
     assert_eq!(rt; table[0], PLACED);
-    let mut plan = FttPlan { flags: NO_SLOTS, window: 9 };
-    assert_eq!(rt; fttcan_open(alloc, &RULES, &table, &mut state, &mut plan), 0);
-    assert_eq!(rt; plan, FttPlan { flags: SLOT_5, window: 135 });
-    assert_eq!(rt; state, FttState { cycle: 1, pending: NO_SLOTS });
-    let text = b"fttcan plan 2\nfrom 0\npending 0000000000\nfirst 0\nlength 2\n0000000020 1\n0000000000 1\nend\n";
-    let mut breach = FttBreach { first: 9, second: 9, kind: 9, slot: 9 };
+    let mut plan = FttPlan {
+        flags: NO_SLOTS,
+        window: 9,
+    };
+    assert_eq!(rt;
+        fttcan_open(alloc, &RULES, &table, &mut state, &mut plan),
+        0
+    );
+    assert_eq!(rt;
+        plan,
+        FttPlan {
+            flags: SLOT_5,
+            window: 135
+        }
+    );
+    assert_eq!(rt;
+        state,
+        FttState {
+            cycle: 1,
+            pending: NO_SLOTS
+        }
+    );
+    let text =
+        b"fttcan plan 2\nfrom 0\npending 0000000000\nfirst 0\nlength 2\n0000000020 1\n0000000000 1\nend\n";
+    let mut breach = FttBreach {
+        first: 9,
+        second: 9,
+        kind: 9,
+        slot: 9,
+    };
     assert_eq!(rt; fttcan_check(alloc, &table, 135, text, &mut breach), 0);
     assert_eq!(rt; fttcan_check(alloc, &table, 134, text, &mut breach), 10);
-    assert_eq!(rt; breach, FttBreach { first: 0, second: 135, kind: 2, slot: 0 });
+    assert_eq!(rt;
+        breach,
+        FttBreach {
+            first: 0,
+            second: 135,
+            kind: 2,
+            slot: 0
+        }
+    );
 }
 
 // The second change is planned anew, since the first one was accepted behind its snapshot.
@@ -311,19 +396,41 @@ fn a_master_goes_on_from_its_bytes(rt: HostRuntime) {
 // A frame of eight bytes may start at 135 to 595, in a cycle of 1,000 with a window of 270.
 #[test]
 fn triggers_payloads_and_starts_are_told(rt: HostRuntime) {
-    let trigger = FttTrigger { flags: SLOT_5, cycle: 0x1ff, window: 135 };
+    let trigger = FttTrigger {
+        flags: SLOT_5,
+        cycle: 0x1ff,
+        window: 135,
+    };
     let mut frames = [NO_FRAME];
     let mut count = 9;
-    let mut told = FttTrigger { flags: NO_SLOTS, cycle: 9, window: 9 };
-    assert_eq!(rt; fttcan_trigger_encode(40, &trigger, &mut frames, &mut count), 0);
+    let mut told = FttTrigger {
+        flags: NO_SLOTS,
+        cycle: 9,
+        window: 9,
+    };
+    assert_eq!(rt;
+        fttcan_trigger_encode(40, &trigger, &mut frames, &mut count),
+        0
+    );
     assert_eq!(rt; count, 1);
     assert_eq!(rt; frames[0].bytes, [0xff, 0, 0x87, 0x20, 0, 0, 0, 0]);
     assert_eq!(rt; fttcan_trigger_decode(40, &frames, &mut told), 0);
-    assert_eq!(rt; told, FttTrigger { cycle: 0xff, ..trigger });
+    assert_eq!(rt;
+        told,
+        FttTrigger {
+            cycle: 0xff,
+            ..trigger
+        }
+    );
     let mut payload = [0; 3];
     assert_eq!(rt; fttcan_payload(0x0102_0304_0506_0708, &mut payload), 0);
     assert_eq!(rt; payload, [6, 7, 8]);
-    let layout = FttLayout { cycle: 1_000, turnaround: 0, window: 270, slots: 40 };
+    let layout = FttLayout {
+        cycle: 1_000,
+        turnaround: 0,
+        window: 270,
+        slots: 40,
+    };
     for (at, wanted) in [(134, 0), (135, 1), (595, 1), (596, 0)] {
         let mut fits = 9;
         assert_eq!(rt; fttcan_fits(&layout, at, 8, 270, &mut fits), 0);
