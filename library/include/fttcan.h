@@ -24,7 +24,8 @@
  * this library, or of malloc. Different handles may be used by different threads at the same time. A snapshot or a
  * planned change may be handed to another thread, as any memory is: by a lock, a queue, or the start or end of a thread.
  * So may a master or a standby, as long as one thread at a time uses it. Calls without a handle can run at the same
- * time, on different memory.
+ * time, on different memory. What is proved is proved of calls in one thread: of threads there is a test alone,
+ * library/tests/threads.c.
  */
 #ifndef FTTCAN_H
 #define FTTCAN_H
@@ -55,7 +56,7 @@ enum {
 /* Statuses. */
 enum {
     FTTCAN_OK = 0,          /* done */
-    FTTCAN_MEMORY = 1,      /* memory ran out, or the table is full: nothing changed, and the call may be made again */
+    FTTCAN_MEMORY = 1,      /* memory ran out, or the table is full: the call may be made again (settle: see there) */
     FTTCAN_ARGUMENT = 2,    /* an argument is out of its range */
     FTTCAN_TABLE = 3,       /* the table is not well placed: no master can have come to it */
     FTTCAN_STATE = 4,       /* the state can't be planned from, or no cycle may be opened any more */
@@ -304,8 +305,9 @@ void fttcan_planned_free(fttcan_planned *p);
 
 /* Has the master answer a planned change, for operator `caller`, 1 to 8. Where the master has only opened cycles since
  * the snapshot that plan decides, and only a start that has passed since is refused. Else the change is planned anew,
- * in this call. After FTTCAN_OK `p` holds nothing, and `verdict` is the answer. After any other status `p` and the master
- * are as they were. FTTCAN_CLOSED: `m` or `p` holds nothing. FTTCAN_ARGUMENT: the caller. FTTCAN_MEMORY. */
+ * in this call. After FTTCAN_OK `p` holds nothing, and `verdict` is the answer. FTTCAN_MEMORY: `p` holds nothing then either,
+ * and the master is as it was: the change is asked for anew. After any other status `p` and the master are as they were.
+ * FTTCAN_CLOSED: `m` or `p` holds nothing. FTTCAN_ARGUMENT: the caller. */
 uint32_t fttcan_master_settle(fttcan_master *m, uint8_t caller, fttcan_planned *p, fttcan_verdict *verdict);
 
 /* ---- A standby: it is told the accepted changes and hears the triggers, and takes over from there. Each call but _new and

@@ -220,7 +220,7 @@ class Master(Handle):
         """Answers a change that was planned apart, which `caller`, 1 to 8, asks for. The plan is closed then.
 
         Where a change was accepted since the snapshot, it is planned anew. Where its start was opened meanwhile, it is
-        refused as Passed. The errors are those of `submit`. After MemoryRanOut the plan is still there.
+        refused as Passed. The errors are those of `submit`. After MemoryRanOut the plan is closed too.
         """
         verdict = CVerdict()
         with planned._lock, self._lock:

@@ -7,5 +7,6 @@ pub mod Plain
 pub mod Reading
 pub mod Refused
 pub mod Room
+pub mod Saving
 pub mod Told
 pub mod Triggers

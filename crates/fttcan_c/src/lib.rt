@@ -16,6 +16,7 @@ mod plain_out;
 mod reading;
 mod refusal;
 mod room;
+mod saving;
 mod settling;
 #[cfg(test)]
 mod tests;
@@ -42,6 +43,7 @@ pub use reading::{
     fttcan_master_rules, fttcan_master_table, fttcan_master_trail,
 };
 pub use refusal::{OK, Refusal};
+pub use saving::{fttcan_master_restore, fttcan_master_save};
 pub use settling::fttcan_master_settle;
 pub use triggers::{fttcan_trigger_decode, fttcan_trigger_encode};
 pub use version::fttcan_version;
