@@ -1,6 +1,7 @@
 pub mod Admit
 pub mod Apart
 pub mod Checked
+pub mod Following
 pub mod Framing
 pub mod Mastering
 pub mod Plain

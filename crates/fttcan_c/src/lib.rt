@@ -7,6 +7,7 @@
 mod admit;
 mod apart;
 mod checked;
+mod following;
 mod frames;
 pub mod laws;
 mod master;
@@ -29,6 +30,10 @@ pub use apart::{
     fttcan_snapshot_free,
 };
 pub use checked::fttcan_check;
+pub use following::{
+    fttcan_standby_change, fttcan_standby_free, fttcan_standby_new, fttcan_standby_next,
+    fttcan_standby_take_over,
+};
 pub use frames::{
     fttcan_fits, fttcan_payload, fttcan_read_wire, fttcan_wire_bits, fttcan_wire_length,
 };
