@@ -1,2 +1,3 @@
+mod DueFrames
 mod Silent
 mod Safe

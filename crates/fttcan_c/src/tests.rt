@@ -44,6 +44,7 @@ fn structs_have_the_sizes_of_the_header(rt: HostRuntime) {
     assert_eq!(rt; size_of::<FttPlan>(), 24);
     assert_eq!(rt; size_of::<FttOrder>(), 32);
     assert_eq!(rt; size_of::<FttBreach>(), 24);
+    assert_eq!(rt; size_of::<FttFollow>(), 56);
     assert_eq!(rt; size_of::<FttLayout>(), 16);
     assert_eq!(rt; size_of::<FttHandle>(), 8);
 }
@@ -125,4 +126,74 @@ fn a_master_takes_a_change_and_opens_a_cycle(rt: HostRuntime) {
     fttcan_master_free(&mut m, alloc);
     assert_eq!(rt; fttcan_master_open(&mut m, alloc, &mut order), 7);
     fttcan_master_free(&mut m, alloc);
+}
+
+// A standby hears the trigger of cycle 0, once, and goes on as a master.
+#[test]
+fn a_standby_follows_and_takes_over(rt: HostRuntime) {
+    let alloc = rt.alloc();
+    let ops = [FttOp {
+        kind: 0,
+        entry: ENTRY,
+    }];
+    let mut s = FttHandle::none();
+    assert_eq!(rt; fttcan_standby_new(&mut s, alloc, &RULES), 0);
+    let mut verdict = FttVerdict {
+        first: 0,
+        second: 0,
+        kind: 0,
+        op: 0,
+        why: 0,
+        slot: 0,
+        known: 0,
+    };
+    assert_eq!(rt;
+        fttcan_standby_change(&mut s, alloc, 1, 0, &ops, &mut verdict),
+        0
+    );
+    assert_eq!(rt; verdict.kind, 4);
+    assert_eq!(rt;
+        fttcan_standby_change(&mut s, alloc, 1, 0, &ops, &mut verdict),
+        10
+    );
+    assert_eq!(rt; verdict.kind, 0);
+    let trigger = FttTrigger {
+        flags: FttMask { low: 8, high: 0 },
+        cycle: 0,
+        window: 75,
+    };
+    let mut frames = [NO_FRAME];
+    let mut count = 0;
+    assert_eq!(rt;
+        fttcan_trigger_encode(40, &trigger, &mut frames, &mut count),
+        0
+    );
+    let mut fault = FttFollow {
+        heard: NO_SLOTS,
+        planned: NO_SLOTS,
+        first: 0,
+        second: 0,
+        kind: 9,
+    };
+    assert_eq!(rt;
+        fttcan_standby_trigger(&mut s, alloc, &frames, &mut fault),
+        0
+    );
+    assert_eq!(rt; fault.kind, 9);
+    assert_eq!(rt;
+        fttcan_standby_trigger(&mut s, alloc, &frames, &mut fault),
+        10
+    );
+    assert_eq!(rt; fault.kind, 0);
+    assert_eq!(rt; fault.first, 1);
+    let mut next = 0;
+    assert_eq!(rt; fttcan_standby_next(&mut s, alloc, &mut next), 0);
+    assert_eq!(rt; next, 1);
+    let mut m = FttHandle::none();
+    assert_eq!(rt; fttcan_standby_take_over(&mut s, alloc, &mut m), 0);
+    assert_eq!(rt; fttcan_standby_next(&mut s, alloc, &mut next), 7);
+    assert_eq!(rt; fttcan_master_next(&mut m, alloc, &mut next), 0);
+    assert_eq!(rt; next, 1);
+    fttcan_master_free(&mut m, alloc);
+    fttcan_standby_free(&mut s, alloc);
 }
