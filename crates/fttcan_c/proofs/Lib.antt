@@ -1,3 +1,4 @@
+mod DueFrames
 mod Safe
 mod Saved
 mod Silent

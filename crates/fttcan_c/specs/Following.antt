@@ -1,18 +1,31 @@
 -- What a standby behind a handle follows, and what C is told. A standby is a core: the one with which a master goes on
 -- that takes over from it.
-use Rattle.std.specs.Prelude.{◌≡◌, ℕ, [], List, Bool}
-use Rattle.admission.specs.Verdict.{is_accepted}
+use Rattle.std.specs.Prelude.{◌≡◌, ◌≢◌, ℕ, ◌<◌, ◌++◌, ◌∷◌, [], List, All, Bool, Option, Some, None}
+use Rattle.profile.specs.Limits.{openings_end}
+use Rattle.can_frame.specs.DataFrame.{DataFrame}
+use Rattle.requirement_table.specs.Slots.{contains_slot}
+use Rattle.requirement_table.specs.Table.{width_in}
+use Rattle.planner_policies.specs.Plan.{mask_at}
+use Rattle.admission.specs.Verdict.{IsSafe, is_accepted}
 use Rattle.master_core.specs.declared.answered.Answered.{Answered}
-use Rattle.master_core.specs.Cores.{CoreView}
+use Rattle.master_core.specs.declared.event.Event.{Event}
+use Rattle.master_core.specs.declared.event.Event.TheVariants.{Open}
+use Rattle.master_core.specs.Cores.{CoreView, IsStateOf, onward, opened}
+use Rattle.trigger_codec.specs.Bytes.{triggers_with}
+use Rattle.standby.specs.Hearing.{heard_of}
 use Rattle.master_handle.specs.declared.held.Held.{Held}
 use Rattle.master_handle.specs.declared.held.Held.TheVariants.{Master, Standby}
+use Rattle.fttcan_c.specs.declared.hearing.Astray.{Astray}
+use Rattle.fttcan_c.specs.declared.hearing.Astray.TheVariants.{Silent, Flags, Window}
+use Rattle.fttcan_c.specs.declared.plain.FttFollow.{FttFollow}
+use Rattle.fttcan_c.specs.declared.plain.FttFrame.{FttFrame}
 use Rattle.fttcan_c.specs.declared.plain.FttOp.{FttOp}
 use Rattle.fttcan_c.specs.declared.plain.FttVerdict.{FttVerdict}
 use Rattle.fttcan_c.specs.declared.refusal.Refusal.{Refusal}
 use Rattle.fttcan_c.specs.declared.refusal.Refusal.TheVariants as refused
 use Rattle.fttcan_c.specs.Mastering.{IsAsked, IsCoreSubmitted}
-use Rattle.fttcan_c.specs.Plain.{change_of}
-use Rattle.fttcan_c.specs.Told.{told}
+use Rattle.fttcan_c.specs.Plain.{IsFrameIn, change_of, frames_of}
+use Rattle.fttcan_c.specs.Told.{mask_told, told}
 
 -- a standby is held
 pub record IsStandby (held : Held) : Type 0 where
@@ -57,3 +70,116 @@ RefusesChangeTold caller ops held refused.Closed = IsStandby held → ⊥
 RefusesChangeTold caller ops held refused.Open = ⊥
 RefusesChangeTold caller ops held refused.Text = ⊥
 RefusesChangeTold caller ops held refused.No = ⊥
+
+-- Triggers
+
+-- what a core plans for its next cycle: the slots, and the sum of their worst lengths in bit times
+abbrev pub planned_of : CoreView → ℕ
+planned_of core = mask_at (onward core) 0
+
+abbrev pub sum_of : CoreView → ℕ
+sum_of core = width_in core.placed core.cycle (contains_slot (planned_of core))
+
+-- the trigger frames of its next cycle
+abbrev pub due_frames : CoreView → List DataFrame
+due_frames core = triggers_with core.rules.slots core.cycle (sum_of core) (planned_of core)
+
+-- a core followed an opening: what is heard is what it plans, and it opened the cycle. No deadline is missed in it nor
+-- later. Whoever has the history of the core in mind has it with this opening behind it
+pub record IsCoreFollowed (frames : List DataFrame) (old new : CoreView) : Type 0 where
+  pub heard : heard_of old.rules.slots old.cycle frames ≡ Some (record { l = sum_of old; mask = planned_of old })
+  pub after : new ≡ opened old
+  pub safe : IsSafe old.rules old.placed old.cycle old.pending
+  pub history : (history : List Event) → IsStateOf history old
+      → IsStateOf (history ++ Open old.cycle (planned_of old) ∷ []) new
+
+-- why it does not follow one, the first of these: the frames are not the trigger of its next cycle; they flag other
+-- slots than those that are planned; they flag these, and say another window than the sum of their worst lengths
+abbrev pub IsAstray : CoreView → List DataFrame → Astray → Type 0
+IsAstray core frames (Silent cycle) =
+    (cycle ≡ core.cycle) × (heard_of core.rules.slots core.cycle frames ≡ None)
+IsAstray core frames (Flags cycle heard planned) =
+    (cycle ≡ core.cycle) × (planned ≡ planned_of core) × (heard ≢ planned)
+    × ((l : ℕ) × (heard_of core.rules.slots core.cycle frames ≡ Some (record { l = l; mask = heard })))
+IsAstray core frames (Window l sum) =
+    (sum ≡ sum_of core) × (l ≢ sum)
+    × (heard_of core.rules.slots core.cycle frames ≡ Some (record { l = l; mask = planned_of core }))
+
+-- what a core does with trigger frames: it follows them, or stays as it is
+abbrev pub IsHeardBy : List DataFrame → CoreView → CoreView → Option Astray → Type 0
+IsHeardBy frames old new None = IsCoreFollowed frames old new
+IsHeardBy frames old new (Some astray) = IsAstray old frames astray × (new ≡ old)
+
+-- what C is told of a trigger that is not followed
+abbrev pub fault_told : Astray → FttFollow
+fault_told (Silent cycle) =
+    record { heard = mask_told 0; planned = mask_told 0; first = cycle; second = 0; kind = 0 }
+fault_told (Flags cycle heard planned) =
+    record { heard = mask_told heard; planned = mask_told planned; first = cycle; second = 0; kind = 1 }
+fault_told (Window l sum) =
+    record { heard = mask_told 0; planned = mask_told 0; first = l; second = sum; kind = 2 }
+
+-- a standby heard trigger frames
+pub record IsHeard (frames : List DataFrame) (astray : Option Astray) (old new : Held) : Type 0 where
+  pub core : CoreView
+  pub next : CoreView
+  pub before : old ≡ Standby core
+  pub after : new ≡ Standby next
+  pub heard : IsHeardBy frames core next astray
+
+-- a standby followed them
+pub record IsFollowed (frames : List DataFrame) (old new : Held) : Type 0 where
+  pub core : CoreView
+  pub next : CoreView
+  pub before : old ≡ Standby core
+  pub after : new ≡ Standby next
+  pub followed : IsCoreFollowed frames core next
+
+-- a standby does not follow them, and C is told why
+pub record IsNotFollowed (frames : List DataFrame) (fault : FttFollow) (held : Held) : Type 0 where
+  pub core : CoreView
+  pub is : held ≡ Standby core
+  pub astray : Astray
+  pub why : IsAstray core frames astray
+  pub fault_is : fault ≡ fault_told astray
+
+-- the frames are the trigger of the next cycle of a standby
+pub record AreDue (frames : List DataFrame) (held : Held) : Type 0 where
+  pub core : CoreView
+  pub is : held ≡ Standby core
+  pub due : frames ≡ due_frames core
+
+-- the next cycle of a core may be opened
+abbrev pub CanFollow : CoreView → Type 0
+CanFollow core = core.cycle < openings_end
+
+pub record CanFollowMore (held : Held) : Type 0 where
+  pub core : CoreView
+  pub is : held ≡ Standby core
+  pub next : CanFollow core
+
+-- why a core does not judge trigger frames
+abbrev pub RefusesFrames : List FttFrame → CoreView → Refusal → Type 0
+RefusesFrames frames core refused.Memory = ⊥
+RefusesFrames frames core refused.Argument = All IsFrameIn frames → ⊥
+RefusesFrames frames core refused.Table = ⊥
+RefusesFrames frames core refused.State = CanFollow core → ⊥
+RefusesFrames frames core refused.Room = ⊥
+RefusesFrames frames core refused.Miss = ⊥
+RefusesFrames frames core refused.Closed = ⊥
+RefusesFrames frames core refused.Open = ⊥
+RefusesFrames frames core refused.Text = ⊥
+RefusesFrames frames core refused.No = ⊥
+
+-- why a standby does not judge them
+abbrev pub RefusesHearing : List FttFrame → Held → Refusal → Type 0
+RefusesHearing frames held refused.Memory = ⊥
+RefusesHearing frames held refused.Argument = All IsFrameIn frames → ⊥
+RefusesHearing frames held refused.Table = ⊥
+RefusesHearing frames held refused.State = CanFollowMore held → ⊥
+RefusesHearing frames held refused.Room = ⊥
+RefusesHearing frames held refused.Miss = ⊥
+RefusesHearing frames held refused.Closed = IsStandby held → ⊥
+RefusesHearing frames held refused.Open = ⊥
+RefusesHearing frames held refused.Text = ⊥
+RefusesHearing frames held refused.No = ⊥

@@ -9,6 +9,7 @@ mod apart;
 mod checked;
 mod following;
 mod frames;
+mod hearing;
 pub mod laws;
 mod master;
 mod plain;
@@ -19,8 +20,6 @@ mod refusal;
 mod room;
 mod saving;
 mod settling;
-#[cfg(test)]
-mod tests;
 mod triggers;
 mod version;
 
@@ -37,11 +36,12 @@ pub use following::{
 pub use frames::{
     fttcan_fits, fttcan_payload, fttcan_read_wire, fttcan_wire_bits, fttcan_wire_length,
 };
+pub use hearing::fttcan_standby_trigger;
 pub use master::{fttcan_master_free, fttcan_master_new, fttcan_master_open, fttcan_master_submit};
 pub use master_handle::FttHandle;
 pub use plain::{
-    FttBreach, FttEntry, FttFrame, FttLayout, FttMask, FttOp, FttOrder, FttPlaced, FttPlan,
-    FttRules, FttState, FttTrigger, FttVerdict,
+    FttBreach, FttEntry, FttFollow, FttFrame, FttLayout, FttMask, FttOp, FttOrder, FttPlaced,
+    FttPlan, FttRules, FttState, FttTrigger, FttVerdict,
 };
 pub use reading::{
     fttcan_master_certificate, fttcan_master_look, fttcan_master_next, fttcan_master_planned,

@@ -127,6 +127,19 @@ pub struct FttBreach {
     pub slot: u8,
 }
 
+/// Why a standby does not follow a trigger. Its kind is 0 where the frames are not the trigger of the cycle `first`, 1 where
+/// they flag other slots in the cycle `first` than the planned ones, and 2 where they say a window of `first` bit times for
+/// slots that need `second`. A number that its kind does not name is 0.
+#[repr(C)]
+#[derive(Clone, Copy, PartialEq, Eq, Debug)]
+pub struct FttFollow {
+    pub heard: FttMask,
+    pub planned: FttMask,
+    pub first: u64,
+    pub second: u64,
+    pub kind: u8,
+}
+
 /// The layout of a cycle, in bit times: the cycle itself, 400 to 100,000; the turnaround, at most 1,000; and the longest
 /// synchronous window, 55 to 16,383. There are 40 or 96 slots.
 #[repr(C)]
