@@ -16,10 +16,15 @@ pub returns-then-ne-clause-heard : goal.returns-then-ne-clause-heard
 returns-then-ne-clause-heard c =
     let slots = ap (λ (r : Rules). heard_of r.slots c.next-cycle.result (frames_of c.args.frames.now)) c.rules-rules.ensures.rules in
     let cycle = ap (λ (n : ℕ). heard_of c.args.core.now.rules.slots n (frames_of c.args.frames.now)) c.next-cycle.ensures.next in
-    let heard = sym cycle ∙ sym slots ∙ sym c.in_ok-heard.ensures.heard ∙ c.in-Some.is in
-    ((c.next-cycle.ensures.next, c.upcoming-upcoming.ensures.upcoming.order.mask,
-      λ same. let ne = c.if-ne.ensures in grind (arith, common_steps),
-      (c.in-Some.heard.l, heard)), refl)
+    let heard = sym cycle ∙ sym slots ∙ sym c.in_ok-heard.ensures.heard ∙ c.in-Some.is in (
+      (
+        c.next-cycle.ensures.next,
+        c.upcoming-upcoming.ensures.upcoming.order.mask,
+        λ same. let ne = c.if-ne.ensures in grind (arith, common_steps),
+        (c.in-Some.heard.l, heard),
+      ),
+      refl,
+    )
 
 pub returns-then-ne-clause-due : goal.returns-then-ne-clause-due
 returns-then-ne-clause-due c due =
@@ -39,7 +44,7 @@ returns-clause-heard c =
     let mask : c.upcoming-upcoming.result.mask ≡ planned_of c.args.core.now = c.upcoming-upcoming.ensures.upcoming.order.mask in
     let window : c.in-Some.heard.l ≡ c.upcoming-upcoming.result.l = let ne = c.if-heard-upcoming.false in grind (arith, common_steps) in
     let sum : c.upcoming-upcoming.result.l ≡ sum_of c.args.core.now = c.upcoming-upcoming.ensures.upcoming.order.window
-      ∙ ap (λ (m : ℕ). width_in c.args.core.now.placed c.args.core.now.cycle (contains_slot m)) mask in
+    ∙ ap (λ (m : ℕ). width_in c.args.core.now.placed c.args.core.now.cycle (contains_slot m)) mask in
     record {
       heard = heard
           ∙ ap (λ (m : ℕ). Some (record { l = c.in-Some.heard.l; mask = m })) (flags ∙ mask)
