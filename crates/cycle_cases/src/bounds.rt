@@ -77,13 +77,13 @@ fn bound(alloc: Global, layout: &Layout, place: &str, fields: &[&str]) -> Result
     let (all, place) = (streams_of(alloc, fields)?, usize::from(small(place)?));
     let streams = all.as_slice();
     if !are_streams(streams) {
-        return Ok(format!(in alloc; "out of range")?);
+        return Ok(String::from_str(alloc, "out of range")?);
     }
     if place >= streams.len() || streams.len() > MOST_STREAMS {
         return Err(Fault::Unread);
     }
     match start_bound(layout, streams, &streams[place]) {
         Some(span) => Ok(format!(in alloc; "{span}")?),
-        None => Ok(format!(in alloc; "-")?),
+        None => Ok(String::from_str(alloc, "-")?),
     }
 }
