@@ -1,9 +1,7 @@
 //! Cases of the crates that make up a cycle on the bus, as tables of text: what is called, and what it is to answer. For
-//! each table one line is printed. All values were worked out by hand, but for bounds: these are from the formula in Python,
-//! in `tools/check-bounds`.
+//! each table one line is printed. All values were worked out by hand.
 #![tactic(auto)]
 
-mod bounds;
 mod entries;
 mod layouts;
 mod mailboxes;
@@ -13,7 +11,6 @@ mod requests;
 mod triggers;
 mod values;
 
-use bounds::Bounds;
 use cases::show;
 use layouts::Layouts;
 use mailboxes::Mail;
@@ -28,6 +25,5 @@ fn main(rt: HostRuntime) -> io::Result<()> {
     show(&rt, "mailboxes", Mail::new())?;
     show(&rt, "one_node", OneNode::new())?;
     show(&rt, "polled", Polled)?;
-    show(&rt, "bounds", Bounds)?;
     Ok(())
 }
