@@ -1,0 +1,5 @@
+mod Lists
+mod Sums
+mod Room
+mod Row
+mod Steps

@@ -1,0 +1,3 @@
+pub mod Streams
+pub mod Room
+pub mod Bound

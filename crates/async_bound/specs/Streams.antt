@@ -1,0 +1,22 @@
+-- Streams of requests. Times and lengths are bit times.
+use Rattle.std.specs.Prelude.{ℕ, ◌+◌, ◌-◌, ◌*◌, ◌/◌, ◌^◌, ◌<◌, ◌≤◌, List, All}
+use Rattle.profile.specs.Limits.{greatest_identifier, least_asynchronous}
+use Rattle.async_bound.specs.declared.stream.Stream.{Stream}
+
+-- a stream has an asynchronous identifier, frames of at most eight data bytes, a least distance, and room in it for one
+-- request at least
+pub record IsStream (stream : Stream) : Type 0 where
+  pub asynchronous : least_asynchronous ≤ stream.id
+  pub standard : stream.id ≤ greatest_identifier
+  pub short : stream.bytes ≤ 8
+  pub distinct : 0 < stream.gap
+  pub near : stream.gap < 2 ^ 32
+  pub some : 0 < stream.burst
+  pub few : stream.burst ≤ 1024
+
+abbrev pub AreStreams : List Stream → Type 0
+AreStreams streams = All IsStream streams
+
+-- the greatest number of requests of a stream that arrive within so many bit times
+abbrev pub arrivals : Stream → ℕ → ℕ
+arrivals stream span = (span + stream.gap - 1) / stream.gap * stream.burst

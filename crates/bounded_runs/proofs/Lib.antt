@@ -1,0 +1,14 @@
+mod Lists
+mod Count
+mod Free
+mod Fills
+mod Begun
+mod Arrivals
+mod Sums
+mod Demand
+mod Requests
+mod Clear
+mod Delay
+mod UnderWay
+mod Cut
+mod KeptRuns

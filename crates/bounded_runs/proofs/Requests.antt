@@ -1,0 +1,79 @@
+-- The frames of requests in a trace.
+use Rattle.std.proofs.Common.{◌≡◌, ℕ, zero, suc, ◌<◌, ◌≤◌, Bool, true, false, cond, List, [], ◌∷◌, All, AllPairs, Contains, Some, inl, inr, subst, arith, drop, slice_get, get_or}
+use Rattle.std.specs.Prelude.{nat_eq}
+use Rattle.std.proofs.lemmas.List.Elements.{All-contains, All-cons, All-nil}
+use Rattle.profile.specs.Limits.{least_asynchronous}
+use Rattle.can_frame.specs.DataFrame.{DataFrame}
+use Rattle.can_frame.specs.Wire.{wire_length}
+use Rattle.can_frame.specs.declared.data_frame.TimedFrame.{TimedFrame}
+use Rattle.cycle_layout.specs.Layout.{CycleLayout}
+use Rattle.requirement_table.specs.Instance.{Instance}
+use Rattle.requirement_table.specs.Opening.{Opening, width_of}
+use Rattle.trigger_codec.specs.Bytes.{second_frame, trigger_frame}
+use Rattle.async_window.specs.declared.request.Request.{Request}
+use Rattle.async_window.specs.Waiting.{requests_of}
+use Rattle.bus_line.specs.Trace.{IsLeastOffered, started_before}
+use Rattle.node_model.specs.Offered.{trigger_frames}
+use Rattle.cycle_engine.specs.Offered.{offered_in_with, offered_with}
+use Rattle.bounded_runs.specs.Runs.{IsRunOf}
+use Rattle.bounded_runs.proofs.Begun.{begun, begun-step, begun-zero}
+use Rattle.bounded_runs.proofs.Arrivals.{arrived, arrived-le, arrived-least}
+
+low-ids : (b : Bool) (first second : DataFrame) → first.identifier ≤ 1 → second.identifier ≤ 1
+    → All (λ f. f.identifier ≤ 1) (first ∷ cond b [] (second ∷ []))
+low-ids true first second one two = All-cons (λ f. f.identifier ≤ 1) first [] one (All-nil (λ f. f.identifier ≤ 1))
+low-ids false first second one two =
+    All-cons (λ f. f.identifier ≤ 1) first (second ∷ []) one (All-cons (λ f. f.identifier ≤ 1) second [] two (All-nil (λ f. f.identifier ≤ 1)))
+
+module _ (sends : Instance → List ℕ) (layout : CycleLayout) (requests : List Request) (openings : List Opening)
+    (count : ℕ) (trace : List TimedFrame) (run : IsRunOf sends layout requests openings count trace)
+    (positive : (frame : DataFrame) → 0 < wire_length frame) where
+  -- the frame is that of the first request of its identifier which had not started
+  pub record OfRequest (sent : TimedFrame) : Type 0 where
+    pub request : Request
+    pub is : slice_get (drop (begun sent.frame.identifier sent.start trace) (requests_of requests sent.frame.identifier)) 0 ≡ Some request
+    pub arrived_ : request.at ≤ sent.start
+    pub its_frame : sent.frame ≡ request.frame
+
+  from-offer : (opening : Opening) (sent : TimedFrame) → least_asynchronous ≤ sent.frame.identifier
+      → offered_in_with sends layout requests opening (started_before sent.start trace) sent.start sent.frame → OfRequest sent
+  from-offer opening sent high (inl trigger) =
+      let low = All-contains (λ f. f.identifier ≤ 1) (trigger_frames layout opening) sent.frame
+      (low-ids (nat_eq layout.slots 40) (trigger_frame opening.cycle (width_of opening) opening.mask) (second_frame opening.cycle opening.mask) (omega arith) (omega arith))
+      trigger.among in
+      absurd (omega (arith, high, low))
+  from-offer opening sent high (inr (inl its)) = record {
+    request = its.request;
+    is = its.may_start.waiting.first;
+    arrived_ = its.may_start.waiting.arrived;
+    its_frame = its.its_frame;
+  }
+  from-offer opening sent high (inr (inr (slot, its))) = absurd (omega (arith, high, its.identifier, its.known))
+
+  pub of-request : (sent : TimedFrame) → Contains trace sent → least_asynchronous ≤ sent.frame.identifier → OfRequest sent
+  of-request sent has high =
+      let least = All-contains (λ s. IsLeastOffered (offered_with sends layout requests openings) (started_before s.start trace) s.start s.frame) trace sent run.can_trace.least has in
+      from-offer least.offered.0 sent high least.offered.2
+
+  pub some-long : All (λ s. 0 < s.len) trace
+  some-long k d within =
+      let long = run.can_trace.ordered.lengths k d within in
+      let some = positive (get_or trace k d).frame in
+      omega (arith, long, some)
+
+  -- what has started has arrived
+  pub begun-arrived : (id : ℕ) → least_asynchronous ≤ id → AllPairs (λ one other. one.at ≤ other.at) (requests_of requests id) → (at : ℕ)
+      → begun id at trace ≤ arrived at (requests_of requests id)
+  begun-arrived id high rise zero = omega (arith, begun-zero id trace)
+  begun-arrived id high rise (suc at) =
+      let sofar = begun-arrived id high rise at in
+      let more = arrived-le at (suc at) (requests_of requests id) (omega arith) in
+      elim (begun-step id at trace some-long run.can_trace.ordered.apart) [
+        | inl same ↦ omega (arith, same, sofar, more)
+        | inr starts ↦
+            let of = of-request starts.sent starts.among (omega (arith, starts.same, high)) in
+            let is_id = subst (λ n. slice_get (drop (begun n starts.sent.start trace) (requests_of requests n)) 0 ≡ Some of.request) starts.same of.is in
+            let is_at = subst (λ n. slice_get (drop (begun id n trace) (requests_of requests id)) 0 ≡ Some of.request) starts.now is_id in
+            let least = arrived-least (suc at) (begun id at trace) (requests_of requests id) of.request rise is_at (omega (arith, of.arrived_, starts.now)) in
+            omega (arith, least, starts.one)
+      ]
