@@ -25,7 +25,8 @@
  * this library, or of malloc. Different handles may be used by different threads at the same time. A snapshot or a
  * planned change may be handed to another thread, as any memory is: by a lock, a queue, or the start or end of a thread.
  * So may a master or a standby, as long as one thread at a time uses it. Calls without a handle can run at the same
- * time, on different memory.
+ * time, on different memory. What is proved is proved of calls in one thread: of threads there is a test alone,
+ * library/tests/threads.c.
  */
 #ifndef FTTCAN_H
 #define FTTCAN_H

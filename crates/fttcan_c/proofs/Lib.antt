@@ -1,2 +1,3 @@
-mod Silent
 mod Safe
+mod Saved
+mod Silent

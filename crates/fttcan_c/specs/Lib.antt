@@ -1,11 +1,13 @@
 pub mod Admit
 pub mod Apart
 pub mod Checked
+pub mod Following
 pub mod Framing
 pub mod Mastering
 pub mod Plain
 pub mod Reading
 pub mod Refused
 pub mod Room
+pub mod Saving
 pub mod Told
 pub mod Triggers

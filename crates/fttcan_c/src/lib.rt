@@ -7,6 +7,7 @@
 mod admit;
 mod apart;
 mod checked;
+mod following;
 mod frames;
 pub mod laws;
 mod master;
@@ -16,6 +17,7 @@ mod plain_out;
 mod reading;
 mod refusal;
 mod room;
+mod saving;
 mod settling;
 #[cfg(test)]
 mod tests;
@@ -28,6 +30,10 @@ pub use apart::{
     fttcan_snapshot_free,
 };
 pub use checked::fttcan_check;
+pub use following::{
+    fttcan_standby_change, fttcan_standby_free, fttcan_standby_new, fttcan_standby_next,
+    fttcan_standby_take_over,
+};
 pub use frames::{
     fttcan_fits, fttcan_payload, fttcan_read_wire, fttcan_wire_bits, fttcan_wire_length,
 };
@@ -42,6 +48,7 @@ pub use reading::{
     fttcan_master_rules, fttcan_master_table, fttcan_master_trail,
 };
 pub use refusal::{OK, Refusal};
+pub use saving::{fttcan_master_restore, fttcan_master_save};
 pub use settling::fttcan_master_settle;
 pub use triggers::{fttcan_trigger_decode, fttcan_trigger_encode};
 pub use version::fttcan_version;

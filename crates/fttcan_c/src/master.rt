@@ -77,7 +77,7 @@ pub extern "C" fn fttcan_master_free(m: &mut FttHandle, alloc: Global)
 }
 
 /// Has a core answer a change, and answers what it answered.
-fn asked(
+pub(crate) fn asked(
     alloc: Global,
     core: &mut Core,
     caller: u8,

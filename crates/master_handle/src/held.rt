@@ -2,15 +2,14 @@
 
 use admission::Trail;
 use master_core::{Core, CorePlanned, CoreSnapshot};
-use standby::Standby;
 
 /// What a handle holds.
 #[derive(Drop)]
 pub enum Held {
     /// A master, and the slots that were flagged up to the miss that its last answer told: nothing after other answers.
     Master { core: Core, trail: Trail },
-    /// A standby that follows.
-    Standby { standby: Standby },
+    /// A standby that follows a master: the core that it would go on with.
+    Standby { core: Core },
     /// What a change is planned from in another thread.
     Snapshot { snapshot: CoreSnapshot },
     /// A change that was planned so.

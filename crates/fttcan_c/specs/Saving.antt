@@ -1,0 +1,49 @@
+-- The state of a master as bytes, and the master that is made of them.
+use Rattle.std.specs.Prelude.{◌≡◌, ℕ, [], List, true}
+use Rattle.cycle_layout.specs.Layout.{IsSlots}
+use Rattle.master_core.specs.Cores.{CoreView, IsCore, saved_of}
+use Rattle.saved_state.specs.Bytes.{AreBytesOf}
+use Rattle.master_handle.specs.declared.held.Held.{Held}
+use Rattle.master_handle.specs.declared.held.Held.TheVariants.{Master}
+use Rattle.fttcan_c.specs.declared.refusal.Refusal.{Refusal}
+use Rattle.fttcan_c.specs.declared.refusal.Refusal.TheVariants as refused
+
+-- the bytes are those of what is saved of a master
+pub record HasBytes (bytes : List ℕ) (held : Held) : Type 0 where
+  pub core : CoreView
+  pub trail : List ℕ
+  pub is : held ≡ Master core trail
+  pub bytes_are : AreBytesOf (saved_of core) bytes
+
+-- a core that a master for C can have, what is saved of it has these bytes
+pub record IsSavedAs (bytes : List ℕ) (core : CoreView) : Type 0 where
+  -- no deadline is missed at any later cycle
+  pub safe : IsCore core
+  -- it keeps at most 4,096 entries
+  pub forgets : core.forgets ≡ true
+  pub slots : IsSlots core.rules.slots
+  pub bytes_are : AreBytesOf (saved_of core) bytes
+
+-- the bytes are those of this core and of no other one
+pub record IsCoreOfBytes (bytes : List ℕ) (core : CoreView) : Type 0 where
+  pub saved : IsSavedAs bytes core
+  pub only : (other : CoreView) → IsCore other → AreBytesOf (saved_of other) bytes → other ≡ core
+
+-- a master was made of them, which was asked for nothing yet
+pub record IsRestored (bytes : List ℕ) (held : Held) : Type 0 where
+  pub core : CoreView
+  pub is : held ≡ Master core []
+  pub of : IsCoreOfBytes bytes core
+
+-- why no master is made of bytes: no core has them; want of memory says nothing
+abbrev pub RefusesRestore : List ℕ → Refusal → Type 0
+RefusesRestore bytes refused.Memory = Unit {0}
+RefusesRestore bytes refused.Argument = ⊥
+RefusesRestore bytes refused.Table = ⊥
+RefusesRestore bytes refused.State = ⊥
+RefusesRestore bytes refused.Room = ⊥
+RefusesRestore bytes refused.Miss = ⊥
+RefusesRestore bytes refused.Closed = ⊥
+RefusesRestore bytes refused.Open = ⊥
+RefusesRestore bytes refused.Text = (core : CoreView) → IsSavedAs bytes core → ⊥
+RefusesRestore bytes refused.No = ⊥

@@ -1,0 +1,126 @@
+//! What is kept of a master while it does not run.
+
+ghost use Rattle.std.specs.Prelude.{◌≡◌, ◌≢◌, ℕ, List, Some, None, IfErr, IfOk};
+ghost use Rattle.master_handle.specs.declared.held.Held.{Held as HeldOf};
+ghost use Rattle.fttcan_c.specs.declared.refusal.Refusal.{Refusal as RefusalOf};
+ghost use Rattle.fttcan_c.specs.Mastering.{Holds};
+ghost use Rattle.fttcan_c.specs.Reading.{RefusesRead};
+ghost use Rattle.fttcan_c.specs.Refused.{status_of};
+ghost use Rattle.fttcan_c.specs.Room.{IsFilled, IsShort};
+ghost use Rattle.fttcan_c.specs.Saving.{HasBytes, IsCoreOfBytes, IsRestored, RefusesRestore};
+
+use crate::plain_in::are_slots;
+use crate::refusal::{OK, Refusal};
+use crate::room::put;
+use admission::Trail;
+use master_core::Core;
+use master_handle::{FttHandle, Held};
+use saved_state::{ReadFault, read, write};
+use std::alloc::Global;
+use std::mem;
+
+/// The bytes of the state of a master.
+fn bytes_in(alloc: Global, held: &Held) -> Result<Vec<u8>, Refusal>
+    ensures bytes { IfOk result (λ bytes. HasBytes bytes.items held.now) }
+    ensures refused { IfErr result (RefusesRead held.now) }
+{
+    match held {
+        Held::Master { core, trail: _ } => {
+            let saved = core.save(alloc)?;
+            let bytes = write(alloc, &saved)?;
+            Ok(bytes)
+        }
+        _ => Err(Refusal::Closed),
+    }
+}
+
+/// The state of a master as bytes, of which `fttcan_master_restore` makes it again: 112, and 80 more for each entry that
+/// it keeps. `len` is how many they are, also where the room is too small.
+#[unsafe(no_mangle)]
+pub extern "C" fn fttcan_master_save(
+    m: &mut FttHandle,
+    alloc: Global,
+    room: &mut [u8],
+    len: &mut usize,
+) -> u32
+    ensures same { m.new.value ≡ m.old.value }
+    ensures bytes { result ≡ 0 → Holds m.old.value (λ held. (bytes : List ℕ) × HasBytes bytes held
+        × IsFilled bytes room.old room.new len.new) }
+    ensures short { result ≡ 5 → Holds m.old.value (λ held. (bytes : List ℕ) × HasBytes bytes held
+        × IsShort bytes room.old room.new len.new) }
+    ensures refused { result ≢ 0 → result ≢ 5 → (room.new ≡ room.old) × (len.new ≡ len.old) }
+    ensures why { result ≢ 0 → result ≢ 5 → (held : HeldOf) → m.old.value ≡ Some held
+        → (refusal : RefusalOf) × (result ≡ status_of refusal) × RefusesRead held refusal }
+    ensures empty { m.old.value ≡ None → result ≡ 7 }
+{
+    let Some(held) = mem::replace(m, FttHandle::none()).into_box(alloc) else {
+        return Refusal::Closed.status();
+    };
+    let answer = bytes_in(alloc, &held);
+    *m = FttHandle::of(held);
+    match answer {
+        Ok(bytes) => match put(bytes.as_slice(), room, len) {
+            Ok(()) => OK,
+            Err(refusal) => refusal.status(),
+        },
+        Err(refusal) => refusal.status(),
+    }
+}
+
+/// The core that was saved as these bytes.
+fn core_in(alloc: Global, bytes: &[u8]) -> Result<Core, Refusal>
+    ensures core { IfOk result (IsCoreOfBytes bytes.now) }
+    ensures refused { IfErr result (RefusesRestore bytes.now) }
+{
+    let saved = match read(alloc, bytes) {
+        Ok(saved) => saved,
+        Err(ReadFault::NoState) => return Err(Refusal::Text),
+        Err(ReadFault::Memory) => return Err(Refusal::Memory),
+    };
+    if !saved.forgets || !are_slots(saved.rules.slots) {
+        return Err(Refusal::Text);
+    }
+    match Core::restore(alloc, saved)? {
+        Some(core) => Ok(core),
+        None => Err(Refusal::Text),
+    }
+}
+
+/// The master that was saved as these bytes, in a box of its own. It has no answer yet, and so no trail.
+fn restored(alloc: Global, bytes: &[u8]) -> Result<Box<Held>, Refusal>
+    ensures restored { IfOk result (λ held. IsRestored bytes.now held.value) }
+    ensures refused { IfErr result (RefusesRestore bytes.now) }
+{
+    let core = core_in(alloc, bytes)?;
+    let trail = Trail::of(Vec::new(alloc));
+    match Box::new(alloc, Held::Master { core, trail }) {
+        Ok(held) => Ok(held),
+        Err(_) => Err(Refusal::Memory),
+    }
+}
+
+/// Makes the master that was saved as these bytes, where the handle holds nothing. It goes on as that one would have. The
+/// bytes are not trusted: of any bytes that are not refused a master is made that misses no deadline.
+///
+/// It answers `Text` exactly where no master has these bytes: where they are not of the form, where a deadline would be
+/// missed, or where there are more than 4,096 entries.
+#[unsafe(no_mangle)]
+pub extern "C" fn fttcan_master_restore(m: &mut FttHandle, alloc: Global, bytes: &[u8]) -> u32
+    ensures restored { result ≡ 0 → (m.old.value ≡ None) × Holds m.new.value (IsRestored bytes.now) }
+    ensures same { result ≢ 0 → m.new.value ≡ m.old.value }
+    ensures taken { result ≡ 8 → (held : HeldOf) × (m.old.value ≡ Some held) }
+    ensures refused { result ≢ 0 → result ≢ 8 → (refusal : RefusalOf) × (result ≡ status_of refusal)
+        × RefusesRestore bytes.now refusal }
+{
+    if let Some(held) = mem::replace(m, FttHandle::none()).into_box(alloc) {
+        *m = FttHandle::of(held);
+        return Refusal::Open.status();
+    }
+    match restored(alloc, bytes) {
+        Ok(held) => {
+            *m = FttHandle::of(held);
+            OK
+        }
+        Err(refusal) => refusal.status(),
+    }
+}
