@@ -7,6 +7,7 @@
  *
  * Calls. A call that can fail answers a status, FTTCAN_OK or another one of the list below. After a status other than
  * FTTCAN_OK every out value is as it was before the call, and so is what a handle holds, unless a call says otherwise.
+ * Where several statuses fit a call, it answers one of them. fttcan_run alone answers the exit status of a program instead.
  * No call ends the program, prints, starts a thread, takes a lock, or reads a clock. All memory is taken by malloc and
  * realloc, and given back by free. Each call ends.
  *
@@ -62,7 +63,7 @@ enum {
     FTTCAN_STATE = 4,       /* the state can't be planned from, or no cycle may be opened any more */
     FTTCAN_ROOM = 5,        /* the caller's room is too small: the count says how many elements are needed */
     FTTCAN_MISS = 6,        /* fttcan_open: an instance would miss its deadline in this cycle */
-    FTTCAN_CLOSED = 7,      /* the handle holds nothing */
+    FTTCAN_CLOSED = 7,      /* the handle holds nothing, or by a cast what a handle of another kind holds */
     FTTCAN_OPEN = 8,        /* the handle that is to be filled holds something already */
     FTTCAN_TEXT = 9,        /* the text, the bytes or the frames are none of the form */
     FTTCAN_NO = 10,         /* a plan that does not keep the table; a log that is none of the run; a change that a standby
@@ -129,7 +130,12 @@ typedef struct {
 } fttcan_entry;
 
 /* An entry in its place. Instance k is released in cycle origin + phase + k * period, where that is below the end. Where
- * `ended` is 0 it has no end, and `end` has no meaning and is written as 0; any other value says that it has. */
+ * `ended` is 0 it has no end, and `end` has no meaning and is written as 0; any other value says that it has.
+ *
+ * A table is well placed where of each entry the slot is below 96, there are at most 8 data bytes, the deadline is 1 to the
+ * period, origin and end are below 2^42, and the end is not below the origin. Of two entries of a slot the earlier one has an
+ * end, and its end + deadline - 1 is at most the origin of the later one. Else a call that is passed the table answers
+ * FTTCAN_TABLE. The slots and nodes of the rules are not looked at then. */
 typedef struct {
     uint64_t origin, end;
     fttcan_entry entry;
@@ -142,7 +148,9 @@ typedef struct {
     fttcan_entry entry;
 } fttcan_op;
 
-/* What a cycle is planned from: the next cycle, and the slots with an instance that was released before it and not sent. */
+/* What a cycle is planned from: the next cycle, and the slots with an instance that was released before it and not sent. The
+ * cycle is at most 2^41, and each of these slots has an instance in the table that was released before the cycle and whose
+ * last cycle is not below it. Else a call that is passed the state answers FTTCAN_STATE. */
 typedef struct {
     uint64_t cycle;
     fttcan_mask pending;
@@ -151,11 +159,13 @@ typedef struct {
 /* The answer to a change. Numbers that a kind does not name are 0.
  *
  * FTTCAN_MALFORMED: operation `op`, counted from 0, breaks rule `why`, 1 to 11 (fttcan_why_name). Where `known` is 1 the
- *     rule is 10, and the slot is in use up to cycle `first`, or its entry begins in it.
+ *     rule is 10, and the slot is free from cycle `first` on, or its entry begins in it. Where rule 10 is broken and `known` is
+ *     0 the slot has an entry without an end.
  * FTTCAN_PASSED: the start `first` is over, since cycle `second` is the next one.
  * FTTCAN_MISSED: the instance of `slot` that is released in cycle `first` would be missed in `second`, its last one.
  * FTTCAN_HORIZON: planned from cycle `first` on, no state came again within `second` cycles.
- * FTTCAN_ACCEPTED: from cycle `first` on the plan does the same again every `second` cycles. No deadline is missed, ever. */
+ * FTTCAN_ACCEPTED: from cycle `first` on the plan does the same again every `second` cycles. No deadline is missed, ever, as
+ *     long as the cycles are opened by this plan: up to the next accepted change, which has such a plan again. */
 typedef struct {
     uint64_t first, second;
     uint8_t kind, op, why, slot, known;
@@ -176,7 +186,7 @@ typedef struct {
     uint8_t learned;
 } fttcan_order;
 
-/* Why a plan does not keep a table. Numbers that a kind does not name are 0.
+/* Why a plan does not keep a table: the first breach. Numbers that a kind does not name are 0.
  * 0: the loop can't be that of a plan: an entry of `slot` does not repeat by it.
  * 1: in cycle `first` an instance of `slot` is sent that is not released, or was sent before.
  * 2: in cycle `first` the worst lengths sum to `second` bit times, which is more than the window.
@@ -242,13 +252,15 @@ void fttcan_master_free(fttcan_master *m);
 /* Answers the change of operator `caller`, 1 to 8, that begins in cycle `start`. All its operations are done, or none.
  * The table changes only where the verdict is FTTCAN_ACCEPTED. FTTCAN_OK says that `verdict` is the answer, whatever it
  * is. Time: see docs/LIBRARY.md; it grows with the cycles up to the repeat, at most the horizon.
- * FTTCAN_ARGUMENT: the caller, or a kind of operation. FTTCAN_MEMORY: also where the table has no room for the entries. */
+ * FTTCAN_ARGUMENT: the caller, or a kind of operation. FTTCAN_MEMORY: also where more entries than FTTCAN_MOST_PLACED would be
+ * kept, or 2^64 - 1 changes were accepted. */
 uint32_t fttcan_master_submit(fttcan_master *m, uint8_t caller, uint64_t start, const fttcan_op *ops, size_t ops_count,
                               fttcan_verdict *verdict);
 
-/* What led to the last answer of this master, where that was FTTCAN_MISSED: what each cycle would have sent, from the
- * next one on up to the missed one. After any other answer, and where there was none, `count` is 0.
- * FTTCAN_ROOM: `count` is written, and nothing else. */
+/* What led to the last answer of this master, where that was FTTCAN_MISSED: what each cycle would have sent, up to the missed
+ * one, which is cycle `second` of the verdict. The first one is the next cycle then, and after fttcan_master_settle it may be
+ * the next one of the snapshot: second + 1 - count in any case. After any other answer, and where there was none, `count` is
+ * 0. FTTCAN_ROOM: `count` is written, and nothing else. FTTCAN_MEMORY. */
 uint32_t fttcan_master_trail(fttcan_master *m, fttcan_mask *room, size_t room_count, size_t *count);
 
 /* Answers the next cycle to operator `caller`, 1 to 8. FTTCAN_ARGUMENT: the caller. */
@@ -267,24 +279,29 @@ uint32_t fttcan_master_next(fttcan_master *m, uint64_t *cycle);
 /* The rules of the master: those with which it was made, or which its saved bytes had. */
 uint32_t fttcan_master_rules(fttcan_master *m, fttcan_rules *rules);
 
-/* The placed entries that still count, in the order of their placing. FTTCAN_ROOM: `count` is written, and nothing else. */
+/* The placed entries that the master keeps, in the order of their placing. Ended ones are among them: when a change is
+ * accepted those are let go that are over and have a later entry in their slot. FTTCAN_ROOM: `count` is written, and nothing
+ * else. FTTCAN_MEMORY. */
 uint32_t fttcan_master_table(fttcan_master *m, fttcan_placed *room, size_t room_count, size_t *count);
 
 /* The text of the plan from the next cycle on, up to the end of its first repeat: `len` bytes, without a 0 at the end.
- * fttcan_check takes it together with the table. FTTCAN_ROOM: `len` is written, and nothing else. FTTCAN_MEMORY. */
+ * fttcan_check takes it together with the table and the window of the rules. Time: twice that of planning the table.
+ * FTTCAN_ROOM: `len` is written, and nothing else. FTTCAN_MEMORY. */
 uint32_t fttcan_master_certificate(fttcan_master *m, uint8_t *room, size_t room_len, size_t *len);
 
-/* The state of the master as bytes, the same on every machine. FTTCAN_ROOM: `len` is written, and nothing else.
- * FTTCAN_MEMORY. */
+/* The state of the master as bytes, the same on every machine: 112, and 80 more for each entry that it keeps. FTTCAN_ROOM:
+ * `len` is written, and nothing else. FTTCAN_MEMORY. */
 uint32_t fttcan_master_save(fttcan_master *m, uint8_t *room, size_t room_len, size_t *len);
 
-/* Makes a master of saved bytes. It goes on as the saved one would have. What it makes of any bytes is a master that
- * misses no deadline: the bytes are not trusted. FTTCAN_OPEN: `m` holds one already. FTTCAN_TEXT: no state has these
- * bytes, or none from which no deadline is missed. FTTCAN_MEMORY. Time: that of planning the table once. */
+/* Makes a master of saved bytes. It goes on as the saved one would have, and has no trail. What it makes of any bytes is a
+ * master that misses no deadline: the bytes are not trusted. FTTCAN_OPEN: `m` holds one already. FTTCAN_TEXT: no master has
+ * these bytes: they are none of the form, a number is out of its range, a deadline would be missed, the plan does not repeat
+ * within the horizon, or there are too many entries. FTTCAN_MEMORY. Time: that of planning the table once. */
 uint32_t fttcan_master_restore(fttcan_master *m, const uint8_t *bytes, size_t len);
 
 /* ---- A change that is planned in another thread while cycles are opened: a snapshot is taken, planned from apart, and
- *      settled. Only _plan_apart takes long. */
+ *      settled. _plan_apart takes long. _settle takes time for the entries and for the cycles that were opened since the
+ *      snapshot, and long where it has to plan anew. */
 
 /* Takes what changes are planned from. FTTCAN_CLOSED: `m` holds nothing. FTTCAN_OPEN: `s` holds something. FTTCAN_MEMORY. */
 uint32_t fttcan_master_snapshot(fttcan_master *m, fttcan_snapshot *s);
@@ -320,36 +337,38 @@ uint32_t fttcan_standby_new(fttcan_standby *s, const fttcan_rules *rules);
 void fttcan_standby_free(fttcan_standby *s);
 
 /* Tells the standby a change that the master has accepted. FTTCAN_OK: the standby accepts it too, and `verdict` is its
- * answer. FTTCAN_NO: it would not, `verdict` says what it would answer, and it is as it was. FTTCAN_ARGUMENT: the caller,
- * or a kind of operation. FTTCAN_MEMORY. */
+ * answer, planned from its own next cycle on. FTTCAN_NO: it would not, `verdict` says what it would answer, and it is as it
+ * was. FTTCAN_ARGUMENT: the caller, or a kind of operation. FTTCAN_MEMORY: as fttcan_master_submit. */
 uint32_t fttcan_standby_change(fttcan_standby *s, uint8_t caller, uint64_t start, const fttcan_op *ops, size_t ops_count,
                                fttcan_verdict *verdict);
 
 /* Tells the standby the trigger frames of a cycle: one with 40 slots, two with 96. FTTCAN_OK: they are those that it would
  * have sent itself, and the next cycle is one later. FTTCAN_NO: they are not, `fault` says why, and the standby is as it
- * was. FTTCAN_ARGUMENT: a frame that is none. FTTCAN_STATE: 2^41 cycles were opened. FTTCAN_MEMORY. */
+ * was. FTTCAN_ARGUMENT: a frame that is none. FTTCAN_STATE: 2^41 cycles were opened. It takes no memory. */
 uint32_t fttcan_standby_trigger(fttcan_standby *s, const fttcan_frame *frames, size_t frames_count, fttcan_follow *fault);
 
 /* The next cycle whose trigger the standby expects. */
 uint32_t fttcan_standby_next(fttcan_standby *s, uint64_t *cycle);
 
 /* Makes a master of the standby, which goes on from its next cycle: after FTTCAN_OK `s` holds nothing, and `m` the master.
- * FTTCAN_OPEN: `m` holds one already. FTTCAN_MEMORY. */
+ * FTTCAN_OPEN: `m` holds one already. After any status but FTTCAN_OK both are as they were. It takes no memory. */
 uint32_t fttcan_standby_take_over(fttcan_standby *s, fttcan_master *m);
 
 /* ---- The stateless pair: the caller keeps table and state. */
 
 /* Decides of a change of a table whose next cycle is that of the state. Where the verdict is FTTCAN_ACCEPTED, the changed
- * table is written to `room`, and `count` is its length. Else nothing is written to `room`. The state stays as it is.
+ * table is written to `room`, and `count` is its length. Else nothing is written to `room`, and `count` is 0. The state stays
+ * as it is. Entries that are over stay in the table.
  * FTTCAN_ARGUMENT: a rule, or a kind of operation. FTTCAN_TABLE. FTTCAN_STATE. FTTCAN_ROOM: `count` is written, and nothing
  * else; the changed table has at most placed_count + ops_count entries. FTTCAN_MEMORY. */
 uint32_t fttcan_decide(const fttcan_rules *rules, const fttcan_placed *placed, size_t placed_count, const fttcan_state *state,
                        uint64_t start, const fttcan_op *ops, size_t ops_count, fttcan_verdict *verdict, fttcan_placed *room,
                        size_t room_count, size_t *count);
 
-/* Plans the cycle of a state, and makes the state that of the next one. Where each table came from accepted verdicts of
- * fttcan_decide and each state from this call, the first one being {0, {0, 0}}, no FTTCAN_MISS ever comes.
- * FTTCAN_ARGUMENT: a rule. FTTCAN_TABLE. FTTCAN_STATE. FTTCAN_MISS. FTTCAN_MEMORY. */
+/* Plans the cycle of a state, and makes the state that of the next one. No FTTCAN_MISS ever comes where all calls have the
+ * same rules, each call is passed the table of the last accepted verdict of fttcan_decide, and each state is that of the last
+ * call of this one. At first the table has no entry, and the state is {0, {0, 0}}.
+ * FTTCAN_ARGUMENT: a rule. FTTCAN_TABLE. FTTCAN_STATE: also where the cycle is 2^41. FTTCAN_MISS. FTTCAN_MEMORY. */
 uint32_t fttcan_open(const fttcan_rules *rules, const fttcan_placed *placed, size_t placed_count, fttcan_state *state,
                      fttcan_plan *plan);
 
@@ -357,7 +376,8 @@ uint32_t fttcan_open(const fttcan_rules *rules, const fttcan_placed *placed, siz
 
 /* Whether the text of a plan keeps a table for ever within a window of so many bit times: FTTCAN_OK or FTTCAN_NO, where
  * `breach` says why not. The plan begins in its cycle FROM, with its slots PENDING. FTTCAN_TEXT: `breach->first` is the
- * first wrong line. FTTCAN_TABLE. FTTCAN_MEMORY. */
+ * first wrong line. FTTCAN_STATE: a slot of PENDING has no instance that was released before FROM and may be sent then, or a
+ * cycle of the plan is 2^42 or above. FTTCAN_TABLE. FTTCAN_MEMORY. */
 uint32_t fttcan_check(const fttcan_placed *placed, size_t placed_count, uint32_t window, const uint8_t *text, size_t text_len,
                       fttcan_breach *breach);
 
@@ -380,8 +400,8 @@ uint32_t fttcan_read_wire(const uint8_t *bits, size_t count, fttcan_frame *frame
  * flag of a slot that the network does not have. FTTCAN_ROOM: `count` is written, and nothing else. */
 uint32_t fttcan_trigger_encode(uint8_t slots, const fttcan_trigger *trigger, fttcan_frame *room, size_t room_count, size_t *count);
 
-/* What trigger frames say. `trigger->cycle` is its low 8 bits. FTTCAN_TEXT: the frames are no trigger. FTTCAN_ARGUMENT: the
- * slots, or a frame that is none. */
+/* What trigger frames say: one with 40 slots, two with 96. `trigger->cycle` is the low 8 bits of their cycle. FTTCAN_TEXT: the
+ * frames are no trigger, or not so many. FTTCAN_ARGUMENT: the slots, or a frame that is none. */
 uint32_t fttcan_trigger_decode(uint8_t slots, const fttcan_frame *frames, size_t frames_count, fttcan_trigger *trigger);
 
 /* The data bytes of instance `number` of an entry, as the nodes of the simulated bus send them: the number's last `len`

@@ -113,8 +113,8 @@ private:
     }
 };
 
-/// Operation `op` breaks rule `why`, 1 to 11. Where `is_known`, the slot is in use up to cycle `until`, or its entry begins
-/// in it.
+/// Operation `op` breaks rule `why`, 1 to 11. Where `is_known`, the slot is free from cycle `until` on, or its entry
+/// begins in it.
 class malformed : public refused {
 public:
     explicit malformed(const fttcan_verdict &v) : refused(v), op(v.op), why(v.why), is_known(v.known != 0), until(v.first) {}
@@ -368,7 +368,8 @@ public:
         return made;
     }
 
-    /// Answers a change that was planned apart, and takes it. It throws what a refusal stands for.
+    /// Answers a change that was planned apart, and takes it. It throws what a refusal stands for. After std::bad_alloc the
+    /// change is gone too, and is asked for anew.
     accepted settle(std::uint8_t caller, planned &&change) {
         fttcan_verdict verdict{};
         of::check(fttcan_master_settle(get(), caller, change.get(), &verdict), "master::settle");

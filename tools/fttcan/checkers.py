@@ -23,8 +23,8 @@ def check(placed: Iterable[Placed], window: int, text: bytes | str) -> Breach | 
     """Whether the plan of a text keeps a table: None where it does, and else the first breach.
 
     window: the longest synchronous window, in bit times. BadText: the text is no plan. Its place is the first line that
-    is wrong, counted from 1. BadTable, OutOfRange, MemoryRanOut. The plan begins in the cycle and with the pending slots
-    that the text says.
+    is wrong, counted from 1. BadState: a slot that is said to be pending has no instance then, or a cycle is 2^42 or
+    above. BadTable, OutOfRange, MemoryRanOut. The plan begins in the cycle and with the pending slots that the text says.
     """
     breach, given = CBreach(), _bytes(text)
     status = calls.check(*table_in(placed), whole("window", window, 32), given, len(given), breach)

@@ -34,7 +34,8 @@ class LibraryUnfit(Error, ImportError):
 
 
 class MemoryRanOut(Error, MemoryError):
-    """Memory ran out, or a table has no room for more than 4,096 entries. Nothing changed, and the call may be made again."""
+    """Memory ran out, or more than 4,096 entries would be kept. Nothing changed, and the call may be made again. After
+    `Master.settle` the plan is closed, and the change is planned anew."""
 
 
 class OutOfRange(Error, ValueError):
@@ -46,11 +47,11 @@ class BadTable(Error, ValueError):
 
 
 class BadState(Error, ValueError):
-    """The state can't be planned from, or no cycle may be opened any more."""
+    """The state can't be planned from, or no cycle may be opened any more. Of `check`: the plan begins or ends wrongly."""
 
 
 class WouldMiss(Error):
-    """An instance would miss its deadline in the next cycle of a table that was never admitted."""
+    """An instance would miss its deadline in the next cycle. The table was not admitted by these rules from this state."""
 
 
 class Closed(Error, ValueError):
@@ -89,7 +90,8 @@ class Malformed(Refused):
 
     operation: the place of the operation that breaks it, from 0 on.
     rule: the number of the rule, 1 to 11, as docs/FORMATS.md has them. `RULES` has words for them.
-    until: the cycle from which the slot is free, or in which its entry begins; None where a rule has no such cycle.
+    until: the cycle from which the slot is free, or in which its entry begins. None where there is no such cycle: for
+        another rule, or an entry without an end.
     """
 
     def __init__(self, operation: int, rule: int, until: int | None = None) -> None:
@@ -127,6 +129,7 @@ class Miss(Refused):
 
     slot: its slot. release: the cycle in which it is released. cycle: the last one in which it may be sent.
     trail: what would be sent in each cycle up to that one, as sets of slots, where a master answered. Else it is empty.
+        The last set is that of `cycle`.
     """
 
     def __init__(self, slot: int, release: int, cycle: int, trail: tuple[int, ...] = ()) -> None:

@@ -34,7 +34,7 @@ def wire_length(identifier: int, data: bytes = b"") -> int:
 
 
 def wire_bits(identifier: int, data: bytes = b"") -> bytes:
-    """The bits of a frame on the wire, one byte each, 0 or 1. Their number is `wire_length`. OutOfRange."""
+    """The bits of a frame on the wire, one byte each, 0 or 1. Their number is `wire_length`. OutOfRange, MemoryRanOut."""
     given, named = bytes(data), whole("identifier", identifier, 16)
     return bytes_from(lambda room, size, count: int(calls.wire_bits(named, given, len(given), room, size, count)), 160)
 
@@ -42,7 +42,8 @@ def wire_bits(identifier: int, data: bytes = b"") -> bytes:
 def read_wire(bits: bytes) -> Frame:
     """The frame that these bits are, one byte each, 0 or 1.
 
-    BadText: they are none. Its place is that of the first fault, counted from 0.
+    BadText: they are none. Its place is that of the first fault, counted from 0; where they end early, or have another CRC
+    sequence, it is their number. OutOfRange: a byte above 1. MemoryRanOut.
     """
     frame, place, given = CFrame(), SIZE(), bytes(bits)
     status = calls.read_wire(given, len(given), frame, place)
@@ -79,8 +80,9 @@ def payload(number: int, length: int) -> bytes:
 def fits(layout: Layout, at: int, length: int, window: int) -> bool:
     """Whether an asynchronous frame of `length` data bytes, 0 to 8, ends before the synchronous window.
 
-    at: when it starts, in bit times from the start of its cycle. window: that of the cycle, in bit times. A frame that
-    starts before the trigger part and the turnaround are over does not fit.
+    at: when it starts, in bit times from the start of cycle 0. window: that of its cycle, in bit times. A frame that starts
+    before the trigger part and the turnaround of its cycle are over does not fit.
+    OutOfRange: the layout, more than 8 data bytes, or a window above that of the layout.
     """
     is_fitting = U8()
     given = CLayout(layout.cycle, layout.turnaround, layout.window, layout.slots)

@@ -68,7 +68,7 @@ class Planned(Handle):
     @property
     def verdict(self) -> Accepted | faults.Refused:
         """What was decided, as a value: Accepted, or the error that would be raised. It holds while the master accepts
-        no other change."""
+        no other change, and has not opened the start."""
         verdict = CVerdict()
         with self._lock:
             must(calls.planned_verdict(self._struct, verdict))
@@ -118,7 +118,7 @@ class Master(Handle):
 
     @classmethod
     def restore(cls, saved: bytes) -> Master:
-        """A master in the state that `save` has written, which may be that of another process.
+        """A master in the state that `save` has written, which may be that of another process. The bytes are not trusted.
 
         BadText: no master has such a state. MemoryRanOut.
         """
@@ -192,14 +192,16 @@ class Master(Handle):
         return flags.number
 
     def table(self) -> list[Placed]:
-        """The entries of the table, with those that have ended and are still needed, in the order of their placing."""
+        """The entries of the table, in the order of their placing. Ended ones are among them: when a change is accepted,
+        those are let go that are over and have a later entry in their slot."""
         with self._lock:
             room, count = listed(lambda room, size, count: int(calls.master_table(self._struct, room, size, count)),
                                  CPlaced, 128)
         return [placed_out(room[place]) for place in range(count)]
 
     def certificate(self) -> str:
-        """The plan text from the next cycle on, up to the end of its first repeat. `check` takes it with the table."""
+        """The plan text from the next cycle on, up to the end of its first repeat. `check` takes it with the table and the
+        window of the rules. MemoryRanOut, Closed."""
         with self._lock:
             return bytes_from(lambda room, size, count: int(calls.master_certificate(self._struct, room, size, count)),
                               4096).decode()
@@ -261,7 +263,7 @@ class Standby(Handle):
         """Follows the opening of a cycle by its trigger: one frame, or two with 96 slots.
 
         NoTrigger, OtherFlags, OtherWindow: this is not the trigger that is planned. It is as before. OutOfRange: a frame
-        that is none. BadState: no cycle may be opened any more. MemoryRanOut, Closed.
+        that is none. BadState: no cycle may be opened any more. Closed.
         """
         given, fault = frames_in(frames), CFollow()
         with self._lock:
