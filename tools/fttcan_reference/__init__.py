@@ -24,13 +24,13 @@ import importlib.resources
 import sys
 
 from .bus import triggers, wire_length, worst
-from .commands import breach, told
+from .commands import breach, replay, told
 from .plan import Master, walk
 from .types import Certificate, Change, Entry, Placed, System, Unsure
 
 # What a check asks for call by call.
-__all__ = ["Certificate", "Change", "Entry", "Master", "Placed", "System", "breach", "main", "triggers", "walk",
-           "wire_length", "worst"]
+__all__ = ["Certificate", "Change", "Entry", "Master", "Placed", "System", "breach", "main", "replay", "triggers",
+           "walk", "wire_length", "worst"]
 
 
 def version():
