@@ -7,7 +7,8 @@
  *
  * Calls. A call that can fail answers a status, FTTCAN_OK or another one of the list below. After a status other than
  * FTTCAN_OK every out value is as it was before the call, and so is what a handle holds, unless a call says otherwise.
- * Where several statuses fit a call, it answers one of them. fttcan_run alone answers the exit status of a program instead.
+ * Where several statuses fit a call, FTTCAN_OPEN comes before FTTCAN_CLOSED, that before FTTCAN_ARGUMENT, and that before
+ * all others. Of the others it answers one that fits. fttcan_run alone answers the exit status of a program instead.
  * No call ends the program, prints, starts a thread, takes a lock, or reads a clock. All memory is taken by malloc and
  * realloc, and given back by free. Each call ends.
  *
@@ -57,7 +58,8 @@ enum {
 /* Statuses. */
 enum {
     FTTCAN_OK = 0,          /* done */
-    FTTCAN_MEMORY = 1,      /* memory ran out, or the table is full: the call may be made again (settle: see there) */
+    FTTCAN_MEMORY = 1,      /* memory ran out, or an accepted change has no room: more than 4,096 entries, or 2^64 - 1 were
+                             * accepted. The call may be made again (settle: see there) */
     FTTCAN_ARGUMENT = 2,    /* an argument is out of its range */
     FTTCAN_TABLE = 3,       /* the table is not well placed: no master can have come to it */
     FTTCAN_STATE = 4,       /* the state can't be planned from, or no cycle may be opened any more */
@@ -65,9 +67,9 @@ enum {
     FTTCAN_MISS = 6,        /* fttcan_open: an instance would miss its deadline in this cycle */
     FTTCAN_CLOSED = 7,      /* the handle holds nothing, or by a cast what a handle of another kind holds */
     FTTCAN_OPEN = 8,        /* the handle that is to be filled holds something already */
-    FTTCAN_TEXT = 9,        /* the text, the bytes or the frames are none of the form */
+    FTTCAN_TEXT = 9,        /* the text, the bytes or the frames are none of the form; no master has the bytes */
     FTTCAN_NO = 10,         /* a plan that does not keep the table; a log that is none of the run; a change that a standby
-                             * would refuse; a trigger that is not the planned one */
+                             * would refuse; a trigger that is not the planned one; a stream without a bound */
     FTTCAN_UNFINISHED = 11  /* fttcan_audit: all rows can stand, and they are not all rows of a whole run */
 };
 
@@ -159,8 +161,8 @@ typedef struct {
 /* The answer to a change. Numbers that a kind does not name are 0.
  *
  * FTTCAN_MALFORMED: operation `op`, counted from 0, breaks rule `why`, 1 to 11 (fttcan_why_name). Where `known` is 1 the
- *     rule is 10, and the slot is free from cycle `first` on, or its entry begins in it. Where rule 10 is broken and `known` is
- *     0 the slot has an entry without an end.
+ *     rule is 10, and the slot is taken until cycle `first`: it is free from there on, or its entry begins then. Where rule
+ *     10 is broken and `known` is 0 the slot has an entry without an end.
  * FTTCAN_PASSED: the start `first` is over, since cycle `second` is the next one.
  * FTTCAN_MISSED: the instance of `slot` that is released in cycle `first` would be missed in `second`, its last one.
  * FTTCAN_HORIZON: planned from cycle `first` on, no state came again within `second` cycles.
@@ -215,6 +217,16 @@ typedef struct {
     uint32_t cycle, turnaround, window;
     uint8_t slots;
 } fttcan_layout;
+
+/* A stream: the requests of an asynchronous identifier (0x200 to 0x7EF). Their frames have at most so many data bytes (0 to
+ * 8). Each arrives at least `gap` bit times (1 to 2^32 - 1) behind the one that stands `burst` places (1 to 1,024) before
+ * it: so with a burst of 1 any two of them are that far apart. */
+typedef struct {
+    uint64_t gap;
+    uint32_t burst;
+    uint16_t id;
+    uint8_t bytes;
+} fttcan_stream;
 
 /* A master: the table, the next cycle and what is pending before it. */
 typedef struct {
@@ -295,26 +307,27 @@ uint32_t fttcan_master_save(fttcan_master *m, uint8_t *room, size_t room_len, si
 
 /* Makes a master of saved bytes. It goes on as the saved one would have, and has no trail. What it makes of any bytes is a
  * master that misses no deadline: the bytes are not trusted. FTTCAN_OPEN: `m` holds one already. FTTCAN_TEXT: no master has
- * these bytes: they are none of the form, a number is out of its range, a deadline would be missed, the plan does not repeat
- * within the horizon, or there are too many entries. FTTCAN_MEMORY. Time: that of planning the table once. */
+ * these bytes: they are none of the form, a number is out of its range, a slot or a node of an entry is none of the rules, a
+ * deadline would be missed, the plan does not repeat within the horizon, or there are too many entries. FTTCAN_MEMORY. Time:
+ * that of planning the table once. */
 uint32_t fttcan_master_restore(fttcan_master *m, const uint8_t *bytes, size_t len);
 
 /* ---- A change that is planned in another thread while cycles are opened: a snapshot is taken, planned from apart, and
  *      settled. _plan_apart takes long. _settle takes time for the entries and for the cycles that were opened since the
  *      snapshot, and long where it has to plan anew. */
 
-/* Takes what changes are planned from. FTTCAN_CLOSED: `m` holds nothing. FTTCAN_OPEN: `s` holds something. FTTCAN_MEMORY. */
+/* Takes what changes are planned from. FTTCAN_OPEN: `s` holds something. FTTCAN_CLOSED: `m` holds no master. FTTCAN_MEMORY. */
 uint32_t fttcan_master_snapshot(fttcan_master *m, fttcan_snapshot *s);
 
 /* Lets go what `s` holds, if anything. */
 void fttcan_snapshot_free(fttcan_snapshot *s);
 
 /* Plans a change apart from the master, and takes the snapshot: after FTTCAN_OK `s` holds nothing, and `p` the planned
- * change. After any other status `s` is as it was. FTTCAN_CLOSED: `s` holds nothing. FTTCAN_OPEN: `p` holds something.
- * FTTCAN_ARGUMENT: a kind of operation. FTTCAN_MEMORY. */
+ * change. After any other status both are as they were. FTTCAN_OPEN: `p` holds something. FTTCAN_CLOSED: `s` holds no
+ * snapshot. FTTCAN_ARGUMENT: a kind of operation. FTTCAN_MEMORY. */
 uint32_t fttcan_plan_apart(fttcan_snapshot *s, uint64_t start, const fttcan_op *ops, size_t ops_count, fttcan_planned *p);
 
-/* What the planned change would be answered, if the master had not gone on since its snapshot. FTTCAN_CLOSED. */
+/* What the planned change would be answered, if the master had not gone on since its snapshot. FTTCAN_CLOSED alone. */
 uint32_t fttcan_planned_verdict(fttcan_planned *p, fttcan_verdict *verdict);
 
 /* Lets go what `p` holds, if anything. */
@@ -324,7 +337,7 @@ void fttcan_planned_free(fttcan_planned *p);
  * the snapshot that plan decides, and only a start that has passed since is refused. Else the change is planned anew,
  * in this call. After FTTCAN_OK `p` holds nothing, and `verdict` is the answer. FTTCAN_MEMORY: `p` holds nothing then either,
  * and the master is as it was: the change is asked for anew. After any other status `p` and the master are as they were.
- * FTTCAN_CLOSED: `m` or `p` holds nothing. FTTCAN_ARGUMENT: the caller. */
+ * FTTCAN_CLOSED: `m` holds no master, or `p` no planned change. FTTCAN_ARGUMENT: both do, and the caller is not 1 to 8. */
 uint32_t fttcan_master_settle(fttcan_master *m, uint8_t caller, fttcan_planned *p, fttcan_verdict *verdict);
 
 /* ---- A standby: it is told the accepted changes and hears the triggers, and takes over from there. Each call but _new and
@@ -337,8 +350,10 @@ uint32_t fttcan_standby_new(fttcan_standby *s, const fttcan_rules *rules);
 void fttcan_standby_free(fttcan_standby *s);
 
 /* Tells the standby a change that the master has accepted. FTTCAN_OK: the standby accepts it too, and `verdict` is its
- * answer, planned from its own next cycle on. FTTCAN_NO: it would not, `verdict` says what it would answer, and it is as it
- * was. FTTCAN_ARGUMENT: the caller, or a kind of operation. FTTCAN_MEMORY: as fttcan_master_submit. */
+ * answer, planned from its own next cycle on. The change takes effect in cycle `start`, which the standby has not opened yet.
+ * FTTCAN_NO: it would not accept it, `verdict` says what it would answer, and it is as it was. That never comes where the
+ * standby followed all openings and accepted changes before this one. FTTCAN_ARGUMENT: the caller, or a kind of operation.
+ * FTTCAN_MEMORY: as fttcan_master_submit. */
 uint32_t fttcan_standby_change(fttcan_standby *s, uint8_t caller, uint64_t start, const fttcan_op *ops, size_t ops_count,
                                fttcan_verdict *verdict);
 
@@ -413,6 +428,13 @@ uint32_t fttcan_payload(uint64_t number, uint8_t *room, size_t len);
  * cycle, which has `window` bit times. FTTCAN_ARGUMENT: the layout, `dlc` above 8, or a window above that of the layout. */
 uint32_t fttcan_fits(const fttcan_layout *layout, uint64_t at, uint8_t dlc, uint32_t window, uint8_t *fits);
 
+/* How late the frames of the stream at the place `which` (from 0) start at most, where all requests belong to the streams:
+ * less than `*start` bit times behind the arrival of the request. So they end less than `*start` + 55 + 10 * bytes behind
+ * it, intermission included. It is the least number that the test of docs/ASYNC.md lets pass. FTTCAN_NO: none does up to
+ * the `gap` of the stream. FTTCAN_ARGUMENT: the layout, a stream, `which`, or more than 2,048 streams. */
+uint32_t fttcan_async_bound(const fttcan_layout *layout, const fttcan_stream *streams, size_t streams_count, size_t which,
+                            uint64_t *start);
+
 /* ---- Whole commands over memory. They are a second object of the library, which is linked only where they are called. */
 
 /* Carries out the words of a call of the program fttcan, between which bytes 0 stand: every command but live. Its files are
@@ -474,7 +496,7 @@ static inline const char *fttcan_why_name(uint8_t why) {
     case 7: return "more than 8 data bytes";
     case 8: return "the period is 0";
     case 9: return "the deadline is 0, or above the period";
-    case 10: return "the slot is in use";
+    case 10: return "the slot is taken";
     case 11: return "no entry of the slot is live";
     default: return "unknown";
     }
@@ -489,7 +511,8 @@ static inline size_t fttcan_verdict_words(const fttcan_verdict *verdict, char *r
     size_t at = 0, next = 0;
     switch (verdict->kind) {
     case FTTCAN_MALFORMED:
-        form = verdict->known ? "malformed: operation %: & up to cycle %" : "malformed: operation %: &";
+        form = verdict->known ? "malformed: operation %: & until cycle %"
+            : verdict->why == 10 ? "malformed: operation %: & by a live entry" : "malformed: operation %: &";
         numbers[0] = verdict->op;
         numbers[1] = verdict->first;
         break;

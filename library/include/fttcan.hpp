@@ -14,6 +14,7 @@
 #include <initializer_list>
 #include <new>
 #include <stdexcept>
+#include <optional>
 #include <string>
 #include <string_view>
 #include <type_traits>
@@ -369,7 +370,8 @@ public:
     }
 
     /// Answers a change that was planned apart, and takes it. It throws what a refusal stands for. After std::bad_alloc the
-    /// change is gone too, and is asked for anew.
+    /// change is gone too, and is asked for anew. After fttcan::closed, where this or the change holds nothing, and after
+    /// fttcan::bad_argument, where the caller is not 1 to 8, both are as before.
     accepted settle(std::uint8_t caller, planned &&change) {
         fttcan_verdict verdict{};
         of::check(fttcan_master_settle(get(), caller, change.get(), &verdict), "master::settle");
@@ -392,7 +394,8 @@ class standby : public of::owner<fttcan_standby, fttcan_standby_free> {
 public:
     explicit standby(const fttcan_rules &rules) { of::check(fttcan_standby_new(get(), &rules), "standby"); }
 
-    /// Tells a change that the master has accepted. It throws what the standby's own refusal stands for.
+    /// Tells a change that the master has accepted, which takes effect in cycle `start`. It throws what the standby's own
+    /// refusal stands for: that never comes where the standby followed all that the master did before.
     accepted change(std::uint8_t caller, std::uint64_t start, span<const fttcan_op> ops) {
         fttcan_verdict verdict{};
         const std::uint32_t status = fttcan_standby_change(get(), caller, start, of::at(ops), ops.size(), &verdict);
@@ -521,6 +524,18 @@ inline bool fits(const fttcan_layout &layout, std::uint64_t at, std::uint8_t dlc
     std::uint8_t answer = 0;
     of::check(fttcan_fits(&layout, at, dlc, window, &answer), "fits");
     return answer != 0;
+}
+
+/// How late the frames of a stream start at most: less than so many bit times behind the arrival of their request. Nothing
+/// where no such number up to the stream's `gap` is known.
+inline std::optional<std::uint64_t> async_bound(const fttcan_layout &layout, span<const fttcan_stream> streams,
+                                                std::size_t which) {
+    std::uint64_t start = 0;
+    const auto status = fttcan_async_bound(&layout, of::at(streams), streams.size(), which, &start);
+    if (status == FTTCAN_NO)
+        return std::nullopt;
+    of::check(status, "async_bound");
+    return start;
 }
 
 /// What a command of the program wrote, and its exit status.

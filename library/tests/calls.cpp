@@ -96,6 +96,15 @@ void of_apart() {
     m.open();
     WANT(m.settle(2, std::move(change)).first == 4);
     WANT(!change && throws<fttcan::closed>([&] { change.verdict(); }));
+    WANT(throws<fttcan::closed>([&] { m.settle(2, std::move(change)); }));
+    fttcan::planned other = m.apart().plan(9, {first});
+    WANT(throws<fttcan::bad_argument>([&] { m.settle(9, std::move(other)); }) && other);
+    WANT((throws<fttcan::malformed>([&] { m.settle(2, std::move(other)); }, [](const fttcan::malformed &f) {
+        return f.why == 10 && std::string(f.what()) == "malformed: operation 0: the slot is taken by a live entry";
+    })));
+    fttcan::master gone = std::move(m);
+    other = gone.apart().plan(9, {first});
+    WANT(throws<fttcan::closed>([&] { m.settle(2, std::move(other)); }) && other);
 }
 
 void of_standby() {
@@ -134,6 +143,10 @@ void of_frames() {
     WANT(fttcan::payload(258, 3) == (std::vector<std::uint8_t>{0, 1, 2}));
     WANT(fttcan::payload(258, 0).empty());
     WANT(fttcan::fits({1000, 0, 270, 40}, 595, 8, 270) && !fttcan::fits({1000, 0, 270, 40}, 596, 8, 270));
+    const std::vector<fttcan_stream> streams = {{10000, 1, 0x300, 8}, {568, 1, 0x301, 8}};
+    WANT(fttcan::async_bound({1000, 30, 135, 40}, streams, 0) == std::uint64_t{569});
+    WANT(!fttcan::async_bound({1000, 30, 135, 40}, streams, 1));
+    WANT(throws<fttcan::bad_argument>([&] { fttcan::async_bound({1000, 30, 135, 40}, streams, 2); }));
 }
 
 } // namespace

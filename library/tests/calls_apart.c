@@ -63,8 +63,57 @@ static void of_another(void) {
     fttcan_master_free(&other);
 }
 
+/* What each call of a change that is planned apart answers where a handle holds nothing, or something else. Then all is as
+ * before. A full handle comes first, then an empty one, and then the other arguments. */
+static void of_refusals(void) {
+    fttcan_master m = {NULL}, empty = {NULL};
+    fttcan_snapshot apart = {NULL}, none = {NULL};
+    fttcan_planned planned = {NULL}, unplanned = {NULL};
+    fttcan_verdict v = {9, 9, 9, 9, 9, 9, 9};
+    fttcan_op odd = first;
+    void *at;
+    odd.kind = 7;
+    STATUS(FTTCAN_OK, fttcan_master_new(&m, &rules));
+    STATUS(FTTCAN_OK, fttcan_master_snapshot(&m, &apart));
+    STATUS(FTTCAN_OK, fttcan_plan_apart(&apart, 4, &first, 1, &planned));
+    at = planned.at;
+    STATUS(FTTCAN_CLOSED, fttcan_master_settle(&empty, 1, &planned, &v));
+    STATUS(FTTCAN_CLOSED, fttcan_master_settle(&empty, 9, &planned, &v));
+    STATUS(FTTCAN_CLOSED, fttcan_master_settle(&m, 1, &unplanned, &v));
+    STATUS(FTTCAN_CLOSED, fttcan_master_settle(&m, 0, &unplanned, &v));
+    STATUS(FTTCAN_CLOSED, fttcan_master_settle(&empty, 1, &unplanned, &v));
+    STATUS(FTTCAN_ARGUMENT, fttcan_master_settle(&m, 0, &planned, &v));
+    STATUS(FTTCAN_ARGUMENT, fttcan_master_settle(&m, 9, &planned, &v));
+    /* What a handle of another kind holds is no plan, and no master. */
+    STATUS(FTTCAN_OK, fttcan_master_new(&empty, &rules));
+    STATUS(FTTCAN_CLOSED, fttcan_master_settle(&m, 1, (fttcan_planned *)&empty, &v));
+    STATUS(FTTCAN_CLOSED, fttcan_master_settle((fttcan_master *)&planned, 1, (fttcan_planned *)&empty, &v));
+    WANT(empty.at != NULL && planned.at == at && m.at != NULL && unplanned.at == NULL);
+    WANT(v.first == 9 && v.second == 9 && v.kind == 9 && v.op == 9 && v.why == 9 && v.slot == 9 && v.known == 9);
+    fttcan_master_free(&empty);
+    STATUS(FTTCAN_CLOSED, fttcan_master_snapshot(&empty, &none));
+    WANT(none.at == NULL);
+    STATUS(FTTCAN_OK, fttcan_master_snapshot(&m, &apart));
+    STATUS(FTTCAN_OPEN, fttcan_master_snapshot(&empty, &apart));
+    STATUS(FTTCAN_CLOSED, fttcan_plan_apart(&none, 4, &odd, 1, &unplanned));
+    STATUS(FTTCAN_OPEN, fttcan_plan_apart(&none, 4, &odd, 1, &planned));
+    STATUS(FTTCAN_OPEN, fttcan_plan_apart(&apart, 4, &odd, 1, &planned));
+    STATUS(FTTCAN_ARGUMENT, fttcan_plan_apart(&apart, 4, &odd, 1, &unplanned));
+    STATUS(FTTCAN_CLOSED, fttcan_plan_apart((fttcan_snapshot *)&m, 4, &odd, 1, &unplanned));
+    WANT(apart.at != NULL && unplanned.at == NULL && planned.at == at && m.at != NULL);
+    STATUS(FTTCAN_CLOSED, fttcan_planned_verdict(&unplanned, &v));
+    STATUS(FTTCAN_CLOSED, fttcan_planned_verdict((fttcan_planned *)&m, &v));
+    WANT(v.kind == 9);
+    fttcan_snapshot_free(&apart);
+    fttcan_planned_free(&planned);
+    fttcan_planned_free(&planned);
+    fttcan_master_free(&m);
+    fttcan_master_free(&m);
+}
+
 int main(void) {
     of_apart();
     of_another();
+    of_refusals();
     return ended("calls_apart");
 }

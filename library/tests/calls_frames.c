@@ -47,6 +47,10 @@ static void of_frames(void) {
     STATUS(FTTCAN_TEXT, fttcan_trigger_decode(96, frames, 1, &told));
     STATUS(FTTCAN_TEXT, fttcan_trigger_decode(40, frames + 1, 1, &told));
     STATUS(FTTCAN_ARGUMENT, fttcan_trigger_decode(97, frames, 2, &told));
+    frames[2] = frames[1];
+    STATUS(FTTCAN_TEXT, fttcan_trigger_decode(96, frames, 3, &told));
+    frames[2].id = 0x7F0;
+    STATUS(FTTCAN_ARGUMENT, fttcan_trigger_decode(96, frames, 3, &told));
     frames[0].len = 9;
     STATUS(FTTCAN_ARGUMENT, fttcan_trigger_decode(40, frames, 1, &told));
     trigger.flags.high = (uint64_t)1 << 32;

@@ -55,7 +55,9 @@ static void of_closed(void) {
     uint8_t byte = 9;
     STATUS(FTTCAN_CLOSED, fttcan_master_submit(&m, 1, 0, &first, 1, &v));
     STATUS(FTTCAN_CLOSED, fttcan_master_trail(&m, &mask, 1, &count));
+    STATUS(FTTCAN_CLOSED, fttcan_master_submit(&m, 9, 0, &first, 1, &v));
     STATUS(FTTCAN_CLOSED, fttcan_master_look(&m, 1, &cycle));
+    STATUS(FTTCAN_CLOSED, fttcan_master_look(&m, 9, &cycle));
     STATUS(FTTCAN_CLOSED, fttcan_master_open(&m, &order));
     STATUS(FTTCAN_CLOSED, fttcan_master_planned(&m, &mask));
     STATUS(FTTCAN_CLOSED, fttcan_master_next(&m, &cycle));
@@ -158,6 +160,12 @@ static void of_trail(void) {
     WANT(count == 0);
     fttcan_verdict_words(&v, words, sizeof words);
     WANT(strcmp(words, "malformed: operation 0: the period is 0") == 0);
+    v = (fttcan_verdict){12, 0, FTTCAN_MALFORMED, 3, 10, 0, 1};
+    fttcan_verdict_words(&v, words, sizeof words);
+    WANT(strcmp(words, "malformed: operation 3: the slot is taken until cycle 12") == 0);
+    v = (fttcan_verdict){0, 0, FTTCAN_MALFORMED, 3, 10, 0, 0};
+    fttcan_verdict_words(&v, words, sizeof words);
+    WANT(strcmp(words, "malformed: operation 3: the slot is taken by a live entry") == 0);
     ops[0].entry = (fttcan_entry){0, 101, 101, 0, 0, 0, 0};
     ops[1].entry = (fttcan_entry){0, 103, 103, 1, 0, 0, 0};
     STATUS(FTTCAN_OK, fttcan_master_submit(&m, 1, 0, ops, 2, &v));

@@ -33,6 +33,8 @@ static void of_pair(void) {
     twice[0] = twice[1] = table[0];
     STATUS(FTTCAN_TABLE, fttcan_open(&rules, twice, 2, &state, &plan));
     STATUS(FTTCAN_TABLE, fttcan_decide(&rules, twice, 2, &state, 0, &first, 1, &v, table, 2, &count));
+    /* What is out of its range comes before a table that is not well placed, and before a state. */
+    STATUS(FTTCAN_ARGUMENT, fttcan_decide(&rules, twice, 2, &state, 0, &op, 1, &v, table, 2, &count));
     bad = state;
     bad.pending.low = 1u << 7;
     STATUS(FTTCAN_STATE, fttcan_open(&rules, table, 1, &bad, &plan));
@@ -40,6 +42,7 @@ static void of_pair(void) {
     bad.pending.high = (uint64_t)1 << 32;
     STATUS(FTTCAN_STATE, fttcan_open(&rules, table, 1, &bad, &plan));
     STATUS(FTTCAN_STATE, fttcan_decide(&rules, table, 1, &bad, 0, &first, 1, &v, twice, 2, &count));
+    STATUS(FTTCAN_ARGUMENT, fttcan_decide(&rules, table, 1, &bad, 0, &op, 1, &v, twice, 2, &count));
     bad = state;
     bad.cycle = UINT64_MAX;
     STATUS(FTTCAN_STATE, fttcan_open(&rules, table, 1, &bad, &plan));

@@ -19,6 +19,7 @@ static void of_closed_standby(void) {
     memset(&frame, 0, sizeof frame);
     memset(&fault, 0, sizeof fault);
     STATUS(FTTCAN_CLOSED, fttcan_standby_change(&s, 1, 0, &first, 1, &v));
+    STATUS(FTTCAN_CLOSED, fttcan_standby_change(&s, 9, 0, &first, 1, &v));
     STATUS(FTTCAN_CLOSED, fttcan_standby_trigger(&s, &frame, 1, &fault));
     STATUS(FTTCAN_CLOSED, fttcan_standby_next(&s, &cycle));
     STATUS(FTTCAN_CLOSED, fttcan_standby_take_over(&s, &m));
@@ -33,7 +34,7 @@ static void of_standby(void) {
     fttcan_verdict v = {0, 0, 0, 0, 0, 0, 0};
     fttcan_follow fault;
     fttcan_trigger trigger = {{0x20, 0}, 0, 135};
-    fttcan_frame frame;
+    fttcan_frame frame, three[3];
     fttcan_op op = first;
     fttcan_order order = {0, {0, 0}, 0, 0};
     size_t count = 0;
@@ -76,8 +77,20 @@ static void of_standby(void) {
     STATUS(FTTCAN_OK, fttcan_standby_trigger(&s, &frame, 1, &fault));
     STATUS(FTTCAN_OK, fttcan_standby_next(&s, &next));
     WANT(next == 1);
+    /* A change takes effect in a cycle that was not opened yet. */
+    op = first;
+    op.entry.slot = 6;
+    STATUS(FTTCAN_NO, fttcan_standby_change(&s, 1, 0, &op, 1, &v));
+    WANT(v.kind == FTTCAN_PASSED && v.first == 0 && v.second == 1);
+    /* A frame that is none comes before all else that is wrong with frames. */
     frame.len = 9;
     STATUS(FTTCAN_ARGUMENT, fttcan_standby_trigger(&s, &frame, 1, &fault));
+    three[0] = three[1] = three[2] = frame;
+    STATUS(FTTCAN_ARGUMENT, fttcan_standby_trigger(&s, three, 3, &fault));
+    three[0].len = three[1].len = three[2].len = 8;
+    fault.kind = 9;
+    STATUS(FTTCAN_NO, fttcan_standby_trigger(&s, three, 3, &fault));
+    WANT(fault.kind == 0 && fault.first == 1);
     STATUS(FTTCAN_OK, fttcan_standby_take_over(&s, &m));
     WANT(s.at == NULL && m.at != NULL);
     STATUS(FTTCAN_OK, fttcan_master_open(&m, &order));

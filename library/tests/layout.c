@@ -26,6 +26,11 @@ static void numbers(void) {
     AT(fttcan_layout, turnaround, 4);
     AT(fttcan_layout, window, 8);
     AT(fttcan_layout, slots, 12);
+    SIZE(fttcan_stream, 16, 8);
+    AT(fttcan_stream, gap, 0);
+    AT(fttcan_stream, burst, 8);
+    AT(fttcan_stream, id, 12);
+    AT(fttcan_stream, bytes, 14);
 }
 
 static void table(void) {

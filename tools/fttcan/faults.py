@@ -104,8 +104,8 @@ class Malformed(Refused):
 
     def __str__(self) -> str:
         words = RULES.get(self.rule, f"rule {self.rule}")
-        if self.until is not None:
-            words = f"before cycle {self.until} the slot is not free, or its entry has not begun"
+        if self.rule == 10:
+            words += " by a live entry" if self.until is None else f" until cycle {self.until}"
         return f"operation {self.operation}: {words}"
 
 

@@ -222,7 +222,8 @@ class Master(Handle):
         """Answers a change that was planned apart, which `caller`, 1 to 8, asks for. The plan is closed then.
 
         Where a change was accepted since the snapshot, it is planned anew. Where its start was opened meanwhile, it is
-        refused as Passed. The errors are those of `submit`. After MemoryRanOut the plan is closed too.
+        refused as Passed. The errors are those of `submit`. After MemoryRanOut the plan is closed too. After Closed, where
+        this or the plan was closed, and after OutOfRange, both are as before.
         """
         verdict = CVerdict()
         with planned._lock, self._lock:
@@ -247,10 +248,11 @@ class Standby(Handle):
         return self._rules
 
     def change(self, start: int, *operations: Operation, caller: int = 1) -> Accepted:
-        """Follows a change that the first master has accepted, and answers what it would have answered itself.
+        """Follows a change that the first master has accepted, and answers what it would have answered itself. The change
+        takes effect in cycle `start`, which it has not opened yet.
 
-        Malformed, Passed, Miss, Horizon: its own table refuses the change, so it has not followed. It is as before.
-        MemoryRanOut, OutOfRange, Closed.
+        Malformed, Passed, Miss, Horizon: its own table refuses the change, so it has not followed. It is as before. That
+        never comes where it followed all that the master did before. MemoryRanOut, OutOfRange, Closed.
         """
         change, verdict = change_in(start, operations), CVerdict()
         with self._lock:

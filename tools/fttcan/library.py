@@ -181,6 +181,16 @@ class CLayout(ctypes.Structure):
     _fields_ = [("cycle", U32), ("turnaround", U32), ("window", U32), ("slots", U8)]
 
 
+class CStream(ctypes.Structure):
+    """fttcan_stream."""
+
+    gap: int
+    burst: int
+    id: int
+    bytes: int
+    _fields_ = [("gap", U64), ("burst", U32), ("id", U16), ("bytes", U8)]
+
+
 class CMaster(ctypes.Structure):
     """fttcan_master: all zero holds nothing."""
 
@@ -209,7 +219,7 @@ STRUCTS: dict[str, type[ctypes.Structure]] = {
     "fttcan_mask": CMask, "fttcan_frame": CFrame, "fttcan_trigger": CTrigger, "fttcan_rules": CRules,
     "fttcan_entry": CEntry, "fttcan_placed": CPlaced, "fttcan_op": COp, "fttcan_state": CState,
     "fttcan_verdict": CVerdict, "fttcan_plan": CPlan, "fttcan_order": COrder, "fttcan_breach": CBreach,
-    "fttcan_follow": CFollow, "fttcan_layout": CLayout, "fttcan_master": CMaster, "fttcan_standby": CStandby,
+    "fttcan_follow": CFollow, "fttcan_layout": CLayout, "fttcan_stream": CStream, "fttcan_master": CMaster, "fttcan_standby": CStandby,
     "fttcan_snapshot": CSnapshot, "fttcan_planned": CPlanned}
 
 _P = ctypes.POINTER
@@ -259,6 +269,7 @@ CALLS: dict[str, Sequence[Any]] = {
     "fttcan_trigger_decode": (U8, _P(CFrame), SIZE, _P(CTrigger)),
     "fttcan_payload": (U64, ROOM_OUT, SIZE),
     "fttcan_fits": (_P(CLayout), U64, U8, U32, _P(U8)),
+    "fttcan_async_bound": (_P(CLayout), _P(CStream), SIZE, SIZE, _P(U64)),
     "fttcan_run": (*_IN * 5, *_OUT * 2),
     "fttcan_audit": (*_IN * 4, _P(U64)),
 }

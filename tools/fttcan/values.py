@@ -249,6 +249,37 @@ class Layout:
 
 
 @dataclass(frozen=True)
+class Stream:
+    """The requests of an asynchronous identifier.
+
+    identifier: 0x200 to 0x7EF.
+    length: how many data bytes their frames have at most, 0 to 8.
+    gap: how many bit times a request arrives at least behind the one that stands `burst` places before it, 1 to 2^32 - 1.
+    burst: 1 to 1,024. With 1, any two requests are `gap` apart.
+    """
+
+    identifier: int
+    length: int
+    gap: int
+    burst: int = 1
+
+    def __post_init__(self) -> None:
+        for name, bits in (("identifier", 16), ("length", 8), ("gap", 64), ("burst", 32)):
+            whole(name, getattr(self, name), bits)
+
+
+class Bound(NamedTuple):
+    """How late the frames of a stream are at most, in bit times behind the arrival of their request.
+
+    start: each starts less than so many behind it. The longest wait is one less.
+    end: each ends less than so many behind it, its own worst length and the intermission included.
+    """
+
+    start: int
+    end: int
+
+
+@dataclass(frozen=True)
 class Breach:
     """How a plan does not keep a table: the first breach, as the command `check` has it.
 

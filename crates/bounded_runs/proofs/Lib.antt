@@ -12,3 +12,5 @@ mod Delay
 mod UnderWay
 mod Cut
 mod KeptRuns
+mod Kept
+mod Belongs

@@ -1,8 +1,7 @@
 -- The last rows of a text.
-use Rattle.std.specs.Prelude.{◌≡◌, ℕ, ◌==◌, List, [], ◌∷◌, ◌++◌, Option, Some, None, fold, if◌then◌else◌}
+use Rattle.std.specs.Prelude.{◌≡◌, ℕ, ◌==◌, List, [], ◌∷◌, Option, Some, None, fold, if◌then◌else◌}
 use Rattle.std.specs.List.{concat}
 use Rattle.circular_buffer.specs.Buffer.{keep_last}
-use Rattle.bus_trace.specs.Recent.{LastRows}
 
 -- the rows of a text whose first row begins with this byte, where these are the rows of the rest
 abbrev pub begun_by : ℕ → List (List ℕ) → List (List ℕ)
@@ -27,13 +26,8 @@ last_byte before text = fold (λ last byte. byte) before text
 abbrev pub AreRows : List ℕ → Type 0
 AreRows text = last_byte 10 text ≡ 10
 
--- the text is whole rows, and these are its last ones, up to as many as there may be
-pub record HasLast (text : List ℕ) (recent : LastRows) : Type 0 where
+-- the text is whole rows, and so is what is kept of it, which has the same last rows, up to so many
+pub record IsTailOf (text : List ℕ) (most : ℕ) (kept : List ℕ) : Type 0 where
   pub whole : AreRows text
-  pub rows : recent.rows ≡ keep_last recent.most (rows_in text)
-
--- of these rows the first ones were put behind the others, and the rest is left
-pub record ArePut (old new : LastRows) (rows rest : List (List ℕ)) : Type 0 where
-  pub put : List (List ℕ)
-  pub split : rows ≡ put ++ rest
-  pub behind : (past : List ℕ) → HasLast past old → new.rows ≡ keep_last old.most (rows_in past ++ put)
+  pub kept_whole : AreRows kept
+  pub rows : keep_last most (rows_in kept) ≡ keep_last most (rows_in text)

@@ -6,7 +6,7 @@ ghost use Rattle.can_frame.specs.declared.data_frame.TimedFrame.{TimedFrame};
 ghost use Rattle.master_core.specs.declared.event.Event.{Event};
 ghost use Rattle.master_core.specs.History.{AllAfter, next_of};
 ghost use Rattle.bus_trace.specs.EventRows.{SaysWidth, rows_of_event, told_of_event};
-ghost use Rattle.bus_trace.specs.LastRows.{AreRows};
+ghost use Rattle.bus_trace.specs.LastRows.{AreRows, IsTailOf};
 ghost use Rattle.bus_trace.specs.Log.{end_row, log_text, started_in};
 ghost use Rattle.bus_trace.specs.LogRows.{log_rows};
 ghost use Rattle.log_reader.specs.Row.{text_of_rows};
@@ -39,8 +39,13 @@ pub fn frames_by_cycle()
         → (cycle : ℕ) → started_in cycle 0 trace ≡ filter (λ sent. cycle_of sent == cycle) trace }
 {}
 
-/// The rows of an event, and the last row of a log, are whole rows.
+/// The rows of an event, and the last row of a log, are whole rows. What is kept of a text, with whole rows behind it, is
+/// kept of the text with these rows behind it.
 pub fn rows_are_whole()
     ensures event { (event : Event) (frames : List TimedFrame) → AreRows (rows_of_event event frames) }
     ensures end { (next : ℕ) → AreRows (end_row next) }
+    ensures tails { (text kept rows : List ℕ) (most : ℕ) → IsTailOf text most kept → AreRows rows
+        → IsTailOf (text ++ rows) most (kept ++ rows) }
+    ensures same { (text kept later : List ℕ) (most : ℕ) → IsTailOf text most kept → IsTailOf kept most later
+        → IsTailOf text most later }
 {}

@@ -1,9 +1,9 @@
 //! The last rows of a log.
 
-ghost use Rattle.std.specs.Prelude.{◌≡◌, ◌<◌, ◌≤◌, ◌++◌, ◌∷◌, [], List, ℕ, IfOk, OnErr, OnOk, drop, length, take};
+ghost use Rattle.std.specs.Prelude.{◌≡◌, ◌<◌, ◌≤◌, ◌++◌, ◌∷◌, [], IfOk, OnOk, Some, drop, length, take};
 ghost use Rattle.std.specs.List.{concat, flat_map};
 ghost use Rattle.circular_buffer.specs.Buffer.{keep_last};
-ghost use Rattle.bus_trace.specs.LastRows.{AreRows, ArePut, HasLast, rows_in};
+ghost use Rattle.bus_trace.specs.LastRows.{AreRows, IsTailOf, last_rows, rows_in};
 ghost use Rattle.bus_trace.specs.Recent.{bytes_of};
 
 use circular_buffer::HeapCircularBuffer;
@@ -88,24 +88,23 @@ pub fn row_len(text: &[u8]) -> usize
     text.len()
 }
 
-/// Puts the rows of a text behind the others, one after the other. The text is whole rows.
-///
-/// # Errors
-///
-/// Only where memory runs out. Then the first rows of the text were put, and no part of a row.
-pub fn push_rows(recent: &mut Recent, alloc: Global, text: &[u8]) -> Result<(), AllocError>
-    requires whole { AreRows text.now }
-    ensures last { OnOk result ((past : List ℕ)
-        → HasLast past recent.old → HasLast (past ++ text.now) recent.new) }
-    ensures front { OnErr result
-        ((rest : List (List ℕ)) × ArePut recent.old recent.new (rows_in text.now) rest) }
-    ensures most { recent.new.most ≡ recent.old.most }
+/// Where the last rows of a text begin, up to `most` of them, where the text is whole rows. It looks at these rows alone,
+/// from the last one back.
+pub fn last_from(text: &[u8], most: usize) -> usize
+    ensures within { result ≤ length text.now }
+    ensures last { AreRows text.now → drop result text.now ≡ last_rows (Some most) text.now }
+    ensures tail { AreRows text.now → IsTailOf text.now most (drop result text.now) }
 {
-    let mut rest = text;
-    while !rest.is_empty() {
-        let (row, later) = rest.split_at(row_len(rest));
-        recent.push(row.to_vec(alloc)?);
-        rest = later;
+    let mut place = text.len();
+    let mut left = most;
+    while place > 0 {
+        if text[place - 1] == b'\n' {
+            if left == 0 {
+                return place;
+            }
+            left -= 1;
+        }
+        place -= 1;
     }
-    Ok(())
+    0
 }

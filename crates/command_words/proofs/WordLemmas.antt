@@ -1,7 +1,8 @@
 -- What clap's getters read, by the rows of its matches.
-use Rattle.std.proofs.Common.{◌≡◌, ◌∙◌, ◌<◌, ◌^◌, ℕ, Bool, true, false, refl, sym, ap, List, [], ◌∷◌, length, codes, Option, Some, None, Result, Ok, Err, nat_lt, lt-ltb, ltb-true, unwrap_or}
+use Rattle.std.proofs.Common.{◌≡◌, ◌∙◌, ◌<◌, inl, inr, ◌^◌, ℕ, Bool, true, false, refl, sym, ap, List, [], ◌∷◌, length, codes, Option, Some, None, Result, Ok, Err, nat_lt, lt-ltb, ltb-true, unwrap_or}
 use Rattle.std.specs.Option.{option_map_or}
-use Rattle.std.specs.Prelude.{option_and_then}
+use Rattle.std.specs.Result.{IsErrAnd}
+use Rattle.std.specs.Prelude.{◌⊎◌, IfErr, option_and_then}
 use Rattle.std.specs.List.{list_all}
 use Rattle.std.specs.Char.{digit_value}
 use Rattle.std.specs.Str.{bytes_eq}
@@ -9,10 +10,14 @@ use Rattle.std.specs.Str.Parse.{AllDigits, IsNumeral, ParsesBool, ParsesUnsigned
 use Rattle.std.proofs.lemmas.Slice.Eq.{bytes_eq-Decides}
 use Rattle.clap.specs.Matches.{ReadsOne}
 use Rattle.clap.specs.ValueTests.{is_numeral}
-use Rattle.clap.specs.Walk.{Text}
+use Rattle.clap.specs.Walk.{Text, is_empty}
+use Rattle.clap.proofs.SimpleLemmas.{is_nil}
 use Rattle.clap.proofs.WalkLemmas.{both}
 use Rattle.clap.specs.Words.{App, Row, fault_of, is_simple_and_free, matches_of}
 use Rattle.clap.proofs.OnLiterals.{clap_on_literals}
+use Rattle.command_words.specs.declared.words.WordsFault.{WordsFault}
+use Rattle.command_words.specs.declared.words.WordsFault.TheVariants.{Memory, NoCommand}
+use Rattle.command_words.specs.WordsRead.{ExplainsWords}
 use Rattle.command_words.specs.Words.{admit_app, audit_app, check_app, elastic_app, generate_app, handover_app, live_app, number_in, poll_app, replay_app, taken_by}
 
 is_true : {E : Type 0} (G : Text → Result Bool E → Type 0) (text : Text) (read : Option Bool)
@@ -75,10 +80,31 @@ read_number_of G bits (Some text) read gives none some = read_number G bits text
 pub asked_for : {A : Type 0} (app : App) (meaning : List Row → A) (words : List Text) (own : App) (rows : List Row) (value : A)
     → own ≡ app → fault_of own words ≡ [] → rows ≡ matches_of own words → value ≡ meaning rows
     → Some value ≡ taken_by app meaning words
+unfolding taken_by
 asked_for app meaning words own rows value same none found means =
     let no_fault : fault_of app words ≡ [] = ap (λ it. fault_of it words) (sym same) ∙ none in
     let of_table : rows ≡ matches_of app words = found ∙ ap (λ it. matches_of it words) same in
     rw no_fault (ap Some (means ∙ ap meaning of_table))
+
+none_taken : {A : Type 0} (app : App) (meaning : List Row → A) (words : List Text) (none : Bool)
+    → is_empty (fault_of app words) ≡ none → (fault_of app words ≡ [] → ⊥) → taken_by app meaning words ≡ None
+unfolding taken_by
+none_taken app meaning words true is some = absurd (some (is_nil (fault_of app words) is))
+none_taken app meaning words false is some = rw is refl
+
+-- where clap does not take the words of a command of the table, or memory ran out, a `?` hands that on
+pub refused : {A B : Type 0} (app : App) (meaning : List Row → A) (words : List Text) (own : App) (result : Result B WordsFault)
+    (why : WordsFault) → own ≡ app → IsErrAnd result (λ now. now ≡ why)
+    → (why ≡ Memory) ⊎ ((why ≡ NoCommand) × (fault_of own words ≡ [] → ⊥))
+    → IfErr result (ExplainsWords (taken_by app meaning words))
+refused app meaning words own (Ok value) why same is stop = absurd is
+refused app meaning words own (Err now) why same is (inl memory) = inl (is ∙ memory)
+refused app meaning words own (Err now) why same is (inr fault) =
+    inr (
+      is ∙ fault.0,
+      none_taken app meaning words (is_empty (fault_of app words)) refl
+          (λ none. fault.1 (ap (λ it. fault_of it words) same ∙ none)),
+    )
 
 -- clap's contract is exact of each command of the table
 

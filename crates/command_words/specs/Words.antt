@@ -161,7 +161,7 @@ abbrev pub poll_meant : List Row → Command
 poll_meant rows = poll (word_of (codes "system") rows) (word_of (codes "steps") rows) (word_of (codes "streams") rows)
 
 -- what the words mean, where clap's command takes them
-abbrev pub taken_by : {A : Type 0} → App → (List Row → A) → List Text → Option A
+unfoldable pub taken_by : {A : Type 0} → App → (List Row → A) → List Text → Option A
 taken_by app meaning words = if is_empty (fault_of app words) then Some (meaning (matches_of app words)) else None
 
 -- the command that words ask for whose first is this word

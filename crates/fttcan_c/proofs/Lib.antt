@@ -1,3 +1,4 @@
+mod Due
 mod DueFrames
 mod Safe
 mod Saved

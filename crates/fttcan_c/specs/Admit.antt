@@ -32,17 +32,22 @@ abbrev pub IsStateOf : List FttPlaced → FttState → Type 0
 IsStateOf placed state = IsStanding (table_of placed) state
 
 -- why a table and a state are refused; want of memory says nothing of them
-abbrev pub RefusesStanding : FttRules → List FttPlaced → FttState → Refusal → Type 0
-RefusesStanding rules placed state Memory = Unit {0}
-RefusesStanding rules placed state Argument = AreRules rules → ⊥
-RefusesStanding rules placed state Table = IsWellPlaced (table_of placed) → ⊥
-RefusesStanding rules placed state State = IsStateOf placed state → ⊥
-RefusesStanding rules placed state Room = ⊥
-RefusesStanding rules placed state Miss = ⊥
-RefusesStanding rules placed state Closed = ⊥
-RefusesStanding rules placed state Open = ⊥
-RefusesStanding rules placed state Text = ⊥
-RefusesStanding rules placed state No = ⊥
+abbrev pub RefusesStanding : List FttPlaced → FttState → Refusal → Type 0
+RefusesStanding placed state Memory = Unit {0}
+RefusesStanding placed state Argument = ⊥
+RefusesStanding placed state Table = IsWellPlaced (table_of placed) → ⊥
+RefusesStanding placed state State = IsWellPlaced (table_of placed) × (IsStateOf placed state → ⊥)
+RefusesStanding placed state Room = ⊥
+RefusesStanding placed state Miss = ⊥
+RefusesStanding placed state Closed = ⊥
+RefusesStanding placed state Open = ⊥
+RefusesStanding placed state Text = ⊥
+RefusesStanding placed state No = ⊥
+
+-- what may be asked about a table and a state: rules and operations are in range
+pub record AreAsked (rules : FttRules) (ops : List FttOp) : Type 0 where
+  pub rules_are : AreRules rules
+  pub kinds : All IsOp ops
 
 -- the planning of the table that goes on from the state
 abbrev pub plan_at : FttRules → List FttPlaced → FttState → Planning
@@ -60,16 +65,21 @@ pub record IsDecidedOn (rules : Rules) (list : List Placed) (state : PlanState) 
   pub due : IsInTime rules list state.cycle change
       → IsTakenWhereDue rules (plan_from rules (applied list change) state.cycle state.pending) decision.verdict
 
-abbrev pub IsDecided : FttRules → List FttPlaced → FttState → ℕ → List FttOp → FttVerdict → List FttPlaced → Type 0
-IsDecided rules placed state start ops verdict made =
-    IsDecidedOn (rules_of rules) (table_of placed) (state_of state) (change_of start ops) verdict made
+-- so it was where C hands in a well placed table and a state from which its plan goes on
+pub record IsDecided (rules : FttRules) (placed : List FttPlaced) (state : FttState) (start : ℕ) (ops : List FttOp)
+    (verdict : FttVerdict) (made : List FttPlaced) : Type 0 where
+  pub well_placed : IsWellPlaced (table_of placed)
+  pub state_is : IsStateOf placed state
+  pub answer : IsDecidedOn (rules_of rules) (table_of placed) (state_of state) (change_of start ops) verdict made
 
--- why a change is not decided
+-- why a change is not decided: a rule or an operation is out of range; or none is, and the table or the state is refused,
+-- or there is no memory
 abbrev pub RefusesChange : FttRules → List FttPlaced → FttState → List FttOp → Refusal → Type 0
-RefusesChange rules placed state ops Memory = Unit {0}
-RefusesChange rules placed state ops Argument = AreRules rules × (All IsOp ops) → ⊥
-RefusesChange rules placed state ops Table = IsWellPlaced (table_of placed) → ⊥
-RefusesChange rules placed state ops State = IsStateOf placed state → ⊥
+RefusesChange rules placed state ops Memory = AreAsked rules ops
+RefusesChange rules placed state ops Argument = AreAsked rules ops → ⊥
+RefusesChange rules placed state ops Table = AreAsked rules ops × (IsWellPlaced (table_of placed) → ⊥)
+RefusesChange rules placed state ops State =
+    AreAsked rules ops × IsWellPlaced (table_of placed) × (IsStateOf placed state → ⊥)
 RefusesChange rules placed state ops Room = ⊥
 RefusesChange rules placed state ops Miss = ⊥
 RefusesChange rules placed state ops Closed = ⊥
@@ -77,9 +87,16 @@ RefusesChange rules placed state ops Open = ⊥
 RefusesChange rules placed state ops Text = ⊥
 RefusesChange rules placed state ops No = ⊥
 
--- the cycle of a state was planned: the flagged slots and the length of their window, and the state behind it. No
--- deadline is missed in it
+-- the state can be planned from, and its cycle may be opened
+pub record CanOpen (placed : List FttPlaced) (state : FttState) : Type 0 where
+  pub state_is : IsStateOf placed state
+  pub next : state.cycle < openings_end
+
+-- the cycle of a state was planned, which may be opened: the flagged slots and the length of their window, and the state
+-- behind it. No deadline is missed in it
 pub record IsOpened (rules : FttRules) (placed : List FttPlaced) (old new : FttState) (plan : FttPlan) : Type 0 where
+  pub well_placed : IsWellPlaced (table_of placed)
+  pub from : CanOpen placed old
   pub cycle : new.cycle ≡ old.cycle + 1
   pub pending : mask_of new.pending
       ≡ set_of most_slots (left_after (plan_at rules placed old) old.cycle (contains_slot (mask_of old.pending)))
@@ -91,20 +108,17 @@ pub record IsOpened (rules : FttRules) (placed : List FttPlaced) (old new : FttS
   pub held : IsValid (table_of placed) new.cycle (mask_of new.pending)
   pub in_time : HasNoMissIn (plan_at rules placed old) old.cycle (contains_slot (mask_of old.pending))
 
--- the state can be planned from, and its cycle may be opened
-pub record CanOpen (placed : List FttPlaced) (state : FttState) : Type 0 where
-  pub state_is : IsStateOf placed state
-  pub next : state.cycle < openings_end
-
--- why a cycle is not planned: at a miss an instance would miss its deadline in it
+-- why a cycle is not planned: a rule is out of range; or none is, and the table or the state is refused, there is no
+-- memory, or at a miss an instance would miss its deadline in it
 abbrev pub RefusesOpening : FttRules → List FttPlaced → FttState → Refusal → Type 0
-RefusesOpening rules placed state Memory = Unit {0}
+RefusesOpening rules placed state Memory = AreRules rules
 RefusesOpening rules placed state Argument = AreRules rules → ⊥
-RefusesOpening rules placed state Table = IsWellPlaced (table_of placed) → ⊥
-RefusesOpening rules placed state State = CanOpen placed state → ⊥
+RefusesOpening rules placed state Table = AreRules rules × (IsWellPlaced (table_of placed) → ⊥)
+RefusesOpening rules placed state State = AreRules rules × IsWellPlaced (table_of placed) × (CanOpen placed state → ⊥)
 RefusesOpening rules placed state Room = ⊥
-RefusesOpening rules placed state Miss = (slot release : ℕ)
-    × IsMissIn (plan_at rules placed state) state.cycle (contains_slot (mask_of state.pending)) slot release
+RefusesOpening rules placed state Miss = AreRules rules × IsWellPlaced (table_of placed) × CanOpen placed state
+    × ((slot release : ℕ)
+    × IsMissIn (plan_at rules placed state) state.cycle (contains_slot (mask_of state.pending)) slot release)
 RefusesOpening rules placed state Closed = ⊥
 RefusesOpening rules placed state Open = ⊥
 RefusesOpening rules placed state Text = ⊥

@@ -13,7 +13,7 @@ use Rattle.fttcan_c.specs.declared.plain.FttOp.{FttOp}
 use Rattle.fttcan_c.specs.declared.plain.FttVerdict.{FttVerdict}
 use Rattle.fttcan_c.specs.declared.refusal.Refusal.{Refusal}
 use Rattle.fttcan_c.specs.declared.refusal.Refusal.TheVariants as refused
-use Rattle.fttcan_c.specs.Mastering.{IsMaster}
+use Rattle.fttcan_c.specs.Mastering.{IsCaller, IsMaster}
 use Rattle.fttcan_c.specs.Plain.{IsOp}
 use Rattle.fttcan_c.specs.Told.{told}
 
@@ -41,9 +41,9 @@ pub record IsPlanned (held : Held) : Type 0 where
   pub planned : CorePlannedView
   pub is : held ≡ Planned planned
 
--- why nothing is planned: no snapshot is held; want of memory says nothing
+-- why nothing is planned: no snapshot is held, or there is no memory
 abbrev pub RefusesPlanning : Held → Refusal → Type 0
-RefusesPlanning held refused.Memory = Unit {0}
+RefusesPlanning held refused.Memory = IsSnapshot held
 RefusesPlanning held refused.Argument = ⊥
 RefusesPlanning held refused.Table = ⊥
 RefusesPlanning held refused.State = ⊥
@@ -54,10 +54,11 @@ RefusesPlanning held refused.Open = ⊥
 RefusesPlanning held refused.Text = ⊥
 RefusesPlanning held refused.No = ⊥
 
--- why a change is not planned apart; want of memory says nothing
+-- why a change is not planned apart: no snapshot is held; one is, and an operation is out of range; or neither, and there
+-- is no memory
 abbrev pub RefusesApart : List FttOp → Held → Refusal → Type 0
-RefusesApart ops held refused.Memory = Unit {0}
-RefusesApart ops held refused.Argument = All IsOp ops → ⊥
+RefusesApart ops held refused.Memory = IsSnapshot held × All IsOp ops
+RefusesApart ops held refused.Argument = IsSnapshot held × (All IsOp ops → ⊥)
 RefusesApart ops held refused.Table = ⊥
 RefusesApart ops held refused.State = ⊥
 RefusesApart ops held refused.Room = ⊥
@@ -93,15 +94,21 @@ pub record IsSettled (caller : ℕ) (verdict : FttVerdict) (from old new : Held)
   pub answer : IsCoreSettled caller planned core next answered
   pub verdict_is : verdict ≡ told answered.verdict
 
--- why nothing is settled; want of memory says nothing
-abbrev pub RefusesSettle : Held → Held → Refusal → Type 0
-RefusesSettle held from refused.Memory = Unit {0}
-RefusesSettle held from refused.Argument = ⊥
-RefusesSettle held from refused.Table = ⊥
-RefusesSettle held from refused.State = ⊥
-RefusesSettle held from refused.Room = ⊥
-RefusesSettle held from refused.Miss = ⊥
-RefusesSettle held from refused.Closed = IsMaster held × IsPlanned from → ⊥
-RefusesSettle held from refused.Open = ⊥
-RefusesSettle held from refused.Text = ⊥
-RefusesSettle held from refused.No = ⊥
+-- a master can settle what another handle holds
+pub record CanSettle (master from : Held) : Type 0 where
+  pub master_is : IsMaster master
+  pub planned_is : IsPlanned from
+
+-- why nothing is settled: one of the handles holds something else; they do not, and the operator is out of range; or
+-- neither, and there is no memory
+abbrev pub RefusesSettle : ℕ → Held → Held → Refusal → Type 0
+RefusesSettle caller held from refused.Memory = CanSettle held from × IsCaller caller
+RefusesSettle caller held from refused.Argument = CanSettle held from × (IsCaller caller → ⊥)
+RefusesSettle caller held from refused.Table = ⊥
+RefusesSettle caller held from refused.State = ⊥
+RefusesSettle caller held from refused.Room = ⊥
+RefusesSettle caller held from refused.Miss = ⊥
+RefusesSettle caller held from refused.Closed = CanSettle held from → ⊥
+RefusesSettle caller held from refused.Open = ⊥
+RefusesSettle caller held from refused.Text = ⊥
+RefusesSettle caller held from refused.No = ⊥

@@ -18,16 +18,25 @@ use Rattle.fttcan_c.specs.declared.refusal.Refusal.TheVariants.{Memory, Argument
 use Rattle.fttcan_c.specs.Plain.{table_of}
 use Rattle.fttcan_c.specs.Told.{breach_told}
 
--- the text is that of a plan which keeps the table for ever
+-- the plan begins where slots are pending that have an instance then, and its cycles are in range
+pub record BeginsRight (placed : List Placed) (certificate : CertificateView) : Type 0 where
+  pub pending : HasPending placed certificate.from (contains_slot certificate.pending)
+  pub cycles : certificate.from + length certificate.masks ≤ cycles_end
+
+-- the text is that of a plan which begins rightly and keeps the well placed table for ever
 pub record IsPlanTaken (placed : List Placed) (window : ℕ) (text : List ℕ) : Type 0 where
+  pub well_placed : IsWellPlaced placed
   pub certificate : CertificateView
   pub read : IsPlanOf text certificate
+  pub begins : BeginsRight placed certificate
   pub taken : IsTaken placed window certificate
 
--- the text is that of a plan whose first breach C is told
+-- the text is that of a plan which begins rightly, and whose first breach C is told
 pub record IsPlanBroken (placed : List Placed) (window : ℕ) (text : List ℕ) (told : FttBreach) : Type 0 where
+  pub well_placed : IsWellPlaced placed
   pub certificate : CertificateView
   pub read : IsPlanOf text certificate
+  pub begins : BeginsRight placed certificate
   pub breach : Breach
   pub found : IsBreach placed window certificate breach
   pub told_is : told ≡ breach_told breach
@@ -35,12 +44,7 @@ pub record IsPlanBroken (placed : List Placed) (window : ℕ) (text : List ℕ) 
 abbrev pub IsFound : List Placed → ℕ → List ℕ → Finding → Type 0
 IsFound placed window text Kept = IsPlanTaken placed window text
 IsFound placed window text (Broken breach) = IsPlanBroken placed window text breach
-IsFound placed window text (Unread number) = IsFirstWrongLine text number
-
--- the plan begins where slots are pending that have an instance then, and its cycles are in range
-pub record BeginsRight (placed : List Placed) (certificate : CertificateView) : Type 0 where
-  pub pending : HasPending placed certificate.from (contains_slot certificate.pending)
-  pub cycles : certificate.from + length certificate.masks ≤ cycles_end
+IsFound placed window text (Unread number) = IsWellPlaced placed × IsFirstWrongLine text number
 
 -- the text is that of a plan that begins wrongly
 pub record IsPlanAstray (placed : List Placed) (text : List ℕ) : Type 0 where
@@ -53,7 +57,7 @@ abbrev pub RefusesPlanOf : List Placed → List ℕ → Refusal → Type 0
 RefusesPlanOf placed text Memory = Unit {0}
 RefusesPlanOf placed text Argument = ⊥
 RefusesPlanOf placed text Table = IsWellPlaced placed → ⊥
-RefusesPlanOf placed text State = IsPlanAstray placed text
+RefusesPlanOf placed text State = IsWellPlaced placed × IsPlanAstray placed text
 RefusesPlanOf placed text Room = ⊥
 RefusesPlanOf placed text Miss = ⊥
 RefusesPlanOf placed text Closed = ⊥

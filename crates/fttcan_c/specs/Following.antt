@@ -1,17 +1,22 @@
 -- What a standby behind a handle follows, and what C is told. A standby is a core: the one with which a master goes on
 -- that takes over from it.
-use Rattle.std.specs.Prelude.{◌≡◌, ◌≢◌, ℕ, ◌<◌, ◌++◌, ◌∷◌, [], List, All, Bool, Option, Some, None}
+use Rattle.std.specs.Prelude.{◌≡◌, ◌≢◌, ℕ, ◌<◌, ◌≤◌, ◌++◌, ◌∷◌, [], List, All, Bool, true, Option, Some, None}
 use Rattle.profile.specs.Limits.{openings_end}
 use Rattle.can_frame.specs.DataFrame.{DataFrame}
 use Rattle.requirement_table.specs.Slots.{contains_slot}
 use Rattle.requirement_table.specs.Table.{width_in}
 use Rattle.planner_policies.specs.Plan.{mask_at}
+use Rattle.change_protocol.specs.Applied.{IsChangedAt, applied}
+use Rattle.change_protocol.specs.declared.operations.Change.{Change as TableChange}
+use Rattle.admission.specs.declared.verdict.Verdict.{Verdict}
 use Rattle.admission.specs.Verdict.{IsSafe, is_accepted}
 use Rattle.master_core.specs.declared.answered.Answered.{Answered}
 use Rattle.master_core.specs.declared.event.Event.{Event}
 use Rattle.master_core.specs.declared.event.Event.TheVariants.{Open}
 use Rattle.master_core.specs.Cores.{CoreView, IsStateOf, onward, opened}
+use Rattle.master_core.specs.History.{IsLegal, IsRightAnswer}
 use Rattle.trigger_codec.specs.Bytes.{triggers_with}
+use Rattle.standby.specs.Core.{core_of}
 use Rattle.standby.specs.Hearing.{heard_of}
 use Rattle.master_handle.specs.declared.held.Held.{Held}
 use Rattle.master_handle.specs.declared.held.Held.TheVariants.{Master, Standby}
@@ -58,10 +63,42 @@ pub record IsChangeTold (accepted : Bool) (caller start : ℕ) (ops : List FttOp
   pub accepted_is : is_accepted answered.verdict ≡ accepted
   pub verdict_is : verdict ≡ told answered.verdict
 
--- why a standby does not judge a change; want of memory says nothing
+-- a change that was accepted takes effect in the cycle of its start, which was not opened yet: the table that it makes has
+-- the entries from before, of which those that it ends have that cycle as their end, and behind them entries with no
+-- earlier origin
+pub record IsInEffect (change : TableChange) (core : CoreView) : Type 0 where
+  pub ahead : core.cycle ≤ change.start
+  pub changed : IsChangedAt change.start core.placed (applied core.placed change)
+
+pub record TakesEffect (change : TableChange) (held : Held) : Type 0 where
+  pub core : CoreView
+  pub is : held ≡ Standby core
+  pub effect : IsInEffect change core
+
+-- a change is due: a master with the same rules has accepted it after a history that has the openings and the accepted
+-- changes of one after which the core is the state
+pub record IsDue (change : TableChange) (core : CoreView) : Type 0 where
+  pub own : List Event
+  pub state : IsStateOf own core
+  pub whole : List Event
+  pub same_core : core_of whole ≡ core_of own
+  pub legal : IsLegal core.rules whole
+  pub from : ℕ
+  pub verdict : Verdict
+  pub trail : List ℕ
+  pub right : IsRightAnswer core.rules whole change from verdict trail
+  pub accepted : is_accepted verdict ≡ true
+
+pub record IsDueChange (change : TableChange) (held : Held) : Type 0 where
+  pub core : CoreView
+  pub is : held ≡ Standby core
+  pub due : IsDue change core
+
+-- why a standby does not judge a change: none is held; one is, and what is asked for is out of range; or neither, and
+-- there is no memory
 abbrev pub RefusesChangeTold : ℕ → List FttOp → Held → Refusal → Type 0
-RefusesChangeTold caller ops held refused.Memory = Unit {0}
-RefusesChangeTold caller ops held refused.Argument = IsAsked caller ops → ⊥
+RefusesChangeTold caller ops held refused.Memory = IsStandby held × IsAsked caller ops
+RefusesChangeTold caller ops held refused.Argument = IsStandby held × (IsAsked caller ops → ⊥)
 RefusesChangeTold caller ops held refused.Table = ⊥
 RefusesChangeTold caller ops held refused.State = ⊥
 RefusesChangeTold caller ops held refused.Room = ⊥
@@ -119,12 +156,13 @@ fault_told (Flags cycle heard planned) =
 fault_told (Window l sum) =
     record { heard = mask_told 0; planned = mask_told 0; first = l; second = sum; kind = 2 }
 
--- a standby heard trigger frames
+-- a standby whose next cycle may be opened heard trigger frames
 pub record IsHeard (frames : List DataFrame) (astray : Option Astray) (old new : Held) : Type 0 where
   pub core : CoreView
   pub next : CoreView
   pub before : old ≡ Standby core
   pub after : new ≡ Standby next
+  pub near : core.cycle < openings_end
   pub heard : IsHeardBy frames core next astray
 
 -- a standby followed them
@@ -133,12 +171,14 @@ pub record IsFollowed (frames : List DataFrame) (old new : Held) : Type 0 where
   pub next : CoreView
   pub before : old ≡ Standby core
   pub after : new ≡ Standby next
+  pub near : core.cycle < openings_end
   pub followed : IsCoreFollowed frames core next
 
 -- a standby does not follow them, and C is told why
 pub record IsNotFollowed (frames : List DataFrame) (fault : FttFollow) (held : Held) : Type 0 where
   pub core : CoreView
   pub is : held ≡ Standby core
+  pub near : core.cycle < openings_end
   pub astray : Astray
   pub why : IsAstray core frames astray
   pub fault_is : fault ≡ fault_told astray
@@ -158,12 +198,12 @@ pub record CanFollowMore (held : Held) : Type 0 where
   pub is : held ≡ Standby core
   pub next : CanFollow core
 
--- why a core does not judge trigger frames
+-- why a core does not judge trigger frames: one of them is out of range; or none is, and no cycle may be opened any more
 abbrev pub RefusesFrames : List FttFrame → CoreView → Refusal → Type 0
 RefusesFrames frames core refused.Memory = ⊥
 RefusesFrames frames core refused.Argument = All IsFrameIn frames → ⊥
 RefusesFrames frames core refused.Table = ⊥
-RefusesFrames frames core refused.State = CanFollow core → ⊥
+RefusesFrames frames core refused.State = All IsFrameIn frames × (CanFollow core → ⊥)
 RefusesFrames frames core refused.Room = ⊥
 RefusesFrames frames core refused.Miss = ⊥
 RefusesFrames frames core refused.Closed = ⊥
@@ -171,12 +211,12 @@ RefusesFrames frames core refused.Open = ⊥
 RefusesFrames frames core refused.Text = ⊥
 RefusesFrames frames core refused.No = ⊥
 
--- why a standby does not judge them
+-- why a standby does not judge them: none is held; or one is, and its core does not
 abbrev pub RefusesHearing : List FttFrame → Held → Refusal → Type 0
 RefusesHearing frames held refused.Memory = ⊥
-RefusesHearing frames held refused.Argument = All IsFrameIn frames → ⊥
+RefusesHearing frames held refused.Argument = IsStandby held × (All IsFrameIn frames → ⊥)
 RefusesHearing frames held refused.Table = ⊥
-RefusesHearing frames held refused.State = CanFollowMore held → ⊥
+RefusesHearing frames held refused.State = IsStandby held × All IsFrameIn frames × (CanFollowMore held → ⊥)
 RefusesHearing frames held refused.Room = ⊥
 RefusesHearing frames held refused.Miss = ⊥
 RefusesHearing frames held refused.Closed = IsStandby held → ⊥

@@ -11,9 +11,9 @@ use Rattle.fttcan_c.specs.Plain.{layout_of}
 abbrev pub data_frame : ℕ → List ℕ → DataFrame
 data_frame id bytes = record { identifier = id; bytes = bytes }
 
--- the bits of a frame are not told: there is no such frame, or there is no memory
+-- the bits of a frame are not told: there is no such frame; or there is, and there is no memory
 abbrev pub RefusesWire : ℕ → List ℕ → Refusal → Type 0
-RefusesWire id bytes Memory = Unit {0}
+RefusesWire id bytes Memory = IsFrame (data_frame id bytes)
 RefusesWire id bytes Argument = IsFrame (data_frame id bytes) → ⊥
 RefusesWire id bytes Table = ⊥
 RefusesWire id bytes State = ⊥
@@ -24,9 +24,9 @@ RefusesWire id bytes Open = ⊥
 RefusesWire id bytes Text = ⊥
 RefusesWire id bytes No = ⊥
 
--- bytes are not read as bits: one of them is none, or there is no memory
+-- bytes are not read as bits: one of them is none; or all are bits, and there is no memory
 abbrev pub RefusesBits : List ℕ → Refusal → Type 0
-RefusesBits bytes Memory = Unit {0}
+RefusesBits bytes Memory = All (λ byte. byte ≤ 1) bytes
 RefusesBits bytes Argument = All (λ byte. byte ≤ 1) bytes → ⊥
 RefusesBits bytes Table = ⊥
 RefusesBits bytes State = ⊥

@@ -1,5 +1,6 @@
 pub mod Admit
 pub mod Apart
+pub mod Bounds
 pub mod Checked
 pub mod Following
 pub mod Framing

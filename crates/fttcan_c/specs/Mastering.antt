@@ -56,15 +56,19 @@ pub record IsSubmitted (caller start : ℕ) (ops : List FttOp) (verdict : FttVer
   pub answer : IsCoreSubmitted caller (change_of start ops) core next answered
   pub verdict_is : verdict ≡ told answered.verdict
 
+-- an operator is one of 1 to 8
+abbrev pub IsCaller : ℕ → Type 0
+IsCaller caller = (1 ≤ caller) × (caller ≤ 8)
+
 -- what an operator may ask for
 pub record IsAsked (caller : ℕ) (ops : List FttOp) : Type 0 where
   pub some_caller : 1 ≤ caller
   pub few_callers : caller ≤ 8
   pub kinds : All IsOp ops
 
--- why a core does not answer a change; want of memory says nothing
+-- why a core does not answer a change: what is asked for is out of range; or it is not, and there is no memory
 abbrev pub RefusesAsked : ℕ → List FttOp → Refusal → Type 0
-RefusesAsked caller ops refused.Memory = Unit {0}
+RefusesAsked caller ops refused.Memory = IsAsked caller ops
 RefusesAsked caller ops refused.Argument = IsAsked caller ops → ⊥
 RefusesAsked caller ops refused.Table = ⊥
 RefusesAsked caller ops refused.State = ⊥
@@ -75,10 +79,11 @@ RefusesAsked caller ops refused.Open = ⊥
 RefusesAsked caller ops refused.Text = ⊥
 RefusesAsked caller ops refused.No = ⊥
 
--- why a master does not answer it
+-- why a master does not answer it: none is held; one is, and what is asked for is out of range; or neither, and there is
+-- no memory
 abbrev pub RefusesSubmit : ℕ → List FttOp → Held → Refusal → Type 0
-RefusesSubmit caller ops held refused.Memory = Unit {0}
-RefusesSubmit caller ops held refused.Argument = IsAsked caller ops → ⊥
+RefusesSubmit caller ops held refused.Memory = IsMaster held × IsAsked caller ops
+RefusesSubmit caller ops held refused.Argument = IsMaster held × (IsAsked caller ops → ⊥)
 RefusesSubmit caller ops held refused.Table = ⊥
 RefusesSubmit caller ops held refused.State = ⊥
 RefusesSubmit caller ops held refused.Room = ⊥
@@ -88,9 +93,10 @@ RefusesSubmit caller ops held refused.Open = ⊥
 RefusesSubmit caller ops held refused.Text = ⊥
 RefusesSubmit caller ops held refused.No = ⊥
 
--- a core opened a cycle: the order is that of the next cycle, and no deadline is missed in it nor later. Whoever has the
--- history of the core in mind has it with this opening behind it
+-- a core opened a cycle, which is one that may be opened: the order is that of the next cycle, and no deadline is missed
+-- in it nor later. Whoever has the history of the core in mind has it with this opening behind it
 pub record IsCoreOpened (order : FttOrder) (old new : CoreView) : Type 0 where
+  pub near : old.cycle < openings_end
   pub after : new ≡ opened old
   pub cycle : order.cycle ≡ old.cycle
   pub flags : mask_of order.flags ≡ mask_at (onward old) 0
@@ -116,12 +122,12 @@ pub record CanOpenMaster (held : Held) : Type 0 where
   pub is : held ≡ Master core trail
   pub next : core.cycle < openings_end
 
--- why no cycle is opened
+-- why no cycle is opened: no master is held; or one is, and its next cycle may not be opened
 abbrev pub RefusesOpen : Held → Refusal → Type 0
 RefusesOpen held refused.Memory = ⊥
 RefusesOpen held refused.Argument = ⊥
 RefusesOpen held refused.Table = ⊥
-RefusesOpen held refused.State = CanOpenMaster held → ⊥
+RefusesOpen held refused.State = IsMaster held × (CanOpenMaster held → ⊥)
 RefusesOpen held refused.Room = ⊥
 RefusesOpen held refused.Miss = ⊥
 RefusesOpen held refused.Closed = IsMaster held → ⊥
@@ -129,9 +135,9 @@ RefusesOpen held refused.Open = ⊥
 RefusesOpen held refused.Text = ⊥
 RefusesOpen held refused.No = ⊥
 
--- why no master is made where nothing is held; want of memory says nothing
+-- why no master is made where nothing is held: the rules are out of range; or they are not, and there is no memory
 abbrev pub RefusesNew : FttRules → Refusal → Type 0
-RefusesNew rules refused.Memory = Unit {0}
+RefusesNew rules refused.Memory = AreRules rules
 RefusesNew rules refused.Argument = AreRules rules → ⊥
 RefusesNew rules refused.Table = ⊥
 RefusesNew rules refused.State = ⊥

@@ -1,5 +1,6 @@
 -- What C is told of a master, which stays as it is.
-use Rattle.std.specs.Prelude.{◌≡◌, ℕ, ◌≤◌, ◌++◌, ◌∷◌, [], List, map}
+use Rattle.std.specs.Prelude.{◌≡◌, ℕ, ◌<◌, ◌≤◌, ◌++◌, ◌∷◌, [], List, map}
+use Rattle.profile.specs.Limits.{openings_end}
 use Rattle.planner_policies.specs.Plan.{mask_at}
 use Rattle.plan_check.specs.Certificate.{CertificateView}
 use Rattle.plan_check.specs.PlanKept.{IsTaken}
@@ -15,7 +16,7 @@ use Rattle.fttcan_c.specs.declared.plain.FttPlaced.{FttPlaced}
 use Rattle.fttcan_c.specs.declared.plain.FttRules.{FttRules}
 use Rattle.fttcan_c.specs.declared.refusal.Refusal.{Refusal}
 use Rattle.fttcan_c.specs.declared.refusal.Refusal.TheVariants as refused
-use Rattle.fttcan_c.specs.Mastering.{IsMaster}
+use Rattle.fttcan_c.specs.Mastering.{IsCaller, IsMaster}
 use Rattle.fttcan_c.specs.Plain.{mask_of}
 use Rattle.fttcan_c.specs.Told.{mask_told, put_of, rules_told}
 
@@ -34,11 +35,12 @@ pub record IsLookedAt (caller cycle : ℕ) (held : Held) : Type 0 where
   pub cycle_is : cycle ≡ core.cycle
   pub history : (history : List Event) → IsStateOf history core → IsStateOf (history ++ Look caller cycle ∷ []) core
 
--- the slots that would be flagged now
+-- the slots that would be flagged now, in a cycle that may be opened
 pub record IsPlannedOf (flags : FttMask) (held : Held) : Type 0 where
   pub core : CoreView
   pub trail : List ℕ
   pub is : held ≡ Master core trail
+  pub near : core.cycle < openings_end
   pub flags_are : mask_of flags ≡ mask_at (onward core) 0
 
 pub record IsRulesOf (rules : FttRules) (held : Held) : Type 0 where
@@ -72,9 +74,9 @@ pub record HasPlanText (text : List ℕ) (held : Held) : Type 0 where
   pub taken : IsTaken core.placed core.rules.window certificate
   pub text_is : text ≡ plan_text certificate
 
--- why a master is not read: none is held; want of memory says nothing
+-- why a master is not read: none is held; or one is, and there is no memory
 abbrev pub RefusesRead : Held → Refusal → Type 0
-RefusesRead held refused.Memory = Unit {0}
+RefusesRead held refused.Memory = IsMaster held
 RefusesRead held refused.Argument = ⊥
 RefusesRead held refused.Table = ⊥
 RefusesRead held refused.State = ⊥
@@ -85,10 +87,10 @@ RefusesRead held refused.Open = ⊥
 RefusesRead held refused.Text = ⊥
 RefusesRead held refused.No = ⊥
 
--- an operator is one of 1 to 8
+-- why an operator does not look at a master: none is held; or one is, and the operator is out of range
 abbrev pub RefusesLook : ℕ → Held → Refusal → Type 0
 RefusesLook caller held refused.Memory = ⊥
-RefusesLook caller held refused.Argument = (1 ≤ caller) × (caller ≤ 8) → ⊥
+RefusesLook caller held refused.Argument = IsMaster held × (IsCaller caller → ⊥)
 RefusesLook caller held refused.Table = ⊥
 RefusesLook caller held refused.State = ⊥
 RefusesLook caller held refused.Room = ⊥

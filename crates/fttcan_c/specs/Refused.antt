@@ -30,7 +30,7 @@ RefusesFrame frame refusal = (refusal ≡ Argument) × (IsFrameIn frame → ⊥)
 abbrev pub RefusesRules : FttRules → Refusal → Type 0
 RefusesRules rules refusal = (refusal ≡ Argument) × (AreRules rules → ⊥)
 
--- want of memory says nothing of a table or of operations
+-- want of memory says nothing of a table, and it comes only where the operations are in range
 
 abbrev pub RefusesTable : List FttPlaced → Refusal → Type 0
 RefusesTable placed Memory = Unit {0}
@@ -45,7 +45,7 @@ RefusesTable placed Text = ⊥
 RefusesTable placed No = ⊥
 
 abbrev pub RefusesOps : List FttOp → Refusal → Type 0
-RefusesOps ops Memory = Unit {0}
+RefusesOps ops Memory = All IsOp ops
 RefusesOps ops Argument = All IsOp ops → ⊥
 RefusesOps ops Table = ⊥
 RefusesOps ops State = ⊥

@@ -24,8 +24,8 @@ pub record IsTold (slots : ℕ) (frames : List DataFrame) (trigger : FttTrigger)
 abbrev pub IsNoTrigger : ℕ → List DataFrame → Type 0
 IsNoTrigger slots frames = (cycle : ℕ) → heard_of slots cycle frames ≡ None
 
--- why frames are not read as a trigger: there is no such number of slots, or one of them is out of range; or they are
--- no trigger
+-- why frames are not read as a trigger: there is no such number of slots, or one of them is out of range; or all this is
+-- in range, and they are no trigger
 abbrev pub RefusesTrigger : ℕ → List FttFrame → Refusal → Type 0
 RefusesTrigger slots frames Memory = ⊥
 RefusesTrigger slots frames Argument = IsSlots slots × (All IsFrameIn frames) → ⊥
@@ -35,7 +35,7 @@ RefusesTrigger slots frames Room = ⊥
 RefusesTrigger slots frames Miss = ⊥
 RefusesTrigger slots frames Closed = ⊥
 RefusesTrigger slots frames Open = ⊥
-RefusesTrigger slots frames Text = IsNoTrigger slots (frames_of frames)
+RefusesTrigger slots frames Text = IsSlots slots × All IsFrameIn frames × IsNoTrigger slots (frames_of frames)
 RefusesTrigger slots frames No = ⊥
 
 -- the same of one frame with 40 slots, and of two with 96

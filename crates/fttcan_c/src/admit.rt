@@ -9,8 +9,8 @@ ghost use Rattle.fttcan_c.specs.declared.plain.FttPlaced.{FttPlaced as FttPlaced
 ghost use Rattle.fttcan_c.specs.declared.plain.FttVerdict.{FttVerdict as FttVerdictOf};
 ghost use Rattle.fttcan_c.specs.declared.refusal.Refusal.{Refusal as RefusalOf};
 ghost use Rattle.fttcan_c.specs.declared.refusal.Refusal.TheVariants.{State};
-ghost use Rattle.fttcan_c.specs.Admit.{IsDecided, IsDecidedOn, IsOpened, IsStanding, RefusesChange, RefusesOpening, RefusesStanding};
-ghost use Rattle.fttcan_c.specs.Plain.{mask_of, rules_of, state_of, table_of};
+ghost use Rattle.fttcan_c.specs.Admit.{AreAsked, IsDecided, IsDecidedOn, IsOpened, IsStanding, RefusesChange, RefusesOpening, RefusesStanding};
+ghost use Rattle.fttcan_c.specs.Plain.{AreRules, mask_of, rules_of, state_of, table_of};
 ghost use Rattle.fttcan_c.specs.Refused.{status_of};
 ghost use Rattle.fttcan_c.specs.Room.{IsFilled, IsShort};
 ghost use Rattle.fttcan_c.specs.Told.{table_told};
@@ -39,22 +39,23 @@ struct Standing {
 /// The table and the state that C hands in, tested.
 fn standing_in(
     alloc: Global,
-    rules: &FttRules,
+    rules: Rules,
     placed: &[FttPlaced],
     state: &FttState,
 ) -> Result<Standing, Refusal>
-    ensures rules { IfOk result (λ standing. standing.rules ≡ rules_of rules.now) }
+    requires known { IsRules rules }
+    ensures rules { IfOk result (λ standing. standing.rules ≡ rules) }
     ensures list { IfOk result (λ standing. standing.list.items ≡ table_of placed.now) }
     ensures ranked { IfOk result (λ standing. standing.ranked ≡ ranking_by standing.rules standing.list.items) }
     ensures state { IfOk result (λ standing. standing.state ≡ state_of state.now) }
     ensures known { IfOk result (λ standing. IsRules standing.rules) }
+    ensures standing { IfOk result (λ standing. IsStanding standing.list.items state.now) }
     ensures well_placed { IfOk result (λ standing. IsWellPlaced standing.list.items) }
     ensures near { IfOk result (λ standing. standing.state.cycle ≤ openings_end) }
     ensures held { IfOk result
         (λ standing. IsValid standing.list.items standing.state.cycle standing.state.pending) }
-    ensures refused { IfErr result (RefusesStanding rules.now placed.now state.now) }
+    ensures refused { IfErr result (RefusesStanding placed.now state.now) }
 {
-    let rules = rules_in(rules)?;
     let list = table_in(alloc, placed)?;
     let ranked = rank(alloc, list.as_slice(), rules.policy, rules.fill)?;
     let state = state_in(&ranked, state)?;
@@ -71,6 +72,7 @@ fn state_in(ranked: &Ranked, state: &FttState) -> Result<PlanState, Refusal>
     ensures state { IfOk result (λ made. made ≡ state_of state.now) }
     ensures near { IfOk result (λ made. made.cycle ≤ openings_end) }
     ensures held { IfOk result (λ made. IsValid ranked.now.placed made.cycle made.pending) }
+    ensures standing { IfOk result (λ _. IsStanding ranked.now.placed state.now) }
     ensures refused { IfErr result (λ refusal. (refusal ≡ State) × (IsStanding ranked.now.placed state.now → ⊥)) }
 {
     if state.cycle > OPENINGS_END || !is_mask(state.pending) {
@@ -96,10 +98,12 @@ fn decided(
     ops: &[FttOp],
 ) -> Result<(FttVerdict, Vec<FttPlaced>), Refusal>
     ensures decided { IfOk result (λ r. IsDecided rules.now placed.now state.now start ops.now r.0 r.1.items) }
+    ensures known { IfOk result (λ _. AreAsked rules.now ops.now) }
     ensures refused { IfErr result (RefusesChange rules.now placed.now state.now ops.now) }
 {
-    let standing = standing_in(alloc, rules, placed, state)?;
+    let rules = rules_in(rules)?;
     let change = change_in(alloc, start, ops)?;
+    let standing = standing_in(alloc, rules, placed, state)?;
     let answer = decided_on(
         alloc,
         &standing.rules,
@@ -162,6 +166,8 @@ pub extern "C" fn fttcan_decide(
     ensures short { result ≡ 5 → (told : FttVerdictOf) × (list : List FttPlacedOf)
         × IsDecided rules.now placed.now state.now start ops.now told list
         × IsShort list room.old room.new count.new × (verdict.new ≡ verdict.old) }
+    ensures known { result ≡ 0 → AreAsked rules.now ops.now }
+    ensures known_too { result ≡ 5 → AreAsked rules.now ops.now }
     ensures refused { result ≢ 0 → result ≢ 5 → (verdict.new ≡ verdict.old) × (room.new ≡ room.old)
         × (count.new ≡ count.old)
         × ((refusal : RefusalOf) × (result ≡ status_of refusal)
@@ -187,8 +193,10 @@ fn planned(
     state: &FttState,
 ) -> Result<(FttPlan, FttState), Refusal>
     ensures opened { IfOk result (λ r. IsOpened rules.now placed.now state.now r.1 r.0) }
+    ensures known { IfOk result (λ _. AreRules rules.now) }
     ensures refused { IfErr result (RefusesOpening rules.now placed.now state.now) }
 {
+    let rules = rules_in(rules)?;
     let standing = standing_in(alloc, rules, placed, state)?;
     if standing.state.cycle >= OPENINGS_END {
         return Err(Refusal::State);
@@ -212,6 +220,7 @@ pub extern "C" fn fttcan_open(
     plan: &mut FttPlan,
 ) -> u32
     ensures opened { result ≡ 0 → IsOpened rules.now placed.now state.old state.new plan.new }
+    ensures known { result ≡ 0 → AreRules rules.now }
     ensures safe { result ≡ 0
         → IsSafe (rules_of rules.now) (table_of placed.now) state.old.cycle (mask_of state.old.pending)
         → IsSafe (rules_of rules.now) (table_of placed.now) state.new.cycle (mask_of state.new.pending) }

@@ -1,12 +1,12 @@
 //! A change that is planned in another thread, while cycles are opened.
 
-ghost use Rattle.std.specs.Prelude.{◌≡◌, ◌≢◌, ◌≤◌, None, Some, IfErr, IfOk, OnErr, OnOk};
+ghost use Rattle.std.specs.Prelude.{◌≡◌, ◌≢◌, ◌≤◌, ◌↔◌, None, Some, All, IfErr, IfOk, IsTrue, OnErr, OnOk};
 ghost use Rattle.master_handle.specs.declared.held.Held.{Held as HeldOf};
 ghost use Rattle.fttcan_c.specs.declared.refusal.Refusal.{Refusal as RefusalOf};
 ghost use Rattle.fttcan_c.specs.declared.refusal.Refusal.TheVariants.{Closed};
-ghost use Rattle.fttcan_c.specs.Apart.{IsPlanned, IsPlannedApart, IsPlannedTold, IsSnapshotOf, RefusesApart, RefusesPlanning};
+ghost use Rattle.fttcan_c.specs.Apart.{IsPlanned, IsPlannedApart, IsPlannedTold, IsSnapshot, IsSnapshotOf, RefusesApart, RefusesPlanning};
 ghost use Rattle.fttcan_c.specs.Mastering.{Holds};
-ghost use Rattle.fttcan_c.specs.Plain.{change_of};
+ghost use Rattle.fttcan_c.specs.Plain.{IsOp, change_of};
 ghost use Rattle.fttcan_c.specs.Reading.{RefusesRead};
 ghost use Rattle.fttcan_c.specs.Refused.{status_of};
 
@@ -44,6 +44,8 @@ pub extern "C" fn fttcan_master_snapshot(m: &mut FttHandle, alloc: Global, s: &m
         × Holds m.old.value (λ held. Holds s.new.value (IsSnapshotOf held)) }
     ensures refused { result ≢ 0 → s.new.value ≡ s.old.value }
     ensures occupied { result ≡ 8 → (held : HeldOf) × (s.old.value ≡ Some held) }
+    ensures free { result ≢ 8 → s.old.value ≡ None }
+    ensures empty { result ≢ 8 → m.old.value ≡ None → result ≡ 7 }
     ensures why { result ≢ 0 → result ≢ 8 → (held : HeldOf) → m.old.value ≡ Some held
         → (refusal : RefusalOf) × (result ≡ status_of refusal) × RefusesRead held refusal }
 {
@@ -76,11 +78,25 @@ pub extern "C" fn fttcan_snapshot_free(s: &mut FttHandle, alloc: Global)
 /// Plans a change from a snapshot, in its box.
 fn planned_apart(alloc: Global, held: &mut Held, start: u64, ops: &[FttOp]) -> Result<(), Refusal>
     ensures planned { OnOk result (IsPlannedApart (change_of start ops.now) held.old held.new) }
+    ensures known { OnOk result (All IsOp ops.now) }
     ensures same { OnErr result (held.new ≡ held.old) }
     ensures refused { IfErr result (RefusesApart ops.now held.old) }
 {
+    if !holds_snapshot(held) {
+        return Err(Refusal::Closed);
+    }
     let change = change_in(alloc, start, ops)?;
     planned_in_place(alloc, held, &change)
+}
+
+/// Whether a snapshot is held.
+fn holds_snapshot(held: &Held) -> bool
+    ensures snapshot { IsTrue result ↔ IsSnapshot held.now }
+{
+    match held {
+        Held::Snapshot { .. } => true,
+        _ => false,
+    }
 }
 
 /// Plans a change from a snapshot, and puts the plan in its place.
@@ -118,8 +134,11 @@ pub extern "C" fn fttcan_plan_apart(
 ) -> u32
     ensures planned { result ≡ 0 → (p.old.value ≡ None) × (s.new.value ≡ None)
         × Holds s.old.value (λ held. Holds p.new.value (IsPlannedApart (change_of start ops.now) held)) }
+    ensures known { result ≡ 0 → All IsOp ops.now }
     ensures refused { result ≢ 0 → (s.new.value ≡ s.old.value) × (p.new.value ≡ p.old.value) }
     ensures occupied { result ≡ 8 → (held : HeldOf) × (p.old.value ≡ Some held) }
+    ensures free { result ≢ 8 → p.old.value ≡ None }
+    ensures empty { result ≢ 8 → s.old.value ≡ None → result ≡ 7 }
     ensures why { result ≢ 0 → result ≢ 8 → (held : HeldOf) → s.old.value ≡ Some held
         → (refusal : RefusalOf) × (result ≡ status_of refusal) × RefusesApart ops.now held refusal }
 {
@@ -164,6 +183,7 @@ pub extern "C" fn fttcan_planned_verdict(
     ensures verdict { result ≡ 0 → Holds p.old.value (IsPlannedTold verdict.new) }
     ensures refused { result ≢ 0 → (verdict.new ≡ verdict.old) × (result ≡ 7) }
     ensures why { result ≢ 0 → (held : HeldOf) → p.old.value ≡ Some held → IsPlanned held → ⊥ }
+    ensures empty { p.old.value ≡ None → result ≡ 7 }
 {
     let Some(held) = mem::replace(p, FttHandle::none()).into_box(alloc) else {
         return Refusal::Closed.status();

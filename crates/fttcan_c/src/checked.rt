@@ -102,7 +102,7 @@ pub extern "C" fn fttcan_check(
 ) -> u32
     ensures taken { result ≡ 0 → IsPlanTaken (table_of placed.now) window text.now × (breach.new ≡ breach.old) }
     ensures broken { result ≡ 10 → IsPlanBroken (table_of placed.now) window text.now breach.new }
-    ensures unread { result ≡ 9 → (number : ℕ) × IsFirstWrongLine text.now number
+    ensures unread { result ≡ 9 → (number : ℕ) × IsWellPlaced (table_of placed.now) × IsFirstWrongLine text.now number
         × (breach.new ≡ record breach.old { first = number }) }
     ensures refused { result ≢ 0 → result ≢ 9 → result ≢ 10 → (breach.new ≡ breach.old)
         × ((refusal : RefusalOf) × (result ≡ status_of refusal) × RefusesPlan placed.now text.now refusal) }

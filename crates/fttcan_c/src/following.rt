@@ -7,7 +7,7 @@ ghost use Rattle.master_handle.specs.declared.held.Held.{Held as HeldOf};
 ghost use Rattle.master_handle.specs.declared.held.Held.TheVariants.{Standby};
 ghost use Rattle.fttcan_c.specs.declared.refusal.Refusal.{Refusal as RefusalOf};
 ghost use Rattle.fttcan_c.specs.declared.refusal.Refusal.TheVariants.{Closed};
-ghost use Rattle.fttcan_c.specs.Following.{IsChangeTold, IsExpected, IsStandby, IsTakenOver, RefusesChangeTold};
+ghost use Rattle.fttcan_c.specs.Following.{IsChangeTold, IsDue, IsDueChange, IsExpected, IsInEffect, IsStandby, IsTakenOver, RefusesChangeTold, TakesEffect};
 ghost use Rattle.fttcan_c.specs.Mastering.{Holds, IsAsked, IsCoreSubmitted, RefusesAsked, RefusesNew};
 ghost use Rattle.fttcan_c.specs.Plain.{AreRules, change_of, rules_of};
 ghost use Rattle.fttcan_c.specs.Refused.{status_of};
@@ -18,8 +18,11 @@ use crate::plain_in::rules_in;
 use crate::plain_out::verdict_out;
 use crate::refusal::{OK, Refusal};
 use admission::Trail;
+use change_protocol::laws::lists_after_a_change;
+use master_core::laws::accepted_anew;
 use master_core::{Answered, Core};
 use master_handle::{FttHandle, Held};
+use standby::laws::one_core;
 use std::alloc::Global;
 use std::mem;
 
@@ -45,6 +48,7 @@ pub extern "C" fn fttcan_standby_new(s: &mut FttHandle, alloc: Global, rules: &F
         × (s.new.value ≡ Some (Standby (new_core (rules_of rules.now) true))) }
     ensures same { result ≢ 0 → s.new.value ≡ s.old.value }
     ensures taken { result ≡ 8 → (held : HeldOf) × (s.old.value ≡ Some held) }
+    ensures free { result ≢ 8 → s.old.value ≡ None }
     ensures refused { result ≢ 0 → result ≢ 8 → (refusal : RefusalOf) × (result ≡ status_of refusal)
         × RefusesNew rules.now refusal }
 {
@@ -77,6 +81,31 @@ pub struct Reply {
     pub verdict: FttVerdict,
 }
 
+/// Has the core of a standby answer a change that the master accepted. It is accepted where it is due.
+fn answered_to(
+    alloc: Global,
+    core: &mut Core,
+    caller: u8,
+    start: u64,
+    ops: &[FttOp],
+) -> Result<Answered, Refusal>
+    ensures answered { IfOk result (IsCoreSubmitted caller (change_of start ops.now) core.old core.new) }
+    ensures effect { IfOk result (λ answered. is_accepted answered.verdict ≡ true
+        → IsInEffect (change_of start ops.now) core.old) }
+    ensures due { IsDue (change_of start ops.now) core.old
+        → IfOk result (λ answered. is_accepted answered.verdict ≡ true) }
+    ensures known { OnOk result (IsAsked caller ops.now) }
+    ensures same { OnErr result (core.new ≡ core.old) }
+    ensures refused { IfErr result (RefusesAsked caller ops.now) }
+{
+    accepted_anew();
+    one_core();
+    lists_after_a_change();
+    core.known();
+    let answered = asked(alloc, core, caller, start, ops)?;
+    Ok(answered)
+}
+
 /// Tells a standby a change that the master accepted. It is unchanged where it would not accept it.
 fn changed(
     alloc: Global,
@@ -87,6 +116,8 @@ fn changed(
 ) -> Result<Reply, Refusal>
     ensures answered { IfOk result (λ reply. IsChangeTold reply.accepted caller start ops.now reply.verdict held.old held.new) }
     ensures unfollowed { IfOk result (λ reply. reply.accepted ≡ false → held.new ≡ held.old) }
+    ensures effect { IfOk result (λ reply. reply.accepted ≡ true → TakesEffect (change_of start ops.now) held.old) }
+    ensures due { IsDueChange (change_of start ops.now) held.old → IfOk result (λ reply. reply.accepted ≡ true) }
     ensures known { OnOk result (IsAsked caller ops.now) }
     ensures same { OnErr result (held.new ≡ held.old) }
     ensures refused { IfErr result (RefusesChangeTold caller ops.now held.old) }
@@ -97,7 +128,7 @@ fn changed(
                 from: _,
                 verdict,
                 trail: _,
-            } = asked(alloc, core, caller, start, ops)?;
+            } = answered_to(alloc, core, caller, start, ops)?;
             Ok(Reply {
                 accepted: verdict.is_accepted(),
                 verdict: verdict_out(&verdict),
@@ -108,7 +139,8 @@ fn changed(
 }
 
 /// Tells a standby a change that the master accepted, of operator `caller`, 1 to 8. It is planned from the standby's own
-/// next cycle on. Where the standby would not accept it, the answer is `No` with the verdict, and it is as before.
+/// next cycle on, and takes effect in the cycle `start`. Where the standby would not accept it, the answer is `No` with the
+/// verdict, and it is as before. That never comes where the standby followed all that the master did before.
 #[unsafe(no_mangle)]
 pub extern "C" fn fttcan_standby_change(
     s: &mut FttHandle,
@@ -122,8 +154,11 @@ pub extern "C" fn fttcan_standby_change(
         (IsChangeTold true caller start ops.now verdict.new old)) }
     ensures unfollowed { result ≡ 10 → Holds s.old.value (λ old. Holds s.new.value
         (IsChangeTold false caller start ops.now verdict.new old)) }
+    ensures effect { result ≡ 0 → Holds s.old.value (TakesEffect (change_of start ops.now)) }
+    ensures due { (held : HeldOf) → s.old.value ≡ Some held → IsDueChange (change_of start ops.now) held → result ≢ 10 }
     ensures same { result ≢ 0 → s.new.value ≡ s.old.value }
     ensures known { result ≡ 0 → IsAsked caller ops.now }
+    ensures known_too { result ≡ 10 → IsAsked caller ops.now }
     ensures refused { result ≢ 0 → result ≢ 10 → verdict.new ≡ verdict.old }
     ensures why { result ≢ 0 → result ≢ 10 → (held : HeldOf) → s.old.value ≡ Some held
         → (refusal : RefusalOf) × (result ≡ status_of refusal) × RefusesChangeTold caller ops.now held refusal }
@@ -212,6 +247,7 @@ pub extern "C" fn fttcan_standby_take_over(
         × Holds s.old.value (λ held. Holds m.new.value (IsTakenOver held)) }
     ensures refused { result ≢ 0 → (s.new.value ≡ s.old.value) × (m.new.value ≡ m.old.value) }
     ensures occupied { result ≡ 8 → (held : HeldOf) × (m.old.value ≡ Some held) }
+    ensures free { result ≢ 8 → m.old.value ≡ None }
     ensures why { result ≢ 0 → result ≢ 8 → (result ≡ 7)
         × ((held : HeldOf) → s.old.value ≡ Some held → IsStandby held → ⊥) }
 {

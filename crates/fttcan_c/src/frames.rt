@@ -11,7 +11,7 @@ ghost use Rattle.cycle_layout.specs.Layout.{IsAllowed, IsLayout};
 ghost use Rattle.requirement_table.specs.Instance.{payload};
 ghost use Rattle.fttcan_c.specs.declared.refusal.Refusal.{Refusal as RefusalOf};
 ghost use Rattle.fttcan_c.specs.declared.refusal.Refusal.TheVariants.{Argument};
-ghost use Rattle.fttcan_c.specs.Framing.{RefusesBits, RefusesFits, RefusesWire, data_frame};
+ghost use Rattle.fttcan_c.specs.Framing.{IsAskedFor, RefusesBits, RefusesFits, RefusesWire, data_frame};
 ghost use Rattle.fttcan_c.specs.Plain.{bit_of, layout_of};
 ghost use Rattle.fttcan_c.specs.Refused.{status_of};
 ghost use Rattle.fttcan_c.specs.Room.{IsFilled, IsShort};
@@ -78,7 +78,8 @@ pub extern "C" fn fttcan_wire_bits(
 ) -> u32
     ensures bits { result ≡ 0 → IsFrame (data_frame id bytes.now)
         × IsFilled (map from_bool (wire_of (data_frame id bytes.now))) room.old room.new count.new }
-    ensures short { result ≡ 5 → IsShort (map from_bool (wire_of (data_frame id bytes.now))) room.old room.new count.new }
+    ensures short { result ≡ 5 → IsFrame (data_frame id bytes.now)
+        × IsShort (map from_bool (wire_of (data_frame id bytes.now))) room.old room.new count.new }
     ensures refused { result ≢ 0 → result ≢ 5 → (room.new ≡ room.old) × (count.new ≡ count.old)
         × ((refusal : RefusalOf) × (result ≡ status_of refusal) × RefusesWire id bytes.now refusal) }
 {
@@ -144,6 +145,7 @@ pub extern "C" fn fttcan_read_wire(
         × (All (λ byte. byte ≤ 1) bits.now)
         × (frame.new ≡ frame_told read) × (place.new ≡ place.old) }
     ensures fault { result ≡ 9 → (fault : WireFaultOf) × Reads (map bit_of bits.now) (Err fault)
+        × (All (λ byte. byte ≤ 1) bits.now)
         × (place.new ≡ place_told (length bits.now) fault) × (frame.new ≡ frame.old) }
     ensures refused { result ≢ 0 → result ≢ 9 → (frame.new ≡ frame.old) × (place.new ≡ place.old)
         × ((refusal : RefusalOf) × (result ≡ status_of refusal) × RefusesBits bits.now refusal) }
@@ -179,7 +181,7 @@ pub extern "C" fn fttcan_payload(number: u64, room: &mut [u8]) -> u32
 }
 
 /// The layout of a cycle.
-fn layout_in(layout: &FttLayout) -> Result<Layout, Refusal>
+pub fn layout_in(layout: &FttLayout) -> Result<Layout, Refusal>
     ensures layout { IfOk result (λ made. made ≡ layout_of layout.now) }
     ensures known { IfOk result IsLayout }
     ensures refused { IfErr result (λ refusal. (refusal ≡ Argument) × (IsLayout (layout_of layout.now) → ⊥)) }
@@ -205,6 +207,7 @@ pub extern "C" fn fttcan_fits(
 ) -> u32
     ensures fits { result ≡ 0 → (answer : Bool) × (fits.new ≡ from_bool answer)
         × (IsTrue answer ↔ IsAllowed (layout_of layout.now) dlc at (at / layout.now.cycle) window) }
+    ensures known { result ≡ 0 → IsAskedFor layout.now dlc window }
     ensures refused { result ≢ 0 → (fits.new ≡ fits.old) × (result ≡ 2) × RefusesFits layout.now dlc window }
 {
     if dlc > 8 || window > layout.window {

@@ -6,14 +6,14 @@ ghost use Rattle.standby.specs.Hearing.{heard_of};
 ghost use Rattle.master_handle.specs.declared.held.Held.{Held as HeldOf};
 ghost use Rattle.fttcan_c.specs.declared.refusal.Refusal.{Refusal as RefusalOf};
 ghost use Rattle.fttcan_c.specs.declared.refusal.Refusal.TheVariants.{Argument};
-ghost use Rattle.fttcan_c.specs.Following.{AreDue, IsFollowed, IsHeard, IsHeardBy, IsNotFollowed, RefusesFrames, RefusesHearing};
+ghost use Rattle.fttcan_c.specs.Following.{AreDue, CanFollow, IsFollowed, IsHeard, IsHeardBy, IsNotFollowed, RefusesFrames, RefusesHearing};
 ghost use Rattle.fttcan_c.specs.Following.{due_frames, fault_told};
 ghost use Rattle.fttcan_c.specs.Mastering.{Holds};
 ghost use Rattle.fttcan_c.specs.Plain.{IsFrameIn, frames_of};
 ghost use Rattle.fttcan_c.specs.Refused.{status_of};
 
 use crate::plain::{FttFollow, FttFrame};
-use crate::plain_in::frame_in;
+use crate::plain_in::{are_frames, frame_in};
 use crate::plain_out::mask_out;
 use crate::refusal::{OK, Refusal};
 use master_core::Core;
@@ -102,11 +102,15 @@ fn heard_in(slots: u8, cycle: u64, frames: &[FttFrame]) -> Result<Option<Heard>,
 fn heard_by(core: &mut Core, frames: &[FttFrame]) -> Result<Option<Astray>, Refusal>
     ensures heard { IfOk result (IsHeardBy (frames_of frames.now) core.old core.new) }
     ensures due { frames_of frames.now ≡ due_frames core.old → IfOk result (λ astray. astray ≡ None) }
+    ensures known { IfOk result (λ _. All IsFrameIn frames.now × CanFollow core.old) }
     ensures same { OnErr result (core.new ≡ core.old) }
     ensures refused { IfErr result (RefusesFrames frames.now core.old) }
 {
     trigger_frames();
     core.known();
+    if !are_frames(frames) {
+        return Err(Refusal::Argument);
+    }
     let cycle = core.next();
     if cycle >= OPENINGS_END {
         return Err(Refusal::State);
@@ -139,6 +143,7 @@ fn heard_trigger(held: &mut Held, frames: &[FttFrame]) -> Result<Option<Astray>,
     ensures heard { IfOk result (λ astray. IsHeard (frames_of frames.now) astray held.old held.new) }
     ensures astray { IfOk result (λ astray. astray ≢ None → held.new ≡ held.old) }
     ensures due { AreDue (frames_of frames.now) held.old → IfOk result (λ astray. astray ≡ None) }
+    ensures known { IfOk result (λ _. All IsFrameIn frames.now) }
     ensures same { OnErr result (held.new ≡ held.old) }
     ensures refused { IfErr result (RefusesHearing frames.now held.old) }
 {
@@ -163,6 +168,8 @@ pub extern "C" fn fttcan_standby_trigger(
     ensures followed { result ≡ 0 → Holds s.old.value (λ old. Holds s.new.value
         (IsFollowed (frames_of frames.now) old)) }
     ensures astray { result ≡ 10 → Holds s.old.value (IsNotFollowed (frames_of frames.now) fault.new) }
+    ensures known { result ≡ 0 → All IsFrameIn frames.now }
+    ensures known_too { result ≡ 10 → All IsFrameIn frames.now }
     ensures due { (held : HeldOf) → s.old.value ≡ Some held → AreDue (frames_of frames.now) held → result ≢ 10 }
     ensures same { result ≢ 0 → s.new.value ≡ s.old.value }
     ensures untold { result ≢ 10 → fault.new ≡ fault.old }

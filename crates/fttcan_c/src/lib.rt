@@ -6,6 +6,7 @@
 
 mod admit;
 mod apart;
+mod bounds;
 mod checked;
 mod following;
 mod frames;
@@ -28,6 +29,8 @@ pub use apart::{
     fttcan_master_snapshot, fttcan_plan_apart, fttcan_planned_free, fttcan_planned_verdict,
     fttcan_snapshot_free,
 };
+pub use async_bound::Stream;
+pub use bounds::fttcan_async_bound;
 pub use checked::fttcan_check;
 pub use following::{
     fttcan_standby_change, fttcan_standby_free, fttcan_standby_new, fttcan_standby_next,

@@ -52,6 +52,7 @@ pub extern "C" fn fttcan_master_new(m: &mut FttHandle, alloc: Global, rules: &Ft
         × (m.new.value ≡ Some (Master (new_core (rules_of rules.now) true) [])) }
     ensures same { result ≢ 0 → m.new.value ≡ m.old.value }
     ensures taken { result ≡ 8 → (held : HeldOf) × (m.old.value ≡ Some held) }
+    ensures free { result ≢ 8 → m.old.value ≡ None }
     ensures refused { result ≢ 0 → result ≢ 8 → (refusal : RefusalOf) × (result ≡ status_of refusal)
         × RefusesNew rules.now refusal }
 {

@@ -15,7 +15,7 @@ use admission::Rules;
 use can_frame::{Frame, MAX_BYTES};
 use change_protocol::{Change, Op, Ops};
 use planner_policies::{Fill, Policy};
-use profile::{GREATEST_HORIZON, LONGEST_WINDOW, MOST_NODES, SHORTEST_WINDOW};
+use profile::{GREATEST_HORIZON, GREATEST_IDENTIFIER, LONGEST_WINDOW, MOST_NODES, SHORTEST_WINDOW};
 use requirement_table::{Entry, Mask, Placed, well_placed};
 use std::alloc::{AllocError, Global};
 
@@ -42,6 +42,20 @@ pub fn are_slots(slots: u8) -> bool
     ensures slots { IsTrue result ↔ IsSlots slots }
 {
     slots == 40 || slots == 96
+}
+
+/// Whether a frame has an identifier up to 0x7EF, and at most 8 bytes in use.
+fn is_frame(frame: &FttFrame) -> bool
+    ensures frame { IsTrue result ↔ IsFrameIn frame.now }
+{
+    frame.id <= GREATEST_IDENTIFIER && usize::from(frame.len) <= MAX_BYTES
+}
+
+/// Whether all frames are so.
+pub fn are_frames(frames: &[FttFrame]) -> bool
+    ensures frames { IsTrue result ↔ All IsFrameIn frames.now }
+{
+    frames.iter().all(is_frame)
 }
 
 /// A frame.

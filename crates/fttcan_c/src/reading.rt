@@ -1,12 +1,13 @@
 //! What C may ask of a master, which stays as it is.
 
-ghost use Rattle.std.specs.Prelude.{◌≡◌, ◌≢◌, ◌<◌, ◌≤◌, ℕ, List, Some, None, IfErr, IfOk, map};
+ghost use Rattle.std.specs.Prelude.{◌≡◌, ◌≢◌, ◌<◌, ◌≤◌, ℕ, List, Some, None, IfErr, IfOk, OnOk, map};
 ghost use Rattle.profile.specs.Limits.{openings_end};
 ghost use Rattle.master_handle.specs.declared.held.Held.{Held as HeldOf};
 ghost use Rattle.fttcan_c.specs.declared.plain.FttMask.{FttMask as FttMaskOf};
 ghost use Rattle.fttcan_c.specs.declared.plain.FttPlaced.{FttPlaced as FttPlacedOf};
 ghost use Rattle.fttcan_c.specs.declared.refusal.Refusal.{Refusal as RefusalOf};
-ghost use Rattle.fttcan_c.specs.Mastering.{Holds, RefusesOpen};
+ghost use Rattle.fttcan_c.specs.declared.refusal.Refusal.TheVariants.{Closed};
+ghost use Rattle.fttcan_c.specs.Mastering.{Holds, IsCaller, IsMaster, RefusesOpen};
 ghost use Rattle.fttcan_c.specs.Plain.{mask_of};
 ghost use Rattle.fttcan_c.specs.Reading.{HasPlanText, HasTable, HasTrail, IsLookedAt, IsNextOf, IsPlannedOf, IsRulesOf, RefusesLook, RefusesRead};
 ghost use Rattle.fttcan_c.specs.Refused.{status_of};
@@ -29,7 +30,7 @@ const MOST_CALLERS: u8 = 8;
 /// The next cycle of a master.
 fn next_in(held: &Held) -> Result<u64, Refusal>
     ensures next { IfOk result (λ cycle. IsNextOf cycle held.now) }
-    ensures refused { IfErr result (RefusesRead held.now) }
+    ensures refused { IfErr result (λ refusal. (refusal ≡ Closed) × (IsMaster held.now → ⊥)) }
 {
     match held {
         Held::Master { core, trail: _ } => Ok(core.next()),
@@ -42,9 +43,8 @@ fn next_in(held: &Held) -> Result<u64, Refusal>
 pub extern "C" fn fttcan_master_next(m: &mut FttHandle, alloc: Global, cycle: &mut u64) -> u32
     ensures same { m.new.value ≡ m.old.value }
     ensures next { result ≡ 0 → Holds m.old.value (IsNextOf cycle.new) }
-    ensures refused { result ≢ 0 → cycle.new ≡ cycle.old }
-    ensures why { result ≢ 0 → (held : HeldOf) → m.old.value ≡ Some held
-        → (refusal : RefusalOf) × (result ≡ status_of refusal) × RefusesRead held refusal }
+    ensures refused { result ≢ 0 → (cycle.new ≡ cycle.old) × (result ≡ 7) }
+    ensures why { result ≢ 0 → (held : HeldOf) → m.old.value ≡ Some held → IsMaster held → ⊥ }
     ensures empty { m.old.value ≡ None → result ≡ 7 }
 {
     let Some(held) = mem::replace(m, FttHandle::none()).into_box(alloc) else {
@@ -64,13 +64,16 @@ pub extern "C" fn fttcan_master_next(m: &mut FttHandle, alloc: Global, cycle: &m
 /// The next cycle of a master, for an operator.
 fn looked_at(held: &Held, caller: u8) -> Result<u64, Refusal>
     ensures next { IfOk result (λ cycle. IsLookedAt caller cycle held.now) }
+    ensures known { OnOk result (IsCaller caller) }
     ensures refused { IfErr result (RefusesLook caller held.now) }
 {
-    if caller < 1 || caller > MOST_CALLERS {
-        return Err(Refusal::Argument);
-    }
     match held {
-        Held::Master { core, trail: _ } => Ok(core.next()),
+        Held::Master { core, trail: _ } => {
+            if caller < 1 || caller > MOST_CALLERS {
+                return Err(Refusal::Argument);
+            }
+            Ok(core.next())
+        }
         _ => Err(Refusal::Closed),
     }
 }
@@ -85,6 +88,7 @@ pub extern "C" fn fttcan_master_look(
 ) -> u32
     ensures same { m.new.value ≡ m.old.value }
     ensures next { result ≡ 0 → Holds m.old.value (IsLookedAt caller next.new) }
+    ensures known { result ≡ 0 → IsCaller caller }
     ensures refused { result ≢ 0 → next.new ≡ next.old }
     ensures why { result ≢ 0 → (held : HeldOf) → m.old.value ≡ Some held
         → (refusal : RefusalOf) × (result ≡ status_of refusal) × RefusesLook caller held refusal }
@@ -151,7 +155,7 @@ pub extern "C" fn fttcan_master_planned(
 /// The rules of a master.
 fn rules_of_held(held: &Held) -> Result<FttRules, Refusal>
     ensures rules { IfOk result (λ rules. IsRulesOf rules held.now) }
-    ensures refused { IfErr result (RefusesRead held.now) }
+    ensures refused { IfErr result (λ refusal. (refusal ≡ Closed) × (IsMaster held.now → ⊥)) }
 {
     match held {
         Held::Master { core, trail: _ } => Ok(rules_out(&core.rules())),
@@ -164,9 +168,8 @@ fn rules_of_held(held: &Held) -> Result<FttRules, Refusal>
 pub extern "C" fn fttcan_master_rules(m: &mut FttHandle, alloc: Global, rules: &mut FttRules) -> u32
     ensures same { m.new.value ≡ m.old.value }
     ensures rules { result ≡ 0 → Holds m.old.value (IsRulesOf rules.new) }
-    ensures refused { result ≢ 0 → rules.new ≡ rules.old }
-    ensures why { result ≢ 0 → (held : HeldOf) → m.old.value ≡ Some held
-        → (refusal : RefusalOf) × (result ≡ status_of refusal) × RefusesRead held refusal }
+    ensures refused { result ≢ 0 → (rules.new ≡ rules.old) × (result ≡ 7) }
+    ensures why { result ≢ 0 → (held : HeldOf) → m.old.value ≡ Some held → IsMaster held → ⊥ }
     ensures empty { m.old.value ≡ None → result ≡ 7 }
 {
     let Some(held) = mem::replace(m, FttHandle::none()).into_box(alloc) else {

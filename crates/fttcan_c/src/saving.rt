@@ -109,6 +109,7 @@ pub extern "C" fn fttcan_master_restore(m: &mut FttHandle, alloc: Global, bytes:
     ensures restored { result ≡ 0 → (m.old.value ≡ None) × Holds m.new.value (IsRestored bytes.now) }
     ensures same { result ≢ 0 → m.new.value ≡ m.old.value }
     ensures taken { result ≡ 8 → (held : HeldOf) × (m.old.value ≡ Some held) }
+    ensures free { result ≢ 8 → m.old.value ≡ None }
     ensures refused { result ≢ 0 → result ≢ 8 → (refusal : RefusalOf) × (result ≡ status_of refusal)
         × RefusesRestore bytes.now refusal }
 {

@@ -1,9 +1,12 @@
 //! A change that was planned in another thread is settled.
 
-ghost use Rattle.std.specs.Prelude.{◌≡◌, ◌≢◌, ◌≤◌, None, Some, IfErr, IfOk, OnErr};
+ghost use Rattle.std.specs.Prelude.{◌≡◌, ◌≢◌, ◌≤◌, None, Some, IfErr, IfOk, OnErr, OnOk};
+ghost use Rattle.master_handle.specs.declared.held.Held.{Held as HeldOf};
+ghost use Rattle.fttcan_c.specs.declared.refusal.Refusal.{Refusal as RefusalOf};
 ghost use Rattle.fttcan_c.specs.declared.refusal.Refusal.TheVariants.{Memory};
 ghost use Rattle.fttcan_c.specs.Apart.{IsCoreSettled, IsSettled, RefusesSettle};
-ghost use Rattle.fttcan_c.specs.Mastering.{Holds};
+ghost use Rattle.fttcan_c.specs.Mastering.{Holds, IsCaller};
+ghost use Rattle.fttcan_c.specs.Refused.{status_of};
 
 use crate::plain::FttVerdict;
 use crate::plain_out::verdict_out;
@@ -39,13 +42,18 @@ fn settled(
     from: &mut Held,
 ) -> Result<FttVerdict, Refusal>
     ensures settled { IfOk result (λ verdict. IsSettled caller verdict from.old held.old held.new) }
+    ensures known { OnOk result (IsCaller caller) }
     ensures same { OnErr result (held.new ≡ held.old) }
     ensures kept { IfErr result (λ refusal. refusal ≢ Memory → from.new ≡ from.old) }
-    ensures refused { IfErr result (RefusesSettle held.old from.old) }
+    ensures refused { IfErr result (RefusesSettle caller held.old from.old) }
 {
     match held {
         Held::Master { core, trail } => match mem::replace(from, Held::Moved) {
             Held::Planned { planned } => {
+                if caller < 1 || caller > MOST_CALLERS {
+                    *from = Held::Planned { planned };
+                    return Err(Refusal::Argument);
+                }
                 let Answered {
                     from: _,
                     verdict,
@@ -77,14 +85,15 @@ pub extern "C" fn fttcan_master_settle(
 ) -> u32
     ensures settled { result ≡ 0 → (p.new.value ≡ None) × Holds m.old.value (λ old. Holds m.new.value
         (λ new. Holds p.old.value (λ from. IsSettled caller verdict.new from old new))) }
-    ensures known { result ≡ 0 → (1 ≤ caller) × (caller ≤ 8) }
+    ensures known { result ≡ 0 → IsCaller caller }
     ensures refused { result ≢ 0 → (m.new.value ≡ m.old.value) × (verdict.new ≡ verdict.old) }
     ensures memory { result ≡ 1 → p.new.value ≡ None }
     ensures kept { result ≢ 0 → result ≢ 1 → p.new.value ≡ p.old.value }
+    ensures why { result ≢ 0 → (held from : HeldOf) → m.old.value ≡ Some held → p.old.value ≡ Some from
+        → (refusal : RefusalOf) × (result ≡ status_of refusal) × RefusesSettle caller held from refusal }
+    ensures empty { m.old.value ≡ None → result ≡ 7 }
+    ensures unplanned { p.old.value ≡ None → result ≡ 7 }
 {
-    if caller < 1 || caller > MOST_CALLERS {
-        return Refusal::Argument.status();
-    }
     let Some(mut held) = mem::replace(m, FttHandle::none()).into_box(alloc) else {
         return Refusal::Closed.status();
     };

@@ -11,7 +11,7 @@ ghost use Rattle.fttcan_c.specs.Told.{frame_told};
 ghost use Rattle.fttcan_c.specs.Triggers.{IsTold, RefusesOne, RefusesTrigger, RefusesTwo, frames_told};
 
 use crate::plain::{FttFrame, FttMask, FttTrigger};
-use crate::plain_in::{are_slots, frame_in, is_mask, mask_in};
+use crate::plain_in::{are_frames, are_slots, frame_in, is_mask, mask_in};
 use crate::plain_out::{frame_out, mask_out};
 use crate::refusal::{OK, Refusal};
 use crate::room::put;
@@ -73,7 +73,8 @@ pub extern "C" fn fttcan_trigger_encode(
 ) -> u32
     ensures frames { result ≡ 0 → IsTriggerIn slots trigger.now
         × IsFilled (map frame_told (frames_told slots trigger.now)) room.old room.new count.new }
-    ensures short { result ≡ 5 → IsShort (map frame_told (frames_told slots trigger.now)) room.old room.new count.new }
+    ensures short { result ≡ 5 → IsTriggerIn slots trigger.now
+        × IsShort (map frame_told (frames_told slots trigger.now)) room.old room.new count.new }
     ensures refused { result ≢ 0 → result ≢ 5 → (room.new ≡ room.old) × (count.new ≡ count.old)
         × (result ≡ 2) × (IsTriggerIn slots trigger.now → ⊥) }
 {
@@ -135,7 +136,7 @@ fn decoded(slots: u8, frames: &[FttFrame]) -> Result<FttTrigger, Refusal>
     ensures known { OnOk result (IsSlots slots × All IsFrameIn frames.now) }
     ensures refused { IfErr result (RefusesTrigger slots frames.now) }
 {
-    if !are_slots(slots) {
+    if !are_slots(slots) || !are_frames(frames) {
         return Err(Refusal::Argument);
     }
     if slots == SLOTS_OF_ONE {

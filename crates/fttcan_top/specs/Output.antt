@@ -13,7 +13,7 @@ use Rattle.bus_trace.specs.LastRows.{last_rows}
 use Rattle.bus_trace.specs.Log.{events_rows, log_text}
 use Rattle.plan_report.specs.Report.{report_text}
 use Rattle.generated_input.specs.Generator.{requests_made, steps_made, system_made}
-use Rattle.replay_run.specs.Accepted.{all_accepted}
+use Rattle.master_core.specs.Accepted.{all_accepted}
 use Rattle.replay_run.specs.AskedTable.{table_of}
 use Rattle.replay_run.specs.Begun.{IsBegun}
 use Rattle.replay_run.specs.Run.{AnswersSteps, IsRun}

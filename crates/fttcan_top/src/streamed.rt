@@ -1,6 +1,6 @@
 //! The log of a run, written while the run goes on, and the report behind it.
 
-ghost use Rattle.std.specs.Prelude.{◌≤◌, ◌⊎◌, None, false, IfOk, IsErrOf, OnErr, OnOk};
+ghost use Rattle.std.specs.Prelude.{◌≡◌, ◌≤◌, ◌⊎◌, None, false, IfOk, IsErrOf, OnErr, OnOk, is_some};
 ghost use Rattle.ftt_io.specs.Counts.{Rose};
 ghost use Rattle.asked_files.specs.Asked.{log_of};
 ghost use Rattle.asked_files.specs.Loads.{IsJob};
@@ -10,7 +10,7 @@ ghost use Rattle.fttcan_top.specs.Streamed.{IsReport, PutsReport, PutsReportFron
 
 use crate::rows::put_rows;
 use crate::status::Status;
-use crate::work::{status_of, status_when};
+use crate::work::status_when;
 use asked_files::{Job, Stop};
 use async_window::{Owner, Request};
 use ftt_io::Sink;
@@ -20,33 +20,39 @@ use replay_run::{Cut, Written, replay_to};
 use std::alloc::{AllocError, Global};
 
 /// The report of a run, where its frames were kept; else no text.
-pub fn report_of(
+pub(crate) fn report_of(
     alloc: Global,
-    run: &Written,
+    run: Written,
     owners: &[Owner],
     requests: &[Request],
 ) -> Result<Vec<u8>, AllocError>
-    ensures report { IfOk result (λ text. IsReport run.now owners.now requests.now text.items) }
+    requires events { run.master.keeps ≡ is_some run.trace }
+    ensures report { IfOk result (λ text. IsReport run owners.now requests.now text.items) }
 {
-    match &run.trace {
+    let Written { master, trace } = run;
+    match trace {
         None => Ok(Vec::new(alloc)),
-        Some(trace) => plan_report::report(alloc, &run.master, trace.as_slice(), owners, requests),
+        Some(trace) => match master.into_master() {
+            Some(master) => plan_report::report(alloc, &master, trace.as_slice(), owners, requests),
+            None => unreachable!(),
+        },
     }
 }
 
 /// Puts the report of a run, where its frames were kept.
 fn put_report<O: Sink>(
     alloc: Global,
-    run: &Written,
+    run: Written,
     owners: &[Owner],
     requests: &[Request],
     out: &mut O,
 ) -> Result<(), Cut>
+    requires events { run.master.keeps ≡ is_some run.trace }
     ensures faults_never_fall { O.faults out.old ≤ O.faults out.new }
     ensures all { OnOk result
-        (PutsReport run.now owners.now requests.now (O.told_bytes out.old) (O.told_bytes out.new)) }
+        (PutsReport run owners.now requests.now (O.told_bytes out.old) (O.told_bytes out.new)) }
     ensures prefix { OnErr result
-        (PutsReportFront run.now owners.now requests.now (O.told_bytes out.old) (O.told_bytes out.new)) }
+        (PutsReportFront run owners.now requests.now (O.told_bytes out.old) (O.told_bytes out.new)) }
     ensures failed { IsErrOf result Cut.Write → Rose (O.faults out.old) (O.faults out.new) }
 {
     let text = report_of(alloc, run, owners, requests)?;
@@ -79,8 +85,9 @@ fn write_log<O: Sink>(alloc: Global, job: &Job, report: bool, out: &mut O) -> Re
     let owners = system.owners.as_slice();
     let requests = job.requests();
     let run = replay_to(alloc, system, job.steps(), requests, report, out)?;
-    put_report(alloc, &run, owners, requests, out)?;
-    Ok(status_of(run.master.history()))
+    let accepted = run.master.all_accepted();
+    put_report(alloc, run, owners, requests, out)?;
+    Ok(status_when(accepted))
 }
 
 /// The same as an answer to a task.

@@ -18,9 +18,9 @@ use can_frame::TimedFrame;
 use ftt_io::Sink;
 use generated_input::generate;
 use live_run::{Ended, Gate};
-use master_core::{Event, Master};
+use master_core::{Event, Master, all_accepted};
 use plan_check::{Breach, Certificate, check, write_plan};
-use replay_run::{Tailed, all_accepted, answer, asked_table, replay, replay_tail};
+use replay_run::{Tailed, answer, asked_table, replay, replay_tail};
 use std::alloc::{AllocError, Global};
 use std::sync::Wait;
 use std::thread::Threads;
@@ -86,11 +86,12 @@ pub fn tail_of(alloc: Global, job: &Job, count: u16, report: bool) -> Result<Out
     let requests = job.requests();
     let count = usize::from(count);
     let Tailed { run, rows } = replay_tail(alloc, system, job.steps(), requests, report, count)?;
-    let behind = report_of(alloc, &run, owners, requests)?;
+    let accepted = run.master.all_accepted();
+    let behind = report_of(alloc, run, owners, requests)?;
     let mut text = rows;
     text.extend_from_slice(behind.as_slice())?;
     Ok(Outcome {
-        status: status_of(run.master.history()),
+        status: status_when(accepted),
         text,
     })
 }

@@ -10,7 +10,7 @@ use Rattle.cycle_engine.specs.Nodes.{IsBus, NodesView, states_of}
 use Rattle.cycle_engine.specs.Offered.{IsCanTrace}
 use Rattle.master_core.specs.declared.event.Event.{Event}
 use Rattle.master_core.specs.History.{IsLegal, IsPlainlyLegal, is_changed, next_of, placed_of}
-use Rattle.master_core.specs.Keeping.{MasterView}
+use Rattle.master_core.specs.Journals.{LeanView}
 use Rattle.master_core.specs.Openings.{openings_of}
 use Rattle.master_core.specs.Orders.{IsOrder}
 use Rattle.cycle_layout.specs.Layout.{IsSlots}
@@ -59,10 +59,10 @@ module _ (laws : OneCore) where
   }
 
   -- a run goes on with another master whose history has the core of the first one's
-  pub going-behind : (setting : Setting) (trace : List TimedFrame) (run : Bus) (master : MasterView) → core_of run.master.history ≡ core_of master.history
-      → master.rules ≡ setting.rules → IsPlainlyLegal setting.rules master.history → IsGoing setting trace run
+  pub going-behind : (setting : Setting) (trace : List TimedFrame) (run : Bus) (master : LeanView) → core_of run.master.history ≡ core_of master.history
+      → master.rules ≡ setting.rules → IsPlainlyLegal setting.rules master.history → master.keeps ≡ run.master.keeps → IsGoing setting trace run
       → IsGoing setting trace (record run { master = master })
-  going-behind setting trace run master same rules plain going = record {
+  going-behind setting trace run master same rules plain events going = record {
     same_rules = rules;
     plain = plain;
     way = record {
@@ -72,20 +72,21 @@ module _ (laws : OneCore) where
     };
     triggers = going.triggers ∙ laws.next run.master.history master.history same;
     frames = going.frames;
+    events = events ∙ going.events;
     spare = going.spare;
   }
 
   -- the standby takes over
-  pub taken-over : (run : Handed) (standby : StandbyView) (master : MasterView) → run.standby ≡ Some standby → master.rules ≡ standby.rules
-      → master.history ≡ standby.history → IsPlainlyLegal master.rules master.history
+  pub taken-over : (run : Handed) (standby : StandbyView) (master : LeanView) → run.standby ≡ Some standby → master.rules ≡ standby.rules
+      → master.history ≡ standby.history → IsPlainlyLegal master.rules master.history → master.keeps ≡ run.bus.master.keeps
       → HandsSame run (record run { bus = record run.bus { master = master }; standby = None })
-  taken-over run standby master there rules history plain = λ setting whole trace is.
+  taken-over run standby master there rules history plain events = λ setting whole trace is.
       let follows : IsFollowing setting.rules whole standby = subst (Follows setting.rules whole) there is.followed in
       let same_rules : master.rules ≡ setting.rules = rules ∙ follows.same_rules in
       let same : core_of whole ≡ core_of master.history = follows.same_core ∙ ap core_of (sym history) in
       record {
         going = going-behind setting trace run.bus master (sym is.same_core ∙ same) same_rules
-            (subst (λ (r : Rules). IsPlainlyLegal r master.history) same_rules plain) is.going;
+            (subst (λ (r : Rules). IsPlainlyLegal r master.history) same_rules plain) events is.going;
         plain = is.plain;
         under_way = is.under_way;
         same_core = same;
@@ -94,7 +95,7 @@ module _ (laws : OneCore) where
       }
 
   -- and the next cycle is that of the first master
-  pub next-taken-over : (run : Handed) (standby : StandbyView) (master : MasterView) → run.standby ≡ Some standby → master.history ≡ standby.history
+  pub next-taken-over : (run : Handed) (standby : StandbyView) (master : LeanView) → run.standby ≡ Some standby → master.history ≡ standby.history
       → CanHand run → next_of master.history ≡ next_of run.bus.master.history
   next-taken-over run standby master there history can =
       let is = can.3 in

@@ -1,7 +1,6 @@
 -- The last event of a history, by the call that it answers.
-use Rattle.std.proofs.Common.{◌≡◌, ℕ, ◌+◌, ◌-◌, ◌≤◌, false, List, [], ◌∷◌, ◌++◌, get_or, length, map, refl, sym, ap, ◌∙◌, subst, arith}
-use Rattle.std.proofs.Math.Seq.{get_or-append_seam}
-use Rattle.std.proofs.lemmas.List.{append_cancel_left, length-append, map-append}
+use Rattle.std.proofs.Common.{◌≡◌, ℕ, ◌≤◌, false, List, [], ◌∷◌, ◌++◌, map, refl, sym, ap, ◌∙◌, subst}
+use Rattle.std.proofs.lemmas.List.{append_cancel_left, map-append}
 use Rattle.change_protocol.specs.declared.operations.Act.{Act}
 use Rattle.master_core.specs.Calls.{Call, asked, call_of, opens}
 use Rattle.master_core.specs.declared.event.Event.{Event}
@@ -52,13 +51,3 @@ has-operator (Open cycle mask) by act answers range = tt
 
 pub operator-of : (event : Event) (by : ℕ) (act : Act) → call_of event ∷ [] ≡ asked by act ∷ [] → (1 ≤ by) × (by ≤ 8) → HasOperator event
 operator-of event by act answers range = has-operator event by act (first-of (call_of event) (asked by act) answers) range
-
--- The last event
-
-pub last-event : (d : Event) (own now : List Event) (event last : Event) → now ≡ own ++ event ∷ [] → last ≡ get_or now (length now - 1) d
-    → last ≡ event
-last-event d own now event last same is =
-    let count : length now ≡ length own + 1 = ap length same ∙ length-append own (event ∷ []) in
-    let at : length now - 1 ≡ length own = omega (arith, count) in
-    is ∙ ap (λ (l : List Event). get_or l (length now - 1) d) same ∙ ap (λ (n : ℕ). get_or (own ++ event ∷ []) n d) at
-    ∙ get_or-append_seam own event [] d

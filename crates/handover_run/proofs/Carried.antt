@@ -13,7 +13,7 @@ use Rattle.master_core.specs.declared.event.Event.TheVariants.{Open}
 use Rattle.master_core.specs.History.{IsLegal, IsPlainlyLegal, IsRight}
 use Rattle.kept_run.specs.Progress.{Setting}
 use Rattle.kept_run.proofs.Shared.{AllAfter-parts}
-use Rattle.replay_run.specs.Accepted.{all_accepted, refuses_nothing}
+use Rattle.master_core.specs.Accepted.{all_accepted, refuses_nothing}
 use Rattle.replay_run.specs.Progress.{IsBroughtOn}
 use Rattle.standby.specs.Core.{Item, core_of, items_of}
 use Rattle.standby.specs.Following.{StandbyView}

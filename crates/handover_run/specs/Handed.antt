@@ -7,7 +7,7 @@ use Rattle.master_core.specs.History.{IsPlainlyLegal}
 use Rattle.kept_run.specs.Progress.{IsUnderWay, Setting}
 use Rattle.bus_trace.specs.EventRows.{rows_of_event}
 use Rattle.bus_trace.specs.Log.{events_rows}
-use Rattle.replay_run.specs.Accepted.{all_accepted}
+use Rattle.master_core.specs.Accepted.{all_accepted}
 use Rattle.replay_run.specs.Progress.{EndsIn, IsCutIn, IsGoing, Start}
 use Rattle.replay_run.specs.declared.cut.Cut.{Cut}
 use Rattle.standby.specs.Core.{core_of}

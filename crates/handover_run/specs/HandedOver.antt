@@ -7,7 +7,7 @@ use Rattle.system_file.specs.declared.system.System.{System}
 use Rattle.master_core.specs.declared.event.Event.{Event}
 use Rattle.ftt_io.specs.Puts.{Puts}
 use Rattle.bus_trace.specs.Log.{log_text}
-use Rattle.replay_run.specs.Accepted.{all_accepted}
+use Rattle.master_core.specs.Accepted.{all_accepted}
 use Rattle.replay_run.specs.Run.{IsRun}
 
 -- the run of the steps, whose log was heard, and whether each change was accepted

@@ -12,7 +12,8 @@ ghost use Rattle.handover_run.specs.Handed.{CanHand, HandsOn, HandsSame, IsHande
 use crate::following::{follow_answer, follow_opening};
 use async_window::Request;
 use change_protocol::Act;
-use replay_run::{Bus, refuses_nothing};
+use master_core::{LeanMaster, refuses_nothing};
+use replay_run::Bus;
 use standby::Standby;
 use standby::laws::{goes_on, one_core};
 use std::alloc::{AllocError, Global};
@@ -69,7 +70,8 @@ impl Handed {
             return;
         }
         if let Some(standby) = self.standby.take() {
-            self.bus.master = standby.take_over();
+            let keeps = self.bus.master.keeps();
+            self.bus.master = LeanMaster::of(standby.take_over(), keeps);
         }
     }
 
@@ -112,8 +114,7 @@ impl Handed {
         one_core();
         goes_on();
         self.bus.answer(alloc, caller, act)?;
-        let history = self.bus.master.history();
-        let event = &history[history.len() - 1];
+        let event = self.bus.master.last();
         self.quiet = self.quiet & refuses_nothing(event);
         follow_answer(&mut self.standby, alloc, event)
     }

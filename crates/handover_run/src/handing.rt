@@ -47,7 +47,7 @@ fn open_next<L: Listener>(handed: &mut Handed, listener: &mut L, alloc: Global) 
     tell_last(
         listener,
         alloc,
-        handed.bus.master.history(),
+        &handed.bus.master,
         handed.bus.segment.frames(),
     )?;
     handed.hand_over();
@@ -73,7 +73,7 @@ fn answer_act<L: Listener>(
         (IsCutBehind L.heard L.broke handed.old listener.old (asked caller act.now ∷ []) listener.new) }
 {
     handed.answer(alloc, caller, act)?;
-    tell_last(listener, alloc, handed.bus.master.history(), &[])?;
+    tell_last(listener, alloc, &handed.bus.master, &[])?;
     Ok(())
 }
 

@@ -1,10 +1,11 @@
 -- The certificate of the table after a history.
-use Rattle.std.proofs.Common.{◌≡◌, ℕ, zero, suc, ◌+◌, ◌^◌, ◌<◌, ◌≤◌, List, [], ◌∷◌, ◌++◌, Option, All, get_or, length, map, take, refl, sym, ap, ◌∙◌, subst, zero-add, arith, true, false}
+use Rattle.std.proofs.Common.{◌≡◌, ℕ, zero, suc, ◌+◌, ◌-◌, ◌^◌, ◌<◌, ◌≤◌, List, [], ◌∷◌, ◌++◌, Option, All, get_or, length, map, take, refl, sym, ap, ◌∙◌, subst, zero-add, arith, true, false}
 use Rattle.std.specs.List.{range_with_len}
 use Rattle.std.proofs.lemmas.List.{append-nil, map-append, take_more}
 use Rattle.std.proofs.lemmas.List.Elements.{All-head, All-tail}
 use Rattle.requirement_table.specs.declared.entries.Placed.{Placed}
 use Rattle.requirement_table.specs.Opening.{Opening}
+use Rattle.requirement_table.specs.Slots.{most_slots}
 use Rattle.requirement_table.specs.Table.{IsWellPlaced}
 use Rattle.change_protocol.specs.declared.operations.Change.{Change}
 use Rattle.change_protocol.specs.Applied.{applied}
@@ -12,6 +13,8 @@ use Rattle.planner_policies.specs.Plan.{NeverMisses, Planning, Ranking, is_misse
 use Rattle.planner_policies.proofs.Shared.{on-missed}
 use Rattle.plan_check.specs.Certificate.{CertificateView, length_of}
 use Rattle.plan_check.specs.PlanKept.{IsTaken}
+use Rattle.plan_check.specs.PlanText.{IsPlanOf, plan_text}
+use Rattle.plan_check.specs.declared.plan_runs.Version.TheVariants.{Two}
 use Rattle.admission_rules.specs.declared.Rules.{Rules}
 use Rattle.admission.specs.declared.certify_fault.CertifyFault.{CertifyFault}
 use Rattle.admission.specs.declared.certify_fault.CertifyFault.TheVariants.{Memory, Miss, NoRepeat}
@@ -116,6 +119,33 @@ core-end core is certificate of =
     let near = is.safe.near in
     let few = is.safe.in_range.near_horizon in
     omega arith
+
+-- its text is read back
+pub core-read : ((plan : Planning) (n : ℕ) → All (λ mask. mask < 2 ^ most_slots) (masks_of plan n)) → (core : CoreView) → IsCore core → (certificate : CertificateView)
+    → IsCertificateFrom core.rules core.placed (state_of core) certificate → IsPlanOf (plan_text certificate) certificate
+core-read masks core is certificate of =
+    let start = of.start in
+    let before = of.before in
+    let within = of.repeats.2 in
+    let at = of.repeats.1.at in
+    let some = of.repeats.1.some_cycles in
+    let near = is.safe.near in
+    let few = is.safe.in_range.near_horizon in
+    let known = is.known in
+    record {
+      version = Two;
+      readable = record {
+        from = omega arith;
+        pending = omega arith;
+        first = omega arith;
+        after = omega arith;
+        near = omega arith;
+        some = omega arith;
+        few = omega arith;
+        masks = subst (λ (list : List ℕ). All (λ mask. mask < 2 ^ most_slots) list) (sym of.listed) (masks (onward core) (end_of certificate - core.cycle));
+      };
+      text = refl;
+    }
 
 -- what is known of the verdict on a change behind a history
 abbrev pub IsDue : Rules → List Event → Change → Verdict → Type 0

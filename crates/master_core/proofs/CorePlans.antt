@@ -1,31 +1,33 @@
 -- Changes that were planned apart are settled where their plan leads to the core.
-use Rattle.std.proofs.Common.{◌≡◌, ℕ, ◌+◌, ◌-◌, ◌≤◌, Bool, true, false, if◌then◌else◌, List, [], ◌++◌, Option, Some, None, refl, sym, ap, ◌∙◌, subst, arith}
+use Rattle.std.proofs.Common.{◌≡◌, ℕ, ◌+◌, ◌-◌, ◌<◌, ◌≤◌, Bool, true, false, if◌then◌else◌, List, [], ◌++◌, Option, Some, None, All, ⊎_elim, refl, sym, ap, ◌∙◌, subst, arith}
+use Rattle.std.proofs.lemmas.Bool.{cases_lt}
 use Rattle.requirement_table.specs.declared.entries.Placed.{Placed}
 use Rattle.change_protocol.specs.declared.operations.Change.{Change}
 use Rattle.change_protocol.specs.Applied.{applied}
+use Rattle.change_protocol.specs.Operations.{HasTypes}
 use Rattle.planner_policies.specs.declared.state.PlanState.{PlanState}
 use Rattle.requirement_table.specs.Slots.{contains_slot, most_slots, set_of}
 use Rattle.requirement_table.specs.Table.{IsWellPlaced, not_over}
 use Rattle.requirement_table.proofs.Shared.{not_over-well_placed, set_of-same}
-use Rattle.planner_policies.specs.Plan.{IsValid, Planning, left_after, pending_at, pending_before, planning_of}
-use Rattle.planner_policies.proofs.Shared.{before-first, state-left}
+use Rattle.planner_policies.specs.Plan.{HasNoMiss, HasNoMissIn, IsMissIn, IsValid, Planning, is_missed_at, is_missed_in, left_after, pending_at, pending_before, planning_of}
+use Rattle.planner_policies.proofs.Shared.{before-first, state-left, state-missed}
 use Rattle.admission_rules.specs.declared.Rules.{Rules}
 use Rattle.admission.specs.declared.verdict.Verdict.{Verdict}
 use Rattle.admission.specs.declared.verdict.Verdict.TheVariants.{Passed}
-use Rattle.admission.specs.Verdict.{IsVerdict, plan_from, ranking_by, trail_of}
+use Rattle.admission.specs.Verdict.{IsInTime, IsRules, IsTakenWhereDue, IsVerdict, plan_from, ranking_by, trail_of}
 use Rattle.master_core.specs.declared.answer.Answer.{Answer}
 use Rattle.master_core.specs.declared.answer.Made.{Made}
 use Rattle.master_core.specs.declared.answered.Answered.{Answered}
 use Rattle.master_core.specs.declared.apart.Snapshot.{Snapshot}
 use Rattle.master_core.specs.declared.event.Event.{Event}
 use Rattle.master_core.specs.declared.event.Event.TheVariants.{Submit}
-use Rattle.master_core.specs.Answers.{AreKept, AreMadeTo, IsAnswerTo, IsPlannedFrom, answer_at, is_passed_by}
+use Rattle.master_core.specs.Answers.{AreKept, AreMadeTo, IsAnswerTo, IsPlannedFrom, answer_at, decision_of, is_passed_by}
 use Rattle.master_core.specs.Apart.{IsPlannable}
-use Rattle.master_core.specs.CorePlans.{CanSettleFrom, IsAnsweredFrom, IsLedTo, Leads}
+use Rattle.master_core.specs.CorePlans.{CanSettleFrom, CorePlannedView, IsAnsweredFrom, IsLedTo, IsSettledByPlan, Leads}
 use Rattle.master_core.specs.Cores.{CoreView, IsAnswered, IsCore, IsHeld, IsStateOf}
 use Rattle.master_core.specs.History.{IsRightAnswer, IsSince, accepted_of, next_of, placed_of, plan_of}
 use Rattle.master_core.proofs.CoreSteps.{made-to, state-here}
-use Rattle.master_core.proofs.Onward.{left-pending}
+use Rattle.master_core.proofs.Onward.{left-missed, left-pending}
 use Rattle.master_core.proofs.Passing.{not_over-again}
 use Rattle.master_core.proofs.Legal.{sound-of_legal}
 use Rattle.master_core.proofs.Settling.{gone, next-append, none-behind, right-by, same-placed, since-then, still}
@@ -37,6 +39,8 @@ answered-from core is change answered by = record {
   pending = core.pending;
   leads = record {
     early = let from = by.from in omega arith;
+    held = subst (λ (n : ℕ). IsValid core.placed n core.pending) (sym by.from) is.safe.safe.held;
+    in_time = λ m slot before known. absurd (let from = by.from in omega arith);
     pending =
         subst (λ (n : ℕ). core.pending ≡ pending_at (plan_from core.rules core.placed n core.pending) (core.cycle - n)) (sym by.from) (state-here core is);
   };
@@ -45,6 +49,12 @@ answered-from core is change answered by = record {
       by.trail
       ∙ ap (λ (n : ℕ). trail_of (plan_from core.rules (applied core.placed change) n core.pending) answered.verdict) (sym by.from);
 }
+
+-- a change that is in time is accepted where that is due, as a law says it
+abbrev pub DueLaw : Type 0
+DueLaw = (rules : Rules) (placed : List Placed) (pending from next : ℕ) (change : Change) (verdict : Verdict) → IsRules rules → IsWellPlaced placed
+    → All HasTypes change.ops → IsValid placed from pending → from ≤ next → IsInTime rules placed next change
+    → IsVerdict rules placed pending from next change verdict → IsTakenWhereDue rules (plan_from rules (applied placed change) from pending) verdict
 
 -- what is answered, and the event
 
@@ -66,15 +76,92 @@ pub step-pending : (rules : Rules) (left : List Placed) (from pending n cycle se
     ≡ pending_at (plan_from rules left from pending) (n + 1)
 step-pending rules left from pending n cycle set here is = rw (here, is) (state-left (plan_from rules left from pending) n)
 
-pub leads-by : (rules : Rules) (placed : List Placed) (from to : PlanState) → IsWellPlaced placed → from.cycle ≤ to.cycle
+-- one cycle more in which no instance is missed
+
+pub none-more : (plan : Planning) (n : ℕ) → HasNoMiss plan n → ((slot : ℕ) → slot < most_slots → is_missed_at plan n slot ≡ false) → HasNoMiss plan (n + 1)
+none-more plan n none here m slot before known =
+    ⊎_elim
+    (λ (early : m < n). none m slot early known)
+    (λ (late : n ≤ m). let at : m ≡ n = omega arith in ap (λ (k : ℕ). is_missed_at plan k slot) at ∙ here slot known)
+    (cases_lt m n)
+
+-- what is missed in a cycle of a planning is missed where it is planned from the state before the cycle
+missed-here : (rules : Rules) (left : List Placed) (from pending n cycle set slot : ℕ) → cycle ≡ from + n → set ≡ pending_at (plan_from rules left from pending) n → slot < most_slots
+    → is_missed_in (planning_of (ranking_by rules left) rules.window cycle set) cycle (contains_slot set) slot
+    ≡ is_missed_at (plan_from rules left from pending) n slot
+missed-here rules left from pending n cycle set slot here is known = rw (here, is) (state-missed (plan_from rules left from pending) n slot known)
+
+pub step-in_time : (rules : Rules) (left : List Placed) (from pending n cycle set : ℕ) → cycle ≡ from + n → set ≡ pending_at (plan_from rules left from pending) n
+    → HasNoMiss (plan_from rules left from pending) n
+    → HasNoMissIn (planning_of (ranking_by rules left) rules.window cycle set) cycle (contains_slot set)
+    → HasNoMiss (plan_from rules left from pending) (n + 1)
+step-in_time rules left from pending n cycle set here is none now =
+    none-more (plan_from rules left from pending) n none
+    (λ slot known. sym (missed-here rules left from pending n cycle set slot here is known) ∙ now slot known)
+
+-- a list without the entries that are over by the first cycle misses what the whole list misses
+
+left-in_time : (rules : Rules) (from pending n : ℕ) (placed : List Placed) → IsWellPlaced placed
+    → HasNoMiss (plan_from rules (not_over from placed) from pending) n → HasNoMiss (plan_from rules placed from pending) n
+left-in_time rules from pending n placed well none m slot before known =
+    sym
+    (left-missed rules from pending placed (not_over from placed) well (not_over-well_placed from placed well) (not_over-again from from placed (omega arith)) m slot
+    known)
+    ∙ none m slot before known
+
+pub leads-by : (rules : Rules) (placed : List Placed) (from to : PlanState) → IsWellPlaced placed → IsValid placed from.cycle from.pending → from.cycle ≤ to.cycle
+    → HasNoMiss (plan_from rules (not_over from.cycle placed) from.cycle from.pending) (to.cycle - from.cycle)
     → to.pending ≡ pending_at (plan_from rules (not_over from.cycle placed) from.cycle from.pending) (to.cycle - from.cycle) → Leads rules placed from to
-leads-by rules placed from to well order is = record {
+leads-by rules placed from to well valid order none is = record {
   early = order;
+  held = valid;
+  in_time = left-in_time rules from.cycle from.pending (to.cycle - from.cycle) placed well none;
   pending =
       is
       ∙ left-pending rules from.cycle from.pending placed (not_over from.cycle placed) well (not_over-well_placed from.cycle placed well)
       (not_over-again from.cycle from.cycle placed (omega arith)) (to.cycle - from.cycle);
 }
+
+-- where one state leads to another one, no cycle between them has a miss
+
+pub leads-none : (rules : Rules) (placed : List Placed) (from to : PlanState) (n cycle set slot release : ℕ) → IsWellPlaced placed → Leads rules placed from to
+    → n < to.cycle - from.cycle → cycle ≡ from.cycle + n
+    → set ≡ pending_at (plan_from rules (not_over from.cycle placed) from.cycle from.pending) n
+    → IsMissIn (planning_of (ranking_by rules (not_over from.cycle placed)) rules.window cycle set) cycle (contains_slot set) slot release → ⊥
+leads-none rules placed from to n cycle set slot release well leads before here is miss =
+    let left = not_over from.cycle placed in
+    let known = miss.known in
+    let missed : is_missed_at (plan_from rules left from.cycle from.pending) n slot ≡ true =
+    sym (missed-here rules left from.cycle from.pending n cycle set slot here is known) ∙ miss.missed in
+    let not : is_missed_at (plan_from rules left from.cycle from.pending) n slot ≡ false =
+    left-missed rules from.cycle from.pending placed left well (not_over-well_placed from.cycle placed well) (not_over-again from.cycle from.cycle placed (omega arith))
+    n slot known
+    ∙ leads.in_time n slot before known in
+    let both : true ≡ false = sym missed ∙ not in
+    absurd (cc)
+
+-- and the planning of what is left comes to the other one
+
+pub leads-to : (rules : Rules) (placed : List Placed) (from to at : PlanState) (n : ℕ) → IsWellPlaced placed → Leads rules placed from to → n ≡ to.cycle - from.cycle
+    → at.cycle ≡ from.cycle + n → at.pending ≡ pending_at (plan_from rules (not_over from.cycle placed) from.cycle from.pending) n → at ≡ to
+leads-to rules placed from to at n well leads end here is =
+    let early = leads.early in
+    let cycle_is : at.cycle ≡ to.cycle = omega arith in
+    let pending_is : at.pending ≡ to.pending =
+    is
+    ∙ left-pending rules from.cycle from.pending placed (not_over from.cycle placed) well (not_over-well_placed from.cycle placed well)
+    (not_over-again from.cycle from.cycle placed (omega arith)) n
+    ∙ ap (pending_at (plan_from rules placed from.cycle from.pending)) end
+    ∙ sym leads.pending in
+    same-state at to cycle_is pending_is
+  where
+    same-state : (one other : PlanState) → one.cycle ≡ other.cycle → one.pending ≡ other.pending → one ≡ other
+    same-state one other cycle_is pending_is =
+        ap (λ (c : ℕ). record { cycle = c; pending = one.pending }) cycle_is ∙ ap (λ (p : ℕ). record { cycle = other.cycle; pending = p }) pending_is
+
+-- what contracts see of a change that was planned so
+abbrev pub view : Snapshot → Answer → CorePlannedView
+view snapshot answer = record { snapshot = snapshot; change = answer.change; decision = decision_of answer }
 
 none-kept : (forgets : Bool) (from : ℕ) (made : Option Made) → AreKept forgets from None made → made ≡ None
 none-kept forgets from None kept = refl
@@ -100,6 +187,10 @@ module _ (core : CoreView) (is : IsCore core) (snapshot : Snapshot) (plannable :
       subst (λ (n : ℕ). core.pending ≡ pending_at (plan_from core.rules core.placed n snapshot.state.pending) (core.cycle - n)) (sym planned.from)
       led.leads.pending
 
+  in_time : HasNoMiss (plan_from core.rules core.placed answer.from snapshot.state.pending) (core.cycle - answer.from)
+  in_time =
+      subst (λ (n : ℕ). HasNoMiss (plan_from core.rules core.placed n snapshot.state.pending) (core.cycle - n)) (sym planned.from) led.leads.in_time
+
   decided : IsVerdict core.rules core.placed snapshot.state.pending answer.from answer.from answer.change answer.verdict
   decided =
       subst (λ (n : ℕ). IsVerdict core.rules core.placed snapshot.state.pending n n answer.change answer.verdict) (sym planned.from) planned.decided.answer
@@ -110,7 +201,7 @@ module _ (core : CoreView) (is : IsCore core) (snapshot : Snapshot) (plannable :
       ∙ ap (λ (n : ℕ). trail_of (plan_from core.rules (applied core.placed answer.change) n snapshot.state.pending) answer.verdict) (sym planned.from)
 
   -- the answer with the cycle that is the next one now
-  pub record IsSettled (now : Answer) (made : Option Made) : Type 0 where
+  pub record IsAnswerNow (now : Answer) (made : Option Made) : Type 0 where
     pub to : IsAnswerTo core (record now { made = made })
     pub by : IsAnsweredFrom core answer.change (record { from = now.from; verdict = now.verdict; trail = now.trail })
     pub same : now.from ≡ answer.from
@@ -121,7 +212,7 @@ module _ (core : CoreView) (is : IsCore core) (snapshot : Snapshot) (plannable :
   settled-by : (made : Option Made) (b : Bool) → is_passed_by core.cycle answer.change.start answer.verdict ≡ b
       → AreKept core.forgets (if b then record answer { verdict = Passed answer.change.start core.cycle; trail = []; made = None } else answer).from
       (if b then record answer { verdict = Passed answer.change.start core.cycle; trail = []; made = None } else answer).made made
-      → IsSettled (if b then record answer { verdict = Passed answer.change.start core.cycle; trail = []; made = None } else answer) made
+      → IsAnswerNow (if b then record answer { verdict = Passed answer.change.start core.cycle; trail = []; made = None } else answer) made
   settled-by made true passed kept =
       let refused = gone core.rules core.placed snapshot.state.pending answer.from core.cycle answer.change early answer.verdict passed decided in
       record {
@@ -138,7 +229,7 @@ module _ (core : CoreView) (is : IsCore core) (snapshot : Snapshot) (plannable :
         };
         by = record {
           pending = snapshot.state.pending;
-          leads = record { early = early; pending = leads };
+          leads = record { early = early; held = held; in_time = in_time; pending = leads };
           verdict = refused;
           trail = refl;
         };
@@ -161,7 +252,7 @@ module _ (core : CoreView) (is : IsCore core) (snapshot : Snapshot) (plannable :
         };
         by = record {
           pending = snapshot.state.pending;
-          leads = record { early = early; pending = leads };
+          leads = record { early = early; held = held; in_time = in_time; pending = leads };
           verdict = stays;
           trail = trail-is;
         };
@@ -171,12 +262,44 @@ module _ (core : CoreView) (is : IsCore core) (snapshot : Snapshot) (plannable :
         trail_is = trail-is;
       }
 
-  pub settled : (made : Option Made) → AreKept core.forgets (answer_at core.cycle answer).from (answer_at core.cycle answer).made made → IsSettled (answer_at core.cycle answer) made
+  pub settled : (made : Option Made) → AreKept core.forgets (answer_at core.cycle answer).from (answer_at core.cycle answer).made made → IsAnswerNow (answer_at core.cycle answer) made
   settled made kept = settled-by made (is_passed_by core.cycle answer.change.start answer.verdict) refl kept
+
+  -- the plan of the change decides
+
+  answer-by : (b : Bool)
+      → told_of (if b then record answer { verdict = Passed answer.change.start core.cycle; trail = []; made = None } else answer)
+      ≡ (if b then record { from = snapshot.state.cycle; verdict = Passed answer.change.start core.cycle; trail = [] }
+      else record { from = snapshot.state.cycle; verdict = answer.verdict; trail = answer.trail })
+  answer-by true = ap (λ (n : ℕ). record { from = n; verdict = Passed answer.change.start core.cycle; trail = [] }) planned.from
+  answer-by false = ap (λ (n : ℕ). record { from = n; verdict = answer.verdict; trail = answer.trail }) planned.from
+
+  pub by-plan : DueLaw → (made : Option Made) → IsAnswerNow (answer_at core.cycle answer) made
+      → IsSettledByPlan core (view snapshot answer) (told_of (answer_at core.cycle answer))
+  by-plan taken made now =
+      let verdict_now : IsVerdict core.rules core.placed snapshot.state.pending snapshot.state.cycle core.cycle answer.change (answer_at core.cycle answer).verdict =
+      subst (λ (n : ℕ). IsVerdict core.rules core.placed snapshot.state.pending n core.cycle answer.change (answer_at core.cycle answer).verdict) planned.from
+      now.verdict_is in
+      record {
+        led = led;
+        same = answer-by (is_passed_by core.cycle answer.change.start answer.verdict);
+        answer = record {
+          from = now.same ∙ planned.from;
+          verdict = verdict_now;
+          trail =
+              now.trail_is
+              ∙ ap
+              (λ (n : ℕ). trail_of (plan_from core.rules (applied core.placed answer.change) n snapshot.state.pending) (answer_at core.cycle answer).verdict)
+              planned.from;
+        };
+        due = λ ahead.
+            taken core.rules core.placed snapshot.state.pending snapshot.state.cycle core.cycle answer.change (answer_at core.cycle answer).verdict is.safe.in_range
+            is.safe.safe.well_placed planned.types led.leads.held led.leads.early ahead verdict_now;
+      }
 
   -- it is right after a history at some place of which the snapshot was taken
   module _ (verdicts : VerdictLaw) (trails : TrailLaw) (history : List Event) (of : IsStateOf history core) (can : CanSettleFrom history core.forgets snapshot)
-      (now : Answer) (made : Option Made) (by : IsSettled now made) where
+      (now : Answer) (made : Option Made) (by : IsAnswerNow now made) where
     abbrev whole : List Placed
     whole = placed_of history
 

@@ -23,7 +23,7 @@ use Rattle.master_core.specs.declared.table.Table.{Table}
 use Rattle.master_core.specs.declared.upcoming.Upcoming.{Upcoming}
 use Rattle.master_core.specs.Answers.{AreKept, AreMadeTo, AreTablesOf, IsAnswerTo, IsPlannedFrom, IsTakenOver, entries_of}
 use Rattle.master_core.specs.Cores.{CoreView, IsCore, IsCoreUpcoming, IsRanked, answered_by, kept_by, core_of, most_kept, new_core, onward, opened, saved_of}
-use Rattle.master_core.proofs.KnownSlots.{HasSlot, both-none, slots-applied}
+use Rattle.master_core.proofs.KnownSlots.{HasNode, HasSlot, both-none, nodes-applied, slots-applied}
 use Rattle.master_core.proofs.Legal.{nothing-missed}
 use Rattle.master_core.proofs.Onward.{FoundLaw, LaterLaw, PrunedLaw, all-pruned, safe-accepted, well_placed-made}
 use Rattle.master_core.proofs.Repeating.{empty-recurs}
@@ -58,6 +58,7 @@ core-new rules forgets ranges =
       };
       known = omega arith;
       slots = All-nil (HasSlot rules.slots);
+      nodes = All-nil (HasNode rules.nodes);
       to_learn = tt;
       few = λ on. omega arith;
     }
@@ -69,6 +70,7 @@ core-opened later core before is = record {
   safe = later core.rules core.placed core.cycle core.pending 1 (omega arith) is.safe;
   known = set_of-below most_slots (pending_before (onward core) 1);
   slots = is.slots;
+  nodes = is.nodes;
   to_learn = tt;
   few = is.few;
 }
@@ -84,9 +86,14 @@ left-kept : (forgets : Bool) (from : ℕ) (placed : List Placed) → not_over fr
 left-kept true from placed = not_over-pruned from from placed (omega arith)
 left-kept false from placed = refl
 
-kept-slots : (slots : ℕ) (forgets : Bool) (c : ℕ) (placed : List Placed) → All (HasSlot slots) placed → All (HasSlot slots) (kept_by forgets c placed)
-kept-slots slots true c placed low = all-pruned (HasSlot slots) c placed low
-kept-slots slots false c placed low = low
+kept-all : (P : Placed → Type 0) (forgets : Bool) (c : ℕ) (placed : List Placed) → All P placed → All P (kept_by forgets c placed)
+kept-all P true c placed low = all-pruned P c placed low
+kept-all P false c placed low = low
+
+-- the entries have slots and nodes of the rules
+record AreOfRules (rules : Rules) (placed : List Placed) : Type 0 where
+  pub slots : All (HasSlot rules.slots) placed
+  pub nodes : All (HasNode rules.nodes) placed
 
 module _ (found : FoundLaw) (later : LaterLaw) (prunes : PrunedLaw) (core : CoreView) (is : IsCore core) (answer : Answer) (to : IsAnswerTo core answer) where
   abbrev new : List Placed
@@ -94,7 +101,7 @@ module _ (found : FoundLaw) (later : LaterLaw) (prunes : PrunedLaw) (core : Core
 
   accepted-safe : (verdict : Verdict) → is_accepted verdict ≡ true
       → IsVerdict core.rules core.placed to.pending answer.from core.cycle answer.change verdict
-      → IsSafeWithin core.rules new core.cycle core.pending × All (HasSlot core.rules.slots) new
+      → IsSafeWithin core.rules new core.cycle core.pending × AreOfRules core.rules new
   accepted-safe (Malformed op why) accepted decided = absurd (cc)
   accepted-safe (Passed start next) accepted decided = absurd (cc)
   accepted-safe (Miss slot release cycle) accepted decided = absurd (cc)
@@ -107,7 +114,10 @@ module _ (found : FoundLaw) (later : LaterLaw) (prunes : PrunedLaw) (core : Core
             (changed-applied core.placed answer.change well.in_range) is.safe.in_range is.safe.near
             (well_placed-made core.rules core.placed answer.change is.safe.in_range.few_slots well to.types in_time.well_formed) to.held to.early in_time.ahead to.leads
             first length decided.1,
-        slots-applied core.placed (bounds_by core.rules) answer.change formed.1 is.slots,
+        record {
+          slots = slots-applied core.placed (bounds_by core.rules) answer.change formed.1 is.slots;
+          nodes = nodes-applied core.placed (bounds_by core.rules) answer.change formed.1 is.nodes;
+        },
       )
 
   -- the core with the list that an accepted change makes
@@ -120,11 +130,12 @@ module _ (found : FoundLaw) (later : LaterLaw) (prunes : PrunedLaw) (core : Core
         accepted = core.accepted + 1;
       })
   core-taken accepted short =
-      let (whole, slots) = accepted-safe answer.verdict accepted to.verdict in
+      let (whole, known) = accepted-safe answer.verdict accepted to.verdict in
       record {
         safe = kept-safe prunes core.rules core.forgets answer.from core.cycle core.pending new to.early whole;
         known = is.known;
-        slots = kept-slots core.rules.slots core.forgets answer.from new slots;
+        slots = kept-all (HasSlot core.rules.slots) core.forgets answer.from new known.slots;
+        nodes = kept-all (HasNode core.rules.nodes) core.forgets answer.from new known.nodes;
         to_learn = refl;
         few = short;
       }
@@ -292,11 +303,13 @@ learned-or placed false = tt
 
 -- what was tested is a core
 pub core-tested : (saved : Saved) → IsSafeWithin saved.rules saved.placed saved.state.cycle saved.state.pending → saved.state.pending < 2 ^ most_slots
-    → All (HasSlot saved.rules.slots) saved.placed → (saved.forgets ≡ true → length saved.placed ≤ most_kept) → IsCore (core_of saved)
-core-tested saved safe known slots few = record {
+    → All (HasSlot saved.rules.slots) saved.placed → All (HasNode saved.rules.nodes) saved.placed → (saved.forgets ≡ true → length saved.placed ≤ most_kept)
+    → IsCore (core_of saved)
+core-tested saved safe known slots nodes few = record {
   safe = safe;
   known = known;
   slots = slots;
+  nodes = nodes;
   to_learn = learned-or saved.placed saved.learns;
   few = few;
 }

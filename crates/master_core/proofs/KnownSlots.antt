@@ -1,5 +1,6 @@
--- The placed entries of changes that break no rule have slots of the rules, and so has what is planned of them.
-use Rattle.std.proofs.Common.{◌≡◌, ℕ, ◌^◌, ◌<◌, ◌≤◌, ◌&&◌, Bool, true, false, nat_lt, if◌then◌else◌, Option, Some, None, IsSome, is_none, IfSome, List, [], ◌∷◌, ◌++◌, All, Contains, length, map, refl, ap, ◌∙◌, subst, arith}
+-- The placed entries of changes that break no rule have slots and nodes of the rules, and what is planned of them has
+-- slots of the rules.
+use Rattle.std.proofs.Common.{◌≡◌, ℕ, ◌^◌, ◌<◌, ◌≤◌, ◌&&◌, Bool, true, false, nat_le, nat_lt, if◌then◌else◌, Option, Some, None, IsSome, is_none, IfSome, List, [], ◌∷◌, ◌++◌, All, Contains, length, map, refl, ap, ◌∙◌, subst, arith}
 use Rattle.std.specs.List.{cons_option, filter_map, list_any}
 use Rattle.std.proofs.Math.Bool.{and-false}
 use Rattle.std.proofs.Math.Nat.{lt_of_lt_of_le, pow-le-pow_right}
@@ -15,8 +16,8 @@ use Rattle.change_protocol.specs.declared.operations.Change.{Change}
 use Rattle.change_protocol.specs.declared.operations.Op.{Op}
 use Rattle.change_protocol.specs.declared.operations.Op.TheVariants.{Add, Remove, Change as Changed}
 use Rattle.change_protocol.specs.Applied.{applied, ended, placed_by}
-use Rattle.change_protocol.specs.Malformed.{Bounds, broken, deadline_range, length_range, node_unknown, op_faults, period_zero, slot_busy, slot_empty, slot_range, slot_twice, where_holds, whys}
-use Rattle.change_protocol.specs.Operations.{ends, slot_of}
+use Rattle.change_protocol.specs.Malformed.{Bounds, broken, deadline_range, length_range, node_unknown, op_faults, period_zero, places, slot_busy, slot_empty, slot_range, slot_twice, where_holds, whys}
+use Rattle.change_protocol.specs.Operations.{ends, entry_of, slot_of}
 
 pub both-none : {A : Type 0} (xs ys : List A) → xs ++ ys ≡ [] → (xs ≡ []) × (ys ≡ [])
 both-none [] ys e = (refl, e)
@@ -32,8 +33,18 @@ not-held : (test : Bool) (why : Why) → where_holds test why ≡ [] → test �
 not-held false why e = refl
 not-held true why e = absurd (cc)
 
-op-slot : (placed : List Placed) (bounds : Bounds) (start : ℕ) (earlier : List Op) (op : Op) → whys placed bounds start earlier op ≡ [] → slot_of op < bounds.slots
-op-slot placed bounds start earlier op none =
+-- what the operation asks for: a slot below this number, and where it places an entry, a node below this one
+record IsKnownOp (bounds : Bounds) (op : Op) : Type 0 where
+  pub slot : slot_of op < bounds.slots
+  pub node : IfSome (entry_of op) (λ entry. entry.node < bounds.nodes)
+
+op-node : (nodes : ℕ) (op : Op) → places (λ entry. nat_le nodes entry.node) op ≡ false → IfSome (entry_of op) (λ entry. entry.node < nodes)
+op-node nodes (Add entry) known = leb-false nodes entry.node known
+op-node nodes (Remove slot) known = tt
+op-node nodes (Changed entry) known = leb-false nodes entry.node known
+
+op-known : (placed : List Placed) (bounds : Bounds) (start : ℕ) (earlier : List Op) (op : Op) → whys placed bounds start earlier op ≡ [] → IsKnownOp bounds op
+op-known placed bounds start earlier op none =
     let range = slot_range bounds.slots op in
     let twice = slot_twice earlier op in
     let node = node_unknown bounds.nodes op in
@@ -48,49 +59,70 @@ op-slot placed bounds start earlier op none =
     let fifth = both-none (range ++ twice ++ node) size fourth.0 in
     let sixth = both-none (range ++ twice) node fifth.0 in
     let seventh = both-none range twice sixth.0 in
-    leb-false bounds.slots (slot_of op) (not-held _ _ seventh.0)
+    record {
+      slot = leb-false bounds.slots (slot_of op) (not-held _ _ seventh.0);
+      node = op-node bounds.nodes op (not-held _ _ sixth.1);
+    }
 
-op-slots : (placed : List Placed) (bounds : Bounds) (start : ℕ) (earlier ops : List Op) → op_faults placed bounds start earlier ops ≡ [] → All (λ op. slot_of op < bounds.slots) ops
-op-slots placed bounds start earlier [] none = All-nil (λ op. slot_of op < bounds.slots)
-op-slots placed bounds start earlier (op ∷ ops) none =
+ops-known : (placed : List Placed) (bounds : Bounds) (start : ℕ) (earlier ops : List Op) → op_faults placed bounds start earlier ops ≡ [] → All (IsKnownOp bounds) ops
+ops-known placed bounds start earlier [] none = All-nil (IsKnownOp bounds)
+ops-known placed bounds start earlier (op ∷ ops) none =
     let parts = both-none (map (broken (length earlier)) (whys placed bounds start earlier op)) (op_faults placed bounds start (earlier ++ op ∷ []) ops) none in
-    All-cons (λ op. slot_of op < bounds.slots) op ops
-    (op-slot placed bounds start earlier op (none-broken (length earlier) (whys placed bounds start earlier op) parts.0))
-    (op-slots placed bounds start (earlier ++ op ∷ []) ops parts.1)
+    All-cons (IsKnownOp bounds) op ops
+    (op-known placed bounds start earlier op (none-broken (length earlier) (whys placed bounds start earlier op) parts.0))
+    (ops-known placed bounds start (earlier ++ op ∷ []) ops parts.1)
 
--- the entry has a slot below this number
+-- the entry has a slot below this number, or a node
 abbrev pub HasSlot : ℕ → Placed → Type 0
 HasSlot slots p = p.entry.slot < slots
 
-ended-slot : (slots start : ℕ) (b : Bool) (p : Placed) → HasSlot slots p → HasSlot slots (if b then record p { end = Some start } else p)
-ended-slot slots start true p low = low
-ended-slot slots start false p low = low
+abbrev pub HasNode : ℕ → Placed → Type 0
+HasNode nodes p = p.entry.node < nodes
 
-new-slot : (slots start : ℕ) (placed : List Placed) (op : Op) → slot_of op < slots → IfSome (placed_by placed start op) (HasSlot slots)
-new-slot slots start placed (Add entry) low = low
-new-slot slots start placed (Remove slot) low = tt
-new-slot slots start placed (Changed entry) low = low
+-- what holds of an entry whatever its end is, and of each entry that an operation places, holds of all after a change
+module _ (P : Placed → Type 0) (stays : (start : ℕ) (p : Placed) → P p → P (record p { end = Some start })) where
+  ended-by : (start : ℕ) (b : Bool) (p : Placed) → P p → P (if b then record p { end = Some start } else p)
+  ended-by start true p here = stays start p here
+  ended-by start false p here = here
 
-more-slots : (slots : ℕ) (o : Option Placed) (list : List Placed) → IfSome o (HasSlot slots) → All (HasSlot slots) list → All (HasSlot slots) (cons_option o list)
-more-slots slots None list one rest = rest
-more-slots slots (Some p) list one rest = All-cons (HasSlot slots) p list one rest
+  one-more : (o : Option Placed) (list : List Placed) → IfSome o P → All P list → All P (cons_option o list)
+  one-more None list one rest = rest
+  one-more (Some p) list one rest = All-cons P p list one rest
 
-new-slots : (slots start : ℕ) (placed : List Placed) (ops : List Op) → All (λ op. slot_of op < slots) ops → All (HasSlot slots) (filter_map (placed_by placed start) ops)
-new-slots slots start placed [] low = All-nil (HasSlot slots)
-new-slots slots start placed (op ∷ ops) low =
-    more-slots slots (placed_by placed start op) (filter_map (placed_by placed start) ops)
-    (new-slot slots start placed op (All-head (λ op. slot_of op < slots) op ops low))
-    (new-slots slots start placed ops (All-tail (λ op. slot_of op < slots) op ops low))
+  module _ (bounds : Bounds) (new : (placed : List Placed) (start : ℕ) (op : Op) → IsKnownOp bounds op → IfSome (placed_by placed start op) P) where
+    new-placed : (start : ℕ) (placed : List Placed) (ops : List Op) → All (IsKnownOp bounds) ops → All P (filter_map (placed_by placed start) ops)
+    new-placed start placed [] known = All-nil P
+    new-placed start placed (op ∷ ops) known =
+        one-more (placed_by placed start op) (filter_map (placed_by placed start) ops)
+        (new placed start op (All-head (IsKnownOp bounds) op ops known))
+        (new-placed start placed ops (All-tail (IsKnownOp bounds) op ops known))
+
+    all-applied : (placed : List Placed) (change : Change) → op_faults placed bounds change.start [] change.ops ≡ [] → All P placed → All P (applied placed change)
+    all-applied placed change none before =
+        All-append P (map (ended change.start change.ops) placed) (filter_map (placed_by placed change.start) change.ops)
+        (All-map P (ended change.start change.ops) placed
+        (All-weaker P (λ p. P (ended change.start change.ops p))
+        (λ p here. ended-by change.start (is_none p.end && list_any (ends p.entry.slot) change.ops) p here) placed before))
+        (new-placed change.start placed change.ops (ops-known placed bounds change.start [] change.ops none))
+
+new-slot : (bounds : Bounds) (placed : List Placed) (start : ℕ) (op : Op) → IsKnownOp bounds op → IfSome (placed_by placed start op) (HasSlot bounds.slots)
+new-slot bounds placed start (Add entry) known = known.slot
+new-slot bounds placed start (Remove slot) known = tt
+new-slot bounds placed start (Changed entry) known = known.slot
+
+new-node : (bounds : Bounds) (placed : List Placed) (start : ℕ) (op : Op) → IsKnownOp bounds op → IfSome (placed_by placed start op) (HasNode bounds.nodes)
+new-node bounds placed start (Add entry) known = known.node
+new-node bounds placed start (Remove slot) known = tt
+new-node bounds placed start (Changed entry) known = known.node
 
 -- the placed entries after a change that breaks no rule
 pub slots-applied : (placed : List Placed) (bounds : Bounds) (change : Change) → op_faults placed bounds change.start [] change.ops ≡ []
     → All (HasSlot bounds.slots) placed → All (HasSlot bounds.slots) (applied placed change)
-slots-applied placed bounds change none low =
-    All-append (HasSlot bounds.slots) (map (ended change.start change.ops) placed) (filter_map (placed_by placed change.start) change.ops)
-    (All-map (HasSlot bounds.slots) (ended change.start change.ops) placed
-    (All-weaker (HasSlot bounds.slots) (λ p. HasSlot bounds.slots (ended change.start change.ops p))
-    (λ p here. ended-slot bounds.slots change.start (is_none p.end && list_any (ends p.entry.slot) change.ops) p here) placed low))
-    (new-slots bounds.slots change.start placed change.ops (op-slots placed bounds change.start [] change.ops none))
+slots-applied placed bounds change none low = all-applied (HasSlot bounds.slots) (λ start p here. here) bounds (new-slot bounds) placed change none low
+
+pub nodes-applied : (placed : List Placed) (bounds : Bounds) (change : Change) → op_faults placed bounds change.start [] change.ops ≡ []
+    → All (HasNode bounds.nodes) placed → All (HasNode bounds.nodes) (applied placed change)
+nodes-applied placed bounds change none low = all-applied (HasNode bounds.nodes) (λ start p here. here) bounds (new-node bounds) placed change none low
 
 -- a set of slots that are all below a number
 

@@ -20,13 +20,14 @@ use Rattle.master_core.specs.declared.event.Event.{Event}
 use Rattle.master_core.specs.declared.event.Event.TheVariants.{Submit, Look, Open}
 use Rattle.master_core.specs.History.{IsLegal, IsRight, IsRightAnswer, next_of, placed_after, placed_of, plan_of}
 use Rattle.master_core.proofs.Accepted.{never-missed-then}
-use Rattle.master_core.proofs.KnownSlots.{HasSlot, both-none, slots-applied}
+use Rattle.master_core.proofs.KnownSlots.{HasNode, HasSlot, both-none, nodes-applied, slots-applied}
 use Rattle.master_core.proofs.Recurring.{recurring}
 use Rattle.master_core.proofs.Histories.{kept-along, placed_of-push}
 
 pub record IsSound (rules : Rules) (placed : List Placed) : Type 0 where
   pub well_placed : IsWellPlaced placed
   pub slots : All (HasSlot rules.slots) placed
+  pub nodes : All (HasNode rules.nodes) placed
   pub in_time : NeverMisses (plan_of rules placed)
 
 -- how an event changes the list: at a start that is not below the next cycle
@@ -70,6 +71,7 @@ after-answer rules history change from (Accepted first length) trail sound right
       sound = record {
         well_placed = then;
         slots = slots-applied old (bounds_by rules) change formed.1 sound.slots;
+        nodes = nodes-applied old (bounds_by rules) change formed.1 sound.nodes;
         in_time = never-missed-then rules old (applied old change) change.start from changed (le_trans opened ahead) sound.in_time
             (recurring (plan_from rules (applied old change) from (pending_at (plan_of rules old) from)) rules.horizon first length then right.answer.1.0
             right.answer.1.1 right.answer.1.2);
@@ -95,7 +97,7 @@ pub sound-of_legal : (rules : Rules) (history : List Event) → IsLegal rules hi
 sound-of_legal rules history legal =
     kept-along (IsRight rules) (λ (h : List Event). IsSound rules (placed_of h))
     (λ before event was sound right. (one-more rules before event sound right).sound) [] history tt
-    (record { well_placed = record { in_range = λ i d within. absurd (omega arith); in_order = λ i j d order within. absurd (omega arith) }; slots = All-nil (HasSlot rules.slots); in_time = nothing-missed rules })
+    (record { well_placed = record { in_range = λ i d within. absurd (omega arith); in_order = λ i j d order within. absurd (omega arith) }; slots = All-nil (HasSlot rules.slots); nodes = All-nil (HasNode rules.nodes); in_time = nothing-missed rules })
     legal
 
 pub valid-of_legal : (rules : Rules) (history : List Event) → IsLegal rules history

@@ -6,8 +6,10 @@ mod CoreSteps
 mod Earlier
 mod Events
 mod Histories
+mod Journals
 mod Keeping
 mod KnownSlots
+mod LeadsOn
 mod Legal
 mod NextPlan
 mod Onward
@@ -18,4 +20,5 @@ mod Settling
 pub mod Shared
 mod States
 mod Unfelt
+mod Walks
 mod Whole

@@ -1,5 +1,5 @@
 -- Plans that begin later, lists of which the same entries are not over, and what an accepted change makes.
-use Rattle.std.proofs.Common.{◌≡◌, ℕ, ◌+◌, ◌-◌, ◌≤◌, Bool, true, false, if◌then◌else◌, Option, Some, None, option_map, List, [], ◌∷◌, All, refl, sym, ap, ◌∙◌, subst, arith}
+use Rattle.std.proofs.Common.{◌≡◌, ℕ, ◌+◌, ◌-◌, ◌<◌, ◌≤◌, Bool, true, false, if◌then◌else◌, Option, Some, None, option_map, List, [], ◌∷◌, All, refl, sym, ap, ◌∙◌, subst, arith}
 use Rattle.std.proofs.lemmas.List.Elements.{All-cons, All-head, All-tail}
 use Rattle.std.proofs.lemmas.Option.{same_Some}
 use Rattle.requirement_table.specs.declared.entries.Placed.{Placed}
@@ -13,8 +13,8 @@ use Rattle.change_protocol.specs.Malformed.{IsWellFormed, change_faults, op_faul
 use Rattle.change_protocol.specs.Operations.{HasTypes}
 use Rattle.change_protocol.specs.Pruned.{may_go, pruned}
 use Rattle.change_protocol.proofs.Shared.{kept-instance, well_placed-applied}
-use Rattle.planner_policies.specs.Plan.{IsValid, Planning, mask_at, pending_at, pending_before, planned_at}
-use Rattle.planner_policies.proofs.Shared.{on-pending, same-pending, same-planned}
+use Rattle.planner_policies.specs.Plan.{IsValid, Planning, is_missed_at, mask_at, pending_at, pending_before, planned_at}
+use Rattle.planner_policies.proofs.Shared.{on-pending, same-missed, same-pending, same-planned}
 use Rattle.admission_rules.specs.declared.Rules.{Rules}
 use Rattle.profile.specs.Limits.{openings_end}
 use Rattle.admission.specs.Safe.{HasRepeat, IsSafeWithin}
@@ -61,6 +61,12 @@ module _ (rules : Rules) (from pending : ℕ) (one other : List Placed) (first :
       (λ slot known.
       same-planned (plan_from rules one from pending) other (n + 1) (λ k s below low. left-instances k s) (λ k s below low. left-releases k s) n slot (omega arith)
       known)
+
+  pub left-missed : (n slot : ℕ) → slot < most_slots
+      → is_missed_at (plan_from rules other from pending) n slot ≡ is_missed_at (plan_from rules one from pending) n slot
+  left-missed n slot known =
+      same-missed (plan_from rules one from pending) other (n + 1) (λ k s below low. left-instances k s) (λ k s below low. left-releases k s) n slot (omega arith)
+      known
 
 -- a state that can be planned from can be planned from where nothing is over
 pub valid-left : (cycle : ℕ) (list : List Placed) (pending : ℕ) → IsValid list cycle pending → IsValid (not_over cycle list) cycle pending

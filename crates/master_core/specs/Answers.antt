@@ -1,6 +1,6 @@
 -- Answers that are not in the history yet.
-use Rattle.std.specs.Prelude.{◌≡◌, ℕ, Bool, false, true, nat_lt, ◌-◌, ◌≤◌, if◌then◌else◌, List, [], Option, Some, None, All, length}
-use Rattle.std.specs.Prelude.{option_map}
+use Rattle.std.specs.Prelude.{◌≡◌, ℕ, Bool, false, true, nat_lt, ◌+◌, ◌-◌, ◌^◌, ◌<◌, ◌≤◌, ◌⊎◌, if◌then◌else◌, List, [], Option, Some}
+use Rattle.std.specs.Prelude.{None, All, length, option_map}
 use Rattle.requirement_table.specs.declared.entries.Placed.{Placed}
 use Rattle.requirement_table.specs.Table.{not_over}
 use Rattle.change_protocol.specs.Applied.{applied}
@@ -16,7 +16,7 @@ use Rattle.master_core.specs.declared.answer.Answer.{Answer}
 use Rattle.master_core.specs.declared.answer.Made.{Made}
 use Rattle.master_core.specs.declared.event.Event.{Event}
 use Rattle.master_core.specs.declared.table.Table.{Table}
-use Rattle.master_core.specs.Cores.{CoreView, kept_by}
+use Rattle.master_core.specs.Cores.{CoreView, kept_by, most_kept}
 use Rattle.master_core.specs.History.{IsRightAnswer, placed_of}
 
 -- what an accepted change makes: the list to which it was applied, to be planned from the cycle `from` on, and the same
@@ -127,3 +127,13 @@ pub record IsAnswerTo (core : CoreView) (answer : Answer) : Type 0 where
       ≡ pending_at (plan_from core.rules core.placed answer.from pending) (core.cycle - answer.from)
   pub verdict : IsVerdict core.rules core.placed pending answer.from core.cycle answer.change answer.verdict
   pub made : AreMadeTo core answer answer.made
+
+-- the list of a core that forgets would have too many entries where the change is accepted
+pub record IsListFull (core : CoreView) (answer : Answer) : Type 0 where
+  pub forgets : core.forgets ≡ true
+  pub long : most_kept < length (kept_by core.forgets answer.from (applied core.placed answer.change))
+
+-- *No room*: the answer accepts the change, and one change more can't be counted, or the list would be too long
+pub record HasNoRoom (core : CoreView) (answer : Answer) : Type 0 where
+  pub accepted : is_accepted answer.verdict ≡ true
+  pub full : (2 ^ 64 ≤ core.accepted + 1) ⊎ IsListFull core answer

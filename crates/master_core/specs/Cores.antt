@@ -108,11 +108,13 @@ opened core = record core {
 -- What holds of every core
 
 -- the rules are in range, no deadline is missed at any later cycle, and the plan repeats within the horizon; the entries
--- have slots of the rules; and the nodes are to learn the list or nothing
+-- have slots and nodes of the rules, as those of changes have that break no rule; and the nodes are to learn the list or
+-- nothing
 pub record IsCore (core : CoreView) : Type 0 where
   pub safe : IsSafeWithin core.rules core.placed core.cycle core.pending
   pub known : core.pending < 2 ^ most_slots
   pub slots : All (λ p. p.entry.slot < core.rules.slots) core.placed
+  pub nodes : All (λ p. p.entry.node < core.rules.nodes) core.placed
   pub to_learn : IfSome core.learned (λ list. list ≡ core.placed)
   pub few : core.forgets ≡ true → length core.placed ≤ most_kept
 

@@ -1,3 +1,4 @@
+pub mod Accepted
 pub mod Answers
 pub mod Apart
 pub mod Calls
@@ -5,6 +6,7 @@ pub mod Certificates
 pub mod CorePlans
 pub mod Cores
 pub mod History
+pub mod Journals
 pub mod Keeping
 pub mod Openings
 pub mod Orders

@@ -1,9 +1,11 @@
 //! Changes that are planned apart from a core.
 
-ghost use Rattle.std.specs.Prelude.{◌≡◌, ◌≤◌, true, IfErr, IfOk, IsTrue};
+ghost use Rattle.std.specs.Prelude.{◌≡◌, ◌≤◌, true, false, IfErr, IfOk, IsTrue};
 ghost use Rattle.profile.specs.Limits.{openings_end};
 ghost use Rattle.requirement_table.specs.Table.{IsWellPlaced};
+ghost use Rattle.change_protocol.specs.Applied.{applied};
 ghost use Rattle.planner_policies.specs.Plan.{IsValid};
+ghost use Rattle.admission.specs.Verdict.{IsInTime, IsTakenWhereDue, plan_from};
 ghost use Rattle.master_core.specs.CorePlans.{IsCorePlan, Leads};
 
 use crate::answer::{Answer, answer_of};
@@ -41,6 +43,10 @@ impl CoreSnapshot {
     /// Only where memory runs out. The snapshot is given back.
     pub fn plan(self, alloc: Global, change: &Change) -> Result<CorePlanned, CoreSnapshot>
         ensures planned { IfOk result (IsCorePlan self change.now) }
+        ensures complete { let state = self.state in
+            let plan = plan_from self.rules (applied self.placed change.now) state.cycle state.pending in
+            IfOk result (λ planned. IsInTime self.rules self.placed state.cycle change.now
+            → IsTakenWhereDue self.rules plan planned.decision.verdict) }
         ensures back { IfErr result (λ snapshot. snapshot ≡ self) }
     {
         let CoreSnapshot { snapshot } = self;
@@ -103,6 +109,7 @@ pub(crate) fn leads(
     requires order { from.now.cycle ≤ to.now.cycle }
     requires near { to.now.cycle ≤ openings_end }
     ensures leads { IfOk result (λ leads. leads ≡ true → Leads rules.now placed.now from.now to.now) }
+    ensures apart { IfOk result (λ leads. leads ≡ false → Leads rules.now placed.now from.now to.now → ⊥) }
 {
     from.pending.known();
     let left = not_over(alloc, placed, from.cycle)?;
@@ -120,6 +127,7 @@ pub(crate) fn leads(
 /// Whether these are the same state.
 fn same_state(one: &PlanState, other: &PlanState) -> bool
     ensures same { IsTrue result → one.now ≡ other.now }
+    ensures all { one.now ≡ other.now → IsTrue result }
 {
     one == other
 }
@@ -127,6 +135,7 @@ fn same_state(one: &PlanState, other: &PlanState) -> bool
 /// Whether these are the same rules.
 pub(crate) fn same_rules(one: &Rules, other: &Rules) -> bool
     ensures same { IsTrue result → one.now ≡ other.now }
+    ensures all { one.now ≡ other.now → IsTrue result }
 {
     one == other
 }
@@ -134,6 +143,7 @@ pub(crate) fn same_rules(one: &Rules, other: &Rules) -> bool
 /// Whether these are the same entries, in the same order.
 pub(crate) fn same_list(one: &[Placed], other: &[Placed]) -> bool
     ensures same { IsTrue result → one.now ≡ other.now }
+    ensures all { one.now ≡ other.now → IsTrue result }
 {
     if one.len() != other.len() {
         return false;
@@ -149,6 +159,7 @@ pub(crate) fn same_list(one: &[Placed], other: &[Placed]) -> bool
 /// Whether these are the same entry.
 fn same_entry(one: &Placed, other: &Placed) -> bool
     ensures same { IsTrue result → one.now ≡ other.now }
+    ensures all { one.now ≡ other.now → IsTrue result }
 {
     one == other
 }

@@ -1,15 +1,16 @@
 //! The core of a master: what it keeps besides its history.
 
-ghost use Rattle.std.specs.Prelude.{◌≡◌, ◌+◌, ◌^◌, ◌<◌, ◌≤◌, ◌++◌, ◌∷◌, [], List, ℕ, true, Some, None, IfOk, IfSome, OnErr, if◌then◌else◌, length};
+ghost use Rattle.std.specs.Prelude.{◌≡◌, ◌+◌, ◌^◌, ◌<◌, ◌≤◌, ◌++◌, ◌∷◌, [], List, ℕ, true, false, Some, None, IfOk, IfSome, OnErr, OnOk, if◌then◌else◌, length};
 ghost use Rattle.profile.specs.Limits.{cycles_end, openings_end};
 ghost use Rattle.change_protocol.specs.Applied.{applied};
 ghost use Rattle.plan_check.specs.PlanKept.{IsTaken};
+ghost use Rattle.plan_check.specs.PlanText.{IsPlanOf, plan_text};
 ghost use Rattle.planner_policies.specs.Plan.{mask_at};
 ghost use Rattle.admission.specs.Certified.{IsCertificateFrom, end_of};
-ghost use Rattle.admission.specs.Verdict.{IsInTime, IsRules, IsTakenWhereDue, plan_from};
-ghost use Rattle.master_core.specs.Answers.{IsAnswerTo, entries_of};
+ghost use Rattle.admission.specs.Verdict.{IsInTime, IsRules, IsTakenWhereDue, is_accepted, plan_from};
+ghost use Rattle.master_core.specs.Answers.{HasNoRoom, IsAnswerTo, entries_of};
 ghost use Rattle.master_core.specs.Apart.{IsPlannable};
-ghost use Rattle.master_core.specs.CorePlans.{CanSettleFrom, IsAnsweredFrom, IsLedTo, snapshot_of_core};
+ghost use Rattle.master_core.specs.CorePlans.{CanSettleFrom, IsAnsweredFrom, IsLedTo, IsSettled, snapshot_of_core};
 ghost use Rattle.master_core.specs.Cores.{IsAnswered, IsCore, IsCoreOrder, IsCoreUpcoming, IsHeld, IsStateOf};
 ghost use Rattle.master_core.specs.Cores.{CoreView, core_of, saved_of, state_of};
 ghost use Rattle.master_core.specs.Cores.{answered_by, most_kept, new_core, onward, opened};
@@ -26,8 +27,8 @@ use crate::planning::plan_next;
 use crate::saved::{Saved, can_keep};
 use crate::table::{Table, list_of};
 use crate::upcoming::Upcoming;
-use admission::laws::{pruned_lists, safe_states};
-use admission::{CertifyFault, Rules, certify_from, safe_list};
+use admission::laws::{certificates_in_range, pruned_lists, safe_states, taken_where_due};
+use admission::{CertifyFault, Rules, Verdict, certify_from, safe_list};
 use change_protocol::Change;
 use plan_check::Certificate;
 use planner_policies::{PlanState, cycle_mask};
@@ -112,13 +113,15 @@ impl Core {
     ///
     /// # Errors
     ///
-    /// Where memory runs out, where 2^64 - 1 changes were accepted, and where the core forgets and its list would have
-    /// more than 4,096 entries. Nothing is changed then, and the call may be made again.
+    /// Where memory runs out, and where there is no room for a change that is accepted: 2^64 - 1 changes were accepted
+    /// before, or the core forgets and its list would have more than 4,096 entries. Other changes are answered then too.
+    /// Nothing is changed, and the call may be made again.
     pub fn submit(&mut self, alloc: Global, change: &Change) -> Result<Answered, AllocError>
         ensures answer { IfOk result (IsAnswered self.old change.now) }
         ensures state { IfOk result (λ answered.
             self.new ≡ answered_by self.old answered.from change.now answered.verdict) }
         ensures same { OnErr result (self.new ≡ self.old) }
+        ensures core { OnOk result (IsCore self.new) }
         ensures complete { let plan = plan_from self.old.rules (applied self.old.placed change.now)
             self.old.cycle self.old.pending in
             IfOk result (λ answered. IsInTime self.old.rules self.old.placed self.old.cycle change.now
@@ -128,10 +131,8 @@ impl Core {
             ++ Submit caller change.now answered.from answered.verdict answered.trail ∷ []) self.new) }
     {
         let answer = self.plan_change(alloc, change)?;
-        if !self.has_room(&answer) {
-            return Err(AllocError);
-        }
-        let (_, answered) = self.put(answer);
+        let answered = self.put_where_room(answer)?;
+        self.known();
         Ok(answered)
     }
 
@@ -142,7 +143,9 @@ impl Core {
     /// Only where memory runs out.
     pub fn snapshot(&self, alloc: Global) -> Result<CoreSnapshot, AllocError>
         ensures snapshot { IfOk result (λ snapshot. snapshot ≡ snapshot_of_core self.now) }
+        ensures plannable { IfOk result IsPlannable }
     {
+        self.known();
         let placed = list_of(alloc, self.table.placed.as_slice())?;
         Ok(CoreSnapshot {
             snapshot: Snapshot {
@@ -154,9 +157,11 @@ impl Core {
         })
     }
 
-    /// Answers a change that was planned apart. Where its plan leads to this core, and no change was accepted since, that
-    /// plan decides, from its cycle on; only a start that has passed since is refused. Else the change is planned anew,
-    /// from the next cycle on. So a plan of another core does no harm.
+    /// Answers a change that was planned apart. Its plan decides exactly where it leads to this core: the rules, the
+    /// entries and the number of accepted changes are those of the snapshot, and the plan from there leads to the next
+    /// cycle and what is pending before it. Then the change is planned from the cycle of the snapshot, and only a start
+    /// that has passed since is refused. Else it is planned anew, from the next cycle on. So a plan of another core does
+    /// no harm.
     ///
     /// # Errors
     ///
@@ -166,6 +171,8 @@ impl Core {
         ensures state { IfOk result (λ answered.
             self.new ≡ answered_by self.old answered.from planned.change answered.verdict) }
         ensures same { OnErr result (self.new ≡ self.old) }
+        ensures core { OnOk result (IsCore self.new) }
+        ensures settled { IfOk result (IsSettled self.old planned) }
         ensures history { IfOk result (λ answered. (history : List Event) (caller : ℕ) → IsStateOf history self.old
             → CanSettleFrom history self.old.forgets planned.snapshot → IsStateOf (history
             ++ Submit caller planned.change answered.from answered.verdict answered.trail ∷ []) self.new) }
@@ -175,12 +182,11 @@ impl Core {
             return self.submit(alloc, &answer.change);
         }
         pruned_lists();
+        taken_where_due();
         let answer = answer.at_next(alloc, self.state.cycle);
         let answer = answer.kept(self.forgets);
-        if !self.has_room(&answer) {
-            return Err(AllocError);
-        }
-        let (_, answered) = self.put(answer);
+        let answered = self.put_where_room(answer)?;
+        self.known();
         Ok(answered)
     }
 
@@ -189,6 +195,7 @@ impl Core {
     fn is_led_to(&self, alloc: Global, snapshot: &Snapshot) -> Result<bool, AllocError>
         requires plannable { IsPlannable snapshot.now }
         ensures led { IfOk result (λ led. led ≡ true → IsLedTo self.now snapshot.now) }
+        ensures apart { IfOk result (λ led. led ≡ false → IsLedTo self.now snapshot.now → ⊥) }
     {
         let placed = self.table.placed.as_slice();
         if snapshot.accepted != self.accepted || snapshot.state.cycle > self.state.cycle {
@@ -222,17 +229,46 @@ impl Core {
         Ok(answer.kept(self.forgets))
     }
 
-    /// Whether one accepted change more can be counted, and the list that the answer makes may be kept.
-    fn has_room(&self, answer: &Answer) -> bool
-        ensures few { result ≡ true → self.now.accepted + 1 < 2 ^ 64 }
-        ensures short { result ≡ true → self.now.forgets ≡ true → entries_of answer.now.made ≤ most_kept }
+    /// Takes what an answer made, where there is room for it. It takes no memory.
+    fn put_where_room(&mut self, answer: Answer) -> Result<Answered, AllocError>
+        requires answer { IsAnswerTo self.old answer }
+        ensures full { OnErr result (HasNoRoom self.old answer) }
+        ensures same { OnErr result (self.new ≡ self.old) }
+        ensures answered { IfOk result (λ answered. answered
+            ≡ record { from = answer.from; verdict = answer.verdict; trail = answer.trail }) }
+        ensures state { OnOk result (self.new ≡ answered_by self.old answer.from answer.change answer.verdict) }
+        ensures history { OnOk result ((history : List Event) (caller : ℕ) → IsStateOf history self.old
+            → IsHeld self.old.forgets answer.from (placed_of history) self.old.placed
+            → IsRightAnswer self.old.rules history answer.change answer.from answer.verdict answer.trail
+            → IsStateOf (history
+            ++ Submit caller answer.change answer.from answer.verdict answer.trail ∷ []) self.new) }
     {
-        self.accepted < u64::MAX && (!self.forgets || answer.entries() <= MOST_KEPT)
+        if !self.can_count(&answer.verdict) || !self.can_list(&answer) {
+            return Err(AllocError);
+        }
+        let (_, answered) = self.put(answer);
+        Ok(answered)
+    }
+
+    /// Whether a change with this verdict can be counted, where it is accepted.
+    fn can_count(&self, verdict: &Verdict) -> bool
+        ensures few { result ≡ true → is_accepted verdict.now ≡ true → self.now.accepted + 1 < 2 ^ 64 }
+        ensures full { result ≡ false → (is_accepted verdict.now ≡ true) × (2 ^ 64 ≤ self.now.accepted + 1) }
+    {
+        !verdict.is_accepted() || self.accepted < u64::MAX
+    }
+
+    /// Whether the list that an answer makes may be kept.
+    fn can_list(&self, answer: &Answer) -> bool
+        ensures short { result ≡ true → self.now.forgets ≡ true → entries_of answer.now.made ≤ most_kept }
+        ensures long { result ≡ false → (self.now.forgets ≡ true) × (most_kept < entries_of answer.now.made) }
+    {
+        !self.forgets || answer.entries() <= MOST_KEPT
     }
 
     /// Takes what an answer made, and gives the change back, with what is answered. It takes no memory.
     pub(crate) fn put(&mut self, answer: Answer) -> (Change, Answered)
-        requires few { self.old.accepted + 1 < 2 ^ 64 }
+        requires few { is_accepted answer.verdict ≡ true → self.old.accepted + 1 < 2 ^ 64 }
         requires short { self.old.forgets ≡ true → entries_of answer.made ≤ most_kept }
         requires answer { IsAnswerTo self.old answer }
         ensures change { result.0 ≡ answer.change }
@@ -351,7 +387,11 @@ impl Core {
         ensures certificate { IfOk result (IsCertificateFrom self.now.rules self.now.placed (state_of self.now)) }
         ensures taken { IfOk result (IsTaken self.now.placed self.now.rules.window) }
         ensures cycles { IfOk result (λ certificate. end_of certificate ≤ cycles_end) }
+        ensures core { IsCore self.now }
+        ensures read { IfOk result (λ certificate. IsPlanOf (plan_text certificate) certificate) }
     {
+        certificates_in_range();
+        self.known();
         let placed = self.table.placed.as_slice();
         match certify_from(alloc, &self.rules, placed, &self.state) {
             Ok(certificate) => Ok(certificate),
@@ -368,7 +408,11 @@ impl Core {
     /// Only where memory runs out.
     pub fn save(&self, alloc: Global) -> Result<Saved, AllocError>
         ensures saved { IfOk result (λ saved. saved ≡ saved_of self.now) }
+        ensures core { IsCore self.now }
+        ensures again { IfOk result (λ saved. core_of saved ≡ self.now) }
     {
+        saved_cores();
+        self.known();
         let placed = list_of(alloc, self.table.placed.as_slice())?;
         Ok(Saved {
             rules: self.rules,
@@ -381,8 +425,9 @@ impl Core {
     }
 
     /// The core that was saved so. The answer is `None` where no core is saved so: where the rules are out of range, a
-    /// deadline would be missed at a later cycle, the plan does not repeat within the horizon, or there are too many
-    /// entries. It takes the time and the memory of an answer to a change.
+    /// deadline would be missed at a later cycle, the plan does not repeat within the horizon, an entry has a slot or a
+    /// node that is none of the rules, or there are too many entries. It takes the time and the memory of an answer to a
+    /// change.
     ///
     /// # Errors
     ///

@@ -11,20 +11,24 @@ ghost use Rattle.admission_rules.specs.declared.Rules.{Rules};
 ghost use Rattle.admission.specs.declared.verdict.Verdict.{Verdict};
 ghost use Rattle.admission.specs.Verdict.{IsRules, IsVerdict, is_accepted};
 ghost use Rattle.master_core.specs.declared.event.Event.{Event};
-ghost use Rattle.master_core.specs.Cores.{CoreView, IsCore, IsCoreOrder, IsStateOf, core_of, onward, saved_of};
+ghost use Rattle.master_core.specs.declared.apart.Snapshot.{Snapshot};
+ghost use Rattle.master_core.specs.CorePlans.{IsLedTo, snapshot_of_core};
+ghost use Rattle.master_core.specs.Cores.{CoreView, IsCore, IsCoreOrder, IsStateOf, answered_by, core_of, onward, opened, saved_of};
 ghost use Rattle.master_core.specs.History.{IsLegal, IsRightAnswer, learned_of, next_of, placed_of, plan_of};
 ghost use Rattle.master_core.specs.Orders.{IsOrder};
 ghost use Rattle.master_core.specs.Openings.{openings_of};
 
 use planner_policies::laws::loops;
 
-/// The placed entries of a legal history are well placed, in slots of the rules, and no deadline of theirs is ever
-/// missed. So what is pending before the next cycle can be planned from.
+/// The placed entries of a legal history are well placed, in slots and of nodes of the rules, and no deadline of theirs
+/// is ever missed. So what is pending before the next cycle can be planned from.
 pub fn legal_histories()
     ensures well_placed { (rules : Rules) (history : List Event)
         → IsLegal rules history → IsWellPlaced (placed_of history) }
     ensures slots { (rules : Rules) (history : List Event)
         → IsLegal rules history → All (λ p. p.entry.slot < rules.slots) (placed_of history) }
+    ensures nodes { (rules : Rules) (history : List Event)
+        → IsLegal rules history → All (λ p. p.entry.node < rules.nodes) (placed_of history) }
     ensures in_time { (rules : Rules) (history : List Event)
         → IsLegal rules history → NeverMisses (plan_of rules (placed_of history)) }
     ensures valid { (rules : Rules) (history : List Event) → IsLegal rules history
@@ -90,4 +94,15 @@ pub fn cores_after_histories()
 /// What is saved of a core is saved of no other one.
 pub fn saved_cores()
     ensures saved { (core : CoreView) → IsCore core → core_of (saved_of core) ≡ core }
+{}
+
+/// The plan from a snapshot leads to the core that it was taken of, and so it is behind each opening. Behind an accepted
+/// change it leads to the core no more.
+pub fn leading_plans()
+    ensures here { (core : CoreView) → IsCore core → IsLedTo core (snapshot_of_core core) }
+    ensures opened { (core : CoreView) (snapshot : Snapshot) → IsCore core → IsLedTo core snapshot
+        → IsLedTo (opened core) snapshot }
+    ensures accepted { (core : CoreView) (snapshot : Snapshot) (from : ℕ) (change : Change) (verdict : Verdict)
+        → is_accepted verdict ≡ true → IsLedTo core snapshot
+        → IsLedTo (answered_by core from change verdict) snapshot → ⊥ }
 {}

@@ -37,10 +37,10 @@ use std::marker::Model;
 #[derive(Drop, Debug)]
 pub struct Master {
     /// It keeps all placed entries.
-    core: Core,
-    history: Vec<Event>,
+    pub(crate) core: Core,
+    pub(crate) history: Vec<Event>,
     /// The number of further events that the history has room for.
-    spare: usize,
+    pub(crate) spare: usize,
 }
 
 impl Model for Master {

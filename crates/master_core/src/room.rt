@@ -6,7 +6,7 @@ use crate::event::Event;
 use std::alloc::AllocError;
 
 /// A history never has as many events: its vector would be larger than memory can be.
-const EVENTS: usize = 1 << 61;
+pub const EVENTS: usize = 1 << 61;
 
 /// Makes room for so many events more. Where memory runs out the history has the room that it had.
 ///

@@ -25,14 +25,18 @@ pub struct Saved {
     pub learns: bool,
 }
 
-/// Whether the entries have slots of the rules, and are no more than a core keeps where it forgets.
+/// Whether the entries have slots and nodes of the rules, and are no more than a core keeps where it forgets.
 pub(crate) fn can_keep(rules: &Rules, placed: &[Placed], forgets: bool) -> bool
     ensures slots { IsTrue result → All (λ p. p.entry.slot < rules.now.slots) placed.now }
+    ensures nodes { IsTrue result → All (λ p. p.entry.node < rules.now.nodes) placed.now }
     ensures few { IsTrue result → forgets ≡ true → length placed.now ≤ most_kept }
     ensures complete { All (λ p. p.entry.slot < rules.now.slots) placed.now
+        → All (λ p. p.entry.node < rules.now.nodes) placed.now
         → (forgets ≡ true → length placed.now ≤ most_kept) → IsTrue result }
 {
-    have_slots(placed, rules.slots) && (!forgets || placed.len() <= MOST_KEPT)
+    have_slots(placed, rules.slots)
+        && have_nodes(placed, rules.nodes)
+        && (!forgets || placed.len() <= MOST_KEPT)
 }
 
 /// Whether all entries have slots below this number.
@@ -40,4 +44,11 @@ fn have_slots(placed: &[Placed], slots: u8) -> bool
     ensures slots { IsTrue result ↔ All (λ p. p.entry.slot < slots) placed.now }
 {
     placed.iter().all(|p| p.entry.slot < slots)
+}
+
+/// Whether all entries have nodes below this number.
+fn have_nodes(placed: &[Placed], nodes: u8) -> bool
+    ensures nodes { IsTrue result ↔ All (λ p. p.entry.node < nodes) placed.now }
+{
+    placed.iter().all(|p| p.entry.node < nodes)
 }

@@ -9,7 +9,7 @@ use Rattle.master_core.specs.Calls.{Call, asked, call_of}
 use Rattle.master_core.specs.declared.event.Event.{Event}
 use Rattle.master_core.specs.declared.event.Event.TheVariants.{Submit, Look, Open}
 use Rattle.master_core.specs.History.{is_open}
-use Rattle.replay_run.specs.Accepted.{all_accepted, refuses_nothing}
+use Rattle.master_core.specs.Accepted.{all_accepted, refuses_nothing}
 
 first-of : (one other : Call) → one ∷ [] ≡ other ∷ [] → one ≡ other
 first-of one other same = cc

@@ -24,7 +24,7 @@ use Rattle.kept_run.specs.Progress.{IsSetting, IsUnderWayWith, Setting}
 use Rattle.kept_run.proofs.Shared.{next_of-push}
 use Rattle.bus_trace.specs.EventRows.{BeginsCycle, rows_of_event, width_told_in}
 use Rattle.bus_trace.specs.Log.{events_rows, triggers_in}
-use Rattle.replay_run.specs.Accepted.{all_accepted, refuses_nothing}
+use Rattle.master_core.specs.Accepted.{all_accepted, refuses_nothing}
 use Rattle.replay_run.specs.declared.bus.Bus.{Bus}
 use Rattle.replay_run.specs.Progress.{BringsOn, CanTellLast, GoesStill, IsBroughtOn, IsGoing, IsRunNext, RunsNext}
 use Rattle.replay_run.proofs.Shared.{distinct}

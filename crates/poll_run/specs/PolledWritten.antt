@@ -7,7 +7,7 @@ use Rattle.system_file.specs.declared.system.System.{System}
 use Rattle.master_core.specs.declared.event.Event.{Event}
 use Rattle.ftt_io.specs.Puts.{Puts, PutsPrefix}
 use Rattle.bus_trace.specs.Log.{events_rows}
-use Rattle.replay_run.specs.Accepted.{all_accepted}
+use Rattle.master_core.specs.Accepted.{all_accepted}
 use Rattle.poll_run.specs.PolledRun.{IsPolledBegun, IsPolledRun}
 use Rattle.poll_run.specs.RequestRows.{IsPolledText}
 

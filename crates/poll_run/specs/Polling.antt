@@ -8,7 +8,7 @@ use Rattle.master_core.specs.Openings.{openings_of}
 use Rattle.kept_run.specs.Progress.{IsSetting, IsUnderWayWith, Setting}
 use Rattle.bus_trace.specs.EventRows.{rows_of_event}
 use Rattle.bus_trace.specs.Log.{events_rows, triggers_in}
-use Rattle.replay_run.specs.Accepted.{all_accepted}
+use Rattle.master_core.specs.Accepted.{all_accepted}
 use Rattle.replay_run.specs.Progress.{EndsIn, HeardAt, IsGoing}
 use Rattle.replay_run.specs.declared.cut.Cut.{Cut}
 use Rattle.sporadic_poll.specs.declared.stream.Stream.{Stream}

@@ -9,7 +9,7 @@ use Rattle.system_file.specs.declared.system.System.{System}
 use Rattle.master_core.specs.declared.event.Event.{Event}
 use Rattle.master_core.specs.Openings.{openings_of}
 use Rattle.bus_trace.specs.Log.{events_rows, log_text}
-use Rattle.replay_run.specs.Accepted.{all_accepted}
+use Rattle.master_core.specs.Accepted.{all_accepted}
 use Rattle.replay_run.specs.Progress.{HeardAt}
 use Rattle.replay_run.specs.declared.cut.Cut.{Cut}
 use Rattle.replay_run.specs.declared.cut.Cut.TheVariants.{Write}

@@ -15,9 +15,10 @@ use cycle_engine::laws::numbers_are_whole;
 use cycle_layout::Layout;
 use kept_run::laws::{beginning, calls_between, cycles_run};
 use master_core::laws::{legal_histories, opened_cycles};
+use master_core::refuses_nothing;
 use profile::MOST_FRAMES;
+use replay_run::Bus;
 use replay_run::laws::{opened_frames, rows_appended};
-use replay_run::{Bus, refuses_nothing};
 use sporadic_poll::laws::{one_ride, rides_of_openings};
 use sporadic_poll::{Rides, Stream};
 use std::alloc::{AllocError, Global};
@@ -117,8 +118,7 @@ impl Polled {
         calls_between();
         rows_appended();
         self.bus.answer(alloc, caller, act)?;
-        let history = self.bus.master.history();
-        self.quiet = self.quiet & refuses_nothing(&history[history.len() - 1]);
+        self.quiet = self.quiet & refuses_nothing(self.bus.master.last());
         Ok(())
     }
 }

@@ -51,7 +51,7 @@ fn open_next<L: Listener>(polled: &mut Polled, listener: &mut L, alloc: Global) 
     tell_last(
         listener,
         alloc,
-        polled.bus.master.history(),
+        &polled.bus.master,
         polled.frames.as_slice(),
     )?;
     Ok(())
@@ -76,7 +76,7 @@ fn answer_act<L: Listener>(
         (IsCutBehind L.heard L.broke polled.old listener.old (asked caller act.now ∷ []) listener.new) }
 {
     polled.answer(alloc, caller, act)?;
-    tell_last(listener, alloc, polled.bus.master.history(), &[])?;
+    tell_last(listener, alloc, &polled.bus.master, &[])?;
     Ok(())
 }
 

@@ -38,9 +38,9 @@ use Rattle.replay_run.proofs.EventRows.{called-rows, not-first, opened-rows, tri
 pub answered : CallsBetween → (setting : Setting) (trace : List TimedFrame) (run after : Bus) (call : Event) → is_open call ≡ false
     → after.master.rules ≡ run.master.rules → after.master.history ≡ run.master.history ++ call ∷ []
     → (IsPlainlyLegal run.master.rules run.master.history → IsPlainlyLegal after.master.rules after.master.history)
-    → after.nodes ≡ run.nodes → after.spare ≡ run.spare → after.trace ≡ run.trace
+    → after.nodes ≡ run.nodes → after.spare ≡ run.spare → after.trace ≡ run.trace → after.master.keeps ≡ run.master.keeps
     → IsGoing setting trace run → IsBroughtOn setting trace run after []
-answered laws setting trace run after call closed same_rules history keeps same_nodes same_spare same_trace going =
+answered laws setting trace run after call closed same_rules history keeps same_nodes same_spare same_trace same_events going =
     let rules : after.master.rules ≡ setting.rules = same_rules ∙ going.same_rules in
     let plain : IsPlainlyLegal setting.rules after.master.history =
     subst (λ r. IsPlainlyLegal r after.master.history) rules (keeps (subst (λ r. IsPlainlyLegal r run.master.history) (sym going.same_rules) going.plain)) in
@@ -56,6 +56,7 @@ answered laws setting trace run after call closed same_rules history keeps same_
           (way-called laws setting run.master.history (call ∷ []) trace run.nodes one whole going.way));
       triggers = going.triggers ∙ sym next;
       frames = subst (λ t. KeepsFrames t trace) (sym same_trace) going.frames;
+      events = same_events ∙ going.events ∙ ap (λ t. is_some t) (sym same_trace);
       spare = subst (λ n. HaveSpare n after.nodes.nodes) (sym same_spare) (subst (λ nodes. HaveSpare run.spare nodes.nodes) (sym same_nodes) going.spare);
     } in
     let same : trace ≡ trace ++ [] = sym (append-nil trace) in
@@ -194,8 +195,9 @@ pub ran : CyclesSent → (setting : Setting) (trace : List TimedFrame) (run afte
     → IsOrder run.master.rules run.master.history order → RanOrder order run.nodes after.nodes frames
     → after.master.rules ≡ run.master.rules → after.master.history ≡ run.master.history ++ Open order.cycle order.mask ∷ []
     → (IsPlainlyLegal run.master.rules run.master.history → IsPlainlyLegal after.master.rules after.master.history) → (KeepsFrames run.trace trace → KeepsFrames after.trace (trace ++ frames)) → (HaveSpare run.spare run.nodes.nodes → HaveSpare after.spare after.nodes.nodes)
+    → after.master.keeps ≡ run.master.keeps → is_some after.trace ≡ is_some run.trace
     → IsGoing setting trace run → IsBroughtOn setting trace run after frames
-ran laws setting trace run after order frames right did same_rules history keeps kept spared going =
+ran laws setting trace run after order frames right did same_rules history keeps kept spared same_events same_kept going =
     let rules : after.master.rules ≡ setting.rules = same_rules ∙ going.same_rules in
     let ordered : IsOrder setting.rules run.master.history order = subst (λ r. IsOrder r run.master.history order) going.same_rules right in
     let way = way-run laws.run setting run.master.history trace frames run.nodes after.nodes order ordered did going.way in
@@ -212,6 +214,7 @@ ran laws setting trace run after order frames right did same_rules history keeps
         way = subst (λ h. IsOnTheWay setting h (trace ++ frames) after.nodes) (sym history) way;
         triggers = ran-triggers trace frames (placed_of run.master.history) order sent ∙ ap (λ n. n + 1) going.triggers ∙ sym next;
         frames = kept going.frames;
+        events = same_events ∙ going.events ∙ sym same_kept;
         spare = spared going.spare;
       };
       rows = λ before legal placed cycle.
@@ -230,10 +233,11 @@ few run frames can count =
 -- A run that only made room
 
 pub still : (run after : Bus) → after.master.rules ≡ run.master.rules → after.master.history ≡ run.master.history
+    → after.master.keeps ≡ run.master.keeps
     → ((trace : List TimedFrame) → KeepsFrames run.trace trace → KeepsFrames after.trace trace) → is_some after.trace ≡ is_some run.trace
     → after.nodes.layout ≡ run.nodes.layout → states_of after.nodes.nodes ≡ states_of run.nodes.nodes
     → ((setting : Setting) (trace : List TimedFrame) → IsGoing setting trace run → HaveSpare after.spare after.nodes.nodes) → GoesStill run after
-still run after rules history frames kept layout states spare = record {
+still run after rules history events frames kept layout states spare = record {
   same = history;
   kept = kept;
   going = λ setting trace going. record {
@@ -243,6 +247,7 @@ still run after rules history frames kept layout states spare = record {
         (way-same setting run.master.history trace run.nodes after.nodes layout states going.way);
     triggers = going.triggers ∙ ap next_of (sym history);
     frames = frames trace going.frames;
+    events = events ∙ going.events ∙ sym kept;
     spare = spare setting trace going;
   };
 }
@@ -254,12 +259,14 @@ less-spare entries spare nodes fewer have = All-weaker (λ node. spare ≤ node.
 -- A run of no calls yet
 
 pub begins-going : (setting : Setting) (bus : Bus) → IsSetting setting → IsUnderWay setting [] [] → AreReady setting [] [] bus.nodes
-    → bus.master.rules ≡ setting.rules → bus.master.history ≡ [] → KeepsFrames bus.trace [] → bus.spare ≡ 0 → IsGoing setting [] bus
-begins-going setting bus known way ready rules empty frames none = record {
+    → bus.master.rules ≡ setting.rules → bus.master.history ≡ [] → KeepsFrames bus.trace [] → bus.master.keeps ≡ is_some bus.trace
+    → bus.spare ≡ 0 → IsGoing setting [] bus
+begins-going setting bus known way ready rules empty frames events none = record {
   same_rules = rules;
   plain = subst (IsPlainlyLegal setting.rules) (sym empty) (record { legal = tt; now = tt });
   way = subst (λ h. IsOnTheWay setting h [] bus.nodes) (sym empty) (record { known = known; under_way = way; ready = ready });
   triggers = sym (ap next_of empty);
   frames = frames;
+  events = events;
   spare = λ k d within. omega (arith, none);
 }

@@ -1,7 +1,8 @@
 -- What proofs of the crates above may take from here: lemmas about the definitions of this crate.
-use Rattle.std.proofs.Common.{◌≡◌, ◌≤◌, ◌-◌, ℕ, zero, suc, List, [], drop, true, nat_eq, refl, sym, ◌∙◌, subst, inl, inr, arith}
+use Rattle.std.proofs.Common.{◌≡◌, ◌∙◌, ◌≤◌, ℕ, List, [], ◌∷◌, ◌++◌, length, true, nat_eq, sym, ap, subst, inl, inr, arith}
 use Rattle.std.specs.List.{Any, list_any}
 use Rattle.std.proofs.lemmas.Bool.{eqb-true}
+use Rattle.std.proofs.lemmas.List.{length-append}
 use Rattle.std.proofs.lemmas.List.Folds.{Any-from_list_any}
 use Rattle.cycle_layout.specs.Layout.{IsSlots}
 use Rattle.requirement_table.specs.Slots.{most_slots}
@@ -9,8 +10,7 @@ use Rattle.async_window.specs.declared.request.Owner.{Owner}
 use Rattle.admission.specs.Verdict.{IsRules}
 use Rattle.system_file.specs.SystemFile.{IsSystem}
 use Rattle.system_file.specs.declared.system.System.{System}
-use Rattle.bus_trace.specs.LastRows.{HasLast, rows_in}
-use Rattle.bus_trace.specs.Recent.{LastRows}
+use Rattle.master_core.specs.declared.event.Event.{Event}
 pub use Rattle.replay_run.proofs.Fronts.{cut-at, started-all, started-early, started-within}
 pub use Rattle.replay_run.proofs.Openings.{cycle-at, distinct, openings_of-append, so-many}
 
@@ -36,11 +36,6 @@ owner-of owners id is =
     let found = Any-from_list_any (λ owner. nat_eq owner.id id) owners is in
     (found.0, found.1, found.2, found.3, eqb-true _ _ found.4)
 
-drop-none : {A : Type 0} (n : ℕ) → drop {A = A} n [] ≡ []
-drop-none zero = refl
-drop-none (suc n) = refl
-
--- before any rows none are kept
-pub none-last : (recent : LastRows) → recent.rows ≡ [] → HasLast [] recent
-unfolding rows_in
-none-last recent none = record { whole = refl; rows = none ∙ sym (drop-none (0 - recent.most)) }
+-- a history that ends in an event has one
+pub some-event : (history : List Event) (event : Event) (before : List Event) → history ≡ before ++ event ∷ [] → 1 ≤ length history
+some-event history event before is = let more = ap length is ∙ length-append before (event ∷ []) in omega (arith, more)

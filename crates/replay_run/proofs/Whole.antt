@@ -1,6 +1,6 @@
 -- A run whose rows were heard, as a whole.
 use Rattle.std.proofs.Common.{◌≡◌, ℕ, List, [], ◌++◌, map, refl, sym, ap, ◌∙◌, subst, inl, inr}
-use Rattle.std.specs.Prelude.{◌⊎◌}
+use Rattle.std.specs.Prelude.{◌⊎◌, is_some}
 use Rattle.std.specs.List.{flat_map}
 use Rattle.can_frame.specs.declared.data_frame.TimedFrame.{TimedFrame}
 use Rattle.async_window.specs.declared.request.Request.{Request}
@@ -111,3 +111,8 @@ module _ {L : Type 0} (Heard Broke : L → List ℕ → L → Type 0) (nothing :
   pub same-rules : (run after : Bus) (middle : L) → IsGoing (setting_of system requests) [] run → run.master.history ≡ []
       → GoesOn Heard run told (flat_map calls_of steps) after middle → after.master.rules ≡ system.rules
   same-rules run after middle going empty on = (on.logged start_at (begins-logged run going empty)).going.same_rules
+
+  -- and it keeps all events where frames are kept
+  pub same-events : (run after : Bus) (middle : L) → IsGoing (setting_of system requests) [] run → run.master.history ≡ []
+      → GoesOn Heard run told (flat_map calls_of steps) after middle → after.master.keeps ≡ is_some run.trace
+  same-events run after middle going empty on = (on.logged start_at (begins-logged run going empty)).going.events ∙ on.kept

@@ -4,8 +4,7 @@ use Rattle.std.proofs.Common.{◌≡◌, List, [], ◌++◌, Option, refl, sym, 
 use Rattle.ftt_io.specs.Counts.{Rose}
 use Rattle.ftt_io.specs.Puts.{Puts, PutsPrefix}
 use Rattle.ftt_io.proofs.Shared.{Puts-append, Puts-nothing, PutsPrefix-append, Stays-same}
-use Rattle.bus_trace.specs.LastRows.{HasLast}
-use Rattle.bus_trace.specs.Recent.{LastRows}
+use Rattle.bus_trace.specs.LastRows.{IsTailOf}
 
 -- no row was heard meanwhile: where the first relation held of some rows, whoever heard the first of them, the second
 -- does now
@@ -56,17 +55,21 @@ module _ {O : Type 0} (told_bytes : O → Option (List ℕ)) (faults : O → ℕ
 
 -- The last rows
 
--- they are the last ones of a text, and then of the text with these rows behind it
-pub record Keeps (old : LastRows) (rows : List ℕ) (new : LastRows) : Type 0 where
-  pub most : new.most ≡ old.most
-  pub last : (past : List ℕ) → HasLast past old → HasLast (past ++ rows) new
+-- what was kept of a text, so many of its last rows, is kept of the text with these rows behind it
+pub record Keeps (was : ℕ) (old rows : List ℕ) (is : ℕ) (new : List ℕ) : Type 0 where
+  pub most : is ≡ was
+  pub last : (past : List ℕ) → IsTailOf past was old → IsTailOf (past ++ rows) was new
 
-pub keeps-nothing : (one : LastRows) → Keeps one [] one
-keeps-nothing one = record { most = refl; last = λ past has. subst (λ text. HasLast text one) (sym (append-nil past)) has }
+pub keeps-nothing : (most : ℕ) (one : List ℕ) → Keeps most one [] most one
+keeps-nothing most one = record { most = refl; last = λ past has. subst (λ text. IsTailOf text most one) (sym (append-nil past)) has }
 
-pub keeps-more : (one other third : LastRows) (rows later : List ℕ) → Keeps one rows other → Keeps other later third
-    → Keeps one (rows ++ later) third
-keeps-more one other third rows later first second = record {
+pub keeps-more : (was : ℕ) (one : List ℕ) (is : ℕ) (other : List ℕ) (will : ℕ) (third rows later : List ℕ)
+    → Keeps was one rows is other → Keeps is other later will third → Keeps was one (rows ++ later) will third
+keeps-more was one is other will third rows later first second = record {
   most = second.most ∙ first.most;
-  last = λ past has. subst (λ text. HasLast text third) (append_assoc past rows later) (second.last (past ++ rows) (first.last past has));
+  last = λ past has.
+      let now : IsTailOf (past ++ rows) is other = subst (λ most. IsTailOf (past ++ rows) most other) (sym first.most) (first.last past has) in
+      let then : IsTailOf ((past ++ rows) ++ later) was third =
+      subst (λ most. IsTailOf ((past ++ rows) ++ later) most third) first.most (second.last (past ++ rows) now) in
+      subst (λ text. IsTailOf text was third) (append_assoc past rows later) then;
 }

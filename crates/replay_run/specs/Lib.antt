@@ -1,4 +1,3 @@
-pub mod Accepted
 pub mod Answered
 pub mod Asked
 pub mod AskedTable

@@ -32,13 +32,15 @@ setting_of system requests =
 
 -- A master and its bus
 
--- master and nodes are those of a run in this setting with this trace, and the frames that are kept are its
+-- master and nodes are those of a run in this setting with this trace, the frames that are kept are its, and all events
+-- are kept where frames are
 pub record IsGoing (setting : Setting) (trace : List TimedFrame) (bus : Bus) : Type 0 where
   pub same_rules : bus.master.rules ≡ setting.rules
   pub plain : IsPlainlyLegal setting.rules bus.master.history
   pub way : IsOnTheWay setting bus.master.history trace bus.nodes
   pub triggers : triggers_in trace ≡ next_of bus.master.history
   pub frames : KeepsFrames bus.trace trace
+  pub events : bus.master.keeps ≡ is_some bus.trace
   pub spare : HaveSpare bus.spare bus.nodes.nodes
 
 -- a run is going in some setting, with some trace

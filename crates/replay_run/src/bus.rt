@@ -23,7 +23,7 @@ use change_protocol::{Act, Change};
 use cycle_engine::laws::{next_cycle, numbers_are_whole};
 use cycle_engine::{CycleFrames, Nodes, run_cycle_into};
 use kept_run::laws::{beginning, calls_between, cycles_run, orders, requests_of_owners};
-use master_core::Master;
+use master_core::LeanMaster;
 use master_core::laws::opened_cycles;
 use profile::MOST_FRAMES;
 use std::alloc::{AllocError, Global};
@@ -33,8 +33,8 @@ use system_file::System;
 /// A master and the nodes of its bus, behind some calls.
 #[derive(Drop)]
 pub struct Bus {
-    /// The master, with all calls and their answers.
-    pub master: Master,
+    /// The master. It keeps all calls and their answers where the frames are kept, and else the last one alone.
+    pub master: LeanMaster,
     /// The nodes, with the requests that are not sent.
     nodes: Nodes,
     /// The nodes can learn a list of so many entries without memory.
@@ -111,14 +111,20 @@ pub fn in_ranges(system: &System, requests: &[Request])
     requests_of_owners();
 }
 
-/// A master that has answered no call. Memory for the openings and looks of some steps is taken at once, where there is
-/// any: a hint, without which the history grows as it needs.
-fn fresh_master(alloc: Global, system: &System, steps: &[Step]) -> Result<Master, AllocError>
+/// A master that has answered no call. Where all events are kept, memory for the openings and looks of some steps is
+/// taken at once, where there is any: a hint, without which the history grows as it needs.
+fn fresh_master(
+    alloc: Global,
+    system: &System,
+    keeps: bool,
+    steps: &[Step],
+) -> Result<LeanMaster, AllocError>
     requires system { IsSystem system.now }
     ensures rules { IfOk result (λ master. master.rules ≡ system.now.rules) }
     ensures history { IfOk result (λ master. master.history ≡ []) }
+    ensures keeps { IfOk result (λ master. master.keeps ≡ keeps) }
 {
-    let mut master = Master::new(alloc, system.rules)?;
+    let mut master = LeanMaster::new(alloc, system.rules, keeps)?;
     let _ = master.reserve(alloc, count_plain_calls(steps));
     Ok(master)
 }
@@ -148,8 +154,9 @@ pub fn fresh_nodes(
 }
 
 impl Bus {
-    /// A run of no calls yet, on the bus of a system with these requests. The frames are kept where `keeps` says so.
-    /// Where there is memory for it, the history has room for the openings and looks of these steps, at most 65,536.
+    /// A run of no calls yet, on the bus of a system with these requests. The frames and all events are kept where
+    /// `keeps` says so. Then, where there is memory for it, there is room for the openings and looks of these steps, at
+    /// most 65,536.
     ///
     /// # Errors
     ///
@@ -172,7 +179,7 @@ impl Bus {
         in_ranges(system, requests);
         Ok(Bus {
             nodes: fresh_nodes(alloc, system, requests)?,
-            master: fresh_master(alloc, system, steps)?,
+            master: fresh_master(alloc, system, keeps, steps)?,
             spare: 0,
             segment: CycleFrames::none(alloc),
             room: Vec::new(alloc),

@@ -4,7 +4,6 @@
 //! Cycles are elementary cycles, counted from 0; times are bit times.
 #![tactic(auto)]
 
-mod accepted;
 mod answering;
 mod asked;
 mod bus;
@@ -16,7 +15,6 @@ mod listener;
 mod logging;
 mod replaying;
 
-pub use accepted::{all_accepted, refuses_nothing};
 pub use answering::answer;
 pub use asked::asked_table;
 pub use bus::{Bus, fresh_nodes, in_ranges};

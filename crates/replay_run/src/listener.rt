@@ -1,15 +1,14 @@
 //! What hears the rows of a run while it goes on: a sink, the last rows, or nothing.
 
-ghost use Rattle.std.specs.Prelude.{◌≡◌, ◌++◌, [], List, ℕ, IfOk, OnErr, OnOk};
-ghost use Rattle.std.specs.List.{concat};
+ghost use Rattle.std.specs.Prelude.{◌≡◌, ◌++◌, [], List, ℕ, IfOk, OnErr, OnOk, Some};
 ghost use Rattle.bus_trace.specs.EventRows.{HasItsFrames, rows_of_event};
-ghost use Rattle.bus_trace.specs.LastRows.{AreRows, HasLast};
+ghost use Rattle.bus_trace.specs.LastRows.{AreRows, IsTailOf, last_rows};
 ghost use Rattle.bus_trace.specs.Log.{end_row};
 ghost use Rattle.bus_trace.specs.Logged.{IsNear};
 ghost use Rattle.replay_run.specs.Heard.{PassesOn};
 
 use bus_trace::laws::rows_are_whole;
-use bus_trace::{Gathered, Recent, push_rows, put_end_row, put_event_rows};
+use bus_trace::{Gathered, last_from, put_end_row, put_event_rows};
 use can_frame::TimedFrame;
 use ftt_io::{Failed, Sink};
 use master_core::Event;
@@ -127,28 +126,31 @@ impl<'a, O: Sink> Listener for ToSink<'a, O> {
     ) };
 }
 
-/// The last rows. It never holds more of the log than these and the rows of one event.
+/// From so many bytes on the rows before the last ones are dropped, beside twice the last ones.
+const LEAST_TEXT: usize = 65_536;
+
+/// The last rows. It holds no more of the log than twice these, 64 KiB, and the rows of one event.
 #[derive(Drop)]
 pub struct Tail {
-    recent: Recent,
-    /// The rows of the event that was heard last.
+    /// The last rows, and maybe some before them.
     rows: Gathered,
+    /// How many rows are the last ones.
+    most: usize,
+    /// At how many bytes the rows before the last ones are dropped.
+    limit: usize,
 }
 
 impl Tail {
-    /// No rows yet, and room for the last `rows` of them.
-    ///
-    /// # Errors
-    ///
-    /// Only where memory runs out.
-    pub fn new(alloc: Global, rows: usize) -> Result<Tail, AllocError>
-        ensures none { IfOk result (λ tail. HasLast [] tail.recent) }
-        ensures most { IfOk result (λ tail. tail.recent.most ≡ rows) }
+    /// No rows yet; the last `rows` of them are kept.
+    pub fn new(alloc: Global, rows: usize) -> Tail
+        ensures none { IsTailOf [] result.most result.rows.text.items }
+        ensures most { result.most ≡ rows }
     {
-        Ok(Tail {
-            recent: Recent::new(alloc, rows)?,
+        Tail {
             rows: Gathered::behind(Vec::new(alloc)),
-        })
+            most: rows,
+            limit: LEAST_TEXT,
+        }
     }
 
     /// The last rows as one text.
@@ -157,22 +159,43 @@ impl Tail {
     ///
     /// Only where memory runs out.
     pub fn text(&self, alloc: Global) -> Result<Vec<u8>, AllocError>
-        ensures text { IfOk result (λ text. text.items ≡ concat self.now.recent.rows) }
+        ensures last { IfOk result (λ text. AreRows self.now.rows.text.items
+            → text.items ≡ last_rows (Some self.now.most) self.now.rows.text.items) }
+        ensures tail { IfOk result (λ text. AreRows self.now.rows.text.items
+            → IsTailOf self.now.rows.text.items self.now.most text.items) }
     {
-        self.recent.text(alloc)
+        let text = self.rows.text.as_slice();
+        text[last_from(text, self.most)..].to_vec(alloc)
     }
-}
 
-/// Puts the rows of a text behind the last ones. The text is whole rows.
-fn push(recent: &mut Recent, alloc: Global, text: &[u8]) -> Result<(), Failed>
-    requires whole { AreRows text.now }
-    ensures last { OnOk result ((past : List ℕ)
-        → HasLast past recent.old → HasLast (past ++ text.now) recent.new) }
-    ensures most { OnOk result (recent.new.most ≡ recent.old.most) }
-{
-    match push_rows(recent, alloc, text) {
-        Ok(()) => Ok(()),
-        Err(_) => Err(Failed),
+    /// Puts the rows of an event behind the others.
+    fn add(&mut self, event: &Event, frames: &[TimedFrame]) -> Result<(), Failed>
+        requires near { IsNear event.now }
+        requires frames { HasItsFrames event.now frames.now }
+        ensures most { self.new.most ≡ self.old.most }
+        ensures rows { OnOk result
+            (self.new.rows.text.items ≡ self.old.rows.text.items ++ rows_of_event event.now frames.now) }
+    {
+        put_event_rows(&mut self.rows, event, frames)
+    }
+
+    /// Drops the rows before the last ones, where the text is long.
+    fn cut(&mut self, alloc: Global) -> Result<(), Failed>
+        ensures most { self.new.most ≡ self.old.most }
+        ensures kept { OnOk result (AreRows self.old.rows.text.items
+            → IsTailOf self.old.rows.text.items self.old.most self.new.rows.text.items) }
+    {
+        if self.rows.text.len() < self.limit {
+            return Ok(());
+        }
+        match self.text(alloc) {
+            Ok(text) => {
+                self.limit = text.len().saturating_mul(2).saturating_add(LEAST_TEXT);
+                self.rows = Gathered::behind(text);
+                Ok(())
+            }
+            Err(_) => Err(Failed),
+        }
     }
 }
 
@@ -180,22 +203,20 @@ impl Listener for Tail {
     ghost use Rattle.std.specs.Prelude.{⊤};
     ghost use Rattle.replay_run.specs.Heard.{Keeps, keeps-more, keeps-nothing};
 
-    ghost heard = { λ old rows new. Keeps old.recent rows new.recent };
+    ghost heard = { λ old rows new. Keeps old.most old.rows.text.items rows new.most new.rows.text.items };
 
     ghost broke = { λ old rows new. ⊤ };
 
     fn hear(&mut self, alloc: Global, event: &Event, frames: &[TimedFrame]) -> Result<(), Failed> {
         rows_are_whole();
-        self.rows.text.clear();
-        put_event_rows(&mut self.rows, event, frames)?;
-        push(&mut self.recent, alloc, self.rows.text.as_slice())
+        self.add(event, frames)?;
+        self.cut(alloc)
     }
 
     fn hear_end(&mut self, alloc: Global, next: u64) -> Result<(), Failed> {
         rows_are_whole();
-        self.rows.text.clear();
         put_end_row(&mut self.rows, next)?;
-        push(&mut self.recent, alloc, self.rows.text.as_slice())
+        self.cut(alloc)
     }
 
     /// The last rows are known at the end alone, so it passes on nothing before.
@@ -203,10 +224,11 @@ impl Listener for Tail {
         Ok(())
     }
 
-    ghost nothing = { λ one. keeps-nothing one.recent };
+    ghost nothing = { λ one. keeps-nothing one.most one.rows.text.items };
 
     ghost more = { λ one other third rows later first second.
-        keeps-more one.recent other.recent third.recent rows later first second };
+        keeps-more one.most one.rows.text.items other.most other.rows.text.items third.most third.rows.text.items
+        rows later first second };
 
     ghost broke_later = { λ one other third rows later first second. tt };
 }

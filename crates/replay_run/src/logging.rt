@@ -22,7 +22,7 @@ use can_frame::TimedFrame;
 use change_protocol::Act;
 use ftt_io::Failed;
 use kept_run::laws::{beginning, promise};
-use master_core::Event;
+use master_core::LeanMaster;
 use std::alloc::Global;
 use steps_file::Step;
 use system_file::System;
@@ -34,7 +34,7 @@ struct Logged<'a, L> {
     listener: &'a mut L,
 }
 
-/// Tells the rows of a history's last event and of its frames.
+/// Tells the rows of a master's last event and of its frames.
 ///
 /// # Errors
 ///
@@ -42,15 +42,14 @@ struct Logged<'a, L> {
 pub fn tell_last<L: Listener>(
     listener: &mut L,
     alloc: Global,
-    history: &[Event],
+    master: &LeanMaster,
     frames: &[TimedFrame],
 ) -> Result<(), Failed>
-    requires last { CanTellLast history.now frames.now }
-    ensures heard { OnOk result (HearsLast L.heard history.now frames.now listener.old listener.new) }
-    ensures broke { OnErr result (HearsLast L.broke history.now frames.now listener.old listener.new) }
+    requires last { CanTellLast master.now.history frames.now }
+    ensures heard { OnOk result (HearsLast L.heard master.now.history frames.now listener.old listener.new) }
+    ensures broke { OnErr result (HearsLast L.broke master.now.history frames.now listener.old listener.new) }
 {
-    let event = &history[history.len() - 1];
-    listener.hear(alloc, event, frames)
+    listener.hear(alloc, master.last(), frames)
 }
 
 /// Opens the next cycle, runs it on the bus, and tells its rows. All memory is taken first.
@@ -63,7 +62,7 @@ fn open_next<L: Listener>(bus: &mut Bus, listener: &mut L, alloc: Global) -> Res
 {
     bus.make_ready(alloc)?;
     bus.run_next();
-    tell_last(listener, alloc, bus.master.history(), bus.segment.frames())?;
+    tell_last(listener, alloc, &bus.master, bus.segment.frames())?;
     Ok(())
 }
 
@@ -85,7 +84,7 @@ fn answer_act<L: Listener>(
         (IsCutBehind L.heard L.broke bus.old listener.old (asked caller act.now ∷ []) listener.new) }
 {
     bus.answer(alloc, caller, act)?;
-    tell_last(listener, alloc, bus.master.history(), &[])?;
+    tell_last(listener, alloc, &bus.master, &[])?;
     Ok(())
 }
 
@@ -170,8 +169,8 @@ fn log_calls<L: Listener>(
 }
 
 /// Answers the steps of a file, in their order, on the bus of a system with these requests, and has the log heard
-/// meanwhile: the rows of each event when it was answered and its cycle was run, and then the last row. The frames are
-/// kept where `keeps` says so.
+/// meanwhile: the rows of each event when it was answered and its cycle was run, and then the last row. The frames and
+/// all events are kept where `keeps` says so.
 ///
 /// # Errors
 ///
@@ -192,6 +191,7 @@ pub fn log_steps<L: Listener>(
         bus.master.history bus.trace listener.old listener.new) }
     ensures rules { IfOk result (λ bus. bus.master.rules ≡ system.now.rules) }
     ensures kept { IfOk result (λ bus. is_some bus.trace ≡ keeps) }
+    ensures events { IfOk result (λ bus. bus.master.keeps ≡ keeps) }
     ensures cut { IfErr result
         (IsCutOff L.heard L.broke system.now steps.now requests.now listener.old listener.new) }
 {

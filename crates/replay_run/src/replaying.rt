@@ -15,7 +15,7 @@ use crate::logging::log_steps;
 use async_window::Request;
 use can_frame::TimedFrame;
 use ftt_io::Sink;
-use master_core::Master;
+use master_core::{LeanMaster, Master};
 use std::alloc::{AllocError, Global};
 use steps_file::Step;
 use system_file::System;
@@ -32,8 +32,8 @@ pub struct Run {
 /// A run behind its last step, whose log was written.
 #[derive(Drop)]
 pub struct Written {
-    /// The master, with all calls and their answers.
-    pub master: Master,
+    /// The master. It keeps all calls and their answers where the frames are kept, and else the last one alone.
+    pub master: LeanMaster,
     /// The frames on the bus, in the order of their starts, where they are kept.
     pub trace: Option<Vec<TimedFrame>>,
 }
@@ -67,7 +67,10 @@ pub fn replay(
 {
     match log_steps(alloc, system, steps, requests, true, &mut Silence) {
         Ok(Bus { master, trace, .. }) => match trace {
-            Some(trace) => Ok(Run { master, trace }),
+            Some(trace) => match master.into_master() {
+                Some(master) => Ok(Run { master, trace }),
+                None => unreachable!(),
+            },
             None => unreachable!(),
         },
         Err(_) => Err(AllocError),
@@ -76,7 +79,8 @@ pub fn replay(
 
 /// Answers the steps of a file, in their order, on the bus of a system with these requests, and puts the log meanwhile:
 /// the rows of each event when it was answered and its cycle was run, those of a cycle together, and then the last
-/// row. The frames are kept where `keeps` says so. Else it takes memory for the master, the nodes and one cycle alone.
+/// row. The frames and all events are kept where `keeps` says so. Else it takes memory for the placed entries, the
+/// nodes, the last event and one cycle alone.
 ///
 /// # Errors
 ///
@@ -98,6 +102,7 @@ pub fn replay_to<O: Sink>(
         (O.told_bytes out.old) (O.told_bytes out.new)) }
     ensures rules { IfOk result (λ run. run.master.rules ≡ system.now.rules) }
     ensures kept { IfOk result (λ run. is_some run.trace ≡ keeps) }
+    ensures events { IfOk result (λ run. run.master.keeps ≡ keeps) }
     ensures cut { OnErr result (IsCut system.now steps.now requests.now (O.told_bytes out.old) (O.told_bytes out.new)) }
     ensures stopped { IsErrOf result Cut.Memory
         → IsStopped system.now steps.now requests.now (O.told_bytes out.old) (O.told_bytes out.new) }
@@ -112,8 +117,8 @@ pub fn replay_to<O: Sink>(
 }
 
 /// Answers the steps of a file, in their order, on the bus of a system with these requests, and keeps so many of the
-/// last rows of the log. The frames are kept where `keeps` says so. Else it takes memory for the master, the nodes, one
-/// cycle, the rows of one event, and the last rows alone.
+/// last rows of the log. The frames and all events are kept where `keeps` says so. Else it takes memory for the placed
+/// entries, the nodes, one event with its rows, one cycle, and the last rows alone.
 ///
 /// # Errors
 ///
@@ -133,8 +138,9 @@ pub fn replay_tail(
         tailed.run.master.history tailed.run.trace rows tailed.rows.items) }
     ensures rules { IfOk result (λ tailed. tailed.run.master.rules ≡ system.now.rules) }
     ensures kept { IfOk result (λ tailed. is_some tailed.run.trace ≡ keeps) }
+    ensures events { IfOk result (λ tailed. tailed.run.master.keeps ≡ keeps) }
 {
-    let mut tail = Tail::new(alloc, rows)?;
+    let mut tail = Tail::new(alloc, rows);
     match log_steps(alloc, system, steps, requests, keeps, &mut tail) {
         Ok(Bus { master, trace, .. }) => Ok(Tailed {
             run: Written { master, trace },

@@ -209,3 +209,9 @@ written-length saved bytes are =
     let all = bytes-length (numbers_of saved) in
     let more = list-length saved.placed in
     ap length are.are ∙ omega (arith, all, more)
+
+-- bytes are those of one state
+pub same-state : (one other : Saved) (bytes : List ℕ) → AreBytesOf one bytes → AreBytesOf other bytes → one ≡ other
+same-state one other bytes first second =
+    let numbers = sym (numbers-in one bytes first) ∙ numbers-in other bytes second in
+    sym (state-in one first.typed) ∙ ap (λ ns. state_in (drop 1 ns)) numbers ∙ state-in other second.typed

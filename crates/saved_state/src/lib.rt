@@ -2,6 +2,7 @@
 #![tactic(auto)]
 
 mod crc;
+pub mod laws;
 mod numbers;
 mod reading;
 mod writing;

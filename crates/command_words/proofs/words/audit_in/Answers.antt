@@ -1,7 +1,7 @@
 use Rattle.std.proofs.Common.{◌∙◌, ap, refl}
 use Rattle.clap.specs.Words.{is_simple_and_free}
 use Rattle.command_words.specs.Words.{audit_app, audit_meant}
-use Rattle.command_words.proofs.WordLemmas.{asked_for, audit_is_simple}
+use Rattle.command_words.proofs.WordLemmas.{asked_for, audit_is_simple, refused}
 use Rattle.command_words.proofs.words.audit_in.Goals as goal
 
 pub parsed-requires : goal.parsed-requires
@@ -15,3 +15,8 @@ returns c =
           (rw (c.needed_word.ensures.word, c.needed_word-2.ensures.word, c.needed_word-3.ensures.word, c.word.ensures.word) refl);
       stop = tt;
     }
+
+pub returns-in_err-matches-clause-stop : goal.returns-in_err-matches-clause-stop
+returns-in_err-matches-clause-stop c =
+    refused audit_app audit_meant _ _ _ _ c.in_ok-command.ensures.app c.from_residual-in_err-matches.ensures.1
+    c.in_err-matches.ensures.stop

@@ -1,7 +1,7 @@
 use Rattle.std.proofs.Common.{◌∙◌, ap, refl}
 use Rattle.clap.specs.Words.{is_simple_and_free}
 use Rattle.command_words.specs.Words.{live_app, run_meant}
-use Rattle.command_words.proofs.WordLemmas.{asked_for, live_is_simple}
+use Rattle.command_words.proofs.WordLemmas.{asked_for, live_is_simple, refused}
 use Rattle.command_words.proofs.words.live_words.Goals as goal
 
 pub parsed-requires : goal.parsed-requires
@@ -15,3 +15,8 @@ returns c =
           c.run_words.ensures.run;
       stop = tt;
     }
+
+pub returns-in_err-matches-clause-stop : goal.returns-in_err-matches-clause-stop
+returns-in_err-matches-clause-stop c =
+    refused live_app run_meant _ _ _ _ c.in_ok-command.ensures.app c.from_residual-in_err-matches.ensures.1
+    c.in_err-matches.ensures.stop

@@ -1,5 +1,5 @@
-use Rattle.std.proofs.Common.{◌∙◌, ap, rules}
-use Rattle.fttcan_top.specs.Output.{status_of}
+use Rattle.std.proofs.Common.{◌∙◌, ap, if◌then◌else◌, rules}
+use Rattle.fttcan_top.specs.declared.status.Status.TheVariants.{Done, Refused}
 use Rattle.fttcan_top.proofs.StreamedLemmas.{log-told, report-cut, run-cut}
 use Rattle.fttcan_top.proofs.streamed.write_log.Goals as goal
 
@@ -21,6 +21,6 @@ returns-in_err-put_report-clause-cut g c =
 pub returns-clause-tells : goal.returns-clause-tells
 returns-clause-tells g c =
     log-told c.args.job.now c.args.report c.system-system.result.now c.steps.result.now c.as_slice-owners.result.now c.requests-requests.result.now
-    c.system-system.ensures.system c.steps.ensures.steps c.as_slice-owners.ensures.list c.requests-requests.ensures.requests c.in_ok-run.run' c.status_of.result
+    c.system-system.ensures.system c.steps.ensures.steps c.as_slice-owners.ensures.list c.requests-requests.ensures.requests c.in_ok-run.run' c.status_when.result
     (g.O.Sink.told_bytes c.args.out.now) (g.O.Sink.told_bytes c.replay_to.new.out) (g.O.Sink.told_bytes c.put_report.new.out)
-    c.in_ok-run.ensures.written c.in_ok-run.ensures.kept c.in_ok-put_report.ensures.all (c.status_of.ensures.status ∙ ap status_of c.history.ensures.list)
+    c.in_ok-run.ensures.written c.in_ok-run.ensures.kept c.in_ok-put_report.ensures.all (c.status_when.ensures.status ∙ ap (λ b. if b then Done else Refused) c.all_accepted-accepted.ensures.test)

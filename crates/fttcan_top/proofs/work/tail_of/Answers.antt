@@ -1,6 +1,6 @@
-use Rattle.std.proofs.Common.{◌≡◌, ◌++◌, ◌∙◌, ap, rules, subst}
+use Rattle.std.proofs.Common.{◌≡◌, ◌++◌, ◌∙◌, ap, if◌then◌else◌, rules, subst}
 use Rattle.replay_run.specs.Written.{HasLastRows}
-use Rattle.fttcan_top.specs.Output.{status_of}
+use Rattle.fttcan_top.specs.declared.status.Status.TheVariants.{Done, Refused}
 use Rattle.fttcan_top.proofs.StreamedLemmas.{tail-told}
 use Rattle.fttcan_top.proofs.work.tail_of.Goals as goal
 
@@ -14,7 +14,7 @@ returns-clause-log c =
     let last = subst (λ n. HasLastRows system steps requests found.run.master.history found.run.trace n found.rows.items) count c.in_ok-run.ensures.tail in
     tail-told c.args.job.now c.args.report system steps c.as_slice-owners.result.now requests
     c.system-system.ensures.system c.steps.ensures.steps c.as_slice-owners.ensures.list c.requests-requests.ensures.requests
-    found.run c.args.count c.status_of.result found.rows.items c.in_ok-behind.behind.items c.extend_from_slice.new.self.items
+    found.run c.args.count c.status_when.result found.rows.items c.in_ok-behind.behind.items c.extend_from_slice.new.self.items
     last c.in_ok-run.ensures.kept c.in_ok-behind.ensures.report
     (c.in_ok-extend_from_slice.ensures.items ∙ ap (λ l. found.rows.items ++ l) c.as_slice.ensures.value)
-    (c.status_of.ensures.status ∙ ap status_of c.history.ensures.list)
+    (c.status_when.ensures.status ∙ ap (λ b. if b then Done else Refused) c.all_accepted-accepted.ensures.test)

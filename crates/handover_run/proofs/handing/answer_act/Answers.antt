@@ -1,6 +1,5 @@
-use Rattle.std.proofs.Common.{◌∷◌, [], rules, subst}
+use Rattle.std.proofs.Common.{◌∷◌, [], rules}
 use Rattle.master_core.specs.Calls.{asked}
-use Rattle.replay_run.specs.Progress.{HearsLast}
 use Rattle.handover_run.proofs.Cutting.{can-hand, cut-before, cut-behind, heard-on}
 use Rattle.handover_run.proofs.handing.answer_act.Goals as goal
 
@@ -18,7 +17,7 @@ returns-in_err-tell_last-clause-stops g c =
     let now = c.tell_last.new.listener in
     let cut = cut-behind g.L.Listener.heard g.L.Listener.broke g.met.L.Listener.broke_later c.args.handed.now c.answer.new.self [] told now
     (asked c.args.caller c.args.act.now ∷ []) c.in_ok-answer.ensures.on
-    (subst (λ h. HearsLast g.L.Listener.broke h [] told now) c.history.ensures.list c.in_err-tell_last.ensures.broke) in
+    c.in_err-tell_last.ensures.broke in
     search (rules, cut)
 
 pub returns-clause-goes_on : goal.returns-clause-goes_on
@@ -27,5 +26,5 @@ returns-clause-goes_on g c =
     let now = c.tell_last.new.listener in
     heard-on g.L.Listener.heard g.L.Listener.broke g.met.L.Listener.more c.args.handed.now c.answer.new.self c.answer.new.self [] told now
     (asked c.args.caller c.args.act.now ∷ []) c.in_ok-answer.ensures.on
-    (subst (λ h. HearsLast g.L.Listener.heard h [] told now) c.history.ensures.list c.in_ok-tell_last.ensures.heard)
+    c.in_ok-tell_last.ensures.heard
     (λ setting whole trace is. is)

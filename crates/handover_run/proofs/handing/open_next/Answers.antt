@@ -17,7 +17,7 @@ returns-in_err-tell_last-clause-stops g c =
     let told = c.args.listener.now in
     let now = c.tell_last.new.listener in
     let after = c.run_next.new.self in
-    let hears = subst (λ h. HearsLast g.L.Listener.broke h c.frames.result.now told now) c.history.ensures.list c.in_err-tell_last.ensures.broke in
+    let hears = c.in_err-tell_last.ensures.broke in
     let cut = cut-behind g.L.Listener.heard g.L.Listener.broke g.met.L.Listener.broke_later c.args.handed.now after after.bus.segment told now
     (opens ∷ []) c.in_ok-run_next.ensures.on
     (subst (λ l. HearsLast g.L.Listener.broke after.bus.master.history l told now) c.frames.ensures.list hears) in
@@ -28,7 +28,7 @@ returns-clause-goes_on g c =
     let told = c.args.listener.now in
     let now = c.tell_last.new.listener in
     let after = c.run_next.new.self in
-    let hears = subst (λ h. HearsLast g.L.Listener.heard h c.frames.result.now told now) c.history.ensures.list c.in_ok-tell_last.ensures.heard in
+    let hears = c.in_ok-tell_last.ensures.heard in
     heard-on g.L.Listener.heard g.L.Listener.broke g.met.L.Listener.more c.args.handed.now after c.hand_over.new.self after.bus.segment told now
     (opens ∷ []) c.in_ok-run_next.ensures.on
     (subst (λ l. HearsLast g.L.Listener.heard after.bus.master.history l told now) c.frames.ensures.list hears) c.hand_over.ensures.same

@@ -19,7 +19,7 @@ pub returns-in_err-tell_last-clause-stops : goal.returns-in_err-tell_last-clause
 returns-in_err-tell_last-clause-stops g c =
     let told = c.args.listener.now in
     let now = c.tell_last.new.listener in
-    let hears = subst (λ h. HearsLast g.L.Listener.broke h [] told now) c.history.ensures.list c.in_err-tell_last.ensures.broke in
+    let hears = c.in_err-tell_last.ensures.broke in
     let cut = cut-behind g.L.Listener.heard g.L.Listener.broke g.met.L.Listener.broke_later c.args.polled.now c.answer.new.self [] told now
     (asked c.args.caller c.args.act.now ∷ []) c.in_ok-answer.ensures.on hears in
     caused c.from_residual-in_err-tell_last.result (IsCutBehind g.L.Listener.heard g.L.Listener.broke c.args.polled.now told (asked c.args.caller c.args.act.now ∷ []) now) Write
@@ -30,6 +30,6 @@ returns-clause-goes_on g c =
     let told = c.args.listener.now in
     let now = c.tell_last.new.listener in
     let can = can-poll g.L.Listener.heard g.L.Listener.broke c.args.polled.now told c.requires.ready in
-    let hears = subst (λ h. HearsLast g.L.Listener.heard h [] told now) c.history.ensures.list c.in_ok-tell_last.ensures.heard in
+    let hears = c.in_ok-tell_last.ensures.heard in
     heard-on g.L.Listener.heard g.L.Listener.broke g.met.L.Listener.more c.args.polled.now c.answer.new.self [] told now
     (asked c.args.caller c.args.act.now ∷ []) can c.in_ok-answer.ensures.on hears

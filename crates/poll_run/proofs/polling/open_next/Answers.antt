@@ -20,7 +20,7 @@ returns-in_err-tell_last-clause-stops g c =
     let told = c.args.listener.now in
     let now = c.tell_last.new.listener in
     let after = c.run_next.new.self in
-    let hears = subst (λ h. HearsLast g.L.Listener.broke h c.as_slice.result.now told now) c.history.ensures.list c.in_err-tell_last.ensures.broke in
+    let hears = c.in_err-tell_last.ensures.broke in
     let cut = cut-behind g.L.Listener.heard g.L.Listener.broke g.met.L.Listener.broke_later c.args.polled.now after after.frames.items told now
     (opens ∷ []) c.in_ok-run_next.ensures.on
     (subst (λ l. HearsLast g.L.Listener.broke after.bus.master.history l told now) c.as_slice.ensures.value hears) in
@@ -33,6 +33,6 @@ returns-clause-goes_on g c =
     let now = c.tell_last.new.listener in
     let after = c.run_next.new.self in
     let can = can-poll g.L.Listener.heard g.L.Listener.broke c.args.polled.now told c.requires.ready in
-    let hears = subst (λ h. HearsLast g.L.Listener.heard h c.as_slice.result.now told now) c.history.ensures.list c.in_ok-tell_last.ensures.heard in
+    let hears = c.in_ok-tell_last.ensures.heard in
     heard-on g.L.Listener.heard g.L.Listener.broke g.met.L.Listener.more c.args.polled.now after after.frames.items told now (opens ∷ []) can
     c.in_ok-run_next.ensures.on (subst (λ l. HearsLast g.L.Listener.heard after.bus.master.history l told now) c.as_slice.ensures.value hears)

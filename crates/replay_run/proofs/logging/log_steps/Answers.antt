@@ -1,6 +1,6 @@
-use Rattle.std.proofs.Common.{inl, inr, rules}
+use Rattle.std.proofs.Common.{inl, inr, rules, ◌∙◌}
 use Rattle.replay_run.specs.Progress.{setting_of}
-use Rattle.replay_run.proofs.Whole.{begins-logged, cut-at_end, cut-short, heard-all, not-begun, same-rules, start_at}
+use Rattle.replay_run.proofs.Whole.{begins-logged, cut-at_end, cut-short, heard-all, not-begun, same-events, same-rules, start_at}
 use Rattle.replay_run.proofs.logging.log_steps.Goals as goal
 
 pub returns-in_err-bus-clause-cut : goal.returns-in_err-bus-clause-cut
@@ -39,3 +39,9 @@ pub returns-clause-rules : goal.returns-clause-rules
 returns-clause-rules g c =
     same-rules g.L.Listener.heard g.L.Listener.broke g.met.L.Listener.nothing (record { kept = c.promise.ensures.kept }) c.args.system.now c.args.steps.now c.args.requests.now
     c.args.listener.now c.in_ok-bus.bus c.log_calls.new.bus c.log_calls.new.listener c.in_ok-bus.ensures.going c.in_ok-bus.ensures.empty c.in_ok-log_calls.ensures.goes_on
+
+pub returns-clause-events : goal.returns-clause-events
+returns-clause-events g c =
+    same-events g.L.Listener.heard g.L.Listener.broke g.met.L.Listener.nothing (record { kept = c.promise.ensures.kept }) c.args.system.now c.args.steps.now c.args.requests.now
+    c.args.listener.now c.in_ok-bus.bus c.log_calls.new.bus c.log_calls.new.listener c.in_ok-bus.ensures.going c.in_ok-bus.ensures.empty c.in_ok-log_calls.ensures.goes_on
+    ∙ c.in_ok-bus.ensures.kept

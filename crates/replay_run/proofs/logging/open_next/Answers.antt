@@ -15,7 +15,7 @@ returns-in_err-tell_last-clause-stops g c =
     let now = c.tell_last.new.listener in
     let after = c.run_next.new.self in
     let still = c.make_ready.ensures.still in
-    let hears = subst (λ h. HearsLast g.L.Listener.broke h c.frames.result.now told now) c.history.ensures.list c.in_err-tell_last.ensures.broke in
+    let hears = c.in_err-tell_last.ensures.broke in
     let cut = cut-behind g.L.Listener.heard g.L.Listener.broke g.met.L.Listener.broke_later c.args.bus.now after after.segment told now (opens ∷ [])
     (still-on c.args.bus.now c.make_ready.new.self after after.segment still c.run_next.ensures.on)
     (c.run_next.ensures.calls ∙ ap (λ h. map call_of h ++ opens ∷ []) still.same)
@@ -28,7 +28,7 @@ returns-clause-goes_on g c =
     let now = c.tell_last.new.listener in
     let after = c.run_next.new.self in
     let still = c.make_ready.ensures.still in
-    let hears = subst (λ h. HearsLast g.L.Listener.heard h c.frames.result.now told now) c.history.ensures.list c.in_ok-tell_last.ensures.heard in
+    let hears = c.in_ok-tell_last.ensures.heard in
     heard-on g.L.Listener.heard g.L.Listener.broke g.met.L.Listener.more c.args.bus.now after after.segment told now (opens ∷ [])
     (still-on c.args.bus.now c.make_ready.new.self after after.segment still c.run_next.ensures.on)
     (c.run_next.ensures.calls ∙ ap (λ h. map call_of h ++ opens ∷ []) still.same) (c.run_next.ensures.kept ∙ still.kept)

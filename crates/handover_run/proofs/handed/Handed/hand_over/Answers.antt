@@ -7,7 +7,7 @@ pub returns-in-Some-clause-same : goal.returns-in-Some-clause-same
 returns-in-Some-clause-same c = λ setting whole trace is.
     let run = c.args.self.now in
     subst
-    (λ standby. IsHanded setting whole trace (record run { bus = record run.bus { master = c.take_over.result }; standby = standby }))
+    (λ standby. IsHanded setting whole trace (record run { bus = record run.bus { master = c.of.result }; standby = standby }))
     (sym c.take.ensures.after)
     (taken-over
     (record {
@@ -17,8 +17,9 @@ returns-in-Some-clause-same c = λ setting whole trace is.
       openings = c.one_core.ensures.openings;
       order = c.one_core.ensures.order;
     })
-    run c.in-Some.standby c.take_over.result (sym c.take.ensures.value ∙ c.in-Some.is) c.take_over.ensures.rules c.take_over.ensures.history
-    c.take_over.ensures.plain setting whole trace is)
+    run c.in-Some.standby c.of.result (sym c.take.ensures.value ∙ c.in-Some.is) (c.of.ensures.rules ∙ c.take_over.ensures.rules)
+    (c.of.ensures.history ∙ c.take_over.ensures.history) (rw (c.of.ensures.rules, c.of.ensures.history) c.take_over.ensures.plain)
+    (c.of.ensures.keeps ∙ c.keeps-keeps.ensures.keeps) setting whole trace is)
 
 pub returns-in-Some-clause-next : goal.returns-in-Some-clause-next
 returns-in-Some-clause-next c =
@@ -30,4 +31,4 @@ returns-in-Some-clause-next c =
       openings = c.one_core.ensures.openings;
       order = c.one_core.ensures.order;
     })
-    c.args.self.now c.in-Some.standby c.take_over.result (sym c.take.ensures.value ∙ c.in-Some.is) c.take_over.ensures.history
+    c.args.self.now c.in-Some.standby c.of.result (sym c.take.ensures.value ∙ c.in-Some.is) (c.of.ensures.history ∙ c.take_over.ensures.history)

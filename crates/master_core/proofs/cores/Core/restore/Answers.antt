@@ -7,6 +7,7 @@ invariant_of-result c =
     let list = rw c.in-Some.is at c.in_ok-safe_list.ensures.same in
     let safe = rw (c.in-Some.is, c.into_vec.ensures.list) at c.in_ok-safe_list.ensures.safe in
     let slots = rw c.as_slice.ensures.list at c.if-not-can_keep.ensures.slots in
+    let nodes = rw c.as_slice.ensures.list at c.if-not-can_keep.ensures.nodes in
     let few = rw c.as_slice.ensures.list at c.if-not-can_keep.ensures.few in
     rw (
       c.in_ok-table.ensures.placed,
@@ -17,13 +18,14 @@ invariant_of-result c =
       c.as_slice-2.ensures.list,
       list,
       c.into_vec.ensures.list,
-    ) (core-tested c.args.saved safe c.known.ensures.below (slots refl) (few refl), record { passed = omega arith; left = refl })
+    ) (core-tested c.args.saved safe c.known.ensures.below (slots refl) (nodes refl) (few refl), record { passed = omega arith; left = refl })
 
 pub returns-clause-found : goal.returns-clause-found
 returns-clause-found c =
     let list = rw c.in-Some.is at c.in_ok-safe_list.ensures.same in
     let safe = rw (c.in-Some.is, c.into_vec.ensures.list) at c.in_ok-safe_list.ensures.safe in
     let slots = rw c.as_slice.ensures.list at c.if-not-can_keep.ensures.slots in
+    let nodes = rw c.as_slice.ensures.list at c.if-not-can_keep.ensures.nodes in
     let few = rw c.as_slice.ensures.list at c.if-not-can_keep.ensures.few in
     rw (
       c.in_ok-table.ensures.placed,
@@ -32,4 +34,4 @@ returns-clause-found c =
       c.as_slice-2.ensures.list,
       list,
       c.into_vec.ensures.list,
-    ) (refl, core-tested c.args.saved safe c.known.ensures.below (slots refl) (few refl))
+    ) (refl, core-tested c.args.saved safe c.known.ensures.below (slots refl) (nodes refl) (few refl))

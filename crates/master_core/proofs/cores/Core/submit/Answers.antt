@@ -11,4 +11,4 @@ returns-clause-complete c =
     (λ (a : Answered). IsInTime c.args.self.now.rules c.args.self.now.placed c.args.self.now.cycle c.args.change.now
     → IsTakenWhereDue c.args.self.now.rules
     (plan_from c.args.self.now.rules (applied c.args.self.now.placed c.args.change.now) c.args.self.now.cycle c.args.self.now.pending) a.verdict)
-    (sym c.put-answered.ensures.answered) c.in_ok-answer.ensures.complete
+    (sym c.in_ok-answered.ensures.answered) c.in_ok-answer.ensures.complete

@@ -1,7 +1,6 @@
 use Rattle.std.proofs.Common.{ap, refl, ◌∙◌}
 use Rattle.std.specs.Prelude.{◌&&◌}
-use Rattle.replay_run.specs.Accepted.{refuses_nothing}
-use Rattle.poll_run.proofs.Calls.{last-event}
+use Rattle.master_core.specs.Accepted.{refuses_nothing}
 use Rattle.poll_run.proofs.Carrying.{answered-on}
 use Rattle.poll_run.proofs.polled.Polled.answer.Goals as goal
 
@@ -12,6 +11,5 @@ returns-clause-on c = λ setting streams trace is.
     c.args.caller c.args.act.now c.in_ok-answer.ensures.on c.in_ok-answer.ensures.calls refl refl refl
     (λ event ends. ap (λ b. c.args.self.now.quiet && b)
     (c.refuses_nothing.ensures.test
-    ∙ ap refuses_nothing (last-event _ c.args.self.now.bus.master.history c.history-history.result.now event c.index-history-history.result
-    (c.history-history.ensures.list ∙ ends) c.index-history-history.is)))
+    ∙ ap refuses_nothing (c.last.ensures.last c.args.self.now.bus.master.history event ends)))
     is

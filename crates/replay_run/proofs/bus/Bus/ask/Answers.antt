@@ -10,4 +10,4 @@ returns-clause-on c = λ setting trace going.
     answered (record { under_way = c.calls_between.ensures.under_way; ready = c.calls_between.ensures.ready }) setting trace c.args.self.now
     (record c.args.self.now { master = c.submit.new.self })
     (Submit c.args.caller c.args.change.now (next_of c.args.self.now.master.history) c.in_ok-submit.field-0 trail) refl
-    c.submit.ensures.rules event c.submit.ensures.plain refl refl refl going
+    c.submit.ensures.rules event c.submit.ensures.plain refl refl refl c.submit.ensures.keeps going

@@ -1,4 +1,4 @@
-use Rattle.std.proofs.Common.{refl, subst}
+use Rattle.std.proofs.Common.{refl, subst, sym, ◌∙◌}
 use Rattle.replay_run.specs.Progress.{setting_of}
 use Rattle.replay_run.specs.Written.{KeepsFrames}
 use Rattle.replay_run.proofs.Going.{begins-going}
@@ -9,4 +9,4 @@ returns-clause-going c =
     begins-going (setting_of c.args.system.now c.args.requests.now) _ c.in_ranges.ensures.setting
     (c.beginning.ensures.under_way (setting_of c.args.system.now c.args.requests.now)) c.in_ok-fresh_nodes.ensures.ready
     c.in_ok-fresh_master.ensures.rules c.in_ok-fresh_master.ensures.history
-    (subst (KeepsFrames c.kept_frames.result) c.new-2.ensures.items c.kept_frames.ensures.frames) refl
+    (subst (KeepsFrames c.kept_frames.result) c.new-2.ensures.items c.kept_frames.ensures.frames) (c.in_ok-fresh_master.ensures.keeps ∙ sym c.kept_frames.ensures.kept) refl

@@ -33,7 +33,7 @@ returns-clause-on c = λ setting trace going.
     })
     c.open-order.ensures.rules c.open-order.ensures.event c.open-order.ensures.plain
     (λ kept. subst (λ l. KeepsFrames c.keep.new.trace (trace ++ l)) (c.frames.ensures.list ∙ c.exchange.ensures.taken) (c.keep.ensures.frames trace kept))
-    (c.run_cycle_into.ensures.spare c.args.self.now.spare)
+    (c.run_cycle_into.ensures.spare c.args.self.now.spare) c.open-order.ensures.keeps c.keep.ensures.kept
     going)
 
 pub returns-clause-last : goal.returns-clause-last

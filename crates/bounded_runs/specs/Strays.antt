@@ -1,0 +1,57 @@
+-- The first request of a list that does not belong to streams, and why. Times are bit times.
+use Rattle.std.specs.Prelude.{◌≡◌, ℕ, ◌+◌, ◌-◌, ◌<◌, ◌≤◌, ◌==◌, ◌&&◌, nat_le, nat_lt, Bool, List, [], All, Any, filter, length, map, slice_get, slice_index, take, None, Some}
+use Rattle.std.specs.List.{find}
+use Rattle.async_window.specs.declared.request.Request.{Request}
+use Rattle.async_window.specs.Waiting.{requests_of}
+use Rattle.async_bound.specs.declared.stream.Stream.{Stream}
+use Rattle.bounded_runs.specs.Requests.{AreOfStreams}
+use Rattle.bounded_runs.specs.declared.of_streams.StrayWhy.{StrayWhy}
+use Rattle.bounded_runs.specs.declared.of_streams.StrayWhy.TheVariants.{Unknown, Long, Early, Close}
+use Rattle.bounded_runs.specs.declared.of_streams.StrayFault.{StrayFault}
+use Rattle.bounded_runs.specs.declared.of_streams.StrayFault.TheVariants.{Stray, Memory}
+
+-- the streams of an identifier, in their order
+abbrev pub streams_of : List Stream → ℕ → List Stream
+streams_of streams id = filter (λ stream. stream.id == id) streams
+
+-- when the requests of an identifier arrive, in their order
+abbrev pub arrivals_of : List Request → ℕ → List ℕ
+arrivals_of requests id = map (λ request. request.at) (requests_of requests id)
+
+-- some stream allows frames of so many bytes
+abbrev pub Allows : List Stream → ℕ → Type 0
+Allows streams count = Any (λ stream. count ≤ stream.bytes) streams
+
+-- what arrives then, behind earlier arrivals, comes less than the least distance behind the one a burst before it
+abbrev pub is_close : List ℕ → ℕ → Stream → Bool
+is_close arrived at stream =
+    nat_le stream.burst (length arrived) && nat_lt (at - slice_index arrived (length arrived - stream.burst)) stream.gap
+
+-- why a request belongs to none of the streams of its identifier, behind the earlier arrivals of that identifier
+abbrev pub Strays : List Stream → List ℕ → Request → StrayWhy → Type 0
+Strays own arrived request Unknown = own ≡ []
+Strays own arrived request (Long stream) =
+    (slice_get own 0 ≡ Some stream) × All (λ other. other.bytes < length request.frame.bytes) own
+Strays own arrived request (Early stream) =
+    (slice_get own 0 ≡ Some stream) × Allows own (length request.frame.bytes) × Any (λ before. request.at < before) arrived
+Strays own arrived request (Close stream) =
+    Allows own (length request.frame.bytes) × All (λ before. before ≤ request.at) arrived × (find (is_close arrived request.at) own ≡ Some stream)
+
+-- and when it belongs to them
+pub record Follows (own : List Stream) (arrived : List ℕ) (request : Request) : Type 0 where
+  pub allowed : Allows own (length request.frame.bytes)
+  pub behind : All (λ before. before ≤ request.at) arrived
+  pub apart : find (is_close arrived request.at) own ≡ None
+
+-- the requests before this place belong to the streams, with the one at the place they do not, and why
+pub record IsFirstStray (streams : List Stream) (requests : List Request) (place : ℕ) (why : StrayWhy) : Type 0 where
+  pub request : Request
+  pub there : slice_get requests place ≡ Some request
+  pub before : AreOfStreams streams (take place requests)
+  pub no_more : AreOfStreams streams (take (place + 1) requests) → ⊥
+  pub strays : Strays (streams_of streams request.frame.identifier) (arrivals_of (take place requests) request.frame.identifier) request why
+
+-- want of memory says nothing of the requests
+abbrev pub Faults : List Stream → List Request → StrayFault → Type 0
+Faults streams requests (Stray place why) = IsFirstStray streams requests place why
+Faults streams requests Memory = Unit {0}

@@ -1,0 +1,50 @@
+//! How long asynchronous frames wait at most.
+
+ghost use Rattle.std.specs.Prelude.{◌≡◌, ◌≢◌, ℕ, ◌≤◌, Some, length, slice_get};
+ghost use Rattle.async_bound.specs.declared.stream.Stream.{Stream as StreamOf};
+ghost use Rattle.async_bound.specs.Bound.{Fits, IsLeastFitting};
+ghost use Rattle.fttcan_c.specs.Bounds.{IsBoundAsked};
+ghost use Rattle.fttcan_c.specs.Plain.{layout_of};
+
+use crate::frames::layout_in;
+use crate::plain::FttLayout;
+use crate::refusal::{OK, Refusal};
+use async_bound::{Stream, are_streams, start_bound};
+
+/// The most streams of a call.
+const MOST_STREAMS: usize = 2_048;
+
+/// Within how many bit times of its arrival each request of the stream at the place `which` starts at the latest, where
+/// all requests belong to the streams: the least number that fits. It answers `No` where none up to the stream's least
+/// distance does.
+#[unsafe(no_mangle)]
+pub extern "C" fn fttcan_async_bound(
+    layout: &FttLayout,
+    streams: &[Stream],
+    which: usize,
+    start: &mut u64,
+) -> u32
+    ensures found { result ≡ 0 → IsBoundAsked layout.now streams.now which
+        × ((stream : StreamOf) → slice_get streams.now which ≡ Some stream
+        → IsLeastFitting (layout_of layout.now) streams.now stream start.new) }
+    ensures none { result ≡ 10 → IsBoundAsked layout.now streams.now which × (start.new ≡ start.old)
+        × ((stream : StreamOf) (span : ℕ) → slice_get streams.now which ≡ Some stream → span ≤ stream.gap
+        → Fits (layout_of layout.now) streams.now stream span → ⊥) }
+    ensures refused { result ≢ 0 → result ≢ 10 → (result ≡ 2) × (start.new ≡ start.old)
+        × (IsBoundAsked layout.now streams.now which → ⊥) }
+{
+    if streams.len() > MOST_STREAMS || which >= streams.len() || !are_streams(streams) {
+        return Refusal::Argument.status();
+    }
+    let made = match layout_in(layout) {
+        Ok(made) => made,
+        Err(refusal) => return refusal.status(),
+    };
+    match start_bound(&made, streams, &streams[which]) {
+        Some(found) => {
+            *start = found;
+            OK
+        }
+        None => Refusal::No.status(),
+    }
+}
