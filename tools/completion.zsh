@@ -15,11 +15,12 @@ _fttcan_words() {
     'fttmodel --policy') printf %s 'rm dm edf' ;;
     'fttmodel --fill') printf %s 'prefix skip' ;;
     'fttmodel --slots') printf %s '40 96' ;;
-    'fttlint') printf %s '--help --plan --streams --wishes --log --words --live --replay --all --version' ;;
-    'fttsearch') printf %s '--help --window --policy --fill --deadline --period --part --join --csv --resume --svg --jobs --version' ;;
+    'fttlint') printf %s '--help --plan --streams --wishes --log --bounds --words --live --replay --all --version' ;;
+    'fttsearch') printf %s '--help --cycle-us --kbits --slots --window --policy --fill --deadline --bounds --turnaround --horizon --refine --headroom --add --rounding --period --part --join --csv --resume --svg --engine --offsets --out --keep --seconds --rounds --seed --scheduler --tls-ca --tls-cert --tls-key --jobs --version' ;;
+    'fttsearch --engine') printf %s 'module program' ;;
     'fttlog FORM') printf %s 'say late svg html json accepted candump pcap from-candump conform bits' ;;
     'fttlog say') printf %s '--help --kbits --names --steps --all' ;;
-    'fttlog late') printf %s '--help --kbits --names --cycle --requests --steps --streams --svg' ;;
+    'fttlog late') printf %s '--help --kbits --names --cycle --requests --bounds --system --steps --streams --svg' ;;
     'fttlog svg') printf %s '--help --kbits --names --cycle' ;;
     'fttlog html') printf %s '--help --kbits --names --cycle --title' ;;
     'fttlog json') printf %s '--help --names' ;;

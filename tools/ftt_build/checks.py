@@ -17,7 +17,7 @@ sys.path.insert(0, str(TOP / "tools"))
 TESTS = LIBRARY / "tests"
 WARNINGS = ["-Wall", "-Wextra", "-Wpedantic", "-Wshadow", "-Werror"]
 # The programs of library/tests that are run alone: their words, and those under valgrind.
-CALLS = ("calls_frames", "calls_pair", "calls_master", "calls_apart", "calls_standby")
+CALLS = ("calls_bounds", "calls_frames", "calls_pair", "calls_master", "calls_apart", "calls_standby")
 PROGRAMS = {
     "layout": ([], None),
     **{name: ([], []) for name in CALLS},

@@ -66,11 +66,11 @@ def check_requests(tools):
 def check_lists(tools):
     """Requests of a list by names and in milliseconds, and what is wrong with some."""
     tools.put("asked.csv", LIST)
-    tools.put("when.csv", "At_ms;name;data;why\n3,5;start;05;x\n# 9;log;\n2;log;\n0.0011;log;0a0B\n")
+    tools.put("when.csv", "At_ms;name;data;why\n3,5;start;05;x\n# 9;log;\n9;log;\n0.0011;log;0a0B\n")
     said, status, requests, streams = made(tools, "--requests", "when.csv", "--cycles", "20")
     # 0.0011 ms are 0.55 bit times, rounded up
     tools.case("requests: of a list", status == 0 and streams == [["1750", "1", "05"]] and
-               requests == [["1", "0x300", "0a0b"], ["1000", "0x300", "00000000"]], f"{said}{requests}{streams}")
+               requests == [["1", "0x300", "0a0b"], ["4500", "0x300", "00000000"]], f"{said}{requests}{streams}")
     for name, text, part, ended in (
             ("a name that is near", "at,name\n1,strt\n", "when.csv:2: name is 'strt': no polled or asynchronous "
              "message has this name. Is it start?", 2),

@@ -420,9 +420,16 @@ MESSAGES = [
     messages("a deadline above the period", f"{HEAD},deadline\na,x,8,10,11\n", "Take at most the period.",
              f"{HEAD},deadline\na,x,8,10,10\n"),
     messages("a period of 0 cycles", f"{HEAD}\na,x,8,0.5\n", "Take a shorter cycle, or a longer time.", ONE),
-    messages("a deadline of an asynchronous message", f"{HEAD},deadline,kind,id\na,x,2,50,20,async,0x300\n",
-             "or write polled: a slot asks for the message then, and keeps it.",
-             f"{HEAD},deadline,kind\na,x,2,50,20,polled\n"),
+    messages("a deadline of an asynchronous message without a period",
+             f"{HEAD},deadline,kind,id\na,x,2,,20,async,0x300\n", "Write one, or write polled.",
+             f"{HEAD},deadline,kind,id\na,x,2,50,20,async,0x300\n"),
+    messages("the same, polled", f"{HEAD},deadline,kind,id\na,x,2,,20,async,0x300\n", "Write one, or write polled.",
+             f"{HEAD},deadline,kind\na,x,2,,20,polled\n"),
+    # The window of 290 leaves room for one frame of 2 bytes: 75 - 1 + 500 - 1 + 1 + 71 = 645 bit times to the end. One
+    # of 220 leaves 71 times to start at: 575
+    bus("a bound after the deadline", "500 1000 messages.csv made", "a may take 1.29 ms, and its deadline is 1.15. Take "
+        "--window 220 or less", "500 1000 messages.csv made --window 220",
+        f"{HEAD},deadline,kind,id\na,x,2,50,1.15,async,0x300\n"),
     bus("41 messages", "500 1000 messages.csv made", "Take --slots 96", "500 1000 messages.csv made --slots 96", MANY),
     bus("a rate in bit/s", "500000 1000 messages.csv made", "KBITS is 500000, and CAN ends at 1000 kbit/s. If this is "
         "in bit/s, write 500.", "500 1000 messages.csv made"),
@@ -434,7 +441,8 @@ MESSAGES = [
     bus("a folder that is a file", "500 1000 messages.csv messages.csv", "OUT is a folder, and a file of this name is "
         "there.",
         "500 1000 messages.csv made"),
-    # 1000 kbit/s and 1000 us: 2.7 + 13.5 + 54 %
+    # 1000 kbit/s and 1000 us: 2.7 + 13.5 + 54 %. A window of 191 leaves 540 times to start at, and the last message needs
+    # one behind three frames of 135: 134 + 1000 - 540 + 405 + 1 = 1000
     bus("a bus that is too full", "500 1000 messages.csv made", "the bus is asked for 140.4 % of its time",
-        "1000 1000 messages.csv made", FULL),
+        "1000 1000 messages.csv made --window 191", FULL),
 ]

@@ -1,7 +1,7 @@
 """Finds mistakes in the files of fttcan, and says what to do about each.
 
     tools/fttlint SYSTEM STEPS [REQUESTS] [--plan PLAN] [--streams STREAMS] [--wishes WISHES] [--log LOG]
-                  [--live | --replay] [--all]
+                  [--bounds BOUNDS] [--live | --replay] [--all]
     tools/fttlint --words WORD..
 
 A mistake is what the program refuses: a file that breaks its format, or a change that is malformed, late or after the
@@ -9,6 +9,9 @@ horizon. A warning is what no message of the program says. Changes above are tak
 refuses them: a deadline that is missed is found by the program alone. Of a plan the form alone is looked at; whether it
 keeps the table is what `fttcan check` says. So of a log its rows alone are looked at; what they tell is audited by
 `fttcan audit`.
+
+--bounds looks at the file that declares how far apart asynchronous requests are, as async.csv of fttmodel. It warns of
+requests that break their stream, and of streams without a bound, or with one after their deadline.
 
 --words looks at the words of a call of fttcan, all that stand behind it, and says which one is wrong: the command, an
 option, a number, or a word that is missing or in another's place. Outside of a checkout the fttcan of the path says
@@ -42,6 +45,7 @@ def parser():
     made.add_argument("--streams", metavar="STREAMS", help="the requests of polled slots that poll is to read")
     made.add_argument("--wishes", metavar="WISHES", help="the wishes that elastic is to read")
     made.add_argument("--log", metavar="LOG", help="the log that audit is to read")
+    made.add_argument("--bounds", metavar="BOUNDS", help="the streams that are declared of the requests")
     made.add_argument("--words", action="store_true", help="look at the words of a call, all that stand behind it")
     modes = made.add_mutually_exclusive_group()
     modes.add_argument("--live", action="store_const", const="live", dest="mode", default="both",

@@ -40,8 +40,9 @@ class Findings:
         self.lines.append(f"{place}: {kind}: {what}")
 
 
-def bytes_of(path, what, found):
-    """The bytes of a file, without a byte order mark; None where nothing in it can be looked at."""
+def bytes_of(path, what, found, is_fttcans=True):
+    """The bytes of a file, without a byte order mark; None where nothing in it can be looked at. What fttcan says is
+    told where it reads such a file."""
     try:
         path.encode("utf-8")
     except UnicodeEncodeError:
@@ -59,15 +60,15 @@ def bytes_of(path, what, found):
         elif os.path.isdir(path):
             remedy = "Name a file in this folder."
         told = f"{shown(path)}: the {what} can't be read: {why}. {remedy}"
-        raise Unread(f"{told}\n    fttcan says: read fault") from fault
+        raise Unread(told + ("\n    fttcan says: read fault" if is_fttcans else "")) from fault
     if len(data) > limits.BYTES:
         found.mistake(None, f"the file has {len(data)} bytes. Is it the right file? Else part it.",
-                      f"{what}: longer than {limits.BYTES} bytes")
+                      f"{what}: longer than {limits.BYTES} bytes" if is_fttcans else None)
         return None
     why = why_no_text(data)
     if why is not None:
         said = {"system": "system: toml", "plan": "plan: line 1"}.get(what) or first_row(data, what)
-        found.mistake(1, why, said)
+        found.mistake(1, why, said if is_fttcans else None)
         return None
     return data[3:] if what != "plan" and data[:3] == MARK else data
 

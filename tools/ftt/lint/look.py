@@ -4,6 +4,7 @@ import sys
 from ..command import put_lines
 from ..faults import Unread
 from ..telling import some
+from .bounds import lint_bounds
 from .files import Findings
 from .plan import lint_plan
 from .requests import lint_requests
@@ -30,8 +31,9 @@ def look_at(words):
 
     system = look(words.system, lint_system)
     cycles, table = look(words.steps, lint_steps, system, words.mode) or (None, None)
+    streams = None if words.bounds is None else look(words.bounds, lint_bounds, system)
     if words.requests is not None:
-        look(words.requests, lint_requests, system, cycles)
+        look(words.requests, lint_requests, system, cycles, streams)
     if words.plan is not None:
         look(words.plan, lint_plan)
     if words.streams is not None:

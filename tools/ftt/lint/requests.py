@@ -1,4 +1,5 @@
 """Looks at the requests file."""
+from ..declared import Asked, breaks_of
 from ..frames import SHORTEST, worst
 from ..limits import LENGTH, REQUESTS
 from ..rows import records_of
@@ -25,12 +26,12 @@ def read_request(record, system, last, rows):
     return number, identifier, None if length is None else worst(length)
 
 
-def lint_requests(path, system, cycles, found):
-    """Looks at the requests file."""
+def lint_requests(path, system, cycles, streams, found):
+    """Looks at the requests file. With streams that are declared, it looks for requests that break theirs."""
     text = rows_in(path, "requests", ("system", "steps"), found)
     if text is None:
         return
-    rows, last, requests = Arrivals("requests", "AT,ID,DATA", LENGTH, found), None, []
+    rows, last, requests, asked = Arrivals("requests", "AT,ID,DATA", LENGTH, found), None, [], []
     for record in records_of(text):
         if rows.many(record, REQUESTS):
             break
@@ -38,8 +39,12 @@ def lint_requests(path, system, cycles, found):
         last = last if number is None else number
         if None not in (number, bits):
             requests.append((record.line, number, identifier, bits))
+            asked.append(Asked(record.line, number, identifier, len(record.fields[2]) // 2))
     if system is not None:
         warn_requests(requests, system, cycles, found)
+    if streams is not None and not found.mistakes:
+        for it, what in breaks_of(streams, asked):
+            found.warning(it.line, what)
 
 
 def warn_requests(requests, system, cycles, found):

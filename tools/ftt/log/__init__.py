@@ -17,7 +17,7 @@ with or without a report. Of one that was cut by `--tail` the rows that are ther
 `tools/fttlog FORM --help` says the options of a form. docs/tools.md has examples.
 
 Status: 0 done; 1 a file can't be read, or a row of it can't be used: a line on standard error says which; 2 the words
-are wrong. Of conform 1 says too that something was found. This program is a help for readers. Nothing of it is proved,
+are wrong. Of conform 1 says too that something was found, and of late with --bounds that a bound is broken. This program is a help for readers. Nothing of it is proved,
 and nothing that is proved rests on it.
 """
 import argparse
@@ -106,6 +106,10 @@ def forms_of(reader):
     tell.add_argument("--all", action="store_true", help="the whole plan of a missed deadline")
     late = form(forms, "late", "how late frames were sent", takes_kbits, takes_names, takes_cycle)
     late.add_argument("--requests", metavar="FILE", help="the requests file: the latencies of asynchronous frames")
+    late.add_argument("--bounds", metavar="FILE", help="with --requests: the file that declares the streams of the "
+                      "requests, as async.csv of fttmodel. Their bounds stand beside, and the status is 1 where one is "
+                      "broken")
+    late.add_argument("--system", metavar="FILE", help="with --bounds: the system file")
     late.add_argument("--steps", metavar="FILE", help="the steps file: the delays of synchronous frames")
     late.add_argument("--streams", metavar="FILE", help="the streams file of a log of poll: the latencies of requests of "
                       "polled slots")
@@ -186,6 +190,10 @@ def read_words():
         reader.error(f"unrecognized arguments: {' '.join(more)}")
     if words.form == "late" and (words.requests, words.steps, words.streams) == (None, None, None):
         reader.error("late needs --requests, --steps or --streams")
+    if words.form == "late" and words.bounds is not None and None in (words.requests, words.system):
+        reader.error("--bounds needs --requests and --system")
+    if words.form == "late" and words.bounds is None and words.system is not None:
+        reader.error("--system needs --bounds")
     if getattr(words, "moved", None) is not None and words.snap is None:
         reader.error("--moved needs --snap")
     return words

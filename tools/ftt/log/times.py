@@ -3,11 +3,13 @@ import collections
 import re
 
 from .. import places
+from ..declared import Asked
 from ..frames import INTERMISSION
 from ..limits import FIRST_SLOT, LAST_SLOT, TRIGGERS
 from ..rows import identifier_of
 from ..telling import some
 from .drawing import histogram
+from .promised import Promised
 from .rows import NoLog, is_slot, length_of, millis, opened
 from .slots import ridden, sent_of
 from .steps import records_of
@@ -16,36 +18,47 @@ PERCENTILES = (50, 90, 99)
 PERCENTS = [f"p{percent}" for percent in PERCENTILES]
 LEFT = "waiting: requests that were not sent by the end of the run; later: those that arrive after it\n"
 
+# A request of an asynchronous identifier: its line in the file, its arrival, and the start, the length and the row in
+# the log of its frame.
+Send = collections.namedtuple("Send", "line at start length row")
+
 
 def read_requests(path):
-    """The requests of a file by identifier: arrival and data of each, in the order of the file."""
+    """The requests of a file by identifier, in the order of the file: the line, the arrival and the data of each."""
     requests = collections.defaultdict(list)
     for line, record in records_of(path):
         identifier = identifier_of(record[1]) if len(record) == 3 else None
         if identifier is None or not re.fullmatch("[0-9]+", record[0]):
             raise NoLog(f"{path}: line {line}: this is no row of a requests file; {places.tool('fttlint')} says why")
-        requests[identifier].append((int(record[0]), record[2].lower()))
+        requests[identifier].append((line, int(record[0]), record[2].lower()))
     return requests
 
 
-def latencies_of(rows, path, end):
-    """By identifier: the times in bit times from each request's arrival to the end of its frame, how many requests of
-    before the end of the run wait still, and how many arrive later."""
-    requests, sent = read_requests(path), collections.defaultdict(list)
+def sends_of(rows, requests, path):
+    """By identifier: of each request its line, its arrival, and the start, the length and the row of its frame. The
+    last three are None where it was not sent."""
+    sent = collections.defaultdict(list)
     for word, fields, place in rows:
         identifier = int(fields[2], 16) if word == "frame" else TRIGGERS[0]
         if identifier <= LAST_SLOT:
             continue
         place_in = len(sent[identifier])
-        at, data = requests[identifier][place_in] if place_in < len(requests[identifier]) else (0, None)
+        known = place_in < len(requests[identifier])
+        line, at, data = requests[identifier][place_in] if known else (None, 0, None)
         if data != fields[3]:
             raise NoLog(f"row {place}: no request of {path} asks for this frame here. Is the log whole, and theirs?")
-        sent[identifier].append(int(fields[0]) + int(fields[1]) - INTERMISSION - at)
-    told = {}
-    for identifier in sorted(requests):
-        later = requests[identifier][len(sent[identifier]):]
-        told[identifier] = sent[identifier], sum(at < end for at, _ in later), sum(at >= end for at, _ in later)
-    return told
+        sent[identifier].append(Send(line, at, int(fields[0]), int(fields[1]), place))
+    for identifier, asked in sorted(requests.items()):
+        sent[identifier] += [Send(line, at, None, None, None) for line, at, _ in asked[len(sent[identifier]):]]
+    return {identifier: sent[identifier] for identifier in sorted(requests)}
+
+
+def latencies_of(sends, end):
+    """Of the requests of an identifier: the times in bit times from each one's arrival to the end of its frame, how
+    many of before the end of the run wait still, and how many arrive later."""
+    times = [it.start + it.length - INTERMISSION - it.at for it in sends if it.start is not None]
+    left = [it.at for it in sends if it.start is None]
+    return times, sum(at < end for at in left), sum(at >= end for at in left)
 
 
 def percentile(values, percent):
@@ -82,16 +95,32 @@ def shown_by(kbits):
     return shown
 
 
+def asked_of(requests):
+    """The requests of a file in its order, as what their streams are compared with."""
+    return sorted((Asked(line, at, identifier, len(data) // 2) for identifier, asked in requests.items()
+                   for line, at, data in asked), key=lambda it: it.line)
+
+
 def asynchronous(rows, words, names, end):
-    """The table of latencies, and what is needed for their histograms."""
+    """The table of latencies, what is needed for their histograms, and whether a bound that the words ask for is
+    broken."""
     unit, shown, lines, pictures = "bit times" if words.kbits is None else "ms", shown_by(words.kbits), [], []
-    what = "from the request to the end of the frame"
-    for identifier, (values, waiting, later) in latencies_of(rows, words.requests, end).items():
-        lines.append([names.of(identifier), str(len(values)), *statistics(values, shown), str(waiting), str(later)])
+    what, requests = "from the request to the end of the frame", read_requests(words.requests)
+    sends = sends_of(rows, requests, words.requests)
+    promised = None if words.bounds is None else Promised(words, rows, end)
+    columns = {} if promised is None else promised.columns()
+    for identifier, of_one in sends.items():
+        values, waiting, later = latencies_of(of_one, end)
+        beside = [column(identifier) for column in columns.values()]
+        lines.append([names.of(identifier), str(len(values)), *statistics(values, shown),
+                      *("-" if it is None else shown(it) for it in beside), str(waiting), str(later)])
         pictures.append((names.of(identifier), values, shown, f"{what}, in {unit}"))
-    head = ["identifier", "sent", "least", "mean", *PERCENTS, "greatest", "waiting", "later"]
-    told = f"asynchronous frames, {what}, in {unit}\n" + table(head, lines)
-    return told + LEFT, pictures
+    head = ["identifier", "sent", "least", "mean", *PERCENTS, "greatest", *columns, "waiting", "later"]
+    told = f"asynchronous frames, {what}, in {unit}\n" + table(head, lines) + LEFT
+    if promised is None:
+        return told, pictures, False
+    found, is_broken = promised.told(asked_of(requests), sends)
+    return told + found, pictures, is_broken
 
 
 def spans(cycles, length, shown):
@@ -141,7 +170,7 @@ def polled(rows, sent, words, names, length, end):
 
 
 def late(rows, words, names, put):
-    """Tables of latencies and delays, and their histograms as SVG where a file is named."""
+    """Tables of latencies and delays, and their histograms as SVG where a file is named. Whether a bound is broken."""
     rows = list(rows)
     ends, cycles = [int(fields[0]) for word, fields, _ in rows if word == "end"], opened(rows)
     if not ends or cycles and cycles[0][0] != 0 or len(cycles) != ends[0]:
@@ -150,8 +179,10 @@ def late(rows, words, names, put):
     if length is None and (words.requests, words.streams, words.kbits) != (None, None, None):
         length = length_of(cycles)
     sent = [] if words.steps is None else sent_of(rows, words.steps)
+    is_broken = False
     if words.requests is not None:
-        parts.append(asynchronous(rows, words, names, length * ends[0]))
+        told, pictures, is_broken = asynchronous(rows, words, names, length * ends[0])
+        parts.append((told, pictures))
     if words.streams is not None:
         parts.append(polled(rows, sent, words, names, length, length * ends[0]))
     if words.steps is not None:
@@ -162,3 +193,4 @@ def late(rows, words, names, put):
             histogram(pictures, file.write)
         parts.append((f"histograms of {some(len(pictures), 'message')}: {words.svg}\n", []))
     put("\n".join(told for told, _ in parts))
+    return is_broken

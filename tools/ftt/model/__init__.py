@@ -6,7 +6,8 @@
 
 KBITS is the bit rate in kbit/s and CYCLE_US the elementary cycle in microseconds. MESSAGES is a CSV file with a header
 row, or a DBC file where its name ends with .dbc; docs/tools.md says how its attributes are read. OUT is a folder, which
-is made where it is not there. The files system.toml, steps.csv and names.csv in OUT are replaced.
+is made where it is not there. The files system.toml, steps.csv and names.csv in OUT are replaced. With asynchronous
+messages so is async.csv, which declares how far apart their requests are.
 
 The columns of the CSV file, in any order:
 
@@ -14,7 +15,8 @@ The columns of the CSV file, in any order:
     sender    the name of the node that sends it
     length    its data bytes, 0 to 8
     period    in milliseconds; an asynchronous message may have none
-    deadline  in milliseconds, at most the period; without one, the period
+    deadline  in milliseconds, at most the period; without one, the period. That of an asynchronous message is compared
+              with its bound
     offset    in milliseconds, up to the first release; without one, 0
     id        its CAN identifier, decimal or 0x..; slots are given in the order of identifiers
     kind      sync, polled or async; without one, sync. A polled message comes when it likes, and has a deadline: a
@@ -46,7 +48,7 @@ from .. import limits
 from ..command import Parser, needs_tomllib, takes_version, put_lines
 from ..faults import Refused, Unread
 from ..telling import listed, some
-from . import arrivals, bus_dbc, dbc, lists, table
+from . import arrivals, bus_dbc, dbc, lists, promised, table
 from .bus import Bus, alike, entries_of, owned_of, window_of
 from .files import names_text, steps_text, system_text, write_all
 from .messages import Mistakes, text_of
@@ -105,6 +107,7 @@ def model(words):
     nodes = nodes_of(messages, mistakes)
     entries = entries_of(messages, bus, nodes, words.slots, mistakes)
     owned = owned_of(messages, nodes, words.renumber, mistakes)
+    promised.check(bus, messages, mistakes)
     mistakes.stop()
     count = words.nodes or len(nodes)
     if count < len(nodes):
@@ -118,6 +121,8 @@ def model(words):
     folder = pathlib.Path(words.out)
     texts = {"system.toml": system_text(bus, owned, words, window, count),
              "steps.csv": steps_text(entries, cycles), "names.csv": names_text(entries, owned)}
+    if owned:
+        texts["async.csv"] = promised.text_of(bus, owned)
     more, said, warned = more_of(words, text, bus, entries, owned, cycles)
     texts |= more
     write_all(folder, texts)

@@ -13,7 +13,7 @@ from ..faults import Refused
 from ..frames import worst
 from ..limits import REQUESTS, STREAMS
 from ..telling import close, decimal, some
-from . import polled, table
+from . import polled, promised, table
 from .bus import Entry
 from .messages import Mistakes, read_time, text_of
 
@@ -160,6 +160,20 @@ def listed(asking, path):
     return found
 
 
+def too_near(asking, it, last, at):
+    """What is said of a request of a message that comes too soon after the last one; None where it does not."""
+    bus = asking.bus
+    if isinstance(it, Entry):
+        cycles = at // bus.cycle - last // bus.cycle
+        return None if cycles >= it.period else (
+            f"{some(cycles, 'cycle')} after the one before, and is polled every {it.period}: its bound of "
+            f"{decimal(bus.millis(polled.bound(it)))} ms holds no more.")
+    if not promised.is_apart(it.message) or at - last >= promised.bits_within(bus, it.message.period):
+        return None
+    return (f"{decimal((at - last) / bus.kbits)} ms after the one before, and its period is "
+            f"{decimal(it.message.period)}: no bound of an asynchronous message holds any more.")
+
+
 def warnings_of(asking, requests, path):
     """What keeps requests of a list from being sent in time: one that comes too early, or too late. The first of each
     message is told."""
@@ -168,14 +182,11 @@ def warnings_of(asking, requests, path):
         each, name = it.message, it.message.message.name
         if name in told:
             continue
-        if isinstance(each, Entry):
-            last, cycle = before.get(name), it.at // asking.bus.cycle
-            if last is not None and cycle - last < each.period:
-                told.append(name)
-                yield (f"{path}:{it.line}: {name} comes {some(cycle - last, 'cycle')} after the one before, and is "
-                       f"polled every {each.period}: its bound of {decimal(asking.bus.millis(polled.bound(each)))} ms "
-                       "holds no more.")
-            before[name] = cycle
+        last, before[name] = before.get(name), it.at
+        why = None if last is None else too_near(asking, each, last, it.at)
+        if why is not None:
+            told.append(name)
+            yield f"{path}:{it.line}: {name} comes {why}"
         if it.at >= asking.last(each) and name not in told:
             told.append(name)
             yield f"{path}:{it.line}: {name} may come too late to be sent before the run ends. Open more cycles."

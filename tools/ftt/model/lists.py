@@ -55,5 +55,6 @@ def from_dbc(words):
     mistakes = Mistakes(words.messages)
     read = dbc.read(words.messages, text_of(words.messages), None, words, mistakes)
     mistakes.stop()
-    more = ["no DBC file has deadlines: fill in `deadline`. A message that is sent on events may become polled then"]
+    more = ["no DBC file has deadlines: fill in `deadline`. A message that is sent on events needs a period beside it, "
+            "its least distance, or may become polled then"]
     return put(text_of_list(read.messages), [*read.notes, *(f"warning: {it}" for it in read.warnings), *more])

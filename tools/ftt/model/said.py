@@ -6,7 +6,7 @@ from ..frames import TRIGGER, worst
 from ..limits import HORIZON, WINDOW
 from ..system import room
 from ..telling import decimal, some
-from . import polled
+from . import polled, promised
 from .dbc import NOBODY
 
 
@@ -84,6 +84,8 @@ def told(bus, entries, owned, words, window, nodes):
                  f"{len(owned)} asynchronous, of {some(len(nodes), 'sender')}")
     lines += [f"rounded: {said}" for said in bus.said or ["nothing"]]
     lines += [f"polled: {polled.told(it, bus)}" for it in asked]
+    bounds, late = promised.told(bus, owned, entries, words, window)
+    lines += bounds
     lines.append(f"need: {decimal(need, 1)} bit times a cycle on average, at {'worst' if is_exact else 'most'} {most} "
                  "released in one cycle")
     lines.append(f"window: at least {max(longest, WINDOW[0])} for one longest frame; {window} is taken")
@@ -103,6 +105,7 @@ def told(bus, entries, owned, words, window, nodes):
     if owned and free < max(worst(it.message.length) for it in owned):
         warnings.append(f"a cycle with a full window has {free} bit times of asynchronous time, too few for the "
                         "longest frame. Take a narrower window.")
+    warnings += late
     for it in entries + owned:
         if it.message.sender == NOBODY:
             warnings.append(f"line {it.message.line}: {it.message.name} has no sender. A node of its own, {NOBODY}, "

@@ -87,9 +87,6 @@ def message_of(field, line, mistakes):
     kind = field("kind").lower() or "sync"
     if kind not in ("sync", "async", polled.KIND):
         mistakes.add(line, "kind", field("kind"), "Write sync, polled or async.")
-    if kind == "async" and field("deadline"):
-        mistakes.add(line, "deadline", field("deadline"), "nothing keeps it for an asynchronous message. Leave it out, "
-                     "or write polled: a slot asks for the message then, and keeps it.")
     if kind == "async" and field("offset"):
         mistakes.add(line, "offset", field("offset"), "nothing keeps it for an asynchronous message. Leave it out, or "
                      "write sync.")

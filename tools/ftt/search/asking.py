@@ -1,112 +1,96 @@
-"""Asks the program at the points of a grid."""
+"""Asks at points: many at once, in processes where the library answers in them, and in threads where the program does."""
 import concurrent.futures
 import os
-import pathlib
-import subprocess
+import random
+import signal
 import sys
-import tempfile
+import threading
 import time
 
-from .. import places
-from ..faults import Refused
-from .files import stepped, system_text
-from .grid import Answer, Failed
+from .engine import CALLS, MODULE
+from .grid import Failed
+
+SIGNALS = tuple(getattr(signal, name) for name in ("SIGINT", "SIGTERM", "SIGHUP") if hasattr(signal, name))
+# So many points are handed to a process at once.
+CHUNK = 24
+# In a process of a pool: what is asked there, and what answers.
+HERE = {}
 
 
-class Calls:
-    """Calls of the program, each a process, and an end of all of them."""
-
-    def __init__(self):
-        self.running, self.is_over = set(), False
-
-    def make(self, program, words, told=subprocess.PIPE):
-        """The output, the lines on standard error and the status of a call. Lines that aren't asked for are shown."""
-        if self.is_over:
-            raise KeyboardInterrupt
-        try:
-            # pylint: disable-next=consider-using-with
-            process = subprocess.Popen([program, *words], stdin=subprocess.DEVNULL, stdout=subprocess.PIPE, stderr=told)
-        except OSError as fault:
-            raise Failed(f"{program}: {fault.strerror}. FTTCAN names the program.") from fault
-        self.running.add(process)
-        try:
-            out, err = process.communicate()
-        except KeyboardInterrupt:
-            # The launcher ends all of a build, where it is asked to.
-            process.terminate()
-            process.wait()
-            raise
-        finally:
-            self.running.discard(process)
-        return out.decode(), (err or b"").decode(errors="replace"), process.returncode
-
-    def end(self):
-        """Ends the calls that run, and lets none begin."""
-        self.is_over = True
-        for process in tuple(self.running):
-            process.terminate()
+def watch(parent):
+    """Ends this process where the one that made it has ended."""
+    while os.getppid() == parent:
+        time.sleep(1)
+    os._exit(1)
 
 
-CALLS = Calls()
+def begin(question, engine, parent):
+    """Makes a process of a pool ready. A signal that all processes get is for the first one, which ends the others."""
+    for number in SIGNALS:
+        signal.signal(number, signal.SIG_IGN)
+    threading.Thread(target=watch, args=(parent,), daemon=True).start()
+    HERE["question"], HERE["engine"] = question, engine
 
 
-def first_call(words):
-    """Calls the program on the files as they are, and gives its path for the points. What it writes to standard error
-    is shown, as how far a build is. The launcher is asked for the program that it has built."""
-    named, usual = os.environ.get("FTTCAN"), places.program()
-    if not named and usual is None:
-        raise Failed("There is no program to ask: no fttcan is beside fttsearch, and none on the path. With "
-                     "FTTCAN=fttcan-reference in front, fttsearch asks a plain program: slower, and not proved.")
-    _, _, status = CALLS.make(named or usual, ["replay", words.system, words.steps], None)
-    if status == 3:
-        # The launcher says so by itself.
-        more = f" {places.tool('fttlint')} {words.system} {words.steps} tells what to do."
-        raise Refused(f"fttcan refuses a file.{more if named or not places.checkout() else ''}")
-    if status in (126, 127) and not named and places.checkout():
-        raise Failed(f"There is no program to ask. With FTTCAN={places.TOOLS}/reference in front, fttsearch asks a "
-                     "plain program: slower, and not proved.")
-    if status not in (0, 1):
-        raise Failed(f"{named or usual}: it ended with status {status}.")
-    if named or not places.checkout():
-        return named or usual
-    place, _, status = CALLS.make(usual, ["where"])
-    return place.strip() if status == 0 else usual
+def several(tasks):
+    """The answers of some tasks, in a process of a pool."""
+    return [HERE["question"].answer(HERE["engine"], task) for task in tasks]
 
 
-def answer(program, system, steps):
-    """What the program says of two files."""
-    out, err, status = CALLS.make(program, ["replay", system, steps])
-    if status not in (0, 1, 3):
-        if status == 130 or status < 0:
-            raise KeyboardInterrupt
-        raise Failed(f"{program}: it ended with status {status}: {err.strip() or 'no line'}")
-    if status == 3:
-        return Answer(False, None, "; ".join(err.strip().splitlines()))
-    rows = [row.split(",", 3)[3] for row in out.splitlines() if row.startswith("submit,")]
-    refused = [(number, row) for number, row in enumerate(rows, 1) if not row.startswith("accepted,")]
-    if bool(refused) != (status == 1):
-        raise Failed(f"{program}: its status {status} and its rows do not agree")
-    return Answer(False, *refused[0]) if refused else Answer(True, None, "")
+class Workers:
+    """What answers tasks at once, so many as there are jobs."""
+
+    def __init__(self, question, engine, jobs):
+        self.question, self.engine, self.jobs = question, engine, jobs
+        self.is_here = engine.kind == MODULE
+        if self.is_here:
+            self.pool = concurrent.futures.ProcessPoolExecutor(jobs, initializer=begin,
+                                                               initargs=(question, engine, os.getpid()))
+        else:
+            self.pool = concurrent.futures.ThreadPoolExecutor(jobs)
+
+    def chunk(self, tasks):
+        """Some tasks as one of the pool's."""
+        if self.is_here:
+            return self.pool.submit(several, tasks)
+        return self.pool.submit(lambda: [self.question.answer(self.engine, task) for task in tasks])
+
+    def answers(self, tasks, size=CHUNK, is_mixed=False):
+        """The tasks with their answers, as they come. Where they are mixed, parts of them are asked in an order by chance,
+        so that the time that is left can be told from the time that was taken."""
+        size = max(1, min(size, len(tasks) // (4 * self.jobs))) if self.is_here else 1
+        parts = [tasks[first:first + size] for first in range(0, len(tasks), size)]
+        if is_mixed:
+            random.Random(0).shuffle(parts)
+        waiting = {self.chunk(part): part for part in parts}
+        for done in concurrent.futures.as_completed(waiting):
+            try:
+                yield from zip(waiting.pop(done), done.result())
+            except concurrent.futures.BrokenExecutor as fault:
+                raise Failed("a process that asks the library was ended from outside.") from fault
+
+    def __enter__(self):
+        return self
+
+    def __exit__(self, kind, fault, trace):
+        if kind is not None:
+            CALLS.end()
+        self.pool.shutdown(cancel_futures=True)
 
 
-def ask(program, document, rows, names, point, work):
-    """What the program says of a point."""
-    values = dict(zip(names, point))
-    room = pathlib.Path(tempfile.mkdtemp(dir=work))
-    (room / "system.toml").write_text(system_text(document, values))
-    (room / "steps.csv").write_text(stepped(rows, values), errors="surrogateescape")
-    said = answer(program, str(room / "system.toml"), str(room / "steps.csv"))
-    for path in room.iterdir():
-        path.unlink()
-    room.rmdir()
-    return said
+def workers_of(question, asked, words):
+    """What answers tasks for a call: the workers of its scheduler; else processes or threads of this machine."""
+    if words.scheduler:
+        from .scheduler import DaskWorkers  # pylint: disable=import-outside-toplevel
+        return DaskWorkers(question, asked, words)
+    return Workers(question, asked, words.jobs)
 
 
 class Progress:
     """How far the points are, on standard error: a line that moves on a terminal, and else one in ten seconds."""
 
-    def __init__(self, many):
-        self.many, self.done, self.accepted, self.began = many, 0, 0, time.monotonic()
+    def __init__(self, many, word="points"):
+        self.many, self.word, self.done, self.accepted, self.began = many, word, 0, 0, time.monotonic()
         self.is_terminal = sys.stderr.isatty()
         self.told = self.began
 
@@ -122,7 +106,7 @@ class Progress:
         """Tells it."""
         self.told, passed = now, now - self.began
         left = passed / max(self.done, 1) * (self.many - self.done)
-        print(f"{chr(13) if self.is_terminal else ''}fttsearch: {self.done} of {self.many} points, {self.accepted} "
+        print(f"{chr(13) if self.is_terminal else ''}fttsearch: {self.done} of {self.many} {self.word}, {self.accepted} "
               f"accepted, {passed:.0f} s so far, some {left:.0f} s to go  ", file=sys.stderr,
               end="" if self.is_terminal else "\n", flush=True)
 
@@ -132,20 +116,16 @@ class Progress:
             print(file=sys.stderr)
 
 
-def tried(program, document, rows, table, jobs):
-    """Asks at each point that the table lacks, so many at once. What is said goes into the table."""
-    names, points = table.grid.names, list(reversed(table.waiting))
+def tried(asked, question, table, words):
+    """Asks at each point that the table lacks, many at once. What is said goes into the table."""
+    points = list(reversed(table.waiting))
     progress = Progress(len(points))
-    with tempfile.TemporaryDirectory(prefix="fttsearch.") as work, \
-            concurrent.futures.ThreadPoolExecutor(jobs) as pool:
-        waiting = {pool.submit(ask, program, document, rows, names, point, work): point for point in points}
+    if not points:
+        return
+    with workers_of(question, asked, words) as workers:
         try:
-            for done in concurrent.futures.as_completed(waiting):
-                table.add(waiting[done], done.result())
-                progress.step(table.found[waiting[done]].accepted)
-        except BaseException:
-            CALLS.end()
-            raise
+            for point, said in workers.answers(points):
+                table.add(point, said)
+                progress.step(said.accepted)
         finally:
-            pool.shutdown(cancel_futures=True)
             progress.end()

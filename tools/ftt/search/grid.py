@@ -8,13 +8,18 @@ import re
 import stat
 import sys
 from collections import namedtuple
+from fractions import Fraction
 
 from ..faults import Refused
 from ..limits import FILLS, POLICIES
 from ..rows import MARK
-from ..telling import listed, some
+from ..telling import decimal, listed, some
 
 WORDS = {"policy": POLICIES, "fill": FILLS}
+# Axes whose values are decimal numbers, as texts with at most so many places; those of a message have its name behind.
+AMOUNTS, PLACES = ("kbits", "cycle_us", "deadline_ms", "period_ms"), 6
+# What an axis has where its values are all that may be accepted.
+ALL = "all"
 # The first row of a table, and the columns behind those of the axes.
 FRONT, COLUMNS = "#grid", ["accepted", "change", "why"]
 
@@ -27,6 +32,16 @@ class Failed(Exception):
     """A file that can't be read or written, or a program that gives no answer."""
 
 
+class Amount(Fraction):
+    """A decimal number of an axis, which is written as one."""
+
+    def __str__(self):
+        return decimal(self, PLACES)
+
+    def __format__(self, spec):
+        return format(str(self), spec)
+
+
 def read(path):
     """The text of a file, without a byte order mark."""
     try:
@@ -37,6 +52,8 @@ def read(path):
 
 def ranges(values):
     """The values of an axis as a text: words, or numbers as FIRST:LAST:STEP where three or more have one distance."""
+    if values is None:
+        return ALL
     values, texts = list(values), []
     while values:
         many = 1
@@ -44,7 +61,7 @@ def ranges(values):
             step = values[1] - values[0]
             many = next((at for at in range(1, len(values)) if values[at] - values[at - 1] != step), len(values))
         if many > 2:
-            texts.append(f"{values[0]}:{values[many - 1]}:{step}")
+            texts.append(f"{values[0]}:{values[many - 1]}:{decimal(step, PLACES)}")
         else:
             many = 1
             texts.append(str(values[0]))
@@ -55,26 +72,49 @@ def ranges(values):
 def value_of(name, text):
     """The value of an axis of this name."""
     words = WORDS.get(name)
-    if words is None and name not in ("window", "deadline") and not re.fullmatch(r"period\.[0-9]{1,2}", name):
+    if words is not None:
+        return words[words.index(text)]
+    if name.partition(".")[0] in AMOUNTS:
+        return Amount(text)
+    if name not in ("window", "deadline", "slots") and not re.fullmatch(r"period\.[0-9]{1,2}", name):
         raise ValueError
-    return int(text) if words is None else words[words.index(text)]
+    return int(text)
+
+
+def stepped_range(first, last, step):
+    """The numbers from the first one to the last one, as far from each other as the step says."""
+    return [type(first)(first + step * place) for place in range((last - first) // step + 1)]
 
 
 def values_of(name, text):
     """The values of an axis from such a text."""
+    if text == ALL:
+        return None
     values = []
     for part in text.split(" "):
         numbers = [value_of(name, it) for it in part.split(":")]
-        values += range(numbers[0], numbers[1] + 1, numbers[2]) if len(numbers) == 3 else numbers
+        values += stepped_range(*numbers) if len(numbers) == 3 else numbers
     return values
 
 
 class Grid:
-    """What is asked for: the values of each axis, of how many parts this is which one, and a sum over the two files."""
+    """What is asked for: the values of each axis, of how many parts this is which one, a sum over the files, and the
+    axes that are refined. The last axis may have all windows that may be accepted, as None."""
 
-    def __init__(self, axes, part=(1, 1), files=""):
-        self.axes, self.part, self.files = axes, part, files
+    def __init__(self, axes, part=(1, 1), files="", refined=None):
+        self.axes, self.part, self.files, self.refined = axes, part, files, refined
         self.names = list(axes)
+        self.places = {name: {value: at for at, value in enumerate(values)} for name, values in axes.items()
+                       if values is not None}
+
+    def has(self, point):
+        """Whether a point is one of the grid."""
+        return all(value in self.places.get(name, (value,)) for name, value in zip(self.names, point))
+
+    def key(self, point):
+        """The place of a point in the order of the grid."""
+        return tuple(self.places[name][value] if name in self.places else value
+                     for name, value in zip(self.names, point))
 
     def points(self, part=None):
         """The points of a part of the grid, in their order; without a part, those of this one."""
@@ -84,7 +124,8 @@ class Grid:
     def row(self):
         """The first row of a table of these points."""
         axes = [f"{name}={ranges(values)}" for name, values in self.axes.items()]
-        return [FRONT, f"part={self.part[0]}/{self.part[1]}", f"files={self.files}", *axes]
+        refined = [] if self.refined is None else [f"refined={' '.join(self.refined) or 'nothing'}"]
+        return [FRONT, f"part={self.part[0]}/{self.part[1]}", f"files={self.files}", *refined, *axes]
 
     def header(self):
         """The second row."""
@@ -101,10 +142,11 @@ def grid_of(row):
     """The grid of the first row of a table."""
     fields = dict(field.split("=", 1) for field in row[1:])
     number, many = (int(it) for it in fields.pop("part").split("/"))
-    files = fields.pop("files")
+    files, refined = fields.pop("files"), fields.pop("refined", None)
     if not 1 <= number <= many or not fields:
         raise ValueError
-    return Grid({name: values_of(name, text) for name, text in fields.items()}, (number, many), files)
+    return Grid({name: values_of(name, text) for name, text in fields.items()}, (number, many), files,
+                None if refined is None else [name for name in refined.split(" ") if name in fields])
 
 
 def row_of(point, said):
@@ -124,12 +166,12 @@ class Tables:
     """What some tables of one grid say: that grid, how often each part of it stands there, and the points."""
 
     def __init__(self):
-        self.grid, self.parts, self.found, self.all = None, {}, {}, set()
+        self.grid, self.parts, self.found = None, {}, {}
 
     def begin(self, grid, place):
         """A first row."""
         if self.grid is None:
-            self.grid, self.all = grid, set(grid.points((1, 1)))
+            self.grid = grid
         other = grid.differs(self.grid)
         if other or grid.part[1] != self.grid.part[1]:
             other = other or f"{grid.part[1]} parts"
@@ -142,7 +184,7 @@ class Tables:
             point, said = point_of(self.grid.names, row)
         except ValueError as fault:
             raise Refused(f"{place}: this is no row of a table. Give files that --csv has written.") from fault
-        if point not in self.all:
+        if not self.grid.has(point):
             raise Refused(f"{place}: the grid of this table has no such point. Give files that --csv has written.")
         if self.found.setdefault(point, said) != said:
             raise Refused(f"{place}: this point has another answer above. Join parts of one grid.")
@@ -182,6 +224,9 @@ def joined(paths):
         tables.take(path, sys.stdin.read() if path == "-" else read(path))
     if not tables.found:
         raise Refused("there is no point in these tables.")
+    if tables.grid.refined is not None:
+        raise Refused("a table of lines is no part of a grid, and is not joined: --resume goes on with it, and tells what "
+                      "it has.")
     holes = tables.holes()
     if holes:
         more = f", and {len(holes) - 5} more parts are not whole" if len(holes) > 5 else ""
@@ -259,16 +304,13 @@ class Told:
         return False
 
 
-class Table:
-    """A table whose rows are written as the answers come: in the order of the grid, each as soon as those in front of
-    it are there."""
+class AnyTable:
+    """A table of a grid: what was found, of which an earlier call may have left some, and so many bytes of it."""
 
     def __init__(self, path, grid, is_resumed):
-        self.output, self.grid, self.points = Output(path), grid, grid.points()
-        self.found, self.is_in_order, self.kept = {}, True, 0
+        self.output, self.grid, self.found, self.kept = Output(path), grid, {}, 0
         if is_resumed and self.output.is_regular:
             self.resume(pathlib.Path(path).read_bytes())
-        self.waiting = [point for point in reversed(self.points) if point not in self.found]
 
     def resume(self, old):
         """Takes the rows of an earlier call, without a last one that it has not ended."""
@@ -284,7 +326,6 @@ class Table:
                           "another file.")
         if tables.found:
             self.found, self.kept = tables.found, len(whole)
-            self.is_in_order = list(self.found) == self.points[:len(self.found)]
 
     def begin(self):
         """Writes the first two rows, where they are not there."""
@@ -295,6 +336,25 @@ class Table:
     def put(self, rows):
         """Writes some rows at once."""
         self.output.put(text_of(rows))
+
+    def rewrite(self, points):
+        """Writes the table anew, with the points in this order."""
+        other = Output(self.output.path + ".new")
+        other.begin()
+        other.put(text_of([self.grid.row(), self.grid.header(), *(row_of(it, self.found[it]) for it in points)]))
+        other.end()
+        os.replace(other.path, os.path.realpath(self.output.path))
+
+
+class Table(AnyTable):
+    """A table whose rows are written as the answers come: in the order of the grid, each as soon as those in front of
+    it are there."""
+
+    def __init__(self, path, grid, is_resumed):
+        super().__init__(path, grid, is_resumed)
+        self.points = grid.points()
+        self.is_in_order = list(self.found) == self.points[:len(self.found)]
+        self.waiting = [point for point in reversed(self.points) if point not in self.found]
 
     def add(self, point, said):
         """Takes an answer, and writes what can be written."""
@@ -311,12 +371,40 @@ class Table:
         self.put([row_of(point, self.found[point]) for point in reversed(self.waiting) if point in self.found])
         self.output.end()
         if not self.is_in_order and len(self.found) == len(self.points) and self.output.file is not None:
-            other = Output(self.output.path + ".new")
-            other.begin()
-            other.put(text_of([self.grid.row(), self.grid.header(),
-                               *(row_of(point, self.found[point]) for point in self.points)]))
-            other.end()
-            os.replace(other.path, os.path.realpath(self.output.path))
+            self.rewrite(self.points)
+
+
+class LineTable(AnyTable):
+    """A table of lines: each is written when all of it is known. At the end the rows are left in the order of the grid.
+    What can't be written anew, as standard output, is written then alone."""
+
+    def __init__(self, path, grid, is_resumed):
+        super().__init__(path, grid, is_resumed)
+        self.lines, self.is_whole, self.written = {}, False, list(self.found)
+        for point, said in self.found.items():
+            self.lines.setdefault(point[:-1], {})[point[-1]] = said
+
+    def known(self, line):
+        """What is known along a line, by its windows."""
+        return self.lines.get(line, {})
+
+    def take(self, line, new):
+        """Takes the answers of a line that were not known."""
+        self.lines.setdefault(line, {}).update(new)
+        points = [(*line, window) for window in sorted(new)]
+        self.found.update({point: new[point[-1]] for point in points})
+        if self.output.is_regular:
+            self.put([row_of(point, self.found[point]) for point in points])
+            self.written += points
+
+    def end(self):
+        """Ends the table."""
+        points = sorted(self.found, key=self.grid.key)
+        if not self.output.is_regular:
+            self.put([row_of(point, self.found[point]) for point in points])
+        self.output.end()
+        if self.output.is_regular and self.is_whole and self.written != points and self.output.file is not None:
+            self.rewrite(points)
 
 
 def text_of(rows):

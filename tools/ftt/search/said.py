@@ -5,11 +5,17 @@ from ..telling import listed
 
 # So many lines of an axis are said.
 SHOWN = 40
+# Axes of a list whose values are told with their units: the rate without its name.
+AMOUNTS_SAID = {"kbits": "kbit/s", "cycle_us": "us", "slots": "slots", "deadline_ms": "ms"}
 UNITS = {"window": " in bit times", "deadline": " in cycles", "period": " in cycles"}
 
 
 def axis_name(name):
     """The name of an axis in words."""
+    if name.startswith("period_ms."):
+        return f"period of {name.partition('.')[2]}"
+    if name == "deadline_ms":
+        return "deadline"
     return f"period of slot {name.partition('.')[2]}" if name.startswith("period.") else name
 
 
@@ -22,6 +28,8 @@ def value_name(name, value):
     """A value of an axis in words, or some of its values."""
     if name in ("policy", "fill"):
         return f"{value}"
+    if name in AMOUNTS_SAID or name.startswith("period_ms."):
+        return f"{axis_name(name)} {value} {AMOUNTS_SAID.get(name, 'ms')}".removeprefix(f"{name} ")
     return f"slot {name.partition('.')[2]} with period {value}" if name.startswith("period.") else f"{name} {value}"
 
 

@@ -1,0 +1,335 @@
+"""What is asked at a point: the proved library in this process, or the program, a process a call.
+
+Both give the same answers. `answer` takes a system and steps as texts; `decide` takes the table itself, where all of
+its messages are added in cycle 0, as the files of fttmodel have it. An engine is handed to other processes by its kind
+and its path, and loads its library anew there.
+"""
+import ctypes
+import os
+import pathlib
+import subprocess
+import sys
+import tempfile
+
+from .. import places
+from ..faults import Refused
+from ..limits import FILLS, MANY_SLOTS, OPERATIONS, POLICIES
+from ..system import room
+from .grid import Answer, Failed
+
+MODULE, PROGRAM = KINDS = ("module", "program")
+# The first room for what a call in this process writes, in bytes; a greater one is taken where that is too small.
+ROOM, ERRORS, MOST = 1 << 18, 1 << 12, 1 << 30
+UNWRITTEN = 5
+# The most messages of a table without one that has ended, and those of a change that is refused.
+MOST_PLACED = MANY_SLOTS + OPERATIONS
+# The number of the verdict that accepts.
+ACCEPTED = 4
+
+
+class Rules:
+    """What a table is asked for: cycle, turnaround and window in bit times, nodes and slots; policy, filling, horizon."""
+
+    __slots__ = ("cycle", "turnaround", "window", "nodes", "slots", "policy", "fill", "horizon")
+
+    def __init__(self, cycle, turnaround, window, nodes, slots, policy, fill, horizon):
+        self.cycle, self.turnaround, self.window, self.nodes, self.slots = cycle, turnaround, window, nodes, slots
+        self.policy, self.fill, self.horizon = policy, fill, horizon
+
+    def text(self):
+        """The system file."""
+        return (f"[bus]\ncycle = {self.cycle}\nturnaround = {self.turnaround}\nwindow = {self.window}\n"
+                f'nodes = {self.nodes}\nslots = {self.slots}\n[plan]\npolicy = "{self.policy}"\n'
+                f'fill = "{self.fill}"\nhorizon = {self.horizon}\n')
+
+
+class Entries:
+    """Messages of a table that are added in cycle 0: tuples of slot, node, bytes, phase, period, deadline and priority, as
+    a steps file has them. A change has so many of them as the sizes say; without sizes, each has 16 and the last one what
+    is left. What a library reads of them is made once."""
+
+    __slots__ = ("rows", "sizes", "structs")
+
+    def __init__(self, rows, sizes=None):
+        self.rows, self.structs = rows, None
+        self.sizes = [min(OPERATIONS, len(rows) - first) for first in range(0, len(rows), OPERATIONS)] if sizes is None \
+            else sizes
+
+    def changes(self):
+        """The rows of each change."""
+        first = 0
+        for size in self.sizes:
+            yield self.rows[first:first + size]
+            first += size
+
+    def text(self):
+        """The steps file."""
+        return "".join(("and,add," if place else "add,1,0,") + ",".join(map(str, row)) + "\n"
+                       for rows in self.changes() for place, row in enumerate(rows))
+
+    def __reduce__(self):
+        return Entries, (self.rows, self.sizes)
+
+
+def answer_of(out, err, status, who):
+    """What a call of `replay` says, by its output, its lines on standard error and its status."""
+    if status not in (0, 1, 3):
+        raise Failed(f"{who}: it ended with status {status}: {err.strip() or 'no line'}")
+    if status == 3:
+        return Answer(False, None, "; ".join(err.strip().splitlines()))
+    rows = [row.split(",", 3)[3] for row in out.splitlines() if row.startswith("submit,")]
+    refused = [(number, row) for number, row in enumerate(rows, 1) if not row.startswith("accepted,")]
+    if bool(refused) != (status == 1):
+        raise Failed(f"{who}: its status {status} and its rows do not agree")
+    return Answer(False, *refused[0]) if refused else Answer(True, None, "")
+
+
+class Calls:
+    """Calls of the program, each a process, and an end of all of them."""
+
+    def __init__(self):
+        self.running, self.is_over = set(), False
+
+    def make(self, program, words, told=subprocess.PIPE):
+        """The output, the lines on standard error and the status of a call. Lines that aren't asked for are shown."""
+        if self.is_over:
+            raise KeyboardInterrupt
+        try:
+            # pylint: disable-next=consider-using-with
+            process = subprocess.Popen([program, *words], stdin=subprocess.DEVNULL, stdout=subprocess.PIPE, stderr=told)
+        except OSError as fault:
+            raise Failed(f"{program}: {fault.strerror}. FTTCAN names the program.") from fault
+        self.running.add(process)
+        try:
+            out, err = process.communicate()
+        except KeyboardInterrupt:
+            # The launcher ends all of a build, where it is asked to.
+            process.terminate()
+            process.wait()
+            raise
+        finally:
+            self.running.discard(process)
+        return out.decode(), (err or b"").decode(errors="replace"), process.returncode
+
+    def end(self):
+        """Ends the calls that run, and lets none begin."""
+        self.is_over = True
+        for process in tuple(self.running):
+            process.terminate()
+
+
+CALLS = Calls()
+
+
+class Engine:
+    """What answers at a point. The path is that of the library or of the program."""
+
+    # Whether a table is decided faster than the texts that say it.
+    kind, takes_tables = None, False
+
+    def __init__(self, path):
+        self.path = path
+
+    def answer(self, system, steps):
+        """What is said of a system and steps, both as texts: Answer(accepted, change, why)."""
+        raise NotImplementedError
+
+    def decide(self, rules, entries):
+        """What is said of a table whose messages are all added in cycle 0."""
+        return self.answer(rules.text(), entries.text())
+
+    def __reduce__(self):
+        return engine_at, (self.kind, self.path)
+
+
+class ProgramEngine(Engine):
+    """The program, a process a call."""
+
+    kind = PROGRAM
+
+    def answer(self, system, steps):
+        with tempfile.TemporaryDirectory(prefix="fttsearch.") as room:
+            files = [os.path.join(room, name) for name in ("system.toml", "steps.csv")]
+            for path, text in zip(files, (system, steps)):
+                pathlib.Path(path).write_text(text, errors="surrogateescape")
+            out, err, status = CALLS.make(self.path, ["replay", *files])
+        if status == 130 or status < 0:
+            raise KeyboardInterrupt
+        return answer_of(out, err, status, self.path)
+
+    def told(self):
+        """What is said of it."""
+        return f"the program {self.path}, a process for each point"
+
+
+class ModuleEngine(Engine):
+    """The library in this process, by the package fttcan."""
+
+    kind, takes_tables = MODULE, True
+
+    def __init__(self, path):
+        super().__init__(path)
+        if path is not None:
+            # The package looks there first, in the processes of a pool too.
+            os.environ["FTTCAN_LIBRARY"] = path
+        from fttcan import library  # pylint: disable=import-outside-toplevel
+        self.library, self.calls = library, library.calls
+        self.number = library.version()
+        self.path = os.path.realpath(library.loaded()._name) if os.sep in library.loaded()._name else None
+        self.decides, self.runs = self.calls.decide, self.calls.run
+        self.size = ROOM
+        self.out, self.err = (library.U8 * ROOM)(), (library.U8 * ERRORS)()
+        # The rules and the first changes that were accepted last, each with the table behind it: a table that begins with
+        # the same changes is asked for the others alone.
+        self.last, self.accepted, self.rooms = None, [], []
+        self.empty = (library.CPlaced * 1)()
+        self.rules, self.state, self.verdict = library.CRules(), library.CState(), library.CVerdict()
+        self.count = library.SIZE()
+
+    def answer(self, system, steps):
+        given = [b"replay\0000\0001", system.encode("utf-8", "surrogateescape"),
+                 steps.encode("utf-8", "surrogateescape"), b"", b""]
+        parts = [part for it in given for part in (it, len(it))]
+        wrote, told = self.library.SIZE(), self.library.SIZE()
+        while True:
+            status = self.runs(*parts, self.out, self.size, wrote, self.err, ERRORS, told)
+            if status != UNWRITTEN or self.size >= MOST:
+                break
+            self.size *= 8
+            self.out = (self.library.U8 * self.size)()
+        return answer_of(bytes(memoryview(self.out)[:wrote.value]).decode(),
+                         bytes(memoryview(self.err)[:told.value]).decode(errors="replace"), status, "libfttcan")
+
+    def decide(self, rules, entries):
+        # The call of the library knows no cycle.
+        most = room(rules.cycle, rules.slots, rules.turnaround)
+        if rules.window > most:
+            return Answer(False, None, f"system: narrow {rules.cycle - most + rules.window} {rules.cycle}")
+        if entries.structs is None:
+            entries.structs = [(rows, *self.structs_of(rows)) for rows in entries.changes()]
+        given, verdict, count = self.rules, self.verdict, self.count
+        key = (rules.horizon, rules.window, rules.nodes, rules.slots, POLICIES.index(rules.policy),
+               FILLS.index(rules.fill))
+        if key != self.last:
+            (given.horizon, given.window, given.nodes, given.slots, given.policy, given.fill), self.last = key, key
+            self.accepted.clear()
+        placed, many = self.empty, 0
+        for number, (rows, ops, size) in enumerate(entries.structs):
+            if number < len(self.accepted):
+                if self.accepted[number][0] == rows:
+                    _, placed, many = self.accepted[number]
+                    continue
+                del self.accepted[number:]
+            if number == len(self.rooms):
+                self.rooms.append((self.library.CPlaced * MOST_PLACED)())
+            status = self.decides(given, placed, many, self.state, 0, ops, size, verdict, self.rooms[number], MOST_PLACED,
+                                  count)
+            if status:
+                self.last = None
+                raise Failed(f"libfttcan: {self.library.fault_of(status)}")
+            if verdict.kind != ACCEPTED:
+                return Answer(False, number + 1, self.library.verdict_out(verdict).row)
+            placed, many = self.rooms[number], count.value
+            self.accepted.append((rows, placed, many))
+        return Answer(True, None, "")
+
+    def structs_of(self, rows):
+        """A change of rows as the library reads it, and how many operations it has."""
+        library = self.library
+        ops = (library.COp * max(1, len(rows)))()
+        for op, (slot, node, length, phase, period, deadline, priority) in zip(ops, rows):
+            op.entry = library.CEntry(phase, period, deadline, slot, node, length, priority)
+        return ops, len(rows)
+
+    def told(self):
+        """What is said of it."""
+        number = ".".join(map(str, self.number))
+        return f"the library {self.path or self.library.NAME} {number}, in this process"
+
+
+def engine_at(kind, path):
+    """The engine of a kind and a path: in another process, that of the first one."""
+    return ModuleEngine(path) if kind == MODULE else ProgramEngine(path)
+
+
+def module_engine():
+    """The engine in this process; and where there is none, why."""
+    try:
+        return ModuleEngine(None), None
+    except ImportError as fault:
+        return None, str(fault)
+
+
+def program_engine():
+    """The engine of the program. The launcher of a checkout builds it first, and what it says of that is shown."""
+    named, usual = os.environ.get("FTTCAN"), places.program()
+    if not named and usual is None:
+        raise Failed("There is no program to ask: no fttcan is beside fttsearch, and none on the path. With "
+                     "FTTCAN=fttcan-reference in front, fttsearch asks a plain program: slower, and not proved.")
+    return ProgramEngine(named or usual)
+
+
+def engine(words):
+    """The engine that the words ask for: that of --engine; else the program, where FTTCAN names one; else the library,
+    where it is found; else the program."""
+    kind = getattr(words, "engine", None)
+    if kind is None and os.environ.get("FTTCAN"):
+        kind = PROGRAM
+    if kind == PROGRAM:
+        return program_engine()
+    found, why = module_engine()
+    if found is None and kind == MODULE:
+        raise Failed(f"--engine module: {why}.")
+    return found or program_engine()
+
+
+def first_call(asked, words):
+    """Asks of the files as they are, and gives the engine for the points. What the program writes to standard error is
+    shown, as how far a build is."""
+    if asked.kind == MODULE:
+        check_files(asked, words)
+        return asked
+    named = os.environ.get("FTTCAN")
+    _, _, status = CALLS.make(asked.path, ["replay", words.system, words.steps], None)
+    if status == 3:
+        refuse(words, named or not places.checkout())
+    return built(asked, status)
+
+
+def built(asked, status=None):
+    """The engine for the points. The launcher of a checkout builds its program with the first call, which is made here
+    where no status of one is given, and is asked for the program that it has built."""
+    if asked.kind == MODULE:
+        return asked
+    named = os.environ.get("FTTCAN")
+    if status is None:
+        with tempfile.TemporaryDirectory(prefix="fttsearch.") as room:
+            files = [os.path.join(room, name) for name in ("system.toml", "steps.csv")]
+            for path, text in zip(files, ("[bus]\ncycle = 400\nwindow = 55\nnodes = 1\n", "cycle,0\n")):
+                pathlib.Path(path).write_text(text, encoding="utf-8")
+            _, _, status = CALLS.make(asked.path, ["replay", *files], None)
+    if status in (126, 127) and not named and places.checkout():
+        raise Failed(f"There is no program to ask. With FTTCAN={places.TOOLS}/reference in front, fttsearch asks a "
+                     "plain program: slower, and not proved.")
+    if status not in (0, 1):
+        raise Failed(f"{asked.path}: it ended with status {status}.")
+    if named or not places.checkout():
+        return asked
+    place, _, status = CALLS.make(asked.path, ["where"])
+    return ProgramEngine(place.strip()) if status == 0 else asked
+
+
+def check_files(asked, words):
+    """Refuses files that the library refuses, with its lines."""
+    system, steps = (pathlib.Path(path).read_bytes().decode("utf-8", "surrogateescape")
+                     for path in (words.system, words.steps))
+    said = asked.answer(system, steps)
+    if not said.accepted and said.change is None:
+        print(said.why.replace("; ", "\n"), file=sys.stderr)
+        refuse(words, True)
+
+
+def refuse(words, is_advised):
+    """Refuses the files of a call. The launcher gives its advice by itself."""
+    more = f" {places.tool('fttlint')} {words.system} {words.steps} tells what to do." if is_advised else ""
+    raise Refused(f"fttcan refuses a file.{more}")
