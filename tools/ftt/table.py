@@ -38,6 +38,15 @@ def last_release(entry, end):
     return None if first >= end else first + (end - 1 - first) // entry.period * entry.period
 
 
+def silence_of(operation, change, table):
+    """Between which releases a slot is silent that a change changes: the last one of its entries so far, None where there
+    is none, and the first one of its new entry."""
+    entries = table[operation.fields["SLOT"]]
+    new = changed(table, change)[operation.fields["SLOT"]][-1]
+    released = [last_release(it, change.start if it.end is None else it.end) for it in entries]
+    return max((it for it in released if it is not None), default=None), new.origin + new.phase
+
+
 def release(entry, number):
     """The release of the instance of this number; None where the entry has ended before."""
     cycle = entry.origin + entry.phase + number * entry.period

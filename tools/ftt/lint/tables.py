@@ -2,7 +2,7 @@
 import math
 from collections import namedtuple
 
-from ..table import changed, free_from, last_release, live_of
+from ..table import changed, free_from, live_of, silence_of
 from ..telling import some
 
 # The releases between which a changed slot is silent, and the entries before and after.
@@ -39,18 +39,14 @@ def free_slot(table, slots, start, others=()):
                  and free_from(table.get(slot, [])) <= start), None)
 
 
-def silence_of(operation, change, table):
+def long_silence_of(operation, change, table):
     """Where a changed slot is silent for longer than the old period and the new one; None where it is not."""
-    entries = table[operation.fields["SLOT"]]
-    old = live_of(entries)
-    after = changed(table, change)
-    new = after[operation.fields["SLOT"]][-1]
-    released = [last_release(it, change.start if it.end is None else it.end) for it in entries]
-    last = max((it for it in released if it is not None), default=None)
-    if last is None:
+    old = live_of(table[operation.fields["SLOT"]])
+    new = changed(table, change)[operation.fields["SLOT"]][-1]
+    last, first = silence_of(operation, change, table)
+    if last is None or first - last <= max(old.period, new.period):
         return None
-    first = new.origin + new.phase
-    return Silence(last, first, old, new) if first - last > max(old.period, new.period) else None
+    return Silence(last, first, old, new)
 
 
 def shorter_silence(silence, change, is_live):
@@ -67,7 +63,7 @@ def shorter_silence(silence, change, is_live):
 
 def told_silence(operation, change, table, system, is_live):
     """What is said of a change that leaves its slot silent for longer than both periods; None where it does not."""
-    silence = silence_of(operation, change, table)
+    silence = long_silence_of(operation, change, table)
     if silence is None:
         return None
     slot, gap = operation.fields["SLOT"], silence.first - silence.last

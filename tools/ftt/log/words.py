@@ -6,8 +6,10 @@ import textwrap
 from ..limits import FIRST_SLOT, OPERATIONS
 from ..masks import slots_of
 from ..steps import ENTRY
+from ..table import silence_of
 from ..telling import listed, some
-from .rows import duration, is_slot
+from .rows import NoLog, duration, is_slot, length_of, millis, opened
+from .slots import accepted
 from .steps import Asked, answered
 
 WIDTH = 100
@@ -38,6 +40,20 @@ def operation_told(operation, names):
     told += f", deadline {deadline}" if deadline != period else ""
     told += f", phase {phase}" if phase else ""
     return told + (f", priority {priority}" if priority else "")
+
+
+def silence_told(operation, change, table, names, bit_times):
+    """How long a changed slot is silent, as a sentence. A cycle has so many bit times at a rate in kbit/s, if both are
+    known."""
+    last, first = silence_of(operation, change, table)
+    who = names.of_slot(operation.fields["SLOT"]).replace("slot", "Slot", 1)
+    if last is None:
+        return f"{who} has no old instance; the first new one is that of cycle {first}."
+    told = some(first - last, "cycle")
+    if bit_times is not None:
+        length, kbits = bit_times
+        told += f", {millis((first - last) * length, kbits)} ms"
+    return f"{who} releases nothing for {told}: its last old instance is that of cycle {last}, the first new one that of cycle {first}."
 
 
 def verdict_told(origin, verdict, fields, names):
@@ -91,9 +107,10 @@ def reported_told(word, fields, names):
 class Teller:
     """Puts the sentences of a log, wrapped, with what belongs below a sentence behind a margin."""
 
-    def __init__(self, names, asked, kbits, is_all, put):
+    def __init__(self, names, asked, kbits, is_all, put, length=None):
         self.names, self.asked, self.kbits, self.is_all, self.put = names, asked, kbits, is_all, put
-        self.sending, self.missed, self.plan = None, None, []
+        self.sending, self.missed, self.plan, self.table = None, None, [], {}
+        self.bit_times = None if None in (length, kbits) else (length, kbits)
 
     def line(self, text, margin=""):
         """Puts a text, in as many lines as it needs."""
@@ -149,6 +166,12 @@ class Teller:
                 self.line(operation_told(operation, self.names), "  ")
         for sentence in re.split(r"(?<=[.]) ", verdict_told(origin, verdict, rest, self.names)):
             self.line(sentence, "  ")
+        if verdict == "accepted" and self.asked is not None:
+            after = accepted(self.table, act)
+            for operation in act.operations:
+                if operation.word == "change":
+                    self.line(silence_told(operation, act, self.table, self.names, self.bit_times), "  ")
+            self.table = after
         if verdict == "miss":
             self.missed = [int(field) for field in rest]
 
@@ -181,10 +204,15 @@ class Teller:
 
 def say(rows, names, steps, kbits, is_all, put):
     """Sentences on each row of the log and of its report."""
+    length = None
     if steps is not None:
         rows = list(rows)
         answered(rows, steps)
-    teller = Teller(names, None if steps is None else Asked(steps), kbits, is_all, put)
+        try:
+            length = length_of(opened(rows))
+        except NoLog:
+            pass
+    teller = Teller(names, None if steps is None else Asked(steps), kbits, is_all, put, length)
     for word, fields, place in rows:
         teller.row(word, fields, place)
     teller.finish()
