@@ -166,7 +166,8 @@ class Accepted:
         return f"accepted,{self.first},{self.length}"
 
     def __str__(self) -> str:
-        return f"accepted: from cycle {self.first} on the plan repeats every {self.length} cycles"
+        every = "cycle" if self.length == 1 else f"{self.length} cycles"
+        return f"accepted: from cycle {self.first} on the plan repeats every {every}"
 
 
 class Order(NamedTuple):
