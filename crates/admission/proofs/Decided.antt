@@ -9,11 +9,13 @@ use Rattle.planner_policies.specs.declared.state.PlanState.{PlanState}
 use Rattle.planner_policies.specs.Plan.{HasNoMiss, IsValid, NeverMisses, Planning, Ranking, planning_of}
 use Rattle.recurrence_check.specs.Course.{Breaks, Course, IsLeastRepeat, StaysNew}
 use Rattle.admission.specs.declared.decision.Decision.{Decision}
+use Rattle.admission.specs.declared.decision.RankedTable.{RankedTable}
 use Rattle.admission_rules.specs.declared.Rules.{Rules}
 use Rattle.admission.specs.declared.verdict.Verdict.{Verdict}
 use Rattle.admission.specs.declared.verdict.Verdict.TheVariants.{Accepted, Horizon, Miss}
 use Rattle.admission.specs.Certified.{IsMissBehind}
 use Rattle.admission.specs.Course.{course_of, is_held_from}
+use Rattle.admission.specs.Judged.{IsRankedFrom}
 use Rattle.admission.specs.Period.{IsPeriodUpTo}
 use Rattle.admission.specs.Recurrence.{HasNoRecurrence, bound_of}
 use Rattle.admission.specs.Verdict.{IsDecisionOnPlan, IsMissDecision, IsPlannedUpTo, IsSafe, IsTakenWhereDue, IsVerdictOnPlan, masks_of, placed_with, plan_from, ranking_by, trail_of}
@@ -117,6 +119,13 @@ module _ (rules : Rules) (list : List Placed) (from pending : ℕ) (walked : Ran
   safe loops one other placed same least =
       subst (λ l. IsSafe rules l from pending) (sym same)
       (record { well_placed = is.well; held = is.valid; in_time = accepted-never loops one other least })
+
+  -- what is ranked of the list is what was walked
+  pub ranked-from : (table : RankedTable) → table.placed ≡ list → table.ranked ≡ walked → IsRankedFrom rules from pending table
+  ranked-from table same ranked = record {
+    left = ranked ∙ is.walked_is ∙ ap (λ (l : List Placed). ranking_of rules l from) (sym same);
+    held = subst (λ (r : Ranking). IsValid r.placed from pending) (sym (ranked ∙ is.walked_is)) (held-reduced list from pending is.valid);
+  }
 
   -- no repeat
   no-recurrence-whole : StaysNew walk rules.horizon → HasNoRecurrence whole rules.horizon

@@ -2,6 +2,7 @@ pub mod Recurrence
 pub mod Safe
 pub mod Verdict
 pub mod Course
+pub mod Judged
 pub mod Period
 pub mod WalkLaws
 pub mod Walked

@@ -8,19 +8,19 @@ ghost use Rattle.change_protocol.specs.Applied.{applied};
 ghost use Rattle.planner_policies.specs.Plan.{HasNoMiss, HasNoMissIn, IsMissIn, IsValid, going_from, planning_of};
 ghost use Rattle.release_wheel.specs.Passed.{IsPassed};
 ghost use Rattle.admission.specs.Course.{state_in};
+ghost use Rattle.admission.specs.Judged.{IsRankedFrom, decision_in};
 ghost use Rattle.admission.specs.Verdict.{IsDecision, IsDecisionOnPlan, IsInTime, IsMalformed, IsMissDecision};
 ghost use Rattle.admission.specs.Verdict.{IsPlannedUpTo, IsRules, IsSafe, IsTakenWhereDue, plan_from};
 ghost use Rattle.admission.specs.Walked.{IsWalked};
 
-use crate::decision::{Decision, Trail};
-use crate::entries::Entries;
+use crate::decision::{Decision, Judgement, RankedTable, Trail};
 use crate::periods::{bound, period};
 use crate::verdict::Verdict;
 use crate::walk::PlanWalk;
 use admission_rules::Rules;
 use change_protocol::{ApplyFault, Change, apply};
 use planner_policies::laws::{loops, valid_states};
-use planner_policies::{Miss, PlanState, cycle_mask};
+use planner_policies::{Miss, PlanState, cycle_mask, rank_list};
 use recurrence_check::{Repeat, WalkEnd, lasso_keyed};
 use release_wheel::Planner;
 use requirement_table::{Mask, Placed, PlacedList, not_over};
@@ -55,6 +55,38 @@ pub fn decide(
     ensures safe { IfOk result (λ decision. IfSome decision.placed
         (λ list. IsSafe rules.now list state.now.cycle state.now.pending)) }
 {
+    let judgement = decide_ranked(alloc, rules, placed, state, change)?;
+    Ok(judgement.decision())
+}
+
+/// Does what `decide` does, and gives what an accepted change is planned from with it: the entries that are not over,
+/// ranked. The walk has ranked them, so they are not ranked again.
+///
+/// # Errors
+///
+/// Only where memory runs out, which says nothing of the change.
+pub fn decide_ranked(
+    alloc: Global,
+    rules: &Rules,
+    placed: &[Placed],
+    state: &PlanState,
+    change: &Change,
+) -> Result<Judgement, AllocError>
+    requires rules { IsRules rules.now }
+    requires well_placed { IsWellPlaced placed.now }
+    requires valid { IsValid placed.now state.now.cycle state.now.pending }
+    requires next { state.now.cycle ≤ openings_end }
+    ensures decision { IfOk result (λ judgement. IsDecision rules.now placed.now state.now.pending state.now.cycle
+        change.now (decision_in judgement)) }
+    ensures complete { let plan = plan_from rules.now (applied placed.now change.now)
+        state.now.cycle state.now.pending in
+        IfOk result (λ judgement. IsInTime rules.now placed.now state.now.cycle change.now
+        → IsTakenWhereDue rules.now plan judgement.verdict) }
+    ensures safe { IfOk result (λ judgement. IfSome (decision_in judgement).placed
+        (λ list. IsSafe rules.now list state.now.cycle state.now.pending)) }
+    ensures ranked { IfOk result (λ judgement. IfSome judgement.table
+        (IsRankedFrom rules.now state.now.cycle state.now.pending)) }
+{
     let list = match apply(alloc, placed, rules.nodes, rules.slots, change) {
         Ok(list) => list,
         Err(fault) => return malformed(alloc, fault),
@@ -70,8 +102,9 @@ pub fn decide(
 }
 
 /// The answer to a change that was not applied.
-fn malformed(alloc: Global, fault: ApplyFault) -> Result<Decision, AllocError>
-    ensures decision { IfOk result (IsMalformed fault) }
+fn malformed(alloc: Global, fault: ApplyFault) -> Result<Judgement, AllocError>
+    ensures decision { IfOk result (λ judgement. IsMalformed fault (decision_in judgement)) }
+    ensures none { IfOk result (λ judgement. judgement.table ≡ None) }
 {
     match fault {
         ApplyFault::Malformed { op, why } => Ok(refusal(alloc, Verdict::Malformed { op, why })),
@@ -80,14 +113,15 @@ fn malformed(alloc: Global, fault: ApplyFault) -> Result<Decision, AllocError>
 }
 
 /// A change that is not taken, with no plan to show.
-fn refusal(alloc: Global, verdict: Verdict) -> Decision
+fn refusal(alloc: Global, verdict: Verdict) -> Judgement
     ensures verdict { result.verdict ≡ verdict }
-    ensures placed { result.placed ≡ None }
+    ensures none { result.table ≡ None }
+    ensures placed { (decision_in result).placed ≡ None }
     ensures trail { result.trail ≡ [] }
 {
-    Decision {
+    Judgement {
         verdict,
-        placed: None,
+        table: None,
         trail: Trail::of(Vec::new(alloc)),
     }
 }
@@ -98,28 +132,33 @@ pub fn decide_list(
     rules: &Rules,
     list: Vec<Placed>,
     state: &PlanState,
-) -> Result<Decision, AllocError>
+) -> Result<Judgement, AllocError>
     requires rules { IsRules rules.now }
     requires well_placed { IsWellPlaced list.items }
     requires valid { IsValid list.items state.now.cycle state.now.pending }
     requires next { state.now.cycle ≤ openings_end }
     ensures decision { let plan = plan_from rules.now list.items state.now.cycle state.now.pending in
-        IfOk result (IsDecisionOnPlan rules.now.horizon plan) }
+        IfOk result (λ judgement. IsDecisionOnPlan rules.now.horizon plan (decision_in judgement)) }
     ensures complete { let plan = plan_from rules.now list.items state.now.cycle state.now.pending in
-        IfOk result (λ decision. IsTakenWhereDue rules.now plan decision.verdict) }
-    ensures safe { IfOk result (λ decision. IfSome decision.placed
+        IfOk result (λ judgement. IsTakenWhereDue rules.now plan judgement.verdict) }
+    ensures safe { IfOk result (λ judgement. IfSome (decision_in judgement).placed
         (λ list. IsSafe rules.now list state.now.cycle state.now.pending)) }
+    ensures ranked { IfOk result (λ judgement. IfSome judgement.table
+        (IsRankedFrom rules.now state.now.cycle state.now.pending)) }
 {
     loops();
     valid_states();
     let walk = walk_over(alloc, rules, list.as_slice(), state)?;
     match lasso_keyed(alloc, &walk, rules.horizon) {
-        Ok(Repeat { first, length }) => Ok(Decision {
+        Ok(Repeat { first, length }) => Ok(Judgement {
             verdict: Verdict::Accepted {
                 first: state.cycle + first,
                 length,
             },
-            placed: Some(PlacedList::of(list)),
+            table: Some(RankedTable {
+                placed: PlacedList::of(list),
+                ranked: walk.entries,
+            }),
             trail: Trail::of(Vec::new(alloc)),
         }),
         Err(WalkEnd::Broken { at }) => missed(alloc, &walk, at),
@@ -152,19 +191,21 @@ pub fn walk_over(
         first: *state,
         bound: bound(left.as_slice(), state.cycle),
         period: period(left.as_slice(), rules.horizon),
-        entries: Entries::of(left, rules.policy, rules.fill),
+        entries: rank_list(alloc, left, rules.policy, rules.fill)?,
     })
 }
 
 /// The answer where the first miss is in the cycle behind `at` cycles. They are planned once more.
-fn missed(alloc: Global, walk: &PlanWalk, at: u64) -> Result<Decision, AllocError>
+fn missed(alloc: Global, walk: &PlanWalk, at: u64) -> Result<Judgement, AllocError>
     requires near { at < greatest_horizon }
     requires none_before { let first = walk.now.first in
         HasNoMiss (planning_of walk.now.entries walk.now.window first.cycle first.pending) at }
     requires missed { let first = walk.now.first in
         ¬ HasNoMiss (planning_of walk.now.entries walk.now.window first.cycle first.pending) (at + 1) }
     ensures missed { let first = walk.now.first in
-        IfOk result (IsMissDecision (planning_of walk.now.entries walk.now.window first.cycle first.pending) at) }
+        IfOk result (λ judgement. IsMissDecision
+        (planning_of walk.now.entries walk.now.window first.cycle first.pending) at (decision_in judgement)) }
+    ensures none { IfOk result (λ judgement. judgement.table ≡ None) }
 {
     let (mut masks, mut planner) = plan_cycles(alloc, walk, at)?;
     let state = planner.state();
@@ -174,13 +215,13 @@ fn missed(alloc: Global, walk: &PlanWalk, at: u64) -> Result<Decision, AllocErro
         release,
         cycle,
     } = miss(&mut planner, walk.window);
-    Ok(Decision {
+    Ok(Judgement {
         verdict: Verdict::Miss {
             slot,
             release,
             cycle,
         },
-        placed: None,
+        table: None,
         trail: Trail::of(masks),
     })
 }
@@ -201,7 +242,7 @@ pub fn plan_cycles(
 {
     let mut masks = Vec::new(alloc);
     walk.first.pending.known();
-    let mut planner = walk.entries.planner(alloc, &walk.first)?;
+    let mut planner = walk.planner(alloc)?;
     let mut count = 0;
     while count < cycles {
         let planned = match planner.step(walk.window) {

@@ -77,12 +77,15 @@ fn common_multiple(one: u64, other: u64, limit: u64) -> Option<u64>
 }
 
 /// The least number above 0 that both divide, where it is at most `limit`: it tries the multiples of `step`, the
-/// greater one.
+/// greater one, and most often the first one is it.
 fn multiple_of_both(step: u64, other: u64, limit: u64) -> Option<u64>
     requires step { 0 < step }
     requires other { 0 < other }
     ensures least { IsLeastMultiple step other limit result }
 {
+    if step <= limit && step % other == 0 {
+        return Some(step);
+    }
     for count in 0..limit / step {
         let multiple = (count + 1) * step;
         if multiple % other == 0 {

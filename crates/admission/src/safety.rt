@@ -54,6 +54,7 @@ pub fn safe_list(
     if !valid(&ranked, state) {
         return Ok(None);
     }
-    let decision = decide_list(alloc, rules, list, state)?;
+    let judgement = decide_list(alloc, rules, list, state)?;
+    let decision = judgement.decision();
     Ok(decision.placed)
 }

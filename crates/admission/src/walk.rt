@@ -1,6 +1,6 @@
 //! The planning of a list as a walk from state to state.
 
-ghost use Rattle.std.specs.Prelude.{◌≡◌, ◌+◌, ◌^◌, ◌<◌, ◌≤◌, ℕ, IfSome, Some, true};
+ghost use Rattle.std.specs.Prelude.{◌≡◌, ◌+◌, ◌^◌, ◌<◌, ◌≤◌, ℕ, IfOk, IfSome, Some, true};
 ghost use Rattle.profile.specs.Limits.{openings_end};
 ghost use Rattle.requirement_table.specs.Slots.{contains_slot};
 ghost use Rattle.admission.specs.Course.{is_held_from};
@@ -8,8 +8,7 @@ ghost use Rattle.admission.specs.WalkLaws.{GoesOn};
 ghost use Rattle.admission.specs.Walked.{AreKeys};
 ghost use Rattle.recurrence_check.specs.Keys.{row_places};
 
-use crate::entries::Entries;
-use planner_policies::PlanState;
+use planner_policies::{PlanState, Ranked};
 use recurrence_check::{Keyed, PLACES, Stretch, Walk};
 use release_wheel::Planner;
 use std::alloc::{AllocError, Global};
@@ -18,7 +17,7 @@ use std::alloc::{AllocError, Global};
 #[derive(Drop)]
 pub struct PlanWalk {
     /// The entries, with the policy and the filling.
-    pub entries: Entries,
+    pub entries: Ranked,
     /// The length of the largest synchronous window, in bit times.
     pub window: u32,
     /// The first state.
@@ -65,7 +64,7 @@ impl Walk for PlanWalk {
     ghost is_on = { λ walk here. IsOn walk.entries walk.window here.planner here.state };
 
     fn begin(&self, alloc: Global) -> Result<PlanPlace, AllocError> {
-        let planner = self.entries.planner(alloc, &self.first)?;
+        let planner = self.planner(alloc)?;
         Ok(PlanPlace {
             state: self.first,
             planner,
@@ -113,6 +112,18 @@ impl Walk for PlanWalk {
 }
 
 impl PlanWalk {
+    /// The planning of the entries from the first state on. It takes all the memory that it needs.
+    pub fn planner(&self, alloc: Global) -> Result<Planner, AllocError>
+        ensures standing { IfOk result (λ planner. planner ≡ record {
+          ranking = self.now.entries;
+          cycle = self.now.first.cycle;
+          pending = self.now.first.pending;
+        }) }
+    {
+        let entries = self.entries.copy(alloc)?;
+        Planner::new(alloc, entries, &self.first)
+    }
+
     /// As many states behind a state as have no key, or keys whose places go up. Before all of them the same slots are
     /// pending. So they end before the bound, or with the period.
     fn known_behind(&self, state: &PlanState) -> Stretch

@@ -18,6 +18,7 @@ use requirement_table::{Mask, Placed, is_over_in_range};
 pub fn prune(placed: &mut Vec<Placed>, cycle: u64)
     requires in_range { All IsInRange placed.old.items }
     ensures pruned { placed.new.items ≡ pruned cycle placed.old.items }
+    ensures shorter { length placed.new.items ≤ length placed.old.items }
     ensures capacity { vec_capacity placed.new ≡ vec_capacity placed.old }
 {
     let gone = move_to_end(placed.as_mut_slice(), cycle);

@@ -1,17 +1,16 @@
 //! An answer that is not in the history yet.
 
-ghost use Rattle.std.specs.Prelude.{◌≡◌, ◌≤◌, IfOk, IfSome};
+ghost use Rattle.std.specs.Prelude.{◌≡◌, ◌≤◌, IfOk, IfSome, length};
 ghost use Rattle.profile.specs.Limits.{openings_end};
 ghost use Rattle.requirement_table.specs.Table.{IsWellPlaced};
 ghost use Rattle.change_protocol.specs.Applied.{applied};
 ghost use Rattle.planner_policies.specs.Plan.{IsValid};
 ghost use Rattle.admission.specs.Verdict.{IsInTime, IsRules, IsTakenWhereDue, plan_from};
-ghost use Rattle.master_core.specs.Answers.{AreKept, IsMadeKept, IsPlannedFrom, IsTableOf, IsTakenOver};
+ghost use Rattle.master_core.specs.Answers.{AreKept, IsMadeKept, IsPlannedFrom, IsTakenOver};
 ghost use Rattle.master_core.specs.Answers.{answer_at, entries_of, is_passed_by};
-ghost use Rattle.change_protocol.specs.Pruned.{pruned};
 
 use crate::table::{Table, copy_of, list_of};
-use admission::{Decision, Rules, Trail, Verdict, decide};
+use admission::{Judgement, RankedTable, Rules, Trail, Verdict, decide_ranked};
 use change_protocol::{Change, prune};
 use planner_policies::PlanState;
 use requirement_table::{Placed, PlacedList};
@@ -134,36 +133,38 @@ pub fn answer_of(
         IfOk result (λ answer. IsInTime rules.now placed.now state.now.cycle change.now
         → IsTakenWhereDue rules.now plan answer.verdict) }
 {
-    let Decision {
+    let Judgement {
         verdict,
-        placed,
+        table,
         trail,
-    } = decide(alloc, rules, placed, state, change)?;
+    } = decide_ranked(alloc, rules, placed, state, change)?;
     let change = copy_of(alloc, change)?;
-    let from = state.cycle;
-    let made = match placed {
+    let made = match table {
         None => None,
-        Some(list) => Some(made_of(alloc, list, from, rules)?),
+        Some(table) => Some(made_of(alloc, table, state)?),
     };
     Ok(Answer {
         change,
-        from,
+        from: state.cycle,
         verdict,
         trail,
         made,
     })
 }
 
-/// The table of a list that is planned by these rules from cycle `from` on, and the same list to be learned.
-fn made_of(alloc: Global, list: PlacedList, from: u64, rules: &Rules) -> Result<Made, AllocError>
-    requires well_placed { IsWellPlaced list }
-    requires from { from ≤ openings_end }
-    ensures table { IfOk result (IsTableOf rules.now from) }
-    ensures learned { IfOk result (λ made. made.learned ≡ list) }
+/// A table that is planned from the state on, and its list to be learned.
+fn made_of(alloc: Global, table: RankedTable, state: &PlanState) -> Result<Made, AllocError>
+    requires cycle { state.now.cycle ≤ openings_end }
+    requires valid { IsValid table.ranked.placed state.now.cycle state.now.pending }
+    ensures placed { IfOk result (λ made. made.table.placed.items ≡ made.learned) }
+    ensures since { IfOk result (λ made. made.table.since ≡ state.now.cycle) }
+    ensures ranked { IfOk result (λ made. made.table.planner.ranking ≡ table.ranked) }
+    ensures learned { IfOk result (λ made. made.learned ≡ table.placed) }
 {
-    let list = list.into_vec();
-    let learned = list_of(alloc, list.as_slice())?;
-    let table = Table::of(alloc, list, from, rules)?;
+    let RankedTable { placed, ranked } = table;
+    let placed = placed.into_vec();
+    let learned = list_of(alloc, placed.as_slice())?;
+    let table = Table::planned(alloc, placed, ranked, state)?;
     Ok(Made { table, learned })
 }
 
@@ -192,18 +193,19 @@ fn keep_made(made: Made, forgets: bool, from: u64) -> Made
     let Made { mut table, learned } = made;
     prune(&mut table.placed, from);
     Made {
+        learned: refilled(learned, table.placed.as_slice()),
         table,
-        learned: pruned_list(learned, from),
     }
 }
 
-/// The list without the entries that no answer needs any more.
-fn pruned_list(list: PlacedList, from: u64) -> PlacedList
-    requires well_placed { IsWellPlaced list }
-    ensures pruned { result ≡ pruned from list }
+/// A list with these entries, in the memory of a list that has no fewer.
+fn refilled(list: PlacedList, placed: &[Placed]) -> PlacedList
+    requires room { length placed.now ≤ length list }
+    ensures list { result ≡ placed.now }
 {
     let mut list = list.into_vec();
-    prune(&mut list, from);
+    list.truncate(placed.len());
+    list.as_mut_slice().copy_from_slice(placed);
     PlacedList::of(list)
 }
 

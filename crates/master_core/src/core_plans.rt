@@ -12,7 +12,7 @@ use crate::answer::{Answer, answer_of};
 use crate::apart::Snapshot;
 use admission::{Rules, Verdict};
 use change_protocol::Change;
-use planner_policies::{PlanState, rank};
+use planner_policies::{PlanState, rank_list};
 use release_wheel::Planner;
 use requirement_table::{Placed, not_over};
 use std::alloc::{AllocError, Global};
@@ -113,7 +113,7 @@ pub(crate) fn leads(
 {
     from.pending.known();
     let left = not_over(alloc, placed, from.cycle)?;
-    let ranked = rank(alloc, left.as_slice(), rules.policy, rules.fill)?;
+    let ranked = rank_list(alloc, left, rules.policy, rules.fill)?;
     let mut planner = Planner::new(alloc, ranked, from)?;
     for _ in 0..to.cycle - from.cycle {
         match planner.step(rules.window) {

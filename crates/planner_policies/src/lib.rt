@@ -15,7 +15,7 @@ mod state;
 pub use planning::{
     Planned, Taken, cycle_mask, is_held, plan_cycle, plan_of_line, plan_with_width, valid,
 };
-pub use ranking::{Ranked, rank};
+pub use ranking::{Ranked, rank, rank_list};
 pub use state::{Miss, PlanState};
 
 /// Which of the pending instances a cycle takes, in their order.

@@ -45,10 +45,23 @@ pub fn rank(
     ensures ranked { IfOk result (λ ranked. ranked ≡ record { placed = placed.now; policy = policy; fill = fill }) }
 {
     let list = placed.to_vec(alloc)?;
-    let mut rows = placed.to_vec(alloc)?;
+    rank_list(alloc, list, policy, fill)
+}
+
+/// Does what `rank` does, with a list that is not copied.
+pub fn rank_list(
+    alloc: Global,
+    placed: Vec<Placed>,
+    policy: Policy,
+    fill: Fill,
+) -> Result<Ranked, AllocError>
+    requires well_placed { IsWellPlaced placed.items }
+    ensures ranked { IfOk result (λ ranked. ranked ≡ record { placed = placed.items; policy = policy; fill = fill }) }
+{
+    let mut rows = placed.as_slice().to_vec(alloc)?;
     put_in_order(&mut rows, policy);
     Ok(Ranked {
-        placed: list,
+        placed,
         rows,
         policy,
         fill,
@@ -74,6 +87,18 @@ fn put_in_order(rows: &mut Vec<Placed>, policy: Policy)
 }
 
 impl Ranked {
+    /// The same entries, policy and filling, in memory of their own.
+    pub fn copy(&self, alloc: Global) -> Result<Ranked, AllocError>
+        ensures same { IfOk result (λ copy. copy ≡ self.now) }
+    {
+        Ok(Ranked {
+            placed: self.placed.as_slice().to_vec(alloc)?,
+            rows: self.rows.as_slice().to_vec(alloc)?,
+            policy: self.policy,
+            fill: self.fill,
+        })
+    }
+
     /// No entries, with room for so many, and the policy and the filling of this list.
     pub fn empty_with_room(&self, alloc: Global, count: usize) -> Result<Ranked, AllocError>
         ensures empty { IfOk result (λ ranked. ranked ≡ record self.now { placed = [] }) }

@@ -29,4 +29,5 @@ returns c =
           c.miss-slot.ensures.miss)
           c.miss-slot.ensures.cycle mask_is refl refl
           (c.of.ensures.list ∙ c.in_ok-push.ensures.items);
+      none = refl;
     }

@@ -7,11 +7,6 @@ use Rattle.admission.proofs.Planned.{none-at, planned-start, planned-step}
 use Rattle.admission.proofs.Same.{held-from_tests}
 use Rattle.admission.proofs.deciding.plan_cycles.Goals as goal
 
-pub planner-requires-clause-valid : goal.planner-requires-clause-valid
-planner-requires-clause-valid c =
-    let walk = c.args.walk.now in
-    held-from_tests walk.entries.placed walk.first.cycle walk.first.pending walk.held
-
 pub loop-count-init : goal.loop-count-init
 loop-count-init c =
     let walk = c.args.walk.now in

@@ -9,15 +9,15 @@ use Rattle.master_core.proofs.CorePlans.{first-pending, leads-by, leads-none, le
 use Rattle.master_core.proofs.Onward.{valid-left}
 use Rattle.master_core.proofs.core_plans.leads.Goals as goal
 
-pub rank-requires : goal.rank-requires
-rank-requires c = record {
+pub rank_list-requires : goal.rank_list-requires
+rank_list-requires c = record {
   well_placed =
-      rw (c.as_slice.ensures.value, c.in_ok-left.ensures.list) (not_over-well_placed c.args.from.now.cycle c.args.placed.now c.requires.well_placed);
+      rw c.in_ok-left.ensures.list (not_over-well_placed c.args.from.now.cycle c.args.placed.now c.requires.well_placed);
 }
 
 pub new-requires-clause-valid : goal.new-requires-clause-valid
 new-requires-clause-valid c =
-    rw (c.in_ok-ranked.ensures.ranked, c.as_slice.ensures.value, c.in_ok-left.ensures.list)
+    rw (c.in_ok-ranked.ensures.ranked, c.in_ok-left.ensures.list)
     (valid-left c.args.from.now.cycle c.args.placed.now c.args.from.now.pending c.requires.valid)
 
 pub loop-init : goal.loop-init
@@ -28,7 +28,7 @@ loop-init c =
       ranking =
           ap (λ (s : Standing). s.ranking) standing
           ∙ c.in_ok-ranked.ensures.ranked
-          ∙ ap (ranking_by c.args.rules.now) (c.as_slice.ensures.value ∙ c.in_ok-left.ensures.list);
+          ∙ ap (ranking_by c.args.rules.now) c.in_ok-left.ensures.list;
       cycle = omega (arith, here);
       in_time = λ m slot before known. absurd (omega arith);
       pending =
