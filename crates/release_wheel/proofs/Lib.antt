@@ -7,3 +7,4 @@ mod RowLines
 mod RowSets
 mod RowSums
 mod RowTaking
+mod RowWords

@@ -248,7 +248,7 @@ module _ (rows : List Placed) (n : ℕ) (w v : Wheel) (p : Placed) (f : IsFilled
   waits-here =
       rw (s.cycle, s.slots, entry-here, waiting-here, last-here, s.soonest) (record {
         waits_is = s.waits_is;
-        last_is = λ _. s.last_is;
+        last_is = s.last_is;
         soonest_is = λ on. rw on (omega arith);
       })
 

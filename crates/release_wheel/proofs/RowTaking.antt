@@ -10,7 +10,7 @@ use Rattle.planner_policies.specs.declared.Fill.{Fill}
 use Rattle.planner_policies.specs.declared.Fill.TheVariants.{Prefix, Skip}
 use Rattle.planner_policies.specs.declared.due.Due.{Due}
 use Rattle.planner_policies.specs.Due.{taken_of}
-use Rattle.release_wheel.specs.Wheel.{AreDistinct, AreOfRows, IsTook, cost_at, cost_below, has_row, line_from, slot_at}
+use Rattle.release_wheel.specs.Wheel.{AreDistinct, AreOfRows, IsTaking, IsTook, cost_at, cost_below, has_row, line_from, slot_at}
 use Rattle.planner_policies.proofs.Shared.{turned-eq, has_slot, sum_where-zero, cost_of}
 use Rattle.release_wheel.proofs.RowLines.{line-empty, line-first}
 use Rattle.release_wheel.proofs.RowSets.{has-none}
@@ -19,20 +19,6 @@ use Rattle.release_wheel.proofs.RowSums.{cost-with}
 -- the rows of a set, in order
 abbrev pub rows_of : (ℕ → Due) → List Placed → ℕ → List Due
 rows_of dues entries set = line_from dues (has_row set) 0 (length entries)
-
--- what is taken so far: `rest` is still to be looked at, and `left` was passed over
-pub record IsTaking (fill : Fill) (window : ℕ) (entries : List Placed) (due rest left mask width : ℕ) : Type 0 where
-  pub kept : (i : ℕ) → has_row due i ≡ true → (has_row rest i || has_row left i) ≡ not (contains_slot mask (slot_at entries i))
-  pub rest_in : (i : ℕ) → has_row rest i ≡ true → has_row due i ≡ true
-  pub left_in : (i : ℕ) → has_row left i ≡ true → has_row due i ≡ true
-  pub apart : (i : ℕ) → has_row rest i ≡ true → has_row left i ≡ false
-  pub fits : width ≤ window
-  pub cost : cost_below entries (length entries) rest + cost_below entries (length entries) left + width ≡ cost_below entries (length entries) due
-  pub taken_width : (dues : ℕ → Due) → AreOfRows entries dues
-      → width + cost_of (taken_of fill (window - width) (rows_of dues entries rest)) ≡ cost_of (taken_of fill window (rows_of dues entries due))
-  pub taken_slots : (dues : ℕ → Due) → AreOfRows entries dues → (slot : ℕ)
-      → (contains_slot mask slot || list_any (has_slot slot) (taken_of fill (window - width) (rows_of dues entries rest)))
-      ≡ list_any (has_slot slot) (taken_of fill window (rows_of dues entries due))
 
 pub cost-none : (entries : List Placed) (n : ℕ) → cost_below entries n 0 ≡ 0
 cost-none entries n = sum_where-zero n (has_row 0) (cost_at entries) (λ row below. has-none row)

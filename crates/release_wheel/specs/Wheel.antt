@@ -1,10 +1,11 @@
 -- A wheel of coming releases, and what waits beside it: words for contracts inside the crate.
 --
 -- A row is a placed entry, by its place in the order of the policy. Sets of rows are numbers: row i is bit i.
-use Rattle.std.specs.Prelude.{◌≡◌, ℕ, zero, suc, ◌+◌, ◌-◌, ◌%◌, ◌<◌, ◌≤◌, Bool, true, false, ◌&&◌, ◌||◌}
+use Rattle.std.specs.Prelude.{◌≡◌, ℕ, zero, suc, ◌+◌, ◌-◌, ◌*◌, ◌%◌, ◌^◌, ◌<◌, ◌≤◌, Bool, true, false, ◌&&◌, ◌||◌}
 use Rattle.std.specs.Prelude.{nat_eq, ◌∷◌, [], sum_by}
 use Rattle.std.specs.Prelude.{if◌then◌else◌, List, IsPermutation, None, Some, get_or, length, min, not, set}
 use Rattle.std.specs.Int.{bit_at}
+use Rattle.std.specs.List.{list_any}
 use Rattle.std.specs.Vec.{vec_capacity}
 use Rattle.profile.specs.Limits.{cycles_end}
 use Rattle.requirement_table.specs.declared.entries.Placed.{Placed}
@@ -14,6 +15,7 @@ use Rattle.requirement_table.specs.Table.{IsInRange, IsWellPlaced}
 use Rattle.planner_policies.specs.declared.Fill.{Fill}
 use Rattle.planner_policies.specs.declared.Policy.{Policy}
 use Rattle.planner_policies.specs.declared.due.Due.{Due}
+use Rattle.release_wheel.specs.declared.row_set.Rest.{Rest}
 use Rattle.release_wheel.specs.declared.wheel.Wheel.{Wheel}
 use Rattle.planner_policies.specs.Due.{IsDueOf, IsPlanned, IsSetOf, IsWholeLine, is_held_in, key_with, taken_of}
 use Rattle.planner_policies.specs.Ranked.{AreRanked}
@@ -22,6 +24,10 @@ use Rattle.planner_policies.specs.Plan.{IsValid, Planning, Ranking, planning_of}
 -- whether the row stands in the set
 abbrev pub has_row : ℕ → ℕ → Bool
 has_row set row = nat_eq (bit_at set row) 1
+
+-- the rows that are still to be looked at, as a set
+abbrev pub rows_left : Rest → ℕ
+rows_left rest = (rest.behind * 2 ^ 64 + rest.word) * 2 ^ rest.base + 0
 
 -- whether a row below `n` passes the test
 unfoldable pub any_below : ℕ → (ℕ → Bool) → Bool
@@ -181,7 +187,7 @@ pub record IsRowSet (p : Placed) (row : ℕ) (old new : Wheel) : Type 0 where
   pub next_is : IsNext p old.cycle next
   pub begun_is : begun ≡ true → IsAlways p old.cycle
   pub waits_is : waits ≡ (contains_slot old.slots p.entry.slot && is_held_in old.cycle p)
-  pub last_is : (k : ℕ) → MaySend p k old.cycle → last + 1 ≡ deadline_of p k
+  pub last_is : waits ≡ true → (k : ℕ) → MaySend p k old.cycle → last + 1 ≡ deadline_of p k
   pub policy : new.policy ≡ old.policy
   pub turns : new.turns ≡ old.turns
   pub cycle : new.cycle ≡ old.cycle
@@ -278,6 +284,25 @@ pub record IsTook (fill : Fill) (window : ℕ) (entries : List Placed) (due left
       → width ≡ sum_by (λ due. due.cost) (taken_of fill window (line_from dues (has_row due) 0 (length entries)))
   pub fits : width ≤ window
   pub cost : cost_below entries (length entries) left + width ≡ cost_below entries (length entries) due
+
+-- what a filling takes so far: the rows of `rest` are still to be looked at, and those of `left` were passed over
+pub record IsTaking (fill : Fill) (window : ℕ) (entries : List Placed) (due rest left mask width : ℕ)
+    : Type 0 where
+  pub kept : (i : ℕ) → has_row due i ≡ true
+      → (has_row rest i || has_row left i) ≡ not (contains_slot mask (slot_at entries i))
+  pub rest_in : (i : ℕ) → has_row rest i ≡ true → has_row due i ≡ true
+  pub left_in : (i : ℕ) → has_row left i ≡ true → has_row due i ≡ true
+  pub apart : (i : ℕ) → has_row rest i ≡ true → has_row left i ≡ false
+  pub fits : width ≤ window
+  pub cost : cost_below entries (length entries) rest + cost_below entries (length entries) left + width
+      ≡ cost_below entries (length entries) due
+  pub taken_width : (dues : ℕ → Due) → AreOfRows entries dues
+      → width + sum_by (λ due. due.cost) (taken_of fill (window - width) (line_from dues (has_row rest) 0 (length entries)))
+      ≡ sum_by (λ due. due.cost) (taken_of fill window (line_from dues (has_row due) 0 (length entries)))
+  pub taken_slots : (dues : ℕ → Due) → AreOfRows entries dues → (slot : ℕ)
+      → (contains_slot mask slot || list_any (λ due. nat_eq due.slot slot)
+      (taken_of fill (window - width) (line_from dues (has_row rest) 0 (length entries))))
+      ≡ list_any (λ due. nat_eq due.slot slot) (taken_of fill window (line_from dues (has_row due) 0 (length entries)))
 
 -- what the filling of a planning takes of the rows that have something to send, in key order, and what it leaves: its
 -- rows, and what these cost together

@@ -1,7 +1,8 @@
-//! Sets of rows, as numbers: row i is bit i.
+//! Sets of rows, as numbers: row i is bit i. A set is looked through word by word, since a loop over one word of the
+//! processor costs half of one over two.
 
-ghost use Rattle.std.specs.Prelude.{◌≡◌, ℕ, ◌*◌, ◌%◌, ◌<◌, ◌^◌, ◌||◌, ◌&&◌, nat_eq, not, true, false};
-ghost use Rattle.release_wheel.specs.Wheel.{has_row};
+ghost use Rattle.std.specs.Prelude.{◌≡◌, ℕ, ◌+◌, ◌*◌, ◌%◌, ◌<◌, ◌^◌, ◌||◌, ◌&&◌, nat_eq, not, true, false};
+ghost use Rattle.release_wheel.specs.Wheel.{has_row, rows_left};
 
 use requirement_table::Mask;
 
@@ -15,6 +16,7 @@ const WORD_BITS: usize = 64;
 const LOW_WORD: u128 = (1 << WORD_BITS) - 1;
 
 /// Whether the row stands in the set.
+#[inline(always)]
 pub fn has(set: u128, row: usize) -> bool
     requires known { row < 128 }
     ensures row { result ≡ has_row set row }
@@ -27,6 +29,7 @@ pub fn has(set: u128, row: usize) -> bool
 }
 
 /// The set of one row.
+#[inline(always)]
 fn one(row: usize) -> u128
     requires known { row < 128 }
     ensures number { result ≡ 1 * 2 ^ row % 2 ^ 128 }
@@ -39,6 +42,7 @@ fn one(row: usize) -> u128
 }
 
 /// The set with the row in it.
+#[inline(always)]
 pub fn with(set: u128, row: usize) -> u128
     requires known { row < 128 }
     ensures rows { (i : ℕ) → has_row result i ≡ (nat_eq row i || has_row set i) }
@@ -47,6 +51,7 @@ pub fn with(set: u128, row: usize) -> u128
 }
 
 /// The set with the row not in it.
+#[inline(always)]
 pub fn without(set: u128, row: usize) -> u128
     requires known { row < 128 }
     ensures rows { (i : ℕ) → has_row result i ≡ (not (nat_eq row i) && has_row set i) }
@@ -86,4 +91,81 @@ pub fn common(one: u128, other: u128) -> u128
     ensures rows { (i : ℕ) → has_row result i ≡ (has_row one i && has_row other i) }
 {
     one & other
+}
+
+/// Rows of a set that are still to be looked at, word by word: those of the present word, where bit i is row `base + i`,
+/// and those of the word behind it.
+#[derive(Clone, Copy)]
+pub struct Rest {
+    /// The row of the lowest bit of the present word.
+    pub base: u8,
+    /// The present word.
+    pub word: u64,
+    /// The word behind it.
+    pub behind: u64,
+}
+
+/// All rows of a set: those below 64 are in the present word.
+#[inline(always)]
+pub fn rest_of(set: u128) -> Rest
+    ensures low { result.base ≡ 0 }
+    ensures rows { rows_left result ≡ set }
+{
+    Rest {
+        base: 0,
+        word: (set & LOW_WORD) as u64,
+        behind: (set >> WORD_BITS) as u64,
+    }
+}
+
+/// The same rows, those from 64 on in the present word, where the word of the others is empty.
+#[inline(always)]
+pub fn next_word(rest: Rest) -> Rest
+    requires low { rest.base ≡ 0 }
+    requires done { rest.word ≡ 0 }
+    ensures high { result.base ≡ 64 }
+    ensures last { result.behind ≡ 0 }
+    ensures rows { rows_left result ≡ rows_left rest }
+{
+    Rest {
+        base: 64,
+        word: rest.behind,
+        behind: 0,
+    }
+}
+
+/// The first row of a present word that is not empty.
+#[inline(always)]
+pub fn first_left(rest: Rest) -> usize
+    requires some { 0 < rest.word }
+    ensures stands { has_row (rows_left rest) result ≡ true }
+    ensures none_before { (i : ℕ) → i < result → has_row (rows_left rest) i ≡ false }
+{
+    usize::from(rest.base) + rest.word.trailing_zeros() as usize
+}
+
+/// The rows without the first one of a present word that is not empty.
+#[inline(always)]
+pub fn without_first(rest: Rest) -> Rest
+    requires some { 0 < rest.word }
+    ensures less { result.word < rest.word }
+    ensures base { result.base ≡ rest.base }
+    ensures behind { result.behind ≡ rest.behind }
+    ensures rows { (row : ℕ) → has_row (rows_left rest) row ≡ true
+        → ((i : ℕ) → i < row → has_row (rows_left rest) i ≡ false)
+        → (i : ℕ) → has_row (rows_left result) i ≡ (not (nat_eq row i) && has_row (rows_left rest) i) }
+{
+    Rest {
+        base: rest.base,
+        word: rest.word & (rest.word - 1),
+        behind: rest.behind,
+    }
+}
+
+/// The set of the rows of two words: those below 64, and the others.
+#[inline(always)]
+pub fn of_words(low: u64, high: u64) -> u128
+    ensures set { result ≡ high * 2 ^ 64 + low }
+{
+    (u128::from(high) << WORD_BITS) + u128::from(low)
 }

@@ -6,24 +6,28 @@
 //! numbers, so a wheel turns for at most 128 rows. Where it has no room for its rows each cycle is planned plainly.
 
 ghost use Rattle.std.specs.Prelude.{◌≡◌, ◌≢◌, ℕ, ◌+◌, ◌%◌, ◌^◌, ◌<◌, ◌≤◌, Bool, true, not, ◌||◌, ◌&&◌};
-ghost use Rattle.std.specs.Prelude.{get_or, if◌then◌else◌, is_none, length, min, nat_eq, IfSome, IfOk, IfErr, None, vec_capacity};
+ghost use Rattle.std.specs.Prelude.{[], ◌-◌, get_or, if◌then◌else◌, is_none, length, min, nat_eq, IfSome, IfOk, IfErr, None, vec_capacity};
 ghost use Rattle.profile.specs.Limits.{cycles_end};
 ghost use Rattle.planner_policies.specs.declared.Fill.TheVariants.{Prefix, Skip};
 ghost use Rattle.planner_policies.specs.declared.Policy.TheVariants.{Edf};
-ghost use Rattle.planner_policies.specs.Due.{IsPlanned, IsWholeLine, is_held_in};
+ghost use Rattle.planner_policies.specs.declared.due.Due.{Due};
+ghost use Rattle.planner_policies.specs.Due.{IsPlanned, IsWholeLine, is_held_in, taken_of};
 ghost use Rattle.planner_policies.specs.Plan.{IsMissIn, IsValid, planning_of};
 ghost use Rattle.requirement_table.specs.Instance.{MaySend, deadline_of, exists, worst};
 ghost use Rattle.requirement_table.specs.Slots.{contains_slot, most_slots};
 ghost use Rattle.requirement_table.specs.Table.{IsInRange, IsWellPlaced};
 ghost use Rattle.release_wheel.specs.Passed.{IsPassed};
-ghost use Rattle.release_wheel.specs.Wheel.{AreDistinct, AreInTime, HasRoom, HasRoomFor, IsBelow, IsKept, IsNext};
+ghost use Rattle.release_wheel.specs.Wheel.{AreDistinct, AreInTime, AreOfRows, HasRoom, HasRoomFor, IsBelow, IsKept, IsNext};
 ghost use Rattle.release_wheel.specs.Wheel.{IsPart, IsPlannedOn, IsReady, IsReleased, IsReleasing};
-ghost use Rattle.release_wheel.specs.Wheel.{IsRowBegun, IsRowReleased, IsRowSet, IsSameState, IsSameTable, IsTook, IsTurned};
-ghost use Rattle.release_wheel.specs.Wheel.{IsTurnedFor};
-ghost use Rattle.release_wheel.specs.Wheel.{cost_below, due_of_row, has_row, is_there, no_entry, slot_at};
+ghost use Rattle.release_wheel.specs.Wheel.{IsRowBegun, IsRowReleased, IsRowSet, IsSameState, IsSameTable, IsTaking, IsTook};
+ghost use Rattle.release_wheel.specs.Wheel.{IsTurned, IsTurnedFor, line_from};
+ghost use Rattle.release_wheel.specs.Wheel.{cost_below, due_of_row, has_row, is_there, no_entry, rows_left, slot_at};
 
 use crate::planner::CyclePlan;
-use crate::row_set::{MOST_ROWS, behind_first, both, common, first, has, with, without};
+use crate::row_set::{
+    MOST_ROWS, Rest, behind_first, both, common, first, first_left, has, next_word, of_words,
+    rest_of, with, without, without_first,
+};
 use planner_policies::due::{Due, key};
 use planner_policies::line::{ALL, FEW, Line};
 use planner_policies::{
@@ -239,6 +243,15 @@ fn last_cycle(placed: &Placed, cycle: u64) -> u64
     }
 }
 
+/// The last cycle of the instance of the entry that may be sent in the cycle, where that is wanted.
+fn last_if(placed: &Placed, cycle: u64, wanted: bool) -> u64
+    requires in_range { IsInRange placed.now }
+    requires cycle { cycle ≤ cycles_end }
+    ensures last { wanted ≡ true → (k : ℕ) → MaySend placed.now k cycle → result + 1 ≡ deadline_of placed.now k }
+{
+    if wanted { last_cycle(placed, cycle) } else { 0 }
+}
+
 /// Whether the entry has an instance in each cycle from this one on, by its next release.
 fn begins(placed: &Placed, next: u64, cycle: u64) -> bool
     ensures begins { result
@@ -275,7 +288,7 @@ fn set_row(wheel: &mut Wheel, row: usize, placed: &Placed)
     let next = next_release(placed, wheel.cycle);
     let begun = begins(placed, next, wheel.cycle);
     let waits = waits(wheel.slots, placed, wheel.cycle);
-    let last = last_cycle(placed, wheel.cycle);
+    let last = last_if(placed, wheel.cycle, waits);
     wheel.entries[row] = *placed;
     wheel.nexts[row] = next;
     wheel.lasts[row] = last;
@@ -456,16 +469,36 @@ fn release(wheel: &mut Wheel)
     ensures table { IsSameTable wheel.old wheel.new }
     ensures cycle { wheel.new.cycle ≡ wheel.old.cycle }
 {
+    let pending = wheel.slots;
     let place = (wheel.cycle % PLACES as u64) as usize;
-    let mut rest = wheel.places[place];
-    while rest != 0 {
-        let row = first(rest);
-        rest = behind_first(rest);
+    let rest = rest_of(wheel.places[place]);
+    let rest = release_word(wheel, pending, rest);
+    release_word(wheel, pending, next_word(rest));
+}
+
+/// Makes the releases of the rows of the present word, before which these slots were pending.
+#[inline(always)]
+fn release_word(wheel: &mut Wheel, pending: Mask, rest: Rest) -> Rest
+    requires cycle { wheel.old.cycle < cycles_end }
+    requires going { IsReleasing (contains_slot pending) (rows_left rest) wheel.old }
+    ensures going { IsReleasing (contains_slot pending) (rows_left result) wheel.new }
+    ensures table { IsSameTable wheel.old wheel.new }
+    ensures cycle { wheel.new.cycle ≡ wheel.old.cycle }
+    ensures base { result.base ≡ rest.base }
+    ensures behind { result.behind ≡ rest.behind }
+    ensures done { result.word ≡ 0 }
+{
+    let mut left = rest;
+    while left.word != 0 {
+        let row = first_left(left);
+        left = without_first(left);
         look_at(wheel, row);
     }
+    left
 }
 
 /// Makes the release of a row at the place of the cycle, where the row has one.
+#[inline(always)]
 fn look_at(wheel: &mut Wheel, row: usize)
     requires cycle { wheel.old.cycle < cycles_end }
     requires room { HasRoom (length wheel.old.entries.items) wheel.old }
@@ -486,6 +519,7 @@ fn look_at(wheel: &mut Wheel, row: usize)
 }
 
 /// Whether the entry releases an instance in each cycle, from some cycle on.
+#[inline(always)]
 fn is_always(placed: &Placed) -> bool
     ensures always { result ≡ (nat_eq placed.now.entry.period 1 && is_none placed.now.end) }
 {
@@ -493,6 +527,7 @@ fn is_always(placed: &Placed) -> bool
 }
 
 /// Makes the first release of a row that has an instance in each cycle from then on.
+#[inline(always)]
 fn begin_row(wheel: &mut Wheel, placed: &Placed, row: usize)
     requires room { HasRoom (length wheel.old.entries.items) wheel.old }
     requires row { row < length wheel.old.entries.items }
@@ -511,6 +546,7 @@ fn begin_row(wheel: &mut Wheel, placed: &Placed, row: usize)
 }
 
 /// Makes the release of a row: its instance waits, and the row stands where its next release comes.
+#[inline(always)]
 fn release_row(wheel: &mut Wheel, placed: &Placed, row: usize)
     requires cycle { wheel.old.cycle < cycles_end }
     requires room { HasRoom (length wheel.old.entries.items) wheel.old }
@@ -541,6 +577,7 @@ fn release_row(wheel: &mut Wheel, placed: &Placed, row: usize)
 }
 
 /// Takes a row off a place.
+#[inline(always)]
 fn take_off(places: &mut Vec<u128>, place: usize, row: usize)
     requires place { place < length places.old.items }
     requires row { row < 128 }
@@ -552,6 +589,7 @@ fn take_off(places: &mut Vec<u128>, place: usize, row: usize)
 }
 
 /// Puts a row on a place, where that is wanted.
+#[inline(always)]
 fn put_on(places: &mut Vec<u128>, place: usize, row: usize, wanted: bool)
     requires place { place < length places.old.items }
     requires row { row < 128 }
@@ -879,30 +917,73 @@ fn take_front(entries: &[Placed], due: u128, w: u32) -> Took
     requires distinct { AreDistinct entries.now due }
     ensures took { IsTook Prefix w entries.now due result.left result.mask result.width }
 {
-    let mut rest = due;
-    let mut mask = Mask::empty();
-    let mut width = 0;
-    while rest != 0 {
-        let entry = entries[first(rest)].entry;
+    let start = Front {
+        rest: rest_of(due),
+        mask: Mask::empty(),
+        width: 0,
+    };
+    let low = take_front_word(entries, due, start, w);
+    if low.rest.word != 0 {
+        low.mask.known();
+        return Took {
+            left: of_words(low.rest.word, low.rest.behind),
+            mask: low.mask,
+            width: low.width,
+        };
+    }
+    let middle = Front {
+        rest: next_word(low.rest),
+        mask: low.mask,
+        width: low.width,
+    };
+    let high = take_front_word(entries, due, middle, w);
+    high.mask.known();
+    Took {
+        left: of_words(0, high.rest.word),
+        mask: high.mask,
+        width: high.width,
+    }
+}
+
+/// A filling `Prefix` that goes on.
+#[derive(Clone, Copy)]
+struct Front {
+    /// The rows that are still to be looked at.
+    rest: Rest,
+    /// The slots of the rows that are taken.
+    mask: Mask,
+    /// What these cost together, in bit times.
+    width: u32,
+}
+
+/// Goes on with the filling `Prefix` of these rows in a window of `w` bit times, to the end of the present word or to the
+/// first row that does not fit.
+#[inline(always)]
+fn take_front_word(entries: &[Placed], due: u128, front: Front, w: u32) -> Front
+    requires in_range { (row : ℕ) → row < length entries.now → IsInRange (get_or entries.now row no_entry) }
+    requires within { IsBelow (length entries.now) due }
+    requires distinct { AreDistinct entries.now due }
+    requires taking { IsTaking Prefix w entries.now due (rows_left front.rest) 0 front.mask front.width }
+    ensures taking { IsTaking Prefix w entries.now due (rows_left result.rest) 0 result.mask result.width }
+    ensures stops { 0 < result.rest.word → (dues : ℕ → Due) → AreOfRows entries.now dues
+        → taken_of Prefix (w - result.width) (line_from dues (has_row (rows_left result.rest)) 0 (length entries.now)) ≡ [] }
+    ensures base { result.rest.base ≡ front.rest.base }
+    ensures behind { result.rest.behind ≡ front.rest.behind }
+{
+    let mut rest = front.rest;
+    let mut mask = front.mask;
+    let mut width = front.width;
+    while rest.word != 0 {
+        let entry = entries[first_left(rest)].entry;
         let cost = cost(entry.length);
         if cost > w - width {
-            mask.known();
-            return Took {
-                left: rest,
-                mask,
-                width,
-            };
+            return Front { rest, mask, width };
         }
-        rest = behind_first(rest);
+        rest = without_first(rest);
         width += cost;
         mask = mask.with(entry.slot);
     }
-    mask.known();
-    Took {
-        left: 0,
-        mask,
-        width,
-    }
+    Front { rest, mask, width }
 }
 
 /// What the filling `Skip` takes of these rows in a window of `w` bit times, and what it leaves.
@@ -913,14 +994,62 @@ fn take_each(entries: &[Placed], due: u128, w: u32) -> Took
     requires distinct { AreDistinct entries.now due }
     ensures took { IsTook Skip w entries.now due result.left result.mask result.width }
 {
-    let mut rest = due;
-    let mut left = 0;
-    let mut mask = Mask::empty();
-    let mut width = 0;
-    while rest != 0 {
-        let row = first(rest);
+    let start = Taking {
+        rest: rest_of(due),
+        left: 0,
+        mask: Mask::empty(),
+        width: 0,
+    };
+    let low = take_each_word(entries, due, start, w);
+    let middle = Taking {
+        rest: next_word(low.rest),
+        left: low.left,
+        mask: low.mask,
+        width: low.width,
+    };
+    let high = take_each_word(entries, due, middle, w);
+    high.mask.known();
+    Took {
+        left: high.left,
+        mask: high.mask,
+        width: high.width,
+    }
+}
+
+/// A filling `Skip` that goes on.
+#[derive(Clone, Copy)]
+struct Taking {
+    /// The rows that are still to be looked at.
+    rest: Rest,
+    /// The rows that are passed over.
+    left: u128,
+    /// The slots of the rows that are taken.
+    mask: Mask,
+    /// What these cost together, in bit times.
+    width: u32,
+}
+
+/// Goes on with the filling `Skip` of these rows in a window of `w` bit times, to the end of the present word.
+#[inline(always)]
+fn take_each_word(entries: &[Placed], due: u128, taking: Taking, w: u32) -> Taking
+    requires in_range { (row : ℕ) → row < length entries.now → IsInRange (get_or entries.now row no_entry) }
+    requires few { length entries.now ≤ 128 }
+    requires within { IsBelow (length entries.now) due }
+    requires distinct { AreDistinct entries.now due }
+    requires taking { IsTaking Skip w entries.now due (rows_left taking.rest) taking.left taking.mask taking.width }
+    ensures taking { IsTaking Skip w entries.now due (rows_left result.rest) result.left result.mask result.width }
+    ensures done { result.rest.word ≡ 0 }
+    ensures base { result.rest.base ≡ taking.rest.base }
+    ensures behind { result.rest.behind ≡ taking.rest.behind }
+{
+    let mut rest = taking.rest;
+    let mut left = taking.left;
+    let mut mask = taking.mask;
+    let mut width = taking.width;
+    while rest.word != 0 {
+        let row = first_left(rest);
         let entry = entries[row].entry;
-        rest = behind_first(rest);
+        rest = without_first(rest);
         let cost = cost(entry.length);
         if cost <= w - width {
             width += cost;
@@ -929,6 +1058,10 @@ fn take_each(entries: &[Placed], due: u128, w: u32) -> Took
             left = with(left, row);
         }
     }
-    mask.known();
-    Took { left, mask, width }
+    Taking {
+        rest,
+        left,
+        mask,
+        width,
+    }
 }

@@ -1,0 +1,14 @@
+use Rattle.std.proofs.Common.{◌≡◌}
+use Rattle.planner_policies.specs.declared.Fill.TheVariants.{Prefix}
+use Rattle.release_wheel.specs.Wheel.{IsTaking, rows_left}
+use Rattle.release_wheel.proofs.wheel.take_front_word.Given as goal
+
+abbrev pub invariant-loop-rest : goal.invariant-loop-rest
+invariant-loop-rest l = record {
+  taking : IsTaking Prefix l.w l.entries l.due (rows_left l.rest) 0 l.mask l.width;
+  base : l.rest.base ≡ l.fn.front.rest.base;
+  behind : l.rest.behind ≡ l.fn.front.rest.behind;
+}
+
+abbrev pub decreases-loop-rest : goal.decreases-loop-rest
+decreases-loop-rest l = l.rest.word
