@@ -1,5 +1,6 @@
 -- The text of rows, read as records: the fields of each row.
-use Rattle.std.proofs.Common.{◌≡◌, ℕ, Bool, ◌^◌, ◌<◌, true, List, [], ◌∷◌, All, Some, None, map, refl, ap, ◌∙◌, arith}
+use Rattle.std.proofs.Common.{◌≡◌, ℕ, Bool, ◌^◌, ◌<◌, ◌++◌, true, List, [], ◌∷◌, All, Some, None, length, map, refl, sym, ap, ◌∙◌, arith, append_assoc}
+use Rattle.std.proofs.lemmas.List.{append-nil, length-append}
 use Rattle.std.proofs.lemmas.Bool.{and_parts, and_from}
 use Rattle.std.proofs.lemmas.Bool.Decides.{nat_tests}
 use Rattle.std.proofs.lemmas.List.Elements.{All-head, All-tail}
@@ -14,7 +15,7 @@ use Rattle.text_fields.specs.Hexadecimal.{is_hex_digit}
 use Rattle.text_fields.proofs.Shared.{ArePlain, IsPlainRecord, all-data, all-decimal, all-hex, is_plain, no-mark, no-mark-empty, none-next, plain-next}
 use Rattle.text_fields.specs.MaskText.{mask_digits, mask_width}
 use Rattle.text_fields.specs.Hexadecimal.{hex_digits}
-use Rattle.log_reader.specs.Row.{IsLogRow, IsLogVerdict, fields_of_row, fields_of_verdict, text_of_rows}
+use Rattle.log_reader.specs.Row.{IsLogRow, IsLogVerdict, fields_of_row, fields_of_verdict, row_line, row_text, text_of_rows}
 use Rattle.log_reader.specs.declared.row.LogRow.{LogRow}
 use Rattle.log_reader.specs.declared.row.LogRow.TheVariants as row
 use Rattle.log_reader.specs.declared.row.LogVerdict.{LogVerdict}
@@ -92,3 +93,24 @@ records-text bytes rows legal is =
     ap (λ (b : List ℕ). records_left st.StartRecord (strip_bom b)) is
     ∙ ap (records_left st.StartRecord) (unmarked rows)
     ∙ text-records rows legal
+
+-- Row by row
+
+text-append : (rows : List LogRow) (line : LogRow) → text_of_rows (rows ++ line ∷ []) ≡ text_of_rows rows ++ row_text line
+text-append [] line = append-nil (row_text line)
+text-append (first ∷ rows) line =
+    ap (λ l. row_text first ++ l) (text-append rows line) ∙ sym (append_assoc (row_text first) (text_of_rows rows) (row_text line))
+
+-- behind the texts of rows stands that of one more
+pub written-more : (text : List ℕ) (rows : List LogRow) (line : LogRow) (rest later : List ℕ) → text ≡ text_of_rows rows ++ rest
+    → rest ≡ row_text line ++ later → text ≡ text_of_rows (rows ++ line ∷ []) ++ later
+written-more text rows line rest later is more =
+    is ∙ ap (λ l. text_of_rows rows ++ l) more ∙ sym (append_assoc (text_of_rows rows) (row_text line) later)
+    ∙ ap (λ l. l ++ later) (sym (text-append rows line))
+
+-- what stands behind it is shorter
+pub written-shorter : (line : LogRow) (rest later : List ℕ) → rest ≡ row_text line ++ later → length later < length rest
+written-shorter line rest later is =
+    let all = ap length is ∙ length-append (row_text line) later in
+    let own = length-append (row_line line) (10 ∷ []) in
+    omega (arith, all, own)

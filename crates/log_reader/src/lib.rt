@@ -3,6 +3,7 @@
 //! Cycles are elementary cycles, counted from 0; times are bit times.
 #![tactic(auto)]
 
+mod ahead;
 pub mod laws;
 mod log_fault;
 mod log_reading;
@@ -10,8 +11,10 @@ mod reader;
 mod row;
 mod row_fields;
 mod row_reading;
+mod written;
 
 pub use log_fault::LogFault;
 pub use log_reading::{check_log, read_log};
 pub use reader::LogReader;
 pub use row::{LogRow, LogVerdict};
+pub use written::{behind_row, next_written};

@@ -5,7 +5,7 @@
 //! the writer gives it: no leading zeros, hexadecimal digits in lower case. Each row is tested by itself: whether rows
 //! follow each other rightly is not asked.
 
-ghost use Rattle.std.specs.Prelude.{◌≡◌, ◌⊎◌, ℕ, List, All, IfOk, IfErr, MatchResult, OnOk, map};
+ghost use Rattle.std.specs.Prelude.{◌≡◌, ◌⊎◌, ℕ, List, All, IfOk, IfErr, MatchResult, OnOk, map, true};
 ghost use Rattle.text_fields.specs.CsvRows.{records_of};
 ghost use Rattle.log_reader.specs.Row.{AreRowsOf, IsFirstFaultyRow, IsLogFault, IsLogRow, fields_of_row, text_of_rows};
 ghost use Rattle.log_reader.specs.declared.log_fault.LogFault.TheVariants.{Memory, Row};
@@ -14,6 +14,7 @@ ghost use Rattle.log_reader.specs.declared.row.LogRow.{LogRow};
 use crate::log_fault::LogFault;
 use crate::reader::LogReader;
 use crate::row::LogRow;
+use crate::written::behind_next;
 use std::alloc::Global;
 
 /// The rows of a log.
@@ -40,7 +41,23 @@ pub fn read_log(alloc: Global, bytes: &[u8]) -> Result<Vec<LogRow>, LogFault>
     Ok(rows)
 }
 
-/// Whether the records of a text are those of rows of a log. It keeps one record at a time, and no row.
+/// Whether a text is the texts of rows of a log, one after the other.
+fn are_written(alloc: Global, bytes: &[u8]) -> bool
+    ensures rows { result ≡ true
+        → (rows : List LogRow) × All IsLogRow rows × (bytes.now ≡ text_of_rows rows) }
+{
+    let mut rest = bytes;
+    while !rest.is_empty() {
+        match behind_next(alloc, rest) {
+            Some(later) => rest = later,
+            None => return false,
+        }
+    }
+    true
+}
+
+/// Whether the records of a text are those of rows of a log. It keeps one record at a time, and no row. Only where the
+/// rows are not in the form in which they are written are the records read by `csv`.
 ///
 /// # Errors
 ///
@@ -52,6 +69,9 @@ pub fn check_log(alloc: Global, bytes: &[u8]) -> Result<(), LogFault>
     ensures first { (number : ℕ) → IsFirstFaultyRow bytes.now number
         → MatchResult result (λ _. ⊥) (λ fault. (fault ≡ Row number) ⊎ (fault ≡ Memory)) }
 {
+    if are_written(alloc, bytes) {
+        return Ok(());
+    }
     let mut reader = LogReader::new(alloc, bytes);
     while let Some(_row) = reader.next_row()? {}
     Ok(())

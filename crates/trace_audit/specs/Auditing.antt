@@ -8,13 +8,14 @@ use Rattle.steps_file.specs.StepsFile.{count_of}
 use Rattle.steps_file.specs.declared.steps.Step.{Step}
 use Rattle.system_file.specs.declared.system.System.{System}
 use Rattle.bus_trace.specs.LogRows.{events_told}
+use Rattle.log_reader.specs.Row.{IsLogRow, row_text, text_of_rows}
 use Rattle.log_reader.specs.declared.row.LogRow.{LogRow}
 use Rattle.log_reader.specs.declared.row.LogRow.TheVariants as row
 use Rattle.live_master.specs.Callers.{is_called_by}
 use Rattle.live_steps.specs.Live.{acts_of}
 use Rattle.trace_audit.specs.Again.{IsAgain}
 use Rattle.trace_audit.specs.Ahead.{IsAhead}
-use Rattle.trace_audit.specs.Audit.{AllStand, CanStand}
+use Rattle.trace_audit.specs.Audit.{AllStand, CanStand, IsAudited}
 use Rattle.trace_audit.specs.Reading.{IsHistoryOf}
 use Rattle.trace_audit.specs.declared.auditor.Auditor.{Auditor}
 use Rattle.trace_audit.specs.declared.log_audit.LogAudit.{LogAudit}
@@ -108,3 +109,25 @@ pub record Hears (steps : List Step) (old new : LogAudit) (line : LogRow) (stand
       → IsHeard system steps requests rows old → IsHeard system steps requests (rows ++ line ∷ []) new
   pub break : stands ≡ false → (system : System) (requests : List Request) (rows : List LogRow)
       → IsHeard system steps requests rows old → CanStand system steps requests (rows ++ line ∷ []) → ⊥
+
+-- the text begins with that of a row, and with this row, which is one of a log, the rows can stand too
+pub record TakesWritten (steps : List Step) (old new : LogAudit) (text rest : List ℕ) : Type 0 where
+  pub line : LogRow
+  pub legal : IsLogRow line
+  pub written : text ≡ row_text line ++ rest
+  pub hears : Hears steps old new line true
+
+-- the audit has heard rows of a log whose texts, one after the other, are the text up to this rest
+pub record IsHeardUpTo (system : System) (steps : List Step) (requests : List Request) (text rest : List ℕ)
+    (audit : LogAudit) : Type 0 where
+  pub rows : List LogRow
+  pub legal : All IsLogRow rows
+  pub written : text ≡ text_of_rows rows ++ rest
+  pub heard : IsHeard system steps requests rows audit
+
+-- the text is the texts of rows of a log, one after the other, and these are audited
+pub record IsWrittenLog (system : System) (steps : List Step) (requests : List Request) (text : List ℕ) : Type 0 where
+  pub rows : List LogRow
+  pub legal : All IsLogRow rows
+  pub written : text ≡ text_of_rows rows
+  pub audited : IsAudited system steps requests rows

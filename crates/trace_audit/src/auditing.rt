@@ -1,6 +1,6 @@
 //! The audit of a log: of its rows, and of its text.
 
-ghost use Rattle.std.specs.Prelude.{IfNone, IfOk, IfSome, List, MatchResult, ℕ};
+ghost use Rattle.std.specs.Prelude.{◌≡◌, IfNone, IfOk, IfSome, List, MatchResult, true, ℕ};
 ghost use Rattle.async_window.specs.declared.request.Request.{Request};
 ghost use Rattle.requests_file.specs.RequestsFile.{AreLegal};
 ghost use Rattle.steps_file.specs.StepsFile.{AreLegalSteps};
@@ -10,11 +10,12 @@ ghost use Rattle.log_reader.specs.LogReading.{IsBehind, ReadsRow};
 ghost use Rattle.log_reader.specs.Row.{AreRowsOf};
 ghost use Rattle.log_reader.specs.declared.row.LogRow.{LogRow};
 ghost use Rattle.trace_audit.specs.Audit.{IsAuditFault, IsAudited};
+ghost use Rattle.trace_audit.specs.Auditing.{IsWrittenLog};
 
 use crate::audit_fault::AuditFault;
 use crate::log_audit::LogAudit;
 use async_window::Request;
-use log_reader::laws::one_log;
+use log_reader::laws::{one_log, written_rows};
 use log_reader::{LogFault, LogReader, LogRow};
 use std::alloc::{AllocError, Global};
 use steps_file::Step;
@@ -75,13 +76,44 @@ fn next_row(reader: &mut LogReader<'_>) -> Result<Option<LogRow>, AllocError>
     }
 }
 
-/// Audits the text of a log, as `audit` does its rows. The rows are read one after the other, and none is kept: beside
-/// the memory that `audit` takes, there is one record of the text.
+/// Whether a text is the texts of rows that are all rows of a whole run, one after the other. Each row is compared with
+/// the bytes, and none is read by `csv`. Where the answer is no, nothing is said of the text.
 ///
 /// # Errors
 ///
-/// As `audit`.
-pub fn audit_text(
+/// Only where memory runs out.
+fn is_written_log(
+    alloc: Global,
+    system: &System,
+    steps: &[Step],
+    requests: &[Request],
+    text: &[u8],
+) -> Result<bool, AllocError>
+    requires system { IsSystem system.now }
+    requires steps { AreLegalSteps steps.now }
+    requires requests { AreLegal system.now.owners requests.now }
+    ensures yes { IfOk result (λ yes. yes ≡ true → IsWrittenLog system.now steps.now requests.now text.now) }
+{
+    let mut audit = LogAudit::begin(alloc, system, steps, requests)?;
+    let mut rest = text;
+    while !rest.is_empty() {
+        match audit.take_written(alloc, steps, rest)? {
+            Some(later) => rest = later,
+            None => return Ok(false),
+        }
+    }
+    match audit.finish(steps) {
+        Ok(()) => Ok(true),
+        Err(_) => Ok(false),
+    }
+}
+
+/// Audits the text of a log whose rows are read one after the other.
+///
+/// # Errors
+///
+/// As [`audit`].
+fn audit_read(
     alloc: Global,
     system: &System,
     steps: &[Step],
@@ -106,4 +138,34 @@ pub fn audit_text(
         }
     }
     audit.finish(steps)
+}
+
+/// Audits the text of a log, as `audit` does its rows. As long as the text is that of a whole run, as such a log is
+/// written, its bytes alone are compared. Otherwise its rows are read from the first one on, and none is kept: beside the
+/// memory that `audit` takes, there is one record of the text.
+///
+/// # Errors
+///
+/// As [`audit`].
+pub fn audit_text(
+    alloc: Global,
+    system: &System,
+    steps: &[Step],
+    requests: &[Request],
+    text: &[u8],
+) -> Result<(), AuditFault>
+    requires system { IsSystem system.now }
+    requires steps { AreLegalSteps steps.now }
+    requires requests { AreLegal system.now.owners requests.now }
+    requires text { (rows : List LogRow) × AreRowsOf text.now rows }
+    ensures answer { (rows : List LogRow) → AreRowsOf text.now rows
+        → MatchResult result (λ _. IsAudited system.now steps.now requests.now rows)
+        (IsAuditFault system.now steps.now requests.now rows) }
+{
+    one_log();
+    written_rows();
+    if is_written_log(alloc, system, steps, requests, text)? {
+        return Ok(());
+    }
+    audit_read(alloc, system, steps, requests, text)
 }

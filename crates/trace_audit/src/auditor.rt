@@ -136,6 +136,13 @@ impl Auditor {
         self.take_event(alloc, steps, line)
     }
 
+    /// Whether rows of the last event are left.
+    pub fn has_left(&self) -> bool
+        ensures left { result ≡ true → self.now.came < length self.now.rows.items }
+    {
+        self.came < self.rows.len()
+    }
+
     /// Whether the last row of a log may follow, with this number of cycles: no row of the last event is left, and so
     /// many cycles were opened.
     pub fn can_end(&self, next: u64) -> bool

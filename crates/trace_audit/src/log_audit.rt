@@ -1,22 +1,23 @@
 //! An audit of all rows of a log, one after the other.
 
-ghost use Rattle.std.specs.Prelude.{◌≡◌, [], IfOk, List, MatchResult, false, true};
+ghost use Rattle.std.specs.Prelude.{◌≡◌, ◌<◌, [], IfOk, IfSome, List, MatchResult, false, length, true};
 ghost use Rattle.async_window.specs.declared.request.Request.{Request};
 ghost use Rattle.requests_file.specs.RequestsFile.{AreLegal};
 ghost use Rattle.steps_file.specs.StepsFile.{AreLegalSteps};
+ghost use Rattle.steps_file.specs.declared.steps.Step.{Step};
 ghost use Rattle.system_file.specs.SystemFile.{IsSystem};
 ghost use Rattle.system_file.specs.declared.system.System.{System};
 ghost use Rattle.log_reader.specs.declared.row.LogRow.{LogRow};
 ghost use Rattle.log_reader.specs.declared.row.LogRow.TheVariants as row;
 ghost use Rattle.trace_audit.specs.Audit.{IsAuditFault, IsAudited};
-ghost use Rattle.trace_audit.specs.Auditing.{CanHear, Hears, IsHeard};
+ghost use Rattle.trace_audit.specs.Auditing.{CanHear, Hears, IsHeard, TakesWritten};
 
 use crate::audit_fault::AuditFault;
 use crate::auditor::Auditor;
 use async_window::Request;
 use bus_trace::laws::frames_by_cycle;
 use kept_run::laws::{promise, triggers_count_cycles};
-use log_reader::LogRow;
+use log_reader::{LogRow, behind_row, next_written};
 use replay_run::laws::legal_runs;
 use std::alloc::{AllocError, Global};
 use steps_file::Step;
@@ -97,6 +98,74 @@ impl LogAudit {
             LogRow::End { next } => Ok(self.take_end(*next)),
             _ => self.auditor.take(alloc, steps, line),
         }
+    }
+
+    /// Takes the first row that is left of the last event, where a text begins with it in the form in which it is
+    /// written: what stands behind it. Nothing of the text has to be read for it.
+    fn take_left_written<'a>(&mut self, text: &'a [u8]) -> Option<&'a [u8]>
+        requires going_on { self.old.ended ≡ false }
+        requires left { self.old.auditor.came < length self.old.auditor.rows.items }
+        ensures on { IfSome result (λ rest. (steps : List Step)
+            → TakesWritten steps self.old self.new text.now rest.now) }
+    {
+        let line = &self.auditor.rows[self.auditor.came];
+        match behind_row(text, line) {
+            Some(rest) => {
+                self.auditor.came += 1;
+                Some(rest)
+            }
+            None => None,
+        }
+    }
+
+    /// Takes the row with which a text begins, where it is in the form in which it is written: what stands behind it.
+    ///
+    /// # Errors
+    ///
+    /// Only where memory runs out.
+    fn take_next_written<'a>(
+        &mut self,
+        alloc: Global,
+        steps: &[Step],
+        text: &'a [u8],
+    ) -> Result<Option<&'a [u8]>, AllocError>
+        requires steps { AreLegalSteps steps.now }
+        requires can { CanHear steps.now self.old }
+        ensures on { IfOk result (λ found. IfSome found
+            (λ rest. TakesWritten steps.now self.old self.new text.now rest.now)) }
+    {
+        match next_written(alloc, text) {
+            Some(next) => {
+                if !self.take(alloc, steps, &next.0)? {
+                    return Ok(None);
+                }
+                Ok(Some(next.1))
+            }
+            None => Ok(None),
+        }
+    }
+
+    /// Takes the row with which a text begins, where it is in the form in which it is written and can stand there: what
+    /// stands behind it.
+    ///
+    /// # Errors
+    ///
+    /// Only where memory runs out.
+    pub fn take_written<'a>(
+        &mut self,
+        alloc: Global,
+        steps: &[Step],
+        text: &'a [u8],
+    ) -> Result<Option<&'a [u8]>, AllocError>
+        requires steps { AreLegalSteps steps.now }
+        requires can { CanHear steps.now self.old }
+        ensures on { IfOk result (λ found. IfSome found
+            (λ rest. TakesWritten steps.now self.old self.new text.now rest.now)) }
+    {
+        if !self.ended && self.auditor.has_left() {
+            return Ok(self.take_left_written(text));
+        }
+        self.take_next_written(alloc, steps, text)
     }
 
     /// The answer where these are all rows.

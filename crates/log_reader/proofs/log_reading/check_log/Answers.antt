@@ -2,7 +2,18 @@ use Rattle.std.proofs.Common.{◌≡◌, ◌⊎◌, ◌++◌, ◌∷◌, []}
 use Rattle.log_reader.specs.Row.{IsLogFault}
 use Rattle.log_reader.specs.declared.log_fault.LogFault.TheVariants.{Memory, Row}
 use Rattle.log_reader.proofs.Readings.{no-rows, none-faulty, none-found, passes-match, passes-on, same-fault}
+use Rattle.log_reader.proofs.RowLines.{records-text}
 use Rattle.log_reader.proofs.log_reading.check_log.Goals as goal
+
+pub returns-then-are_written-clause-rows : goal.returns-then-are_written-clause-rows
+returns-then-are_written-clause-rows c =
+    let (rows, legal, is) = c.are_written.ensures.rows c.if-are_written.true in
+    (rows, (legal, records-text c.args.bytes.now rows legal is))
+
+pub returns-then-are_written-clause-first : goal.returns-then-are_written-clause-first
+returns-then-are_written-clause-first c = λ number first.
+    let (rows, are) = returns-then-are_written-clause-rows c in
+    none-faulty c.args.bytes.now rows are.0 are.1 number first
 
 pub returns-in_err-_row-clause-faulty : goal.returns-in_err-_row-clause-faulty
 returns-in_err-_row-clause-faulty c =

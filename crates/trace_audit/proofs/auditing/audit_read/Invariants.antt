@@ -3,7 +3,7 @@ use Rattle.text_fields.specs.CsvReading.{bytes_left}
 use Rattle.log_reader.specs.LogReading.{IsBehind}
 use Rattle.log_reader.specs.declared.row.LogRow.{LogRow}
 use Rattle.trace_audit.specs.Auditing.{IsHeard}
-use Rattle.trace_audit.proofs.auditing.audit_text.Given as goal
+use Rattle.trace_audit.proofs.auditing.audit_read.Given as goal
 
 -- the rows that were read are heard
 abbrev pub invariant-loop-reader : goal.invariant-loop-reader
