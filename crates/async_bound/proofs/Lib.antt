@@ -1,4 +1,5 @@
 mod Lists
+mod Longest
 mod Sums
 mod Room
 mod Row

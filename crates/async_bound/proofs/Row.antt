@@ -1,9 +1,9 @@
 -- The least row of times with so many usable ones, and sums that grow with it.
-use Rattle.std.proofs.Common.{◌≡◌, ℕ, ◌+◌, ◌-◌, ◌*◌, ◌/◌, ◌%◌, ◌<◌, ◌≤◌, max, Bool, true, false, cond, List, [], ◌∷◌, All, Contains, fold, inl, inr, sym, ap, subst, arith, add-mul, mul-le-mul_right, mul-le-mul_left}
-use Rattle.std.specs.Prelude.{nat_le, nat_lt}
-use Rattle.std.proofs.lemmas.Bool.{cases_lt, le-leb}
+use Rattle.std.proofs.Common.{◌≡◌, ℕ, ◌+◌, ◌-◌, ◌*◌, ◌/◌, ◌%◌, ◌<◌, ◌≤◌, Bool, true, false, cond, List, Contains, inl, inr, sym, ap, subst, arith, add-mul, mul-le-mul_right, mul-le-mul_left}
+use Rattle.std.specs.Prelude.{nat_lt}
+use Rattle.std.proofs.lemmas.Bool.{cases_lt}
 use Rattle.std.proofs.lemmas.Nat.{div-add-mod', mod_below, le-div}
-use Rattle.std.proofs.lemmas.List.Elements.{All-cons, All-contains, All-nil}
+use Rattle.std.proofs.lemmas.List.Elements.{All-contains}
 use Rattle.profile.specs.Limits.{greatest_identifier}
 use Rattle.stuff_bound.specs.Stuffing.{worst}
 use Rattle.cycle_layout.specs.Layout.{CycleLayout, IsLayout}
@@ -11,6 +11,7 @@ use Rattle.async_bound.specs.declared.stream.Stream.{Stream}
 use Rattle.async_bound.specs.Room.{count_below, is_usable, room_in}
 use Rattle.async_bound.specs.Streams.{AreStreams, IsStream, arrivals}
 use Rattle.async_bound.specs.Bound.{IsBound, IsLeastFitting, blocking, demand, longest_up_to}
+use Rattle.async_bound.proofs.Longest.{longest-most}
 use Rattle.async_bound.proofs.Room.{room-least}
 use Rattle.async_bound.proofs.Sums.{sum-le}
 
@@ -83,31 +84,6 @@ demand-more streams id span longer are order =
     (λ s has. need-if (nat_lt s.id id) (arrivals s span) (arrivals s longer) (worst s.bytes)
     (arrivals-more s span longer (All-contains IsStream streams s are has).distinct order))
 
--- the longest frame
-abbrev longer_one : ℕ → ℕ → Stream → ℕ
-longer_one id longest stream = cond (nat_le stream.id id) (max longest (worst stream.bytes)) longest
-
-longer-one : (b : Bool) (longest width : ℕ) → longest ≤ cond b (max longest width) longest
-longer-one true longest width = omega arith
-longer-one false longest width = omega arith
-
-longest-grows : (id longest : ℕ) (streams : List Stream) → longest ≤ fold (longer_one id) longest streams
-longest-grows id longest [] = omega arith
-longest-grows id longest (s ∷ ss) =
-    let one = longer-one (nat_le s.id id) longest (worst s.bytes) in
-    let rest = longest-grows id (longer_one id longest s) ss in
-    omega (arith, one, rest)
-
-longest-all : (id longest : ℕ) (streams : List Stream) → All (λ s. s.id ≤ id → worst s.bytes ≤ fold (longer_one id) longest streams) streams
-longest-all id longest [] = All-nil (λ s. s.id ≤ id → worst s.bytes ≤ longest)
-longest-all id longest (s ∷ ss) =
-    All-cons (λ x. x.id ≤ id → worst x.bytes ≤ fold (longer_one id) (longer_one id longest s) ss) s ss
-    (λ up_to.
-    let now : longer_one id longest s ≡ max longest (worst s.bytes) = ap (λ b. cond b (max longest (worst s.bytes)) longest) (le-leb s.id id up_to) in
-    let rest = longest-grows id (longer_one id longest s) ss in
-    omega (arith, now, rest))
-    (longest-all id (longer_one id longest s) ss)
-
 -- what fits is a bound
 module _ (layout : CycleLayout) (known : IsLayout layout) (streams : List Stream) (are : AreStreams streams) (stream : Stream) (has : Contains streams stream) (span : ℕ) where
   pub bound-fits : IsLeastFitting layout streams stream span → IsBound layout streams stream (longest_up_to streams stream.id) (blocking streams) span
@@ -125,9 +101,9 @@ module _ (layout : CycleLayout) (known : IsLayout layout) (streams : List Stream
       ] in
       record {
         among = has;
-        short = longest-all stream.id 0 streams;
+        short = longest-most streams stream.id;
         blocking = λ k d within.
-            let all = longest-all greatest_identifier 0 streams k d within (are k d within).standard in
+            let all = longest-most streams greatest_identifier k d within (are k d within).standard in
             omega (arith, all);
         within = fitting.within;
         room = λ low.

@@ -1,5 +1,5 @@
 -- Bounds of how long requests of streams wait for their start. Times and lengths are bit times.
-use Rattle.std.specs.Prelude.{ℕ, ◌+◌, ◌-◌, ◌*◌, ◌<◌, ◌≤◌, nat_le, nat_lt, max, fold, List, All, Contains, sum_by, if◌then◌else◌}
+use Rattle.std.specs.Prelude.{◌≡◌, ℕ, ◌+◌, ◌-◌, ◌*◌, ◌<◌, ◌≤◌, nat_le, nat_lt, max, fold, filter, map, List, All, Any, Contains, sum_by, if◌then◌else◌}
 use Rattle.profile.specs.Limits.{greatest_identifier}
 use Rattle.stuff_bound.specs.Stuffing.{worst}
 use Rattle.cycle_layout.specs.Layout.{CycleLayout}
@@ -15,9 +15,18 @@ demand streams id span = sum_by (λ stream. if nat_lt stream.id id then arrivals
 abbrev pub own_before : Stream → ℕ → ℕ
 own_before stream longest = (stream.burst - 1) * longest
 
--- the longest frame of the streams up to an identifier; 0 where there is none
+-- the longest frames of the streams up to an identifier, one of each of them
+abbrev pub lengths_up_to : List Stream → ℕ → List ℕ
+lengths_up_to streams id = map (λ stream. worst stream.bytes) (filter (λ stream. nat_le stream.id id) streams)
+
+-- and the longest one of these; 0 where there is none
 abbrev pub longest_up_to : List Stream → ℕ → ℕ
-longest_up_to streams id = fold (λ longest stream. if nat_le stream.id id then max longest (worst stream.bytes) else longest) 0 streams
+longest_up_to streams id = fold max 0 (lengths_up_to streams id)
+
+-- no frame of a stream up to an identifier is longer, and if it is more than 0, then such a stream has one as long
+pub record IsLongestUpTo (streams : List Stream) (id longest : ℕ) : Type 0 where
+  pub most : All (λ stream. stream.id ≤ id → worst stream.bytes ≤ longest) streams
+  pub reached : 0 < longest → Any (λ stream. (stream.id ≤ id) × (worst stream.bytes ≡ longest)) streams
 
 -- what a frame under way of any stream still needs at most
 abbrev pub blocking : List Stream → ℕ

@@ -17,6 +17,6 @@ pub record IsStream (stream : Stream) : Type 0 where
 abbrev pub AreStreams : List Stream → Type 0
 AreStreams streams = All IsStream streams
 
--- the greatest number of requests of a stream that arrive within so many bit times
+-- no more requests of a stream arrive within so many bit times: a burst in each least distance that was begun
 abbrev pub arrivals : Stream → ℕ → ℕ
 arrivals stream span = (span + stream.gap - 1) / stream.gap * stream.burst

@@ -1,14 +1,15 @@
 -- How many requests of an identifier have arrived before a time.
-use Rattle.std.proofs.Common.{◌≡◌, ℕ, zero, suc, ◌+◌, ◌-◌, ◌*◌, ◌/◌, ◌<◌, ◌≤◌, cond, List, [], ◌∷◌, All, AllPairs, Option, Some, inl, inr, refl, sym, ap, ◌∙◌, subst, arith, count_by, drop, slice_get, add-zero, mod-lt, suc-mul, zero-mul}
-use Rattle.std.specs.Prelude.{nat_lt}
-use Rattle.std.proofs.lemmas.Bool.{cases_lt, lt-ltb, le-ltb}
+use Rattle.std.proofs.Common.{◌≡◌, ℕ, zero, suc, ◌+◌, ◌-◌, ◌*◌, ◌/◌, ◌<◌, ◌≤◌, cond, List, [], ◌∷◌, All, AllPairs, Contains, Option, Some, inl, inr, refl, sym, ap, ◌∙◌, subst, arith, count_by, drop, slice_get, add-zero, mod-lt, suc-mul, zero-mul}
+use Rattle.std.specs.Prelude.{nat_le, nat_lt, ◌&&◌}
+use Rattle.std.proofs.lemmas.Bool.{cases_lt, le-leb, le-ltb, lt-leb, lt-ltb}
 use Rattle.std.proofs.lemmas.Nat.{div-add-mod'}
 use Rattle.std.proofs.lemmas.List.Sums.{sum_by-cons}
-use Rattle.std.proofs.lemmas.List.Elements.{All-drop, All-head, All-tail, All-weaker}
+use Rattle.std.proofs.lemmas.List.Elements.{All-contains, All-drop, All-head, All-tail, All-weaker}
 use Rattle.async_window.specs.declared.request.Request.{Request}
 use Rattle.async_bound.specs.declared.stream.Stream.{Stream}
-use Rattle.async_bound.specs.Streams.{arrivals}
-use Rattle.bounded_runs.specs.Requests.{IsApart}
+use Rattle.async_bound.specs.Streams.{AreStreams, IsStream, arrivals}
+use Rattle.async_window.specs.Waiting.{requests_of}
+use Rattle.bounded_runs.specs.Requests.{AreOfStreams, IsApart, arrive_within}
 use Rattle.bounded_runs.proofs.Lists.{AllPairs-head, AllPairs-tail}
 
 abbrev pub early : ℕ → Request → ℕ
@@ -166,3 +167,40 @@ module _ (stream : Stream) (rs : List Request) (rise : Rise rs) (apart : IsApart
         let end = last.before in
         absurd (omega (arith, far, whole, part, end, late))
   ]
+
+-- of them, those that arrive from a time on
+
+abbrev one_within : ℕ → ℕ → Request → ℕ
+one_within low high r = cond (nat_le low r.at && nat_lt r.at high) 1 0
+
+within-one : (low high : ℕ) (r : Request) → low ≤ high → one_within low high r + early low r ≡ early high r
+within-one low high r order = elim (cases_lt r.at low) [
+  | inl before ↦
+      let none : one_within low high r ≡ 0 = ap (λ b. cond (b && nat_lt r.at high) 1 0) (lt-leb low r.at before) in
+      omega (arith, none, early-is low r before, early-is high r (omega (arith, before, order)))
+  | inr behind ↦
+      let one : one_within low high r ≡ early high r = ap (λ b. cond (b && nat_lt r.at high) 1 0) (le-leb low r.at behind) in
+      omega (arith, one, early-not low r behind)
+]
+
+within-arrived : (low high : ℕ) (rs : List Request) → low ≤ high → arrive_within low high rs + arrived low rs ≡ arrived high rs
+within-arrived low high [] order = refl
+within-arrived low high (r ∷ rs) order =
+    omega (
+      arith,
+      sum_by-cons (one_within low high) r rs,
+      arrived-cons low r rs,
+      arrived-cons high r rs,
+      within-one low high r order,
+      within-arrived low high rs order,
+    )
+
+pub few-within : (streams : List Stream) (requests : List Request) (stream : Stream) (low span : ℕ) → AreStreams streams → AreOfStreams streams requests
+    → Contains streams stream → arrive_within low (low + span) (requests_of requests stream.id) ≤ arrivals stream span
+few-within streams requests stream low span are of has =
+    let rs = requests_of requests stream.id in
+    let rise = All-contains (λ s. Rise (requests_of requests s.id)) streams stream of.in_order has in
+    let apart = All-contains (λ s. IsApart s (requests_of requests s.id)) streams stream of.apart has in
+    let few = few-arrive stream rs rise apart low span (All-contains IsStream streams stream are has).distinct in
+    let both = within-arrived low (low + span) rs (omega arith) in
+    omega (arith, few, both)

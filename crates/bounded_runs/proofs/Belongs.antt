@@ -1,8 +1,8 @@
 -- When requests belong to streams, with one more request and with fewer. Times are bit times.
-use Rattle.std.proofs.Common.{◌≡◌, ℕ, ◌+◌, ◌-◌, ◌<◌, ◌≤◌, ◌&&◌, Bool, true, false, cond, List, [], ◌∷◌, ◌++◌, All, AllPairs, Contains, Some, map, length, get_or, slice_get, inl, inr, refl, sym, ap, ◌∙◌, subst, arith, length-append}
-use Rattle.std.specs.Prelude.{nat_eq, nat_le, nat_lt, option_map}
+use Rattle.std.proofs.Common.{◌≡◌, ℕ, ◌+◌, ◌<◌, ◌≤◌, Bool, true, false, cond, List, [], ◌∷◌, ◌++◌, All, AllPairs, Contains, Some, map, length, get_or, slice_get, inl, inr, refl, sym, ap, ◌∙◌, subst, arith, length-append}
+use Rattle.std.specs.Prelude.{nat_eq, option_map}
 use Rattle.std.proofs.Math.Seq.{take-append_seam}
-use Rattle.std.proofs.lemmas.Bool.{and_cases, and_parts, cases_eq, cases_lt, eq-eqb, eqb-true, leb-false, leb-true, ltb-false, ltb-true, ne_eqb}
+use Rattle.std.proofs.lemmas.Bool.{cases_eq, cases_lt, eq-eqb, eqb-true, ne_eqb}
 use Rattle.std.proofs.lemmas.List.{append-nil, get_or_append_left, get_or_push, length-map, map-append}
 use Rattle.std.proofs.lemmas.List.Elements.{All-contains, All-push, All-take, All-nil, Contains-get_or, Contains-push, filter-append}
 use Rattle.std.proofs.lemmas.List.Quantifiers.{all_pairs_push}
@@ -12,11 +12,11 @@ use Rattle.async_window.specs.Waiting.{requests_of}
 use Rattle.async_bound.specs.declared.stream.Stream.{Stream}
 use Rattle.async_bound.specs.Streams.{AreStreams, IsStream}
 use Rattle.bounded_runs.specs.Requests.{AreOfStreams, IsApart, IsOfStream}
-use Rattle.bounded_runs.specs.Strays.{Allows, Follows, Strays, arrivals_of, is_close, streams_of}
+use Rattle.bounded_runs.specs.Strays.{Allows, Follows, IsCloseTo, Strays, arrivals_of, streams_of}
 use Rattle.bounded_runs.specs.declared.of_streams.StrayWhy.{StrayWhy}
 use Rattle.bounded_runs.specs.declared.of_streams.StrayWhy.TheVariants.{Unknown, Long, Early, Close}
 use Rattle.bounded_runs.proofs.Lists.{Contains-any, Contains-filter, Contains-nil}
-use Rattle.bounded_runs.proofs.Kept.{AllPairs-front, find-none, find-some, get-front, get-last, kept-of, kept-passes}
+use Rattle.bounded_runs.proofs.Kept.{AllPairs-front, Contains-place, get-front, get-last, kept-of, kept-passes}
 
 abbrev pub at_of : Request → ℕ
 at_of request = request.at
@@ -33,16 +33,10 @@ at-arrival rs i d one is =
 arrival-within : (rs : List Request) (i : ℕ) (d : Request) → i < length rs → get_or (map at_of rs) i 0 ≡ (get_or rs i d).at
 arrival-within rs i d within = at-arrival rs i 0 (get_or rs i d) (slice_get-get_or rs i d within)
 
-not-close : (burst count x gap : ℕ) → burst ≤ count → (nat_le burst count && nat_lt x gap) ≡ false → gap ≤ x
-not-close burst count x gap few is = elim (and_cases (nat_le burst count) (nat_lt x gap) is) [
-  | inl more ↦ absurd (omega (arith, leb-false burst count more, few))
-  | inr apart ↦ ltb-false x gap apart
-]
-
 -- a request is put behind those that are apart
 
 module _ (stream : Stream) (known : IsStream stream) (rs : List Request) (r : Request) where
-  pub apart-push : IsApart stream rs → is_close (map at_of rs) r.at stream ≡ false → IsApart stream (rs ++ r ∷ [])
+  pub apart-push : IsApart stream rs → (IsCloseTo (map at_of rs) r.at stream → ⊥) → IsApart stream (rs ++ r ∷ [])
   apart-push apart far place one other is also =
       let some = known.some in
       let long = length-append rs (r ∷ []) in
@@ -56,31 +50,34 @@ module _ (stream : Stream) (known : IsStream stream) (rs : List Request) (r : Re
             let it : Some r ≡ Some other = sym (get-last rs r (place + stream.burst) last) ∙ also in
             let same : r ≡ other = cc in
             let there = sym (get-front rs (r ∷ []) place (omega (arith, last, some))) ∙ is in
-            let count = length-map rs at_of in
-            let here : length (map at_of rs) - stream.burst ≡ place = omega (arith, count, last) in
-            let before : get_or (map at_of rs) (length (map at_of rs) - stream.burst) 0 ≡ one.at
-            = ap (λ k. get_or (map at_of rs) k 0) here ∙ at-arrival rs place 0 one there in
-            let apart_ = not-close stream.burst (length (map at_of rs)) (r.at - get_or (map at_of rs) (length (map at_of rs) - stream.burst) 0) stream.gap
-            (omega (arith, count, last)) far in
-            let distinct = known.distinct in
-            subst (λ z. one.at + stream.gap ≤ z.at) same (omega (arith, apart_, before, distinct))
+            elim (cases_lt r.at (one.at + stream.gap)) [
+              | inl near ↦
+                  absurd
+                  (far
+                  (record {
+                    place = place;
+                    before = one.at;
+                    there = slice_get-map at_of rs place ∙ ap (option_map at_of) there;
+                    a_burst_on = omega (arith, last, length-map rs at_of);
+                    near = near;
+                  }))
+              | inr apart_ ↦ subst (λ z. one.at + stream.gap ≤ z.at) same apart_
+            ]
       ]
 
   -- what is too close is not apart
-  pub close-not : is_close (map at_of rs) r.at stream ≡ true → IsApart stream (rs ++ r ∷ []) → ⊥
+  pub close-not : IsCloseTo (map at_of rs) r.at stream → IsApart stream (rs ++ r ∷ []) → ⊥
   close-not close apart =
-      let parts = and_parts (nat_le stream.burst (length (map at_of rs))) (nat_lt (r.at - get_or (map at_of rs) (length (map at_of rs) - stream.burst) 0) stream.gap) close in
       let some = known.some in
       let count = length-map rs at_of in
-      let few = leb-true stream.burst (length (map at_of rs)) parts.0 in
-      let near = ltb-true (r.at - get_or (map at_of rs) (length (map at_of rs) - stream.burst) 0) stream.gap parts.1 in
-      let place = length (map at_of rs) - stream.burst in
-      let inside : place < length rs = omega (arith, count, few, some) in
-      let one = get_or rs place r in
-      let there = slice_get-get_or rs place r inside in
-      let before = at-arrival rs place 0 one there in
-      let far = apart place one r (get-front rs (r ∷ []) place inside ∙ there) (get-last rs r (place + stream.burst) (omega (arith, count, few))) in
-      omega (arith, near, before, far)
+      let end = close.a_burst_on in
+      let inside : close.place < length rs = omega (arith, count, end, some) in
+      let one = get_or rs close.place r in
+      let there = slice_get-get_or rs close.place r inside in
+      let before = sym (get_or_from_slice_get (map at_of rs) close.place close.before 0 close.there) ∙ at-arrival rs close.place 0 one there in
+      let far = apart close.place one r (get-front rs (r ∷ []) close.place inside ∙ there)
+      (get-last rs r (close.place + stream.burst) (omega (arith, count, end))) in
+      omega (arith, close.near, before, far)
 
 -- The requests of an identifier, with one more
 
@@ -172,12 +169,11 @@ module _ (streams : List Stream) (known : AreStreams streams) (past : List Reque
     apart = λ k d within. let s = get_or streams k d in
         elim (cases_eq r.frame.identifier s.id) [
           | inl same ↦
-              let far = All-contains (λ t. is_close (arrivals_of past r.frame.identifier) r.at t ≡ false) (streams_of streams r.frame.identifier) s
-              (find-none (is_close (arrivals_of past r.frame.identifier) r.at) (streams_of streams r.frame.identifier) follows.apart)
+              let far = All-contains (λ t. IsCloseTo (arrivals_of past r.frame.identifier) r.at t → ⊥) (streams_of streams r.frame.identifier) s follows.apart
               (is-own streams r.frame.identifier s (Contains-get_or streams k d within) (sym same)) in
               subst (IsApart s) (sym (of-own past r s.id same))
               (apart-push s (known k d within) (requests_of past s.id) r (sofar.apart k d within)
-              (subst (λ n. is_close (arrivals_of past n) r.at s ≡ false) same far))
+              (subst (λ n. IsCloseTo (arrivals_of past n) r.at s → ⊥) same far))
           | inr other ↦ subst (IsApart s) (sym (of-other past r s.id other)) (sofar.apart k d within)
         ];
   }
@@ -216,12 +212,13 @@ module _ (streams : List Stream) (known : AreStreams streams) (past : List Reque
       omega (arith, front, earlier, its_time)
   strays-not (Close s) close are =
       let id = r.frame.identifier in
-      let it = find-some (is_close (arrivals_of past id) r.at) (streams_of streams id) s close.2 in
-      let same = own-id streams id s it.0 in
-      let among = own-among streams id s it.0 in
+      let first = close.2 in
+      let has = Contains-place (streams_of streams id) first.place s first.there in
+      let same = own-id streams id s has in
+      let among = own-among streams id s has in
       let apart = subst (λ n. IsApart s (requests_of (past ++ r ∷ []) n)) same
       (All-contains (λ t. IsApart t (requests_of (past ++ r ∷ []) t.id)) streams s are.apart among) in
-      close-not s (All-contains IsStream streams s known among) (requests_of past id) r it.1 (subst (IsApart s) (of-own past r id refl) apart)
+      close-not s (All-contains IsStream streams s known among) (requests_of past id) r first.close (subst (IsApart s) (of-own past r id refl) apart)
 
 -- Fewer requests
 

@@ -1,5 +1,5 @@
 -- Requests of streams. Times and lengths are bit times.
-use Rattle.std.specs.Prelude.{◌≡◌, ℕ, ◌+◌, ◌≤◌, List, All, AllPairs, Contains, length, slice_get, Some}
+use Rattle.std.specs.Prelude.{◌≡◌, ℕ, ◌+◌, ◌≤◌, ◌&&◌, nat_le, nat_lt, List, All, AllPairs, Contains, count_by, length, slice_get, Some}
 use Rattle.async_window.specs.declared.request.Request.{Request}
 use Rattle.async_window.specs.Waiting.{requests_of}
 use Rattle.async_bound.specs.declared.stream.Stream.{Stream}
@@ -21,3 +21,7 @@ pub record AreOfStreams (streams : List Stream) (requests : List Request) : Type
   pub known : All (IsOfStream streams) requests
   pub in_order : All (λ stream. AllPairs (λ one other. one.at ≤ other.at) (requests_of requests stream.id)) streams
   pub apart : All (λ stream. IsApart stream (requests_of requests stream.id)) streams
+
+-- how many of these requests arrive from `low` to below `high`
+abbrev pub arrive_within : ℕ → ℕ → List Request → ℕ
+arrive_within low high requests = count_by (λ request. nat_le low request.at && nat_lt request.at high) requests

@@ -1,6 +1,5 @@
 -- The first request of a list that does not belong to streams, and why. Times are bit times.
-use Rattle.std.specs.Prelude.{◌≡◌, ℕ, ◌+◌, ◌-◌, ◌<◌, ◌≤◌, ◌==◌, ◌&&◌, nat_le, nat_lt, Bool, List, [], All, Any, filter, length, map, slice_get, slice_index, take, None, Some}
-use Rattle.std.specs.List.{find}
+use Rattle.std.specs.Prelude.{◌≡◌, ℕ, ◌+◌, ◌<◌, ◌≤◌, ◌==◌, List, [], All, Any, filter, length, map, slice_get, take, Some}
 use Rattle.async_window.specs.declared.request.Request.{Request}
 use Rattle.async_window.specs.Waiting.{requests_of}
 use Rattle.async_bound.specs.declared.stream.Stream.{Stream}
@@ -23,9 +22,19 @@ abbrev pub Allows : List Stream → ℕ → Type 0
 Allows streams count = Any (λ stream. count ≤ stream.bytes) streams
 
 -- what arrives then, behind earlier arrivals, comes less than the least distance behind the one a burst before it
-abbrev pub is_close : List ℕ → ℕ → Stream → Bool
-is_close arrived at stream =
-    nat_le stream.burst (length arrived) && nat_lt (at - slice_index arrived (length arrived - stream.burst)) stream.gap
+pub record IsCloseTo (arrived : List ℕ) (at : ℕ) (stream : Stream) : Type 0 where
+  pub place : ℕ
+  pub before : ℕ
+  pub there : slice_get arrived place ≡ Some before
+  pub a_burst_on : place + stream.burst ≡ length arrived
+  pub near : at < before + stream.gap
+
+-- for this one of the streams it does, and for none that stands before it
+pub record IsFirstClose (own : List Stream) (arrived : List ℕ) (at : ℕ) (stream : Stream) : Type 0 where
+  pub place : ℕ
+  pub there : slice_get own place ≡ Some stream
+  pub close : IsCloseTo arrived at stream
+  pub first : All (λ other. IsCloseTo arrived at other → ⊥) (take place own)
 
 -- why a request belongs to none of the streams of its identifier, behind the earlier arrivals of that identifier
 abbrev pub Strays : List Stream → List ℕ → Request → StrayWhy → Type 0
@@ -35,13 +44,13 @@ Strays own arrived request (Long stream) =
 Strays own arrived request (Early stream) =
     (slice_get own 0 ≡ Some stream) × Allows own (length request.frame.bytes) × Any (λ before. request.at < before) arrived
 Strays own arrived request (Close stream) =
-    Allows own (length request.frame.bytes) × All (λ before. before ≤ request.at) arrived × (find (is_close arrived request.at) own ≡ Some stream)
+    Allows own (length request.frame.bytes) × All (λ before. before ≤ request.at) arrived × IsFirstClose own arrived request.at stream
 
 -- and when it belongs to them
 pub record Follows (own : List Stream) (arrived : List ℕ) (request : Request) : Type 0 where
   pub allowed : Allows own (length request.frame.bytes)
   pub behind : All (λ before. before ≤ request.at) arrived
-  pub apart : find (is_close arrived request.at) own ≡ None
+  pub apart : All (λ stream. IsCloseTo arrived request.at stream → ⊥) own
 
 -- the requests before this place belong to the streams, with the one at the place they do not, and why
 pub record IsFirstStray (streams : List Stream) (requests : List Request) (place : ℕ) (why : StrayWhy) : Type 0 where

@@ -15,10 +15,10 @@ ghost use Rattle.cycle_engine.specs.Offered.{SendsWhole};
 ghost use Rattle.kept_run.specs.Kept.{Kept, KeptWith};
 ghost use Rattle.kept_run.specs.Progress.{IsSetting, IsUnderWayWith, Setting};
 ghost use Rattle.async_bound.specs.declared.stream.Stream.{Stream};
-ghost use Rattle.async_bound.specs.Streams.{AreStreams};
+ghost use Rattle.async_bound.specs.Streams.{AreStreams, arrivals};
 ghost use Rattle.async_bound.specs.Room.{count_below, is_usable};
 ghost use Rattle.async_bound.specs.Bound.{IsBound, IsLeastFitting};
-ghost use Rattle.bounded_runs.specs.Requests.{AreOfStreams};
+ghost use Rattle.bounded_runs.specs.Requests.{AreOfStreams, arrive_within};
 ghost use Rattle.bounded_runs.specs.Runs.{EndSoon, IsPressed, IsRunOf, StartsWithin, is_ahead, time_of};
 
 use async_bound::laws::fitting_is_bound;
@@ -27,6 +27,13 @@ use can_frame::laws::wire_lengths;
 use cycle_engine::laws::{OneCycle, OpenedCycles, numbers_are_whole};
 use kept_run::laws::{beginning, calls_between, cycles_run, one_call_more};
 use master_core::laws::opened_cycles;
+
+/// Of the requests of one stream no more than `arrivals` says arrive within `span` bit times, whenever these begin.
+pub fn few_arrive()
+    ensures few { (streams : List Stream) (requests : List Request) (stream : Stream) (low span : ℕ)
+        → AreStreams streams → AreOfStreams streams requests → Contains streams stream
+        → arrive_within low (low + span) (requests_of requests stream.id) ≤ arrivals stream span }
+{}
 
 /// While at each time from `low` to below `high` some request of an identifier below `id` waits, frames of such
 /// identifiers fill the bus at each time at which the longest of those requests might start. Where every request's frame

@@ -2,12 +2,11 @@
 
 ghost use Rattle.std.specs.Prelude.{◌≡◌, ℕ, ◌+◌, ◌<◌, ◌≤◌, ◌++◌, ◌==◌, ◌∷◌, [], All, AllPairs, Any, IfErr, IfNone, IfOk, IfSome};
 ghost use Rattle.std.specs.Prelude.{OnOk, List, None, Some, false, true, if◌then◌else◌, length, slice_get, slice_index_or, take};
-ghost use Rattle.std.specs.List.{find};
 ghost use Rattle.async_bound.specs.Streams.{AreStreams, IsStream};
 ghost use Rattle.bounded_runs.specs.declared.of_streams.StrayFault.TheVariants.{Memory};
 ghost use Rattle.bounded_runs.specs.declared.of_streams.Traffic.{Traffic};
 ghost use Rattle.bounded_runs.specs.Requests.{AreOfStreams};
-ghost use Rattle.bounded_runs.specs.Strays.{Allows, Faults, Follows, Strays, arrivals_of, is_close, streams_of};
+ghost use Rattle.bounded_runs.specs.Strays.{Allows, Faults, Follows, IsCloseTo, IsFirstClose, Strays, arrivals_of, streams_of};
 
 use async_bound::Stream;
 use async_window::Request;
@@ -138,7 +137,8 @@ fn is_passed(arrived: &[u64], at: u64) -> bool
 fn is_close(stream: &Stream, arrived: &[u64], at: u64) -> bool
     requires known { IsStream stream.now }
     requires behind { All (λ before. before ≤ at) arrived.now }
-    ensures value { result ≡ is_close arrived.now at stream.now }
+    ensures yes { result ≡ true → IsCloseTo arrived.now at stream.now }
+    ensures no { result ≡ false → IsCloseTo arrived.now at stream.now → ⊥ }
 {
     let burst = stream.burst as usize;
     burst <= arrived.len() && at - arrived[arrived.len() - burst] < stream.gap
@@ -148,7 +148,8 @@ fn is_close(stream: &Stream, arrived: &[u64], at: u64) -> bool
 fn first_close(streams: &[Stream], arrived: &[u64], at: u64) -> Option<Stream>
     requires known { AreStreams streams.now }
     requires behind { All (λ before. before ≤ at) arrived.now }
-    ensures value { result ≡ find (is_close arrived.now at) streams.now }
+    ensures some { IfSome result (IsFirstClose streams.now arrived.now at) }
+    ensures none { IfNone result (All (λ stream. IsCloseTo arrived.now at stream → ⊥) streams.now) }
 {
     for stream in streams {
         if is_close(stream, arrived, at) {
