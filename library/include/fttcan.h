@@ -297,19 +297,27 @@ uint32_t fttcan_master_rules(fttcan_master *m, fttcan_rules *rules);
 uint32_t fttcan_master_table(fttcan_master *m, fttcan_placed *room, size_t room_count, size_t *count);
 
 /* The text of the plan from the next cycle on, up to the end of its first repeat: `len` bytes, without a 0 at the end.
- * fttcan_check takes it together with the table and the window of the rules. Time: twice that of planning the table.
- * FTTCAN_ROOM: `len` is written, and nothing else. FTTCAN_MEMORY. */
+ * fttcan_check takes it together with the table and the window of the rules: it answers FTTCAN_OK then, or FTTCAN_MEMORY.
+ * Time: twice that of planning the table. FTTCAN_ROOM: `len` is written, and nothing else. FTTCAN_MEMORY. */
 uint32_t fttcan_master_certificate(fttcan_master *m, uint8_t *room, size_t room_len, size_t *len);
 
-/* The state of the master as bytes, the same on every machine: 112, and 80 more for each entry that it keeps. FTTCAN_ROOM:
- * `len` is written, and nothing else. FTTCAN_MEMORY. */
+/* The state of the master as bytes, the same on every machine: 112, and 80 more for each entry that it keeps. No other
+ * state has these bytes. The trail of the last answer is not among them, nor what was answered before. FTTCAN_ROOM: `len` is
+ * written, and nothing else. FTTCAN_MEMORY. */
 uint32_t fttcan_master_save(fttcan_master *m, uint8_t *room, size_t room_len, size_t *len);
 
-/* Makes a master of saved bytes. It goes on as the saved one would have, and has no trail. What it makes of any bytes is a
- * master that misses no deadline: the bytes are not trusted. FTTCAN_OPEN: `m` holds one already. FTTCAN_TEXT: no master has
- * these bytes: they are none of the form, a number is out of its range, a slot or a node of an entry is none of the rules, a
- * deadline would be missed, the plan does not repeat within the horizon, or there are too many entries. FTTCAN_MEMORY. Time:
- * that of planning the table once. */
+/* Makes the master that has these bytes: of what fttcan_master_save wrote, the one that was saved, without its trail.
+ * The bytes are not trusted. Of any that are not refused it makes a master that misses no deadline.
+ *
+ * It checks the checksum, the form, the rules, the table and the state, and plans the table once, for its time. FTTCAN_TEXT:
+ * no master has these bytes: they are none of the form, a number is out of its range, a slot or a node of an entry is none of
+ * the rules, a deadline would be missed, the plan does not repeat within the horizon, or there are too many entries. Bytes
+ * that fttcan_master_save wrote are never answered so.
+ *
+ * It cannot check where the bytes come from, since the checksum is no signature: whether they are the newest, whether they
+ * are of this network, and whether any history of answered changes and opened cycles leads to them. What follows from old
+ * bytes, or from another network's, is a plan that keeps its own table, and not the one that the nodes have.
+ * FTTCAN_OPEN: `m` holds one already. FTTCAN_MEMORY. */
 uint32_t fttcan_master_restore(fttcan_master *m, const uint8_t *bytes, size_t len);
 
 /* ---- A change that is planned in another thread while cycles are opened: a snapshot is taken, planned from apart, and
@@ -333,11 +341,14 @@ uint32_t fttcan_planned_verdict(fttcan_planned *p, fttcan_verdict *verdict);
 /* Lets go what `p` holds, if anything. */
 void fttcan_planned_free(fttcan_planned *p);
 
-/* Has the master answer a planned change, for operator `caller`, 1 to 8. Where the master has only opened cycles since
- * the snapshot that plan decides, and only a start that has passed since is refused. Else the change is planned anew,
- * in this call. After FTTCAN_OK `p` holds nothing, and `verdict` is the answer. FTTCAN_MEMORY: `p` holds nothing then either,
- * and the master is as it was: the change is asked for anew. After any other status `p` and the master are as they were.
- * FTTCAN_CLOSED: `m` holds no master, or `p` no planned change. FTTCAN_ARGUMENT: both do, and the caller is not 1 to 8. */
+/* Has the master answer a planned change, for operator `caller`, 1 to 8. That plan decides exactly where it leads to the
+ * master: rules, table and number of accepted changes are those of the snapshot, and the plan from there comes to the next
+ * cycle with the same slots pending. So it is where the master has only opened cycles since the snapshot. The answer is then
+ * that of fttcan_planned_verdict, but that a start which has passed since is refused. Else the change is planned anew, from
+ * the next cycle on, in this call. After FTTCAN_OK `p` holds nothing, and `verdict` is the answer. FTTCAN_MEMORY: `p` holds
+ * nothing then either, and the master is as it was: the change is asked for anew. After any other status `p` and the master
+ * are as they were. FTTCAN_CLOSED: `m` holds no master, or `p` no planned change. FTTCAN_ARGUMENT: both do, and the caller
+ * is not 1 to 8. */
 uint32_t fttcan_master_settle(fttcan_master *m, uint8_t caller, fttcan_planned *p, fttcan_verdict *verdict);
 
 /* ---- A standby: it is told the accepted changes and hears the triggers, and takes over from there. Each call but _new and
@@ -357,8 +368,8 @@ void fttcan_standby_free(fttcan_standby *s);
 uint32_t fttcan_standby_change(fttcan_standby *s, uint8_t caller, uint64_t start, const fttcan_op *ops, size_t ops_count,
                                fttcan_verdict *verdict);
 
-/* Tells the standby the trigger frames of a cycle: one with 40 slots, two with 96. FTTCAN_OK: they are those that it would
- * have sent itself, and the next cycle is one later. FTTCAN_NO: they are not, `fault` says why, and the standby is as it
+/* Tells the standby the trigger frames of a cycle: one with 40 slots, two with 96. FTTCAN_OK: they say what its own plan
+ * has for that cycle, and the next cycle is one later. FTTCAN_NO: they do not, `fault` says why, and the standby is as it
  * was. FTTCAN_ARGUMENT: a frame that is none. FTTCAN_STATE: 2^41 cycles were opened. It takes no memory. */
 uint32_t fttcan_standby_trigger(fttcan_standby *s, const fttcan_frame *frames, size_t frames_count, fttcan_follow *fault);
 
@@ -533,7 +544,8 @@ static inline size_t fttcan_verdict_words(const fttcan_verdict *verdict, char *r
         numbers[1] = verdict->second;
         break;
     case FTTCAN_ACCEPTED:
-        form = "accepted: from cycle % on the plan repeats every % cycles";
+        form = verdict->second == 1 ? "accepted: from cycle % on the plan repeats every cycle"
+            : "accepted: from cycle % on the plan repeats every % cycles";
         numbers[0] = verdict->first;
         numbers[1] = verdict->second;
         break;

@@ -275,7 +275,7 @@ class master : public of::owner<fttcan_master, fttcan_master_free> {
 public:
     explicit master(const fttcan_rules &rules) { of::check(fttcan_master_new(get(), &rules), "master"); }
 
-    /// A master of saved bytes.
+    /// A master of saved bytes. Whether they are the newest, and whether they are of this network, is not checked.
     static master restored(bytes saved) {
         master made;
         of::check(fttcan_master_restore(made.get(), of::at(saved), saved.size()), "master::restored");

@@ -1,5 +1,9 @@
 mod Due
 mod DueFrames
+mod Few
+mod ForC
 mod Safe
 mod Saved
 mod Silent
+mod Taken
+mod Whole

@@ -1,5 +1,8 @@
--- From a state of a table that misses no deadline, the state behind its cycle misses none either.
-use Rattle.std.proofs.Common.{◌≡◌, ℕ, ◌+◌, ◌<◌, Bool, true, false, List, refl, sym, ap, ◌∙◌, subst, true≢false, arith}
+-- From a state of a table that misses no deadline, the state behind its cycle misses none either. An empty table misses
+-- none.
+use Rattle.std.proofs.Common.{◌≡◌, ℕ, ◌+◌, ◌<◌, false, nat_eq, List, [], refl, sym, ap, ◌∙◌, subst, true≢false, arith}
+use Rattle.std.proofs.Math.Bool.{and-false}
+use Rattle.std.proofs.lemmas.Nat.Bits.{bit_at-zero}
 use Rattle.requirement_table.specs.Slots.{contains_slot, most_slots, set_of}
 use Rattle.planner_policies.specs.Plan.{IsMissIn, NeverMisses, Planning, is_missed_in, left_after, pending_at, pending_before}
 use Rattle.planner_policies.proofs.Shared.{on-missed}
@@ -67,3 +70,10 @@ not_missed rules placed state Closed status is why safe six = omega arith
 not_missed rules placed state Open status is why safe six = omega arith
 not_missed rules placed state Text status is why safe six = omega arith
 not_missed rules placed state No status is why safe six = omega arith
+
+pub from_nothing : (rules : FttRules) → IsSafe (rules_of rules) [] 0 0
+from_nothing rules = record {
+  well_placed = record { in_range = λ i d within. absurd (omega arith); in_order = λ i j d order within. absurd (omega arith) };
+  held = λ slot pending. absurd (true≢false (sym pending ∙ ap (λ (bit : ℕ). nat_eq bit 1) (bit_at-zero slot)));
+  in_time = λ m slot known. and-false (left_after (plan_from (rules_of rules) [] 0 0) (0 + m) (pending_before (plan_from (rules_of rules) [] 0 0) m) slot);
+}

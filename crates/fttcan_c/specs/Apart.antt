@@ -6,7 +6,8 @@ use Rattle.master_core.specs.declared.apart.Snapshot.{Snapshot as SnapshotOf}
 use Rattle.master_core.specs.declared.event.Event.{Event}
 use Rattle.master_core.specs.declared.event.Event.TheVariants.{Submit}
 use Rattle.master_core.specs.CorePlans.{CanSettleFrom, CorePlannedView, IsAnsweredFrom, IsCorePlan, snapshot_of_core}
-use Rattle.master_core.specs.Cores.{CoreView, IsStateOf, answered_by}
+use Rattle.master_core.specs.CorePlans.{IsSettled as IsSettledByCore}
+use Rattle.master_core.specs.Cores.{CoreView, IsCore, IsStateOf, answered_by}
 use Rattle.master_handle.specs.declared.held.Held.{Held}
 use Rattle.master_handle.specs.declared.held.Held.TheVariants.{Master, Snapshot, Planned}
 use Rattle.fttcan_c.specs.declared.plain.FttOp.{FttOp}
@@ -74,10 +75,14 @@ pub record IsPlannedTold (verdict : FttVerdict) (held : Held) : Type 0 where
   pub is : held ≡ Planned planned
   pub verdict_is : verdict ≡ told planned.decision.verdict
 
--- a core settled a change that was planned apart: by its plan, where that leads to this core, and else planned anew
+-- a core settled a change that was planned apart: its plan decided where that leads to this core, and else it was planned
+-- anew. No deadline is missed behind it at any later cycle. Whoever has the history of the core in mind has it with this
+-- answer behind it
 pub record IsCoreSettled (caller : ℕ) (planned : CorePlannedView) (old new : CoreView) (answered : Answered) : Type 0 where
   pub after : new ≡ answered_by old answered.from planned.change answered.verdict
   pub answer : IsAnsweredFrom old planned.change answered
+  pub decided : IsSettledByCore old planned answered
+  pub safe : IsCore new
   pub history : (history : List Event) → IsStateOf history old → CanSettleFrom history old.forgets planned.snapshot
       → IsStateOf (history ++ Submit caller planned.change answered.from answered.verdict answered.trail ∷ []) new
 

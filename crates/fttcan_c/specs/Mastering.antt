@@ -11,7 +11,7 @@ use Rattle.admission.specs.Verdict.{IsInTime, IsSafe, IsTakenWhereDue, plan_from
 use Rattle.master_core.specs.declared.answered.Answered.{Answered}
 use Rattle.master_core.specs.declared.event.Event.{Event}
 use Rattle.master_core.specs.declared.event.Event.TheVariants.{Submit, Look, Open}
-use Rattle.master_core.specs.Cores.{CoreView, IsAnswered, IsStateOf, answered_by, new_core, onward, opened}
+use Rattle.master_core.specs.Cores.{CoreView, IsAnswered, IsCore, IsStateOf, answered_by, new_core, onward, opened}
 use Rattle.master_handle.specs.declared.held.Held.{Held}
 use Rattle.master_handle.specs.declared.held.Held.TheVariants.{Master}
 use Rattle.fttcan_c.specs.declared.plain.FttOp.{FttOp}
@@ -35,13 +35,14 @@ pub record Holds (value : Option Held) (property : Held → Type 0) : Type 0 whe
   pub is : value ≡ Some held
   pub known : property held
 
--- a core answered a change: the verdict is that of the definition, planned from the next cycle on. Whoever has the
--- history of the core in mind has it with this answer behind it
+-- a core answered a change: the verdict is that of the definition, planned from the next cycle on. No deadline is missed
+-- behind it at any later cycle. Whoever has the history of the core in mind has it with this answer behind it
 pub record IsCoreSubmitted (caller : ℕ) (change : Change) (old new : CoreView) (answered : Answered) : Type 0 where
   pub after : new ≡ answered_by old answered.from change answered.verdict
   pub answer : IsAnswered old change answered
   pub due : IsInTime old.rules old.placed old.cycle change
       → IsTakenWhereDue old.rules (plan_from old.rules (applied old.placed change) old.cycle old.pending) answered.verdict
+  pub safe : IsCore new
   pub history : (history : List Event) → IsStateOf history old
       → IsStateOf (history ++ Submit caller change answered.from answered.verdict answered.trail ∷ []) new
 

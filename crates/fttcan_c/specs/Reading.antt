@@ -4,11 +4,11 @@ use Rattle.profile.specs.Limits.{openings_end}
 use Rattle.planner_policies.specs.Plan.{mask_at}
 use Rattle.plan_check.specs.Certificate.{CertificateView}
 use Rattle.plan_check.specs.PlanKept.{IsTaken}
-use Rattle.plan_check.specs.PlanText.{plan_text}
+use Rattle.plan_check.specs.PlanText.{IsPlanOf, plan_text}
 use Rattle.admission.specs.Certified.{IsCertificateFrom}
 use Rattle.master_core.specs.declared.event.Event.{Event}
 use Rattle.master_core.specs.declared.event.Event.TheVariants.{Look}
-use Rattle.master_core.specs.Cores.{CoreView, IsStateOf, onward, state_of}
+use Rattle.master_core.specs.Cores.{CoreView, IsCore, IsStateOf, onward, state_of}
 use Rattle.master_handle.specs.declared.held.Held.{Held}
 use Rattle.master_handle.specs.declared.held.Held.TheVariants.{Master}
 use Rattle.fttcan_c.specs.declared.plain.FttMask.{FttMask}
@@ -16,6 +16,7 @@ use Rattle.fttcan_c.specs.declared.plain.FttPlaced.{FttPlaced}
 use Rattle.fttcan_c.specs.declared.plain.FttRules.{FttRules}
 use Rattle.fttcan_c.specs.declared.refusal.Refusal.{Refusal}
 use Rattle.fttcan_c.specs.declared.refusal.Refusal.TheVariants as refused
+use Rattle.fttcan_c.specs.Checked.{IsPlanTaken}
 use Rattle.fttcan_c.specs.Mastering.{IsCaller, IsMaster}
 use Rattle.fttcan_c.specs.Plain.{mask_of}
 use Rattle.fttcan_c.specs.Told.{mask_told, put_of, rules_told}
@@ -49,12 +50,13 @@ pub record IsRulesOf (rules : FttRules) (held : Held) : Type 0 where
   pub is : held ≡ Master core trail
   pub rules_are : rules ≡ rules_told core.rules
 
--- the placed entries that are kept
+-- the placed entries that are kept, of a core that misses no deadline at any later cycle
 pub record HasTable (list : List FttPlaced) (held : Held) : Type 0 where
   pub core : CoreView
   pub trail : List ℕ
   pub is : held ≡ Master core trail
   pub list_is : list ≡ map put_of core.placed
+  pub safe : IsCore core
 
 -- the trail of the last answer
 pub record HasTrail (masks : List FttMask) (held : Held) : Type 0 where
@@ -64,15 +66,23 @@ pub record HasTrail (masks : List FttMask) (held : Held) : Type 0 where
   pub masks_are : masks ≡ map mask_told trail
 
 -- the text is that of a plan of the placed entries that goes on from the next cycle, with the slots pending that are
--- pending before it, up to the end of its first repeat. It keeps the entries for ever
-pub record HasPlanText (text : List ℕ) (held : Held) : Type 0 where
-  pub core : CoreView
-  pub trail : List ℕ
-  pub is : held ≡ Master core trail
+-- pending before it, up to the end of its first repeat. It keeps the entries for ever, and is read back. So the checker
+-- takes the text with these entries and the window of the rules
+pub record IsPlanTextOf (text : List ℕ) (core : CoreView) : Type 0 where
   pub certificate : CertificateView
   pub onward : IsCertificateFrom core.rules core.placed (state_of core) certificate
   pub taken : IsTaken core.placed core.rules.window certificate
   pub text_is : text ≡ plan_text certificate
+  pub read : IsPlanOf text certificate
+  pub safe : IsCore core
+  pub checked : IsPlanTaken core.placed core.rules.window text
+
+-- so it is of a master
+pub record HasPlanText (text : List ℕ) (held : Held) : Type 0 where
+  pub core : CoreView
+  pub trail : List ℕ
+  pub is : held ≡ Master core trail
+  pub of : IsPlanTextOf text core
 
 -- why a master is not read: none is held; or one is, and there is no memory
 abbrev pub RefusesRead : Held → Refusal → Type 0

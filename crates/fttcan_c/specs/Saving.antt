@@ -1,5 +1,5 @@
 -- The state of a master as bytes, and the master that is made of them.
-use Rattle.std.specs.Prelude.{◌≡◌, ℕ, [], List, true}
+use Rattle.std.specs.Prelude.{◌≡◌, ℕ, ◌+◌, ◌*◌, [], List, length, true}
 use Rattle.cycle_layout.specs.Layout.{IsSlots}
 use Rattle.master_core.specs.Cores.{CoreView, IsCore, saved_of}
 use Rattle.saved_state.specs.Bytes.{AreBytesOf}
@@ -8,20 +8,31 @@ use Rattle.master_handle.specs.declared.held.Held.TheVariants.{Master}
 use Rattle.fttcan_c.specs.declared.refusal.Refusal.{Refusal}
 use Rattle.fttcan_c.specs.declared.refusal.Refusal.TheVariants as refused
 
--- the bytes are those of what is saved of a master
+-- the bytes are those of what is saved of this core, which misses no deadline at any later cycle, and of no other one
+pub record AreBytesOfCore (bytes : List ℕ) (core : CoreView) : Type 0 where
+  pub safe : IsCore core
+  pub bytes_are : AreBytesOf (saved_of core) bytes
+  pub count : length bytes ≡ 112 + 80 * length core.placed
+  pub only : (other : CoreView) → IsCore other → AreBytesOf (saved_of other) bytes → other ≡ core
+
+-- so they are those of a master
 pub record HasBytes (bytes : List ℕ) (held : Held) : Type 0 where
   pub core : CoreView
   pub trail : List ℕ
   pub is : held ≡ Master core trail
-  pub bytes_are : AreBytesOf (saved_of core) bytes
+  pub of : AreBytesOfCore bytes core
 
--- a core that a master for C can have, what is saved of it has these bytes
-pub record IsSavedAs (bytes : List ℕ) (core : CoreView) : Type 0 where
-  -- no deadline is missed at any later cycle
-  pub safe : IsCore core
+-- a core that a master for C can have
+pub record IsForC (core : CoreView) : Type 0 where
   -- it keeps at most 4,096 entries
   pub forgets : core.forgets ≡ true
   pub slots : IsSlots core.rules.slots
+
+-- what is saved of such a core has these bytes
+pub record IsSavedAs (bytes : List ℕ) (core : CoreView) : Type 0 where
+  -- no deadline is missed at any later cycle
+  pub safe : IsCore core
+  pub for_c : IsForC core
   pub bytes_are : AreBytesOf (saved_of core) bytes
 
 -- the bytes are those of this core and of no other one

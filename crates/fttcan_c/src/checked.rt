@@ -1,13 +1,15 @@
 //! The checker of plans, as texts.
 
-ghost use Rattle.std.specs.Prelude.{◌≡◌, ◌≢◌, ◌+◌, ◌≤◌, ◌↔◌, ℕ, IfErr, IfOk, IsTrue, OnOk, length};
+ghost use Rattle.std.specs.Prelude.{◌≡◌, ◌≢◌, ◌+◌, ◌≤◌, ◌↔◌, ◌⊎◌, ℕ, IfErr, IfOk, IsTrue, MatchResult, OnOk, length};
 ghost use Rattle.profile.specs.Limits.{cycles_end};
 ghost use Rattle.requirement_table.specs.Slots.{contains_slot};
 ghost use Rattle.requirement_table.specs.Table.{IsWellPlaced};
 ghost use Rattle.plan_check.specs.PlanKept.{HasPending};
 ghost use Rattle.plan_check.specs.PlanText.{IsFirstWrongLine, IsPlanOf};
 ghost use Rattle.plan_check.specs.declared.text_fault.PlanTextFault.{PlanTextFault as PlanTextFaultOf};
+ghost use Rattle.fttcan_c.specs.declared.checked.Finding.TheVariants.{Kept};
 ghost use Rattle.fttcan_c.specs.declared.refusal.Refusal.{Refusal as RefusalOf};
+ghost use Rattle.fttcan_c.specs.declared.refusal.Refusal.TheVariants.{Memory};
 ghost use Rattle.fttcan_c.specs.Checked.{BeginsRight, IsFound, IsPlanBroken, IsPlanTaken, RefusesPlan, RefusesPlanOf};
 ghost use Rattle.fttcan_c.specs.Plain.{table_of};
 ghost use Rattle.fttcan_c.specs.Refused.{status_of};
@@ -56,8 +58,11 @@ fn begins_right(
 }
 
 /// What is found of the text of a plan of a table, within a window of so many bit times.
+#[tactic(auto, using(crate::proofs::Taken::only_memory))]
 fn found(alloc: Global, placed: &[FttPlaced], window: u32, text: &[u8]) -> Result<Finding, Refusal>
     ensures found { IfOk result (IsFound (table_of placed.now) window text.now) }
+    ensures complete { IsPlanTaken (table_of placed.now) window text.now
+        → MatchResult result (λ finding. finding ≡ Kept) (λ refusal. refusal ≡ Memory) }
     ensures refused { IfErr result (RefusesPlan placed.now text.now) }
 {
     let list = table_in(alloc, placed)?;
@@ -68,6 +73,8 @@ fn found(alloc: Global, placed: &[FttPlaced], window: u32, text: &[u8]) -> Resul
 fn found_in(alloc: Global, list: &[Placed], window: u32, text: &[u8]) -> Result<Finding, Refusal>
     requires well_placed { IsWellPlaced list.now }
     ensures found { IfOk result (IsFound list.now window text.now) }
+    ensures complete { IsPlanTaken list.now window text.now
+        → MatchResult result (λ finding. finding ≡ Kept) (λ refusal. refusal ≡ Memory) }
     ensures refused { IfErr result (RefusesPlanOf list.now text.now) }
 {
     let certificate = match read_plan(alloc, text) {
@@ -101,6 +108,7 @@ pub extern "C" fn fttcan_check(
     breach: &mut FttBreach,
 ) -> u32
     ensures taken { result ≡ 0 → IsPlanTaken (table_of placed.now) window text.now × (breach.new ≡ breach.old) }
+    ensures complete { IsPlanTaken (table_of placed.now) window text.now → (result ≡ 0) ⊎ (result ≡ 1) }
     ensures broken { result ≡ 10 → IsPlanBroken (table_of placed.now) window text.now breach.new }
     ensures unread { result ≡ 9 → (number : ℕ) × IsWellPlaced (table_of placed.now) × IsFirstWrongLine text.now number
         × (breach.new ≡ record breach.old { first = number }) }

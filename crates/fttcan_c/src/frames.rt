@@ -22,6 +22,7 @@ use crate::plain_in::are_slots;
 use crate::plain_out::frame_out;
 use crate::refusal::{OK, Refusal};
 use crate::room::put;
+use can_frame::laws::wire_lengths;
 use can_frame::{Frame, WireFault, read_wire, wire, wire_len};
 use cycle_layout::Layout;
 use requirement_table::Payload;
@@ -33,6 +34,7 @@ use std::alloc::{AllocError, Global};
 pub extern "C" fn fttcan_wire_length(id: u16, bytes: &[u8], bits: &mut u32) -> u32
     ensures length { result ≡ 0 → IsFrame (data_frame id bytes.now)
         × (bits.new ≡ wire_length (data_frame id bytes.now)) }
+    ensures most { result ≡ 0 → bits.new ≤ 135 }
     ensures refused { result ≢ 0 → (bits.new ≡ bits.old) × (result ≡ 2) × (IsFrame (data_frame id bytes.now) → ⊥) }
 {
     match Frame::new(id, bytes) {
@@ -48,11 +50,13 @@ pub extern "C" fn fttcan_wire_length(id: u16, bytes: &[u8], bits: &mut u32) -> u
 fn wire_bytes(alloc: Global, id: u16, bytes: &[u8]) -> Result<Vec<u8>, Refusal>
     ensures bits { IfOk result (λ bits. IsFrame (data_frame id bytes.now)
         × (bits.items ≡ map from_bool (wire_of (data_frame id bytes.now)))) }
+    ensures most { IfOk result (λ bits. length bits.items ≤ 135) }
     ensures refused { IfErr result (RefusesWire id bytes.now) }
 {
     let Ok(frame) = Frame::new(id, bytes) else {
         return Err(Refusal::Argument);
     };
+    wire_lengths();
     let bits = wire(alloc, &frame)?;
     let bytes = bytes_of(alloc, bits.as_slice())?;
     Ok(bytes)
@@ -78,6 +82,7 @@ pub extern "C" fn fttcan_wire_bits(
 ) -> u32
     ensures bits { result ≡ 0 → IsFrame (data_frame id bytes.now)
         × IsFilled (map from_bool (wire_of (data_frame id bytes.now))) room.old room.new count.new }
+    ensures most { result ≡ 0 → count.new ≤ 135 }
     ensures short { result ≡ 5 → IsFrame (data_frame id bytes.now)
         × IsShort (map from_bool (wire_of (data_frame id bytes.now))) room.old room.new count.new }
     ensures refused { result ≢ 0 → result ≢ 5 → (room.new ≡ room.old) × (count.new ≡ count.old)

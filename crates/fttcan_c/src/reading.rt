@@ -9,7 +9,7 @@ ghost use Rattle.fttcan_c.specs.declared.refusal.Refusal.{Refusal as RefusalOf};
 ghost use Rattle.fttcan_c.specs.declared.refusal.Refusal.TheVariants.{Closed};
 ghost use Rattle.fttcan_c.specs.Mastering.{Holds, IsCaller, IsMaster, RefusesOpen};
 ghost use Rattle.fttcan_c.specs.Plain.{mask_of};
-ghost use Rattle.fttcan_c.specs.Reading.{HasPlanText, HasTable, HasTrail, IsLookedAt, IsNextOf, IsPlannedOf, IsRulesOf, RefusesLook, RefusesRead};
+ghost use Rattle.fttcan_c.specs.Reading.{HasPlanText, HasTable, HasTrail, IsLookedAt, IsNextOf, IsPlanTextOf, IsPlannedOf, IsRulesOf, RefusesLook, RefusesRead};
 ghost use Rattle.fttcan_c.specs.Refused.{status_of};
 ghost use Rattle.fttcan_c.specs.Room.{IsFilled, IsShort};
 ghost use Rattle.fttcan_c.specs.Told.{mask_told, put_of, rules_told};
@@ -18,10 +18,11 @@ use crate::plain::{FttMask, FttPlaced, FttRules};
 use crate::plain_out::{mask_out, masks_out, rules_out, table_out};
 use crate::refusal::{OK, Refusal};
 use crate::room::put;
+use master_core::Core;
 use master_handle::{FttHandle, Held};
 use plan_check::write_plan;
 use profile::OPENINGS_END;
-use std::alloc::Global;
+use std::alloc::{AllocError, Global};
 use std::mem;
 
 /// The greatest number of an operator; the least is 1.
@@ -193,6 +194,7 @@ fn table_in(alloc: Global, held: &Held) -> Result<Vec<FttPlaced>, Refusal>
 {
     match held {
         Held::Master { core, trail: _ } => {
+            core.known();
             let list = table_out(alloc, core.placed())?;
             Ok(list)
         }
@@ -279,16 +281,24 @@ pub extern "C" fn fttcan_master_trail(
     }
 }
 
-/// The text of the certificate of a master: the plan of its entries from the next cycle on, up to the end of its first
+/// The text of the certificate of a core: the plan of its entries from the next cycle on, up to the end of its first
 /// repeat.
+fn text_of(alloc: Global, core: &Core) -> Result<Vec<u8>, AllocError>
+    ensures text { IfOk result (λ text. IsPlanTextOf text.items core.now) }
+{
+    let certificate = core.certificate(alloc)?;
+    let text = write_plan(alloc, &certificate)?;
+    Ok(text)
+}
+
+/// The text of the certificate of a master.
 fn text_in(alloc: Global, held: &Held) -> Result<Vec<u8>, Refusal>
     ensures text { IfOk result (λ text. HasPlanText text.items held.now) }
     ensures refused { IfErr result (RefusesRead held.now) }
 {
     match held {
         Held::Master { core, trail: _ } => {
-            let certificate = core.certificate(alloc)?;
-            let text = write_plan(alloc, &certificate)?;
+            let text = text_of(alloc, core)?;
             Ok(text)
         }
         _ => Err(Refusal::Closed),
@@ -296,7 +306,7 @@ fn text_in(alloc: Global, held: &Held) -> Result<Vec<u8>, Refusal>
 }
 
 /// The plan of a master as a text, from the next cycle on, up to the end of its first repeat. `fttcan_check` takes it with
-/// the table and the longest window of the rules. `len` is how many bytes it has, also where the room is too small.
+/// the table and the window of the rules. `len` is how many bytes it has, also where the room is too small.
 #[unsafe(no_mangle)]
 pub extern "C" fn fttcan_master_certificate(
     m: &mut FttHandle,

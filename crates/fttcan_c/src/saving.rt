@@ -1,13 +1,15 @@
 //! What is kept of a master while it does not run.
 
-ghost use Rattle.std.specs.Prelude.{◌≡◌, ◌≢◌, ℕ, List, Some, None, IfErr, IfOk};
+ghost use Rattle.std.specs.Prelude.{◌≡◌, ◌≢◌, ℕ, [], List, Some, None, IfErr, IfOk};
+ghost use Rattle.master_core.specs.Cores.{CoreView};
 ghost use Rattle.master_handle.specs.declared.held.Held.{Held as HeldOf};
+ghost use Rattle.master_handle.specs.declared.held.Held.TheVariants.{Master};
 ghost use Rattle.fttcan_c.specs.declared.refusal.Refusal.{Refusal as RefusalOf};
 ghost use Rattle.fttcan_c.specs.Mastering.{Holds};
 ghost use Rattle.fttcan_c.specs.Reading.{RefusesRead};
 ghost use Rattle.fttcan_c.specs.Refused.{status_of};
 ghost use Rattle.fttcan_c.specs.Room.{IsFilled, IsShort};
-ghost use Rattle.fttcan_c.specs.Saving.{HasBytes, IsCoreOfBytes, IsRestored, RefusesRestore};
+ghost use Rattle.fttcan_c.specs.Saving.{AreBytesOfCore, HasBytes, IsCoreOfBytes, IsForC, IsRestored, RefusesRestore};
 
 use crate::plain_in::are_slots;
 use crate::refusal::{OK, Refusal};
@@ -15,9 +17,20 @@ use crate::room::put;
 use admission::Trail;
 use master_core::Core;
 use master_handle::{FttHandle, Held};
+use saved_state::laws::one_state;
 use saved_state::{ReadFault, read, write};
-use std::alloc::Global;
+use std::alloc::{AllocError, Global};
 use std::mem;
+
+/// The bytes of what is saved of a core.
+fn bytes_of_core(alloc: Global, core: &Core) -> Result<Vec<u8>, AllocError>
+    ensures bytes { IfOk result (λ bytes. AreBytesOfCore bytes.items core.now) }
+{
+    one_state();
+    let saved = core.save(alloc)?;
+    let bytes = write(alloc, &saved)?;
+    Ok(bytes)
+}
 
 /// The bytes of the state of a master.
 fn bytes_in(alloc: Global, held: &Held) -> Result<Vec<u8>, Refusal>
@@ -26,8 +39,7 @@ fn bytes_in(alloc: Global, held: &Held) -> Result<Vec<u8>, Refusal>
 {
     match held {
         Held::Master { core, trail: _ } => {
-            let saved = core.save(alloc)?;
-            let bytes = write(alloc, &saved)?;
+            let bytes = bytes_of_core(alloc, core)?;
             Ok(bytes)
         }
         _ => Err(Refusal::Closed),
@@ -35,7 +47,8 @@ fn bytes_in(alloc: Global, held: &Held) -> Result<Vec<u8>, Refusal>
 }
 
 /// The state of a master as bytes, of which `fttcan_master_restore` makes it again: 112, and 80 more for each entry that
-/// it keeps. `len` is how many they are, also where the room is too small.
+/// it keeps. No other state has these bytes. The trail is not among them. `len` is how many they are, also where the room is
+/// too small.
 #[unsafe(no_mangle)]
 pub extern "C" fn fttcan_master_save(
     m: &mut FttHandle,
@@ -99,17 +112,24 @@ fn restored(alloc: Global, bytes: &[u8]) -> Result<Box<Held>, Refusal>
     }
 }
 
-/// Makes the master that was saved as these bytes, where the handle holds nothing. It goes on as that one would have. The
-/// bytes are not trusted: of any bytes that are not refused a master is made that misses no deadline.
+/// Makes the master that has these bytes, where the handle holds nothing: of what `fttcan_master_save` wrote, the one that
+/// was saved, without its trail. The bytes are not trusted. Of any bytes that are not refused it makes a master that
+/// misses no deadline.
 ///
-/// It answers `Text` exactly where no master has these bytes: where they are not of the form, where a deadline would be
-/// missed, or where there are more than 4,096 entries.
+/// It checks the checksum, the form, the rules, the table and the state, and plans the table once. It answers `Text` exactly
+/// where no master has these bytes: where they are not of the form, a slot or a node of an entry is none of the rules, a
+/// deadline would be missed, the plan does not repeat within the horizon, or there are more than 4,096 entries.
+///
+/// It cannot check where the bytes come from, since the checksum is no signature: whether they are the newest, whether they
+/// are of this network, and whether any history of answered changes and opened cycles ends in this state.
 #[unsafe(no_mangle)]
 pub extern "C" fn fttcan_master_restore(m: &mut FttHandle, alloc: Global, bytes: &[u8]) -> u32
     ensures restored { result ≡ 0 → (m.old.value ≡ None) × Holds m.new.value (IsRestored bytes.now) }
     ensures same { result ≢ 0 → m.new.value ≡ m.old.value }
     ensures taken { result ≡ 8 → (held : HeldOf) × (m.old.value ≡ Some held) }
     ensures free { result ≢ 8 → m.old.value ≡ None }
+    ensures again { (core : CoreView) → IsForC core → AreBytesOfCore bytes.now core
+        → (result ≢ 9) × (result ≡ 0 → m.new.value ≡ Some (Master core [])) }
     ensures refused { result ≢ 0 → result ≢ 8 → (refusal : RefusalOf) × (result ≡ status_of refusal)
         × RefusesRestore bytes.now refusal }
 {

@@ -71,8 +71,10 @@ fn settled(
     }
 }
 
-/// Answers a change that operator `caller`, 1 to 8, asks for and that was planned apart. Where its plan leads to this
-/// master, and no change was accepted since its snapshot, that plan decides; else it is planned anew.
+/// Answers a change that operator `caller`, 1 to 8, asks for and that was planned apart. Its plan decides exactly where it
+/// leads to this master: rules, table and number of accepted changes are those of the snapshot, and the plan from there
+/// comes to the next cycle with the same slots pending. Then only a start that has passed since is refused. Else the change
+/// is planned anew, from the next cycle on.
 ///
 /// `p` holds nothing then. Where memory runs out it holds nothing either, and the master is as before.
 #[unsafe(no_mangle)]
