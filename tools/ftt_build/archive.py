@@ -109,7 +109,7 @@ class Proved:
             words = [word for word in crate.words(["--jobs", "2"]) if not word.startswith("--target")]
             more = ["--target", target] if target != HOST else []
             run([kit.folder() / "bin" / "rattle", "build", *words, *more, "--toolchain", kit.folder() / "toolchain",
-                 *(["--backend", backend] if backend != "llvm" else []), "-o", built], cwd=place)
+                 *kit.kept(), *(["--backend", backend] if backend != "llvm" else []), "-o", built], cwd=place)
         with tempfile.TemporaryDirectory() as room:
             run([f"{PREFIX[target]}ar", "x", built], cwd=room)
             parts = sorted(pathlib.Path(room).iterdir())

@@ -42,6 +42,11 @@ def crate(checkout, name):
     return modules().Crate(place, modules().root_above(place) or place, {})
 
 
+def kept():
+    """The words with which a build of a library goes on with what an earlier one of `rt` has proved."""
+    return modules().KEPT if modules().libraries_keep() else []
+
+
 def sources_of_kit(crates):
     """The words that name the sources of the libraries of the kit that these crates use."""
     return modules().kit_sources(name for one in crates for name in one.of_kit)

@@ -132,7 +132,7 @@ FILES = [
     system("leading zeros", "cycle = 500", "cycle = 0500", "Write cycle = 500", "cycle = 500"),
     system("a comment of C", "cycle = 500", "cycle = 500 // bit times", "Write cycle = 500 # bit times",
            "cycle = 500 # bit times"),
-    system("no value", "turnaround = 20", "turnaround =", "Write a value behind turnaround =, or take the row away.",
+    system("no value", "turnaround = 20", "turnaround =", "Write a value after turnaround =, or take the row away.",
            "turnaround = 20"),
     system("a lost bracket", "[bus]", "[bus", "Write [bus]", "[bus]"),
     system("a key twice", "cycle = 500", "cycle = 500\ncycle = 600", "Take one of the two away.", "cycle = 600"),
@@ -249,7 +249,7 @@ FILES = [
     steps("a START after the horizon", LATE, "Take horizon = 10005, or a START of at most 9990",
           LATE.replace("9995", "9990")),
     # Requests.
-    requests("no data field", "170,0x300", "Write the comma before the data also where there are none.", "170,0x300,"),
+    requests("no data field", "170,0x300", "Write the comma before the data even if there are none.", "170,0x300,"),
     requests("AT with a point", "0.34,0x300,", "AT is a whole number of bit times. Take 170 to 1099511627775. For "
              "milliseconds multiply by the bit rate in kbit/s: 0.34 ms at 500 kbit/s are 170.", "170,0x300,"),
     requests("AT in milliseconds", "3ms,0x300,", "3 ms at 500 kbit/s are 1500.", "1500,0x300,"),
@@ -286,11 +286,11 @@ FILES = [
             "200,2,00112233445566\n200,2,07"),
     streams("AT with a point in streams", "1.5,2,", "Take 100 to 1099511627775. For milliseconds multiply by the bit "
             "rate in kbit/s: 1.5 ms at 500 kbit/s are 750.", "750,2,"),
-    streams("two fields", "200,2", "Write the comma before the data also where there are none.", "200,2,"),
+    streams("two fields", "200,2", "Write the comma before the data even if there are none.", "200,2,"),
     # Plans.
     ("a plan with CRLF", {"plan": PLAN.replace("\n", "\r\n")}, "Save the file with line feeds alone.", {"plan": PLAN}),
     ("a plan with a byte order mark", {"plan": "\ufeff" + PLAN}, "Save the file without it.", {"plan": PLAN}),
-    plan("a lost line feed", "end\n", "end", "'end' has no line feed behind it. Add one.", "end\n"),
+    plan("a lost line feed", "end\n", "end", "'end' has no line feed after it. Add one.", "end\n"),
     plan("a log for a plan", PLAN, "submit,1,0,accepted,0,4\nend,0\n", "The plan is what `fttcan admit SYSTEM STEPS` "
          "writes.",
          PLAN),
@@ -308,7 +308,7 @@ FILES = [
     plan("a count of 0 in front", "0000000001 1", "0000000000 0\n0000000001 1", "COUNT is 0. Take the line away, or "
          "take 1 to 10", "0000000001 1"),
     plan("a count that is too great", " 9\n", " 10\n", "COUNT is 10. Take 1 to 9", " 9\n"),
-    plan("text behind the end", "end\n", "end\n\n", "text stands behind end. Take it away.", "end\n"),
+    plan("text behind the end", "end\n", "end\n\n", "text stands after end. Take it away.", "end\n"),
 ]
 
 # The log of a run of one cycle, and its files.
@@ -328,11 +328,11 @@ def wishes(name, wrong, part, right):
 
 FILES += [
     log("a log with a report", "end,1\n", "end,1\nentry,0,0,1,0,0\nload,55,55,55\n", "run.log:6: mistake: the word is "
-        "'entry': behind the row `end` stand the rows of a report (--report), and audit takes none. Take them away"),
-    log("a log of poll", "end,1\n", "end,1\nwaits,0,1\n", "the word is 'waits': behind the row `end` stand the rows "
+        "'entry': after the row `end` come the rows of a report (--report), and audit takes none. Take them away"),
+    log("a log of poll", "end,1\n", "end,1\nwaits,0,1\n", "the word is 'waits': after the row `end` come the rows "
         "of a log of `poll`"),
     log("a frame without the comma of its data", "51,100,", "51,100", "Write frame,START,LEN,ID,DATA. Write the comma "
-        "in front of the data"),
+        "before the data"),
     log("an identifier with 0x", "51,100,", "51,0x100,", "run.log:4: mistake: ID is '0x100': three hexadecimal digits "
         "are taken, in lower case and without 0x. Write 100."),
     log("a mask of one digit in a log", "0000000001,55", "1,55", "MASK is '1': a mask has 10 digits in lower case, or "

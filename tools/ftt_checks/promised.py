@@ -102,7 +102,7 @@ LINTED = {
                     "the stream of 0x300, declared in line 2, asks for 10000.",), 1),
     "an identifier that is not declared": (
         "id,bytes,gap,burst,deadline\n0x300,2,10000,,\n", "0,0x310,\n", (
-            "async.csv: warning: no stream of 0x310 and 0x320 is declared, and the system owns it: where a request of it "
+            "async.csv: warning: no stream of 0x310 and 0x320 is declared, and the system owns it: if one of its requests "
             "comes, no bound holds.", "requests.csv:1: warning: no stream of 0x310 is declared, so no bound holds."), 1),
     # the bound of lamp is 670, and 1 byte less than it is too long
     "a bound after the deadline": (

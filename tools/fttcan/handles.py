@@ -118,7 +118,9 @@ class Master(Handle):
 
     @classmethod
     def restore(cls, saved: bytes) -> Master:
-        """A master in the state that `save` has written, which may be that of another process. The bytes are not trusted.
+        """A master in the state that `save` has written, which may be that of another process. The bytes are not trusted:
+        of any that are not refused a master is made that misses no deadline. Not checked is whether they are the newest,
+        and whether they are of this network.
 
         BadText: no master has such a state. MemoryRanOut.
         """

@@ -5,21 +5,24 @@
     tools/fttlint --words WORD..
 
 A mistake is what the program refuses: a file that breaks its format, or a change that is malformed, late or after the
-horizon. A warning is what no message of the program says. Changes above are taken for accepted where nothing here
-refuses them: a deadline that is missed is found by the program alone. Of a plan the form alone is looked at; whether it
-keeps the table is what `fttcan check` says. So of a log its rows alone are looked at; what they tell is audited by
-`fttcan audit`.
+horizon. A warning is something that the program does not report. A change is taken for accepted
+if nothing here refuses it: only the program finds a missed deadline. Of a plan only the form is looked at; `fttcan check`
+says whether it keeps the table. Of a log only the rows are looked at; `fttcan audit` judges what they say.
 
 --bounds looks at the file that declares how far apart asynchronous requests are, as async.csv of fttmodel. It warns of
 requests that break their stream, and of streams without a bound, or with one after their deadline.
 
---words looks at the words of a call of fttcan, all that stand behind it, and says which one is wrong: the command, an
+--words looks at the words of a call of fttcan, all that come after it, and says which one is wrong: the command, an
 option, a number, or a word that is missing or in another's place. Outside of a checkout the fttcan of the path says
 what its commands are.
 
 Each finding is a line: FILE:LINE, `mistake` or `warning`, what is wrong, and what to do: a value or a row that the
 program takes. LINE is that of an editor.
 Below the first mistake of a file stands the program's own line, or verdict.
+
+The files of the folder mine, as fttmodel makes them from milliseconds:
+
+    tools/fttlint mine/system.toml mine/steps.csv
 
 Status: 0 nothing; 1 warnings; 2 mistakes; 3 a file that can't be read; 4 wrong words, or a Python before
 3.11.
@@ -46,7 +49,7 @@ def parser():
     made.add_argument("--wishes", metavar="WISHES", help="the wishes that elastic is to read")
     made.add_argument("--log", metavar="LOG", help="the log that audit is to read")
     made.add_argument("--bounds", metavar="BOUNDS", help="the streams that are declared of the requests")
-    made.add_argument("--words", action="store_true", help="look at the words of a call, all that stand behind it")
+    made.add_argument("--words", action="store_true", help="look at the words of a call, all that come after it")
     modes = made.add_mutually_exclusive_group()
     modes.add_argument("--live", action="store_const", const="live", dest="mode", default="both",
                        help="for live alone: a START may pass, and no row waits for a cycle row")

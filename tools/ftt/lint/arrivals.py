@@ -25,7 +25,7 @@ class Arrivals:
             return True
         why = separators(record, 3)
         if why is None and len(record.fields) == 2:
-            why = "Write the comma before the data also where there are none."
+            why = "Write the comma before the data even if there are none."
         self.found.mistake(record.line, f"the row has {some(len(record.fields), 'field')}, and a request has 3. "
                            f"{why or f'Write {self.form}.'}", self.told(record, "fields"))
         return False

@@ -23,7 +23,7 @@ def warn_streams(streams, system, found):
     """Warns of identifiers of which no stream is declared, and of streams without a bound, or with a late one."""
     missing = declared.missing_of(streams, system.owners)
     if missing is not None:
-        found.warning(None, f"{missing}, and the system owns it: where a request of it comes, no bound holds.")
+        found.warning(None, f"{missing}, and the system owns it: if one of its requests comes, no bound holds.")
     layout = bounds.Layout(system.cycle, system.turnaround, system.window, system.slots)
     every = [it.stream for it in streams]
     for it, bound in declared.late_of(streams, layout):

@@ -56,7 +56,7 @@ def why_no_row(fields):
     if word != "submit" and len(rest) != len(names):
         more = ""
         if (word, len(rest)) == ("frame", 3):
-            more = " Write the comma in front of the data also where there are none."
+            more = " Write the comma before the data even if there are none."
         return "the row", ",".join(fields), f"Write {word},{','.join(names)}.{more}"
     for name, text in zip(names, rest):
         why = None if name == "the verdict" else why_no_field(name, text)
@@ -108,7 +108,7 @@ class Rows:
         elif word in REPORT:
             rest = "the rows of a report (--report)"
         if self.ended != "told":
-            self.found.mistake(record.line, f"the word is '{word}': behind the row `end` stand {rest}, and audit takes "
+            self.found.mistake(record.line, f"the word is '{word}': after the row `end` come {rest}, and audit takes "
                                f"none. {remedy}", told)
         self.ended = "told"
 

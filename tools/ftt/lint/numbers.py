@@ -88,7 +88,7 @@ def why_no_decimal(text, bounds):
     millis = value * {"s": 1000, "ms": 1, "us": Fraction(1, 1000), "\u00b5s": Fraction(1, 1000)}[unit or "ms"]
     way = by_rate(millis, bounds)
     if unit:
-        return f"a unit stands behind it. {bounds.kind()}.{way or f' {bounds.take()}'}"
+        return f"a unit stands after it. {bounds.kind()}.{way or f' {bounds.take()}'}"
     # A time that is rounded down promises no less.
     return f"it has a decimal point. {bounds.kind()}. {meant(str(int(value)), bounds)}{way}"
 

@@ -28,7 +28,7 @@ class PlanLines:
                 self.refuse("the line ends with a carriage return. Save the file with line feeds alone.")
             return line
         if self.rest:
-            self.refuse(f"{shown(self.rest)} has no line feed behind it. Add one.")
+            self.refuse(f"{shown(self.rest)} has no line feed after it. Add one.")
         return self.refuse(f"the text ends here. Write {what}.")
 
     def refuse(self, what):
@@ -141,7 +141,7 @@ def read_plan(lines):
         lines.refuse(f"{shown(line)} stands where `end` is needed.{more} Take away what is too much, or mend LENGTH.")
     if lines.lines[lines.number:] or lines.rest:
         lines.number += 1
-        lines.refuse("text stands behind end. Take it away.")
+        lines.refuse("text stands after end. Take it away.")
     return start, pending
 
 

@@ -100,7 +100,7 @@ def remedy_of(text, line, why, ranges):
         return f"Write {key} = {low}" + ("" if key == "slots" or low == high else f", or a greater number up to {high}")
     alone = re.fullmatch(rf"\s*({KEY})\s*=?\s*", (text.splitlines() or [""])[line - 1])
     if alone is not None:
-        return f"Write a value behind {alone[1]} =, or take the row away."
+        return f"Write a value after {alone[1]} =, or take the row away."
     return "Write KEY = VALUE, such as cycle = 1000, or take the row away."
 
 

@@ -51,7 +51,7 @@ def read_row(record, system, cycles, found):
                       f"{why_no_word(record)}", told + "word")
         return None
     if key is None:
-        found.mistake(record.line, "'and' stands alone. Write add, remove or change behind it, and its fields.",
+        found.mistake(record.line, "'and' stands alone. Write add, remove or change after it, and its fields.",
                       told + "fields")
         return None
     names, want = ROWS[key], width_of(key)

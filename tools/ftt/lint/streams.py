@@ -54,7 +54,7 @@ def lint_rides(slot, entries, requests, system, cycles, found):
         return
     line, at, count = requests[len(taken)]
     behind = len(requests) - len(taken) - 1
-    more = f", nor {some(behind, 'request')} behind it" if behind else ""
+    more = f", nor {some(behind, 'request')} after it" if behind else ""
     if not entries:
         found.warning(line, f"SLOT {slot} has no entry in the steps. The request is never sent{more}. Add one.")
         return

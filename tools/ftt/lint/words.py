@@ -65,7 +65,7 @@ def number_fault(name, value):
 def option_fault(name, value):
     """What is wrong with the value of an option; None for nothing."""
     if value is None:
-        return f"{name} stands without its value. Write it behind."
+        return f"{name} has no value. Write one after it."
     return number_fault(name, value) if name in NUMBERS else None
 
 
@@ -103,7 +103,7 @@ def place_faults(command, names, words):
             behind = words[place + 1:place + 2]
             if fault is not None and behind and number_fault(name, behind[0]) is None:
                 right = [*words[:place], behind[0], word]
-                fault = (f"{name} is {shown(word)}, and {shown(behind[0])} stands behind it. {name} comes first: "
+                fault = (f"{name} is {shown(word)}, and {shown(behind[0])} comes after it. {name} comes first: "
                          f"{command} {' '.join(right)}.")
             faults += filter(None, [fault])
         elif word == "-":

@@ -13,12 +13,17 @@
     tools/fttlog bits [LOG]                   the bits of the bus
 
 With no LOG, or with -, the log is read from standard input. The log is one that `fttcan replay` or `fttcan live` wrote,
-with or without a report. Of one that was cut by `--tail` the rows that are there are told, where a form can do so.
+with or without a report. If it was cut by `--tail`, most forms tell the rows that are there.
 `tools/fttlog FORM --help` says the options of a form. docs/tools.md has examples.
 
+How late each message was sent, in milliseconds at 250 kbit/s, and the run in sentences:
+
+    tools/fttlog late --kbits 250 --names mine/names.csv --steps mine/steps.csv log
+    tools/fttlog say --kbits 250 --names mine/names.csv --steps mine/steps.csv log
+
 Status: 0 done; 1 a file can't be read, or a row of it can't be used: a line on standard error says which; 2 the words
-are wrong. Of conform 1 says too that something was found, and of late with --bounds that a bound is broken. This program is a help for readers. Nothing of it is proved,
-and nothing that is proved rests on it.
+are wrong. Of conform 1 says too that something was found, and of late with --bounds that a bound is broken. This
+program is a help for readers. Nothing of it is proved, and nothing that is proved rests on it.
 """
 import argparse
 import fractions
@@ -107,7 +112,7 @@ def forms_of(reader):
     late = form(forms, "late", "how late frames were sent", takes_kbits, takes_names, takes_cycle)
     late.add_argument("--requests", metavar="FILE", help="the requests file: the latencies of asynchronous frames")
     late.add_argument("--bounds", metavar="FILE", help="with --requests: the file that declares the streams of the "
-                      "requests, as async.csv of fttmodel. Their bounds stand beside, and the status is 1 where one is "
+                      "requests, as async.csv of fttmodel. Their bounds stand beside, and the status is 1 if one is "
                       "broken")
     late.add_argument("--system", metavar="FILE", help="with --bounds: the system file")
     late.add_argument("--steps", metavar="FILE", help="the steps file: the delays of synchronous frames")

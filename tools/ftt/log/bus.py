@@ -75,7 +75,7 @@ def starts_of(frames, kbits, has_starts, note):
         starts.append(max(start, free))
         free = starts[-1] + frame.length
     if moved:
-        note(f"{some(moved, 'frame')} would start a bit time before the one in front has ended: put behind it")
+        note(f"{some(moved, 'frame')} would start a bit time before the previous one has ended: moved to its end")
     return starts
 
 

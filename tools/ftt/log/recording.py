@@ -200,7 +200,7 @@ def from_trigger(found, note):
     if early is None:
         raise NoLog("the recording has no trigger, which has identifier 000")
     if early:
-        note(f"{some(early, 'frame')} in front of the first trigger {'is' if early == 1 else 'are'} left out")
+        note(f"{some(early, 'frame')} before the first trigger {'is' if early == 1 else 'are'} left out")
     found.frames = found.frames[early:]
     found.busy = [(place - early, nanos) for place, nanos in found.busy if place >= early]
     return found.frames

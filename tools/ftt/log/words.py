@@ -98,7 +98,7 @@ def reported_told(word, fields, names):
         return (f"Request {number} of the streams rides on {names.of_slot(int(slot))}: released in cycle {release}, "
                 f"sent in cycle {cycle}.")
     if word == "waits":
-        return f"Request {fields[1]} of the streams waits still for {names.of_slot(int(fields[0]))}."
+        return f"Request {fields[1]} of the streams still waits for {names.of_slot(int(fields[0]))}."
     least, greatest, total = fields
     spread = "" if least is None else f", {least} to {greatest} in a cycle"
     return f"Synchronous windows: {some(total, 'bit time')} together{spread}."

@@ -5,9 +5,9 @@
     tools/fttmodel --from-dbc FILE [--period-attribute NAME] [--strict] > MESSAGES
 
 KBITS is the bit rate in kbit/s and CYCLE_US the elementary cycle in microseconds. MESSAGES is a CSV file with a header
-row, or a DBC file where its name ends with .dbc; docs/tools.md says how its attributes are read. OUT is a folder, which
-is made where it is not there. The files system.toml, steps.csv and names.csv in OUT are replaced. With asynchronous
-messages so is async.csv, which declares how far apart their requests are.
+row, or a DBC file if its name ends with .dbc; docs/tools.md says how its attributes are read. OUT is a folder; it is
+made if it is not there. The files system.toml, steps.csv and names.csv in OUT are replaced, and with asynchronous
+messages also async.csv, which declares how far apart their requests are.
 
 The columns of the CSV file, in any order:
 
@@ -25,12 +25,17 @@ The columns of the CSV file, in any order:
 
 name, sender, length and period are needed. Names of times may end with _ms. Fields may be separated by semicolons or
 tabs in place of commas, and then times may have decimal commas. A column whose name begins with # is left
-out, and so is a row whose first field begins with #. Another column is left out with a line that says so, where its
-name is not near one of these.
+out, and so is a row whose first field begins with #. Any other column is left out, and a line
+says so, unless its name is near one of these.
 
 --from-recording makes such a list from a recording of a plain CAN bus, as `candump -L` writes it: identifiers, lengths,
 periods and least distances. What a recording can't tell is left open. --from-dbc makes one from a DBC file, to which
 deadlines can be added.
+
+Two commands, at 250 kbit/s and with cycles of 5 ms: the files in the folder mine, and the run.
+
+    tools/fttmodel 250 5000 messages.csv mine --policy dm --window 370
+    fttcan replay mine/system.toml mine/steps.csv > log
 
 Status: 0 written; 1 written, with warnings; 2 a mistake in a message or an option, nothing is written; 3 a file that
 can't be read or written; 4 wrong words, or a Python before 3.11.

@@ -12,8 +12,8 @@
                                                  [--seed N] [--csv FILE] ..
     tools/fttsearch .. --scheduler ADDRESS [--tls-ca FILE --tls-cert FILE --tls-key FILE]
 
-A RANGE is FIRST:LAST, FIRST:LAST:STEP or a number, or some of these with commas. A point is accepted where the master
-accepts each change, as the program answers it.
+A RANGE is FIRST:LAST, FIRST:LAST:STEP or a number, or some of these with commas. A point is accepted if the master accepts
+each change, as the program answers it.
 
 Of a list, MESSAGES is what fttmodel reads. Rates are in kbit/s, cycles in microseconds, deadlines and periods in
 milliseconds. At each rate and cycle the list becomes the table that fttmodel writes. The step of a cycle may be `fit`:
@@ -23,7 +23,7 @@ rate it says the best cycle, which leaves the greatest share of each cycle free 
 and what rounding costs. --headroom says at that point which message decides, what may be added, which message frees most
 where it is removed or comes half as often, and how far each deadline may be cut, one at a time.
 
-Of a system and steps, what is not asked for stays as it stands in the files. Cycles and looks behind the last change are
+Of a system and steps, what is not asked for stays as it stands in the files. Cycles and looks after the last change are
 left out, since no verdict waits for them. It says the least window for each policy and filling, the best of these, and
 which periods of a slot are accepted.
 
@@ -34,7 +34,7 @@ point that was tried.
 
 --csv writes a row for each point as the answers come, and --svg a picture of the region that is accepted; - is standard
 output, and then the sentences go to standard error. The first row of the table names the grid. --resume goes on with a
-table that an earlier call left, and begins it where it is not there. --part tries each N-th point from the K-th one on,
+table that an earlier call left, or begins it. --part tries each N-th point from the K-th one on,
 so that several machines share a grid, and --join reads the rows of all parts. A grid with holes is refused there.
 
 --offsets looks for phases by which the least window is narrower. It says each window with the phases of the files and
@@ -46,6 +46,10 @@ found.
 The library libfttcan.so.1 answers in this process, by the package fttcan, where it is found. Else the program does, a
 process for each point: the one that FTTCAN names, or that ./fttcan at the top of the repository builds; or, for an
 installed fttsearch, the fttcan beside it or on the path. Where FTTCAN names a program, it is asked. Both answer the same.
+
+The least windows of messages in milliseconds, at two rates, in the cycles that fit their periods:
+
+    tools/fttsearch messages.csv --kbits 250,500 --cycle-us 1000:5000:fit --headroom
 
 Status: 0 some point is accepted, or all points of a part were tried; 1 none is accepted; 2 a file or a range is
 refused; 3 a file can't be read or written, or the program fails; 4 wrong words, or a Python before 3.11; 130

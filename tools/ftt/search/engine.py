@@ -5,6 +5,8 @@ its messages are added in cycle 0, as the files of fttmodel have it. An engine i
 and its path, and loads its library anew there.
 """
 import ctypes
+import itertools
+import math
 import os
 import pathlib
 import subprocess
@@ -46,12 +48,12 @@ class Rules:
 class Entries:
     """Messages of a table that are added in cycle 0: tuples of slot, node, bytes, phase, period, deadline and priority, as
     a steps file has them. A change has so many of them as the sizes say; without sizes, each has 16 and the last one what
-    is left. What a library reads of them is made once."""
+    is left. What a library reads of them is made once: the changes, and the table before the last one."""
 
-    __slots__ = ("rows", "sizes", "structs")
+    __slots__ = ("rows", "sizes", "structs", "front")
 
     def __init__(self, rows, sizes=None):
-        self.rows, self.structs = rows, None
+        self.rows, self.structs, self.front = rows, None, None
         self.sizes = [min(OPERATIONS, len(rows) - first) for first in range(0, len(rows), OPERATIONS)] if sizes is None \
             else sizes
 
@@ -69,6 +71,23 @@ class Entries:
 
     def __reduce__(self):
         return Entries, (self.rows, self.sizes)
+
+
+class Front:
+    """The messages before the last change of a table, as a table that a library reads; and what all changes need: so many
+    slots and nodes, and a horizon in which the plan repeats whatever messages are left out. Behind the last phase the slots
+    that are pending become more from one common period to the next, until they stay the same."""
+
+    __slots__ = ("placed", "many", "slots", "nodes", "horizon")
+
+    def __init__(self, library, entries):
+        rows = entries.rows
+        self.many = len(rows) - entries.sizes[-1]
+        self.placed = (library.CPlaced * max(1, self.many))()
+        for it, (slot, node, length, phase, period, deadline, priority) in zip(self.placed, rows[:self.many]):
+            it.entry = library.CEntry(phase, period, deadline, slot, node, length, priority)
+        self.slots, self.nodes = (1 + max(row[field] for row in rows) for field in (0, 1))
+        self.horizon = max(row[3] for row in rows) + (len(rows) + 1) * math.lcm(*(row[4] for row in rows))
 
 
 def answer_of(out, err, status, who):
@@ -100,6 +119,9 @@ class Calls:
         except OSError as fault:
             raise Failed(f"{program}: {fault.strerror}. FTTCAN names the program.") from fault
         self.running.add(process)
+        if self.is_over:
+            # It began while the others were ended.
+            process.terminate()
         try:
             out, err = process.communicate()
         except KeyboardInterrupt:
@@ -182,6 +204,7 @@ class ModuleEngine(Engine):
         # The rules and the first changes that were accepted last, each with the table behind it: a table that begins with
         # the same changes is asked for the others alone.
         self.last, self.accepted, self.rooms = None, [], []
+        self.room = (library.CPlaced * MOST_PLACED)()
         self.empty = (library.CPlaced * 1)()
         self.rules, self.state, self.verdict = library.CRules(), library.CState(), library.CVerdict()
         self.count = library.SIZE()
@@ -213,6 +236,9 @@ class ModuleEngine(Engine):
         if key != self.last:
             (given.horizon, given.window, given.nodes, given.slots, given.policy, given.fill), self.last = key, key
             self.accepted.clear()
+        whole, last = self.whole(rules, entries), len(entries.structs) - 1
+        if whole is not None and whole.accepted and self.are_parts_taken(rules, entries):
+            return whole
         placed, many = self.empty, 0
         for number, (rows, ops, size) in enumerate(entries.structs):
             if number < len(self.accepted):
@@ -220,6 +246,8 @@ class ModuleEngine(Engine):
                     _, placed, many = self.accepted[number]
                     continue
                 del self.accepted[number:]
+            if number == last and whole is not None:
+                return whole
             if number == len(self.rooms):
                 self.rooms.append((self.library.CPlaced * MOST_PLACED)())
             status = self.decides(given, placed, many, self.state, 0, ops, size, verdict, self.rooms[number], MOST_PLACED,
@@ -232,6 +260,37 @@ class ModuleEngine(Engine):
             placed, many = self.rooms[number], count.value
             self.accepted.append((rows, placed, many))
         return Answer(True, None, "")
+
+    def whole(self, rules, entries):
+        """What is said of the whole table: of its last change, beside all messages before it. It is asked first, where one
+        answer may serve for all changes; else this is `None`."""
+        if rules.fill != "prefix" or max(entries.sizes) > OPERATIONS or min(entries.sizes) < 1:
+            return None
+        if len(entries.sizes) - self.known(entries) < 2:
+            return None
+        if entries.front is None:
+            entries.front = Front(self.library, entries)
+        front, verdict, (_, ops, size) = entries.front, self.verdict, entries.structs[-1]
+        if front.slots > rules.slots or front.nodes > rules.nodes:
+            return None
+        status = self.decides(self.rules, front.placed, front.many, self.state, 0, ops, size, verdict, self.room, MOST_PLACED,
+                              self.count)
+        if status:
+            return None
+        if verdict.kind == ACCEPTED:
+            return Answer(True, None, "")
+        return Answer(False, len(entries.sizes), self.library.verdict_out(verdict).row)
+
+    def known(self, entries):
+        """How many of the first changes were accepted before."""
+        return sum(1 for _ in itertools.takewhile(lambda pair: pair[0][0] == pair[1][0], zip(self.accepted, entries.structs)))
+
+    def are_parts_taken(self, rules, entries):
+        """Whether the changes before the last one are accepted too, where the whole table was just accepted. With `prefix`
+        nothing is sent later because messages are left out. So nothing is missed in a part of the table. Where the plan of
+        all repeats from cycle 0 on, nothing is pending where it begins anew, and a part repeats with it. Else the horizon
+        has to leave time for any repeat."""
+        return self.verdict.first == 0 or entries.front.horizon <= rules.horizon
 
     def structs_of(self, rows):
         """A change of rows as the library reads it, and how many operations it has."""

@@ -180,9 +180,9 @@ class Offsets:
         slots = subject.slots()
         wrong = next((slot for slot in words.keep if slot not in slots), None)
         if wrong is not None:
-            raise Refused(f"--keep: slot {wrong} has no entry behind the last change. Take a slot of STEPS.")
+            raise Refused(f"--keep: slot {wrong} has no entry after the last change. Take a slot of STEPS.")
         if not slots:
-            raise Refused("there is no entry behind the last change.")
+            raise Refused("there is no entry after the last change.")
         self.table = Output(words.csv or os.devnull)
         self.steps = Output(words.out) if words.out else None
 

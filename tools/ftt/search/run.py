@@ -22,6 +22,8 @@ from .ranges import asked_grid, list_grid, refined_grid
 from .said import told
 
 SIGNALS = (signal.SIGINT, signal.SIGTERM, signal.SIGHUP)
+# After so many seconds an interrupt that was lost comes once more.
+AGAIN = 0.01
 
 
 class Search:
@@ -148,6 +150,15 @@ def interrupted(*_):
     raise KeyboardInterrupt
 
 
+def lost(told):
+    """Python drops what is raised within calls of its own, as those behind a fork. An interrupt comes once more then."""
+    if told.exc_type is KeyboardInterrupt:
+        signal.signal(signal.SIGALRM, interrupted)
+        signal.setitimer(signal.ITIMER_REAL, AGAIN)
+    else:
+        sys.__unraisablehook__(told)
+
+
 def carry_out(words, search):
     """Tries the points or joins tables. The status, or None where it is that of the answers."""
     try:
@@ -176,6 +187,7 @@ def carry_out(words, search):
 def run(words):
     """Tries the points or joins tables, and tells what was found. The status."""
     search = Offsets() if words.offsets else Search()
+    sys.unraisablehook = lost
     for number in SIGNALS:
         if signal.getsignal(number) is not signal.SIG_IGN:
             signal.signal(number, interrupted)
