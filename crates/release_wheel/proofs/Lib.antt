@@ -1,9 +1,11 @@
+mod Copied
 mod NearPlans
 mod Releasing
 mod RowCycles
 mod RowDues
 mod RowFilling
 mod RowLines
+mod RowPicking
 mod RowSets
 mod RowSums
 mod RowTaking

@@ -1,30 +1,31 @@
 -- A cycle that is planned by rows, and the wheel after it.
-use Rattle.std.proofs.Common.{◌≡◌, ◌≢◌, ℕ, zero, suc, ◌+◌, ◌-◌, ◌%◌, ◌<◌, ◌≤◌, ◌^◌, ◌&&◌, ◌||◌, not, Bool, true, false, nat_eq, if◌then◌else◌, Some, None, List, [], IsPermutation, get_or, length, take, length-take, refl, sym, ap, subst, ◌∙◌, ⊎_elim, arith, nat_le}
+use Rattle.std.proofs.Common.{◌≡◌, ◌≢◌, ℕ, zero, suc, ◌+◌, ◌%◌, ◌<◌, ◌≤◌, ◌^◌, ◌&&◌, ◌||◌, not, Bool, true, false, nat_eq, nat_le, if◌then◌else◌, Some, None, List, IsPermutation, get_or, length, take, length-take, refl, sym, ap, subst, ◌∙◌, ⊎_elim, arith}
 use Rattle.std.specs.List.{list_any}
-use Rattle.std.proofs.lemmas.Bool.{and_from, and_parts, both_ways, cases_lt, eq-eqb, eqb-true, false_from_ne_true, lt-ltb, ne_eqb, or_cases, le-leb, leb-true, lt-leb, cases_eq}
+use Rattle.std.proofs.lemmas.Bool.{and_from, and_parts, both_ways, cases_lt, eq-eqb, eqb-true, false_from_ne_true, lt-ltb, ne_eqb, or_cases, or_left}
 use Rattle.std.proofs.lemmas.List.{get_or-take, take_all}
 use Rattle.std.proofs.lemmas.List.Elements.{All-contains, Contains-get_or}
 use Rattle.std.proofs.lemmas.List.Folds.{list_any-from_Any}
 use Rattle.std.proofs.lemmas.Option.{same_Some}
 use Rattle.requirement_table.specs.declared.entries.Placed.{Placed}
-use Rattle.requirement_table.specs.Instance.{Exists, MaySend, deadline_of, instance_of, release_of}
-use Rattle.requirement_table.specs.Slots.{contains_slot, most_slots}
-use Rattle.requirement_table.specs.Table.{IsInRange, IsWellPlaced, is_last_in}
+use Rattle.requirement_table.specs.Instance.{Exists, Instance, MaySend, deadline_of, instance_of, release_of}
+use Rattle.requirement_table.specs.Slots.{contains_slot, most_slots, sum_where}
+use Rattle.requirement_table.specs.Table.{IsInRange, IsWellPlaced, instance_in, is_last_in}
 use Rattle.requirement_table.proofs.Shared.{MaySend-from_instance, contains_slot-none, instance_of-sent, set_of-from_slots, sum_where-same}
 use Rattle.planner_policies.specs.declared.Policy.{Policy}
 use Rattle.planner_policies.specs.declared.Policy.TheVariants.{Edf}
 use Rattle.planner_policies.specs.declared.due.Due.{Due}
-use Rattle.release_wheel.specs.declared.wheel.Wheel.{Wheel}
-use Rattle.planner_policies.specs.Due.{IsAllFitting, IsDueIn, IsDueOf, IsLined, IsPending, IsPlanned, IsPutIn, IsSetOf, IsWholeLine, is_held_in, left_of, taken_of}
+use Rattle.planner_policies.specs.Due.{IsAllFitting, IsDueIn, IsDueOf, IsOf, IsPending, IsPlanned, IsSetOf, IsWholeLine, is_due_by, is_held_in, left_of, taken_of}
 use Rattle.planner_policies.specs.Plan.{HasNoMissIn, Planning, Ranking, is_missed_in, left_after, pending_in, planning_of}
-use Rattle.release_wheel.specs.Wheel.{AreDistinct, AreInTime, AreOfRows, HasRoom, IsBelow, IsPart, IsPlannedOn, IsQuiet, IsReady, IsReleased, IsSlotsOf, IsTook, IsTurned, StandsAt, any_below, cost_at, cost_below, due_of_row, has_row, is_found, line_from, no_entry, slot_at}
-use Rattle.planner_policies.proofs.Shared.{all-planned, planned-set, planned-width, split-of, IsSplit, has_slot, instance-with, last-is, slots-contain, same-test, held-parts, due_in-of, fresh, sends-test, sends_of, stands-in, whole_line-of, IsLineOf, IsMore, line_of-more, line_of-none, line_of-start, more-of, room-for, cost_of}
+use Rattle.planner_policies.specs.Ranked.{AreRanked}
+use Rattle.release_wheel.specs.declared.wheel.Wheel.{Wheel}
+use Rattle.release_wheel.specs.Taking.{AreDistinct, AreDue, AreOfRows, IsLineOfRows, IsTook, goes_by, last_of}
+use Rattle.release_wheel.specs.Wheel.{AreInTime, HasRoom, IsBelow, IsPart, IsPlannedOn, IsQuiet, IsReady, IsReleased, IsSlotsOf, IsTurned, StandsAt, any_below, cost_at, cost_below, due_of_row, has_row, is_found, no_entry, slot_at}
+use Rattle.planner_policies.proofs.Shared.{all-planned, planned-set, planned-width, split-of, IsSplit, has_slot, instance-with, last-is, slots-contain, same-test, held-parts, due_in-of, fresh, sends-test, sends_of, stands-in, whole_line-of, cost_of}
 use Rattle.release_wheel.proofs.RowDues.{due-stay, held-is, stands-later}
-use Rattle.release_wheel.proofs.RowLines.{AreDues, IsLineTo, by-rank, line-same, line-to, ranked-to, take-none}
+use Rattle.release_wheel.proofs.RowLines.{AreDues, IsLineTo, IsOneOf, by-last, by-rank, line-to, line_of-rows, same-due}
 use Rattle.release_wheel.proofs.RowSets.{has-none}
 use Rattle.release_wheel.proofs.RowSums.{any-found, any-same, any-none, one-below}
 use Rattle.release_wheel.proofs.RowTaking.{cost-none}
-use Rattle.requirement_table.specs.Slots.{sum_where}
 
 -- two rows with an instance of one slot in a cycle are one
 pub one-row : (placed entries : List Placed) (c slot i j : ℕ) → IsWellPlaced placed → IsPermutation placed entries → i < length entries → j < length entries
@@ -239,21 +240,6 @@ quiet-cost w t less =
     let second = t.room.always_cost in
     omega arith
 
--- a line that rows are put into, in whatever order of the policy: those below `upto` are looked at
-pub record IsLiningUp (plan : Planning) (c : ℕ) (before : ℕ → Bool) (entries : List Placed) (due rest : ℕ) (line : List Due) : Type 0 where
-  pub upto : ℕ
-  pub within : upto ≤ length entries
-  pub found : IsLineOf plan c before (take upto entries) line
-  pub rest_is : (row : ℕ) → has_row rest row ≡ (has_row due row && nat_le upto row)
-
--- what a row that is put into a line has, by the last cycle of its instance
-pub record IsNextRow (w : Wheel) (last row : ℕ) (line : List Due) : Type 0 where
-  pub below : row < length w.entries.items
-  pub deadline : (get_or w.entries.items row no_entry).entry.deadline ≤ last + 1
-  pub small : w.cycle < 2 ^ 42 → last < 2 ^ 63
-  pub room : (room : ℕ) → (room < most_slots → length w.entries.items ≤ room) → length line < room
-  pub lined : IsLined line
-
 module _ (ranking : Ranking) (pending window : ℕ) (w : Wheel) (ready : IsReady ranking pending w) where
   abbrev E : List Placed
   E = w.entries.items
@@ -267,11 +253,8 @@ module _ (ranking : Ranking) (pending window : ℕ) (w : Wheel) (ready : IsReady
   abbrev test : ℕ → Bool
   test row = has_row w.waiting row || has_row w.always row
 
-  abbrev last_of : ℕ → ℕ
-  last_of row = if has_row w.always row then w.cycle else get_or w.lasts.items row 0
-
   abbrev dues : ℕ → Due
-  dues row = due_of_row ranking.policy (get_or w.entries.items row no_entry) (last_of row)
+  dues row = due_of_row ranking.policy (get_or w.entries.items row no_entry) (last_of w row)
 
   abbrev before : ℕ → Bool
   before = contains_slot pending
@@ -279,14 +262,11 @@ module _ (ranking : Ranking) (pending window : ℕ) (w : Wheel) (ready : IsReady
   due-of : (row : ℕ) → row < N → IsDueOf ranking.policy before w.cycle (get_or w.entries.items row no_entry) (if test row then Some (dues row) else None)
   due-of row within =
       let P : Policy → Type 0 = λ policy. IsDueOf policy before w.cycle (get_or w.entries.items row no_entry)
-      (if test row then Some (due_of_row policy (get_or w.entries.items row no_entry) (last_of row)) else None) in
+      (if test row then Some (due_of_row policy (get_or w.entries.items row no_entry) (last_of w row)) else None) in
       subst P ready.of_ranking.policy (ready.released.dues row within).due
 
-  of-rows : AreOfRows E dues
-  of-rows = record { slot = λ row. refl; cost = λ row. refl }
-
   are : AreDues plan w.cycle before E test dues
-  are = record { of = due-of; rows = of-rows }
+  are = record { of = due-of; slot = λ row. refl; cost = λ row. refl }
 
   test-within : (row : ℕ) → test row ≡ true → row < N
   test-within row in' =
@@ -422,7 +402,7 @@ module _ (ranking : Ranking) (pending window : ℕ) (w : Wheel) (ready : IsReady
             earlier : release_of (get_or w.entries.items row no_entry) number < w.cycle + 1
             last : get_or w.lasts.items row 0 + 1 ≡ deadline_of (get_or w.entries.items row no_entry) number
 
-          last-of-left : (row : ℕ) → has_row left row ≡ true → last_of row ≡ get_or w.lasts.items row 0
+          last-of-left : (row : ℕ) → has_row left row ≡ true → last_of w row ≡ get_or w.lasts.items row 0
           last-of-left row in' = ap (λ b. if b then w.cycle else get_or w.lasts.items row 0) (time.not_always row in')
 
           held-on : (row : ℕ) → has_row left row ≡ true → IsHeldOn row
@@ -453,7 +433,7 @@ module _ (ranking : Ranking) (pending window : ℕ) (w : Wheel) (ready : IsReady
               let last = last-of-left row both.0 in
               let not_last : is_last_in plan.placed w.cycle slot ≡ false
               = ap (is_last_in plan.placed w.cycle) (sym (eqb-true (slot_at E row) slot both.1)) ∙ last-is plan w.cycle before (dues row) in'
-              ∙ ne_eqb (last_of row + 1) (w.cycle + 1) (λ same. omega arith) in
+              ∙ ne_eqb (last_of w row + 1) (w.cycle + 1) (λ same. omega arith) in
               both_ways (is_last_in plan.placed w.cycle slot) not_last parts.1)
 
           planned-some : IsPlanned plan w.cycle before mask width next
@@ -530,193 +510,86 @@ module _ (ranking : Ranking) (pending window : ℕ) (w : Wheel) (ready : IsReady
           pub some-on : IsPlannedOn ranking window pending w after mask width
           some-on = record { planned = planned-some; next = refl; turned = turned-some; table = record { entries = refl; policy = refl; turns = refl } }
 
-  -- the rows in their order are a line, where that is the order of the policy
-  pub ranked-line : (due : ℕ) → ((row : ℕ) → has_row due row ≡ test row) → w.policy ≢ Edf
-      → IsWholeLine plan w.cycle before (line_from dues (has_row due) 0 (length w.entries.items))
-  ranked-line due rows order =
-      let order_of : ranking.policy ≢ Edf = λ same. order (ready.of_ranking.policy ∙ same) in
-      let ordered = by-rank ranking.policy E last_of order_of ready.of_ranking.order in
-      let found = ranked-to plan w.cycle before E test dues ready.well ready.of_ranking.same are ordered N (omega arith) in
-      let P : List Due → Type 0 = λ xs. IsWholeLine plan w.cycle before xs in
-      subst P (sym (line-same dues (has_row due) test 0 N (λ row _. rows row)))
-      (whole_line-of plan w.cycle pending E (line_from dues test 0 N) ready.well ready.of_ranking.same ready.valid
-      (rw (take_all N E (omega arith)) at found))
-
-  -- what is taken of the rows in their order
-  pub part-by-row : (due left mask width : ℕ) → ((row : ℕ) → has_row due row ≡ test row)
-      → IsTook ranking.fill window w.entries.items due left mask width → w.policy ≢ Edf
-      → IsPart plan before w left (w.cost + w.always_cost - width) mask width
-  part-by-row due left mask width rows took order = record {
-    line = line_from dues (has_row due) 0 (length w.entries.items);
-    whole = ranked-line due rows order;
-    due = due;
-    due_is = rows;
-    left_is = took.left_is;
-    left_cost_is = let all = cost-of due rows in let parts = took.cost in omega arith;
-    mask_is = took.mask_is dues of-rows;
-    width_is = took.width_is dues of-rows;
-    fits = took.fits;
-  }
-
-  line-skip : (m upto : ℕ) (line : List Due) → upto + m ≤ N → ((row : ℕ) → upto ≤ row → row < upto + m → test row ≡ false)
-      → IsLineOf plan w.cycle before (take upto E) line → IsLineOf plan w.cycle before (take (upto + m) E) line
-  line-skip zero upto line within none found =
-      let at : upto ≡ upto + 0 = omega arith in
-      let P : ℕ → Type 0 = λ n. IsLineOf plan w.cycle before (take n E) line in
-      subst P at found
-  line-skip (suc m) upto line within none found =
-      let at : upto + 1 + m ≡ upto + suc m = omega arith in
-      let P : ℕ → Type 0 = λ n. IsLineOf plan w.cycle before (take n E) line in
-      let Q : Bool → Type 0 = λ b. IsDueOf ranking.policy before w.cycle (get_or w.entries.items upto no_entry) (if b then Some (dues upto) else None) in
-      let nothing = subst Q (none upto (omega arith) (omega arith)) (due-of upto (omega arith)) in
-      subst P at
-      (line-skip m (upto + 1) line (omega arith) (λ row from less. none row (omega arith) (omega arith))
-      (line_of-none plan w.cycle before E upto no_entry line ready.well (omega arith)
-      (stands-in ranking.placed E upto no_entry ready.of_ranking.same (omega arith)) found nothing))
-
-  pub lining-start : (due : ℕ) → IsLiningUp plan w.cycle before w.entries.items due due []
-  lining-start due = record {
-    upto = 0;
-    within = omega arith;
-    found = let P : List Placed → Type 0 = λ xs. IsLineOf plan w.cycle before xs [] in
-        subst P (sym (take-none w.entries.items)) (line_of-start plan w.cycle before);
-    rest_is = λ row. sym (and-all (has_row due row) (nat_le 0 row) (le-leb 0 row (omega arith)));
-  }
-    where
-      and-all : (a b : Bool) → b ≡ true → (a && b) ≡ a
-      and-all true b is = is
-      and-all false b is = refl
-
-  -- the next row
-  module _ (due rest row less : ℕ) (line : List Due) (rows : (i : ℕ) → has_row due i ≡ test i) (lining : IsLiningUp plan w.cycle before w.entries.items due rest line)
-      (stands : has_row rest row ≡ true) (none : (i : ℕ) → i < row → has_row rest i ≡ false)
-      (made : (i : ℕ) → has_row less i ≡ (not (nat_eq row i) && has_row rest i))
-    where
-      in-both : has_row due row ≡ true × nat_le lining.upto row ≡ true
-      in-both = and_parts (has_row due row) (nat_le lining.upto row) (sym (lining.rest_is row) ∙ stands)
-
-      row-test : test row ≡ true
-      row-test = sym (rows row) ∙ in-both.0
-
-      row-below : row < length w.entries.items
-      row-below = test-within row row-test
-
-      from : lining.upto ≤ row
-      from = leb-true lining.upto row in-both.1
-
-      before-row : IsLineOf plan w.cycle before (take row w.entries.items) line
-      before-row =
-          let below = row-below in
-          let start = from in
-          let at : lining.upto + (row - lining.upto) ≡ row = omega arith in
-          let P : ℕ → Type 0 = λ n. IsLineOf plan w.cycle before (take n w.entries.items) line in
-          subst P at
-          (line-skip (row - lining.upto) lining.upto line (omega arith)
-          (λ i after sooner. false_from_ne_true (test i) (λ in'.
-          both_ways (has_row rest i) (none i (omega arith))
-          (lining.rest_is i ∙ and_from (has_row due i) (nat_le lining.upto i) (rows i ∙ in') (le-leb lining.upto i after)))) lining.found)
-
-      row-more : IsMore plan w.cycle before w.entries.items row no_entry line (dues row)
-      row-more =
-          more-of plan w.cycle before w.entries.items row no_entry line (dues row) ready.well ready.of_ranking.same row-below
-          (stands-in ranking.placed w.entries.items row no_entry ready.of_ranking.same row-below) before-row (pending-of row row-test)
-
-      row-small : w.cycle < 2 ^ 42 → last_of row < 2 ^ 63
-      row-small near =
-          let is = pending-of row row-test in
-          let last = is.is.last in
-          let released = is.sends.released in
-          let range = range-of row row-below in
-          let deadline = range.entry.deadline in
-          let period = range.entry.period in
-          omega arith
-
-      row-room : length line < most_slots
-      row-room =
-          let more = row-more in
-          room-for plan w.cycle before (dues row).slot line more.in'.known before-row.each before-row.distinct more.apart
-
-      -- there is room for it where there is room for each slot, or for each row
-      row-room-in : (room : ℕ) → (room < most_slots → length w.entries.items ≤ room) → length line < room
-      row-room-in room enough =
-          ⊎_elim
-          (λ (less : room < most_slots).
-          let all = enough less in
-          let few = before-row.few in
-          let below = row-below in
-          omega (arith, length-take row w.entries.items))
-          (λ (most : most_slots ≤ room). let slots = row-room in omega arith)
-          (cases_lt room most_slots)
-
-      pub next-row : IsNextRow w (last_of row) row line
-      next-row = record {
-        below = row-below;
-        deadline = let is = (pending-of row row-test).is.last in omega arith;
-        small = row-small;
-        room = row-room-in;
-        lined = before-row.lined;
+  -- a row whose instance is the one that is kept
+  row-of : (due : Due) → IsDueIn plan w.cycle before due → IsOneOf dues test due
+  row-of due in' =
+      let found : any_below N (λ row. test row && nat_eq (slot_at E row) due.slot) ≡ true
+      = sym (all-of.slots due.slot) ∙ whole-pending all-of.line due.slot in'.known whole-of ∙ in'.pending in
+      let one = one-below N (λ row. test row && nat_eq (slot_at E row) due.slot) found in
+      let parts = and_parts (test one.row) (nat_eq (slot_at E one.row) due.slot) one.passes in
+      let own = due_in-of plan w.cycle before (get_or w.entries.items one.row no_entry) (dues one.row) ready.well
+      (stands-in ranking.placed E one.row no_entry ready.of_ranking.same one.within) (pending-of one.row parts.0) in
+      let same : in'.instance ≡ own.instance
+      = same_Some in'.instance own.instance
+      (sym in'.found ∙ ap (λ slot. instance_in plan.placed slot w.cycle) (sym (eqb-true (slot_at E one.row) due.slot parts.1)) ∙ own.found) in
+      let P : Instance → Type 0 = λ i. IsOf plan.policy i due in
+      record {
+        row = one.row;
+        stands = parts.0;
+        is = same-due plan.policy own.instance due (dues one.row) (subst P same in'.is) own.is;
       }
 
-      pub lining-put : (after : List Due) → IsPutIn (dues row) line after → IsLiningUp plan w.cycle before w.entries.items due less after
-      lining-put after put =
-          let below = row-below in
-          let start = from in
-          record {
-            upto = row + 1;
-            within = omega arith;
-            found = line_of-more plan w.cycle before w.entries.items row no_entry line after (dues row) row-below before-row row-more put;
-            rest_is = λ i. made i ∙ ap (λ b. not (nat_eq row i) && b) (lining.rest_is i) ∙ by-place i;
-          }
-        where
-          drop-first : (a b c d : Bool) → b ≡ d → a ≡ true → (a && (c && b)) ≡ (c && d)
-          drop-first true b c d same is = ap (λ x. c && x) same
-          drop-first false b c d same is = absurd (cc)
+  -- all that is pending, in key order, is a line of the rows
+  whole-line : (due : ℕ) → ((row : ℕ) → has_row due row ≡ test row) → IsLineOfRows dues (has_row due) all-of.line
+  whole-line due rows =
+      line_of-rows dues (has_row due) all-of.line
+      (λ one other in_one in_other same. distinct due rows one other in_one in_other same)
+      (λ k d within.
+      let one = row-of (get_or all-of.line k d) (whole-of.each k d within) in
+      record { row = one.row; stands = rows one.row ∙ one.stands; is = one.is })
+      whole-of.lined whole-of.distinct
+      (λ row in'.
+      all-of.slots (slot_at E row)
+      ∙ any-found N row (λ other. test other && nat_eq (slot_at E other) (slot_at E row)) (below due rows row in')
+      (and_from (test row) (nat_eq (slot_at E row) (slot_at E row)) (sym (rows row) ∙ in') (eq-eqb (slot_at E row) (slot_at E row) refl)))
 
-          none-first : (a b c d : Bool) → a ≡ false → d ≡ false → (a && (c && b)) ≡ (c && d)
-          none-first a b true d is off = rw (is, off) refl
-          none-first a b false d is off = rw is refl
+  -- what is taken of the rows in an order that is key order
+  part-of : (goes : ℕ → ℕ → Bool)
+      → ((one other : ℕ) → one < length w.entries.items → other < length w.entries.items → goes one other ≡ true → is_due_by (dues one) (dues other) ≡ true)
+      → (due left mask width : ℕ) → ((row : ℕ) → has_row due row ≡ test row)
+      → IsTook ranking.fill window goes w.entries.items due left mask width → IsPart plan before w left mask width
+  part-of goes ordered due left mask width rows took =
+      let of : AreOfRows E goes dues = record { slot = λ row. refl; cost = λ row. refl; ordered = ordered } in
+      record {
+        line = all-of.line;
+        whole = whole-of;
+        due = due;
+        due_is = rows;
+        left_is = took.left_is;
+        mask_is = took.mask_is dues all-of.line of (whole-line due rows);
+        width_is = took.width_is dues all-of.line of (whole-line due rows);
+        fits = took.fits;
+        cost = let all = cost-of due rows in let parts = took.cost in omega arith;
+      }
 
-          none-due : (a b c d : Bool) → c ≡ false → (a && (c && b)) ≡ (c && d)
-          none-due true b c d is = rw is refl
-          none-due false b c d is = rw is refl
+  pub part-by-row : (due left mask width : ℕ) → ((row : ℕ) → has_row due row ≡ test row)
+      → IsTook ranking.fill window nat_le w.entries.items due left mask width → w.policy ≢ Edf → IsPart plan before w left mask width
+  part-by-row due left mask width rows took order =
+      let order_of : ranking.policy ≢ Edf = λ same. order (ready.of_ranking.policy ∙ same) in
+      part-of nat_le (by-rank ranking.policy E (last_of w) order_of ready.of_ranking.order) due left mask width rows took
 
-          only-false : (a b : Bool) → (a && b) ≡ false → b ≡ true → a ≡ false
-          only-false true b none is = absurd (let off : b ≡ false = none in cc)
-          only-false false b none is = refl
+  pub part-by-last : (due left mask width : ℕ) → ((row : ℕ) → has_row due row ≡ test row)
+      → IsTook ranking.fill window (goes_by (last_of w)) w.entries.items due left mask width → w.policy ≡ Edf → IsPart plan before w left mask width
+  part-by-last due left mask width rows took order =
+      let policy : Edf ≡ ranking.policy = sym order ∙ ready.of_ranking.policy in
+      let P : Policy → Type 0 = λ policy. AreRanked policy E in
+      let Q : Policy → Type 0 = λ policy. (one other : ℕ) → one < N → other < N → goes_by (last_of w) one other ≡ true
+      → is_due_by (due_of_row policy (get_or w.entries.items one no_entry) (last_of w one)) (due_of_row policy (get_or w.entries.items other no_entry) (last_of w other)) ≡ true in
+      part-of (goes_by (last_of w)) (subst Q policy (by-last E (last_of w) (subst P (sym policy) ready.of_ranking.order))) due left mask width rows took
 
-          by-place : (i : ℕ) → (not (nat_eq row i) && (has_row due i && nat_le lining.upto i)) ≡ (has_row due i && nat_le (row + 1) i)
-          by-place i =
-              let start = from in
-              ⊎_elim
-              (λ (same : row ≡ i).
-              none-first (not (nat_eq row i)) (nat_le lining.upto i) (has_row due i) (nat_le (row + 1) i) (ap not (eq-eqb row i same)) (lt-leb (row + 1) i (omega arith)))
-              (λ (other : row ≢ i).
-              ⊎_elim
-              (λ (sooner : i < row).
-              ⊎_elim
-              (λ (old : i < lining.upto).
-              drop-first (not (nat_eq row i)) (nat_le lining.upto i) (has_row due i) (nat_le (row + 1) i)
-              (lt-leb lining.upto i old ∙ sym (lt-leb (row + 1) i (omega arith))) (ap not (ne_eqb row i other)))
-              (λ (new : lining.upto ≤ i).
-              none-due (not (nat_eq row i)) (nat_le lining.upto i) (has_row due i) (nat_le (row + 1) i)
-              (only-false (has_row due i) (nat_le lining.upto i) (sym (lining.rest_is i) ∙ none i sooner) (le-leb lining.upto i new)))
-              (cases_lt i lining.upto))
-              (λ (later : row ≤ i).
-              drop-first (not (nat_eq row i)) (nat_le lining.upto i) (has_row due i) (nat_le (row + 1) i)
-              (le-leb lining.upto i (omega arith) ∙ sym (le-leb (row + 1) i (omega arith))) (ap not (ne_eqb row i other)))
-              (cases_lt i row))
-              (cases_eq row i)
-
-  -- when all rows are looked at
-  pub lining-end : (due rest : ℕ) (line : List Due) → ((i : ℕ) → has_row due i ≡ test i) → IsLiningUp plan w.cycle before w.entries.items due rest line → rest ≡ 0
-      → IsWholeLine plan w.cycle before line
-  lining-end due rest line rows lining empty =
-      let within = lining.within in
-      let at : lining.upto + (N - lining.upto) ≡ N = omega arith in
-      let P : ℕ → Type 0 = λ n. IsLineOf plan w.cycle before (take n E) line in
-      let found = subst P at
-      (line-skip (N - lining.upto) lining.upto line (omega arith)
-      (λ i after less. false_from_ne_true (test i) (λ in'.
-      both_ways (has_row rest i) (no-row rest i empty)
-      (lining.rest_is i ∙ and_from (has_row due i) (nat_le lining.upto i) (rows i ∙ in') (le-leb lining.upto i after)))) lining.found) in
-      whole_line-of plan w.cycle pending E line ready.well ready.of_ranking.same ready.valid (rw (take_all N E (omega arith)) at found)
+  -- none of the rows is over
+  pub are-due : (due : ℕ) → ((row : ℕ) → has_row due row ≡ test row) → AreDue w due
+  are-due due rows = record {
+    known = λ row in'. sym (rows row) ∙ in';
+    in_time = λ row in'. in-time row in' (pending-of row (or_left (has_row w.waiting row) (has_row w.always row) in'));
+    apart = apart;
+    soonest_is = λ row in'. (ready.released.dues row (ready.released.room.waiting row in')).soonest_is in';
+  }
+    where
+      in-time : (row : ℕ) → has_row w.waiting row ≡ true → IsPending ranking.policy before w.cycle (get_or w.entries.items row no_entry) (dues row)
+          → w.cycle ≤ get_or w.lasts.items row 0
+      in-time row in' is =
+          let own : last_of w row ≡ get_or w.lasts.items row 0 = ap (λ b. if b then w.cycle else get_or w.lasts.items row 0) (apart row in') in
+          let last = is.is.last in
+          let sooner = is.sends.in_time in
+          omega arith

@@ -2,9 +2,9 @@
 use Rattle.std.proofs.Common.{◌≡◌, ◌≢◌, ℕ, suc, ◌+◌, ◌-◌, ◌*◌, ◌/◌, ◌%◌, ◌^◌, ◌<◌, ◌≤◌, Bool, true, false, not, ◌&&◌, ◌||◌, nat_eq, bit_and, bit_or, refl, sym, ◌∙◌, ap, arith, ⊎_elim}
 use Rattle.std.specs.Int.{bit_at, bit_not, trailing_zeros, w128}
 use Rattle.std.proofs.Math.Nat.{add-mul, mod-lt}
-use Rattle.std.proofs.lemmas.Bool.{cases_eq, cases_lt, eq-eqb, eqb-true, eqb-false, ne_eqb}
-use Rattle.std.proofs.lemmas.Nat.{and_le_r, div-add-mod', one_shl, pow-add, pow_pos, and_mask}
-use Rattle.std.proofs.lemmas.Nat.Bits.{bit_at-lt, bit_at_lowest, bit_at-suc, bit_at-trailing_zeros, bit_at-zero, bit_at_cat_low, bit_at_cat_high, same_from_bits_below, shr_and_one}
+use Rattle.std.proofs.lemmas.Bool.{both_ways, cases_eq, cases_lt, eq-eqb, eqb-true, eqb-false, ne_eqb}
+use Rattle.std.proofs.lemmas.Nat.{and_le_l, and_le_r, div-add-mod', one_shl, pow-add, pow_pos}
+use Rattle.std.proofs.lemmas.Nat.Bits.{bit_at-lt, bit_at_lowest, bit_at-suc, bit_at-trailing_zeros, bit_at-zero, bit_at_cat_low, bit_at_cat_high, same_from_bits_below}
 use Rattle.requirement_table.proofs.Shared.{contains_slot-with, contains_slot-without}
 use Rattle.slot_sets.proofs.Shared.{contains_slot-and}
 use Rattle.release_wheel.specs.Wheel.{has_row}
@@ -135,15 +135,21 @@ pub not-first : (set less row i : ℕ) → ((j : ℕ) → has_row less j ≡ (no
     → row ≢ i → has_row set i ≡ false
 not-first set less row i made out apart = sym (ap (λ b. not b && has_row set i) (ne_eqb row i apart)) ∙ sym (made i) ∙ out
 
--- a row of the low word, and one of the high word
-pub has-low : (n s : ℕ) → s < 64 → nat_eq (bit_and (bit_and n (2 ^ 64 - 1) / 2 ^ s) 1) 1 ≡ has_row n s
-has-low n s low =
-    let bit = bit_at_cat_low (n / 2 ^ 64) 64 (n % 2 ^ 64) s low in
-    let whole = div-add-mod' n (2 ^ 64) in
-    rw (and_mask n 64, shr_and_one (n % 2 ^ 64) s) (ap (λ b. nat_eq b 1) (sym bit ∙ ap (λ m. bit_at m s) whole))
+-- a set without one of its rows is less
+pub less-without : (set row : ℕ) → row < 128 → set < 2 ^ 128 → has_row set row ≡ true → bit_and set (bit_not w128 (1 * 2 ^ row % 2 ^ 128)) < set
+less-without set row known below stands =
+    ⊎_elim
+    (λ (same : bit_and set (bit_not w128 (1 * 2 ^ row % 2 ^ 128)) ≡ set).
+    absurd (both_ways (has_row set row)
+    (ap (λ m. has_row m row) (sym same) ∙ has-without set row row known below ∙ ap (λ b. not b && has_row set row) (eq-eqb row row refl)) stands))
+    (λ (other : bit_and set (bit_not w128 (1 * 2 ^ row % 2 ^ 128)) ≢ set).
+    let fewer = and_le_l set (bit_not w128 (1 * 2 ^ row % 2 ^ 128)) in omega arith)
+    (cases_eq (bit_and set (bit_not w128 (1 * 2 ^ row % 2 ^ 128))) set)
 
-pub has-high : (n s : ℕ) → 64 ≤ s → nat_eq (bit_and (n / 2 ^ 64 / 2 ^ (s - 64)) 1) 1 ≡ has_row n s
-has-high n s high =
-    let bit = bit_at_cat_high (n / 2 ^ 64) 64 (n % 2 ^ 64) s (mod-lt n (omega arith)) high in
-    let whole = div-add-mod' n (2 ^ 64) in
-    rw (shr_and_one (n / 2 ^ 64) (s - 64)) (ap (λ b. nat_eq b 1) (sym bit ∙ ap (λ m. bit_at m s) whole))
+-- no row of a set is before its first one
+pub from-first : (set row i : ℕ) → ((j : ℕ) → j < row → has_row set j ≡ false) → has_row set i ≡ true → row ≤ i
+from-first set row i none in' =
+    ⊎_elim
+    (λ (less : i < row). absurd (both_ways (has_row set i) (none i less) in'))
+    (λ (from : row ≤ i). from)
+    (cases_lt i row)

@@ -1,39 +1,59 @@
 -- What a filling takes of the rows of a set, one after the other.
-use Rattle.std.proofs.Common.{◌≡◌, ◌≢◌, ℕ, ◌+◌, ◌-◌, ◌<◌, ◌≤◌, ◌^◌, ◌&&◌, ◌||◌, not, Bool, true, false, nat_eq, if◌then◌else◌, List, [], ◌∷◌, length, refl, sym, ap, subst, ◌∙◌, ⊎_elim, arith}
+use Rattle.std.proofs.Common.{◌≡◌, ◌≢◌, ℕ, ◌+◌, ◌-◌, ◌<◌, ◌≤◌, ◌^◌, ◌&&◌, ◌||◌, not, Bool, true, false, nat_eq, nat_le, if◌then◌else◌, List, [], ◌∷◌, length, refl, sym, ap, subst, ◌∙◌, ⊎_elim, arith}
 use Rattle.std.specs.List.{list_any}
-use Rattle.std.proofs.lemmas.Bool.{both_ways, cases_Bool, eq-eqb, eqb-false, eqb-true, le-leb, lt-leb, ne_eqb}
+use Rattle.std.proofs.lemmas.Bool.{and_parts, both_ways, cases_Bool, eq-eqb, eqb-false, eqb-true, le-leb, lt-leb, ne_eqb}
+use Rattle.std.proofs.lemmas.Bool.Decides.{nat_tests}
 use Rattle.std.proofs.lemmas.List.Sums.{sum_by-cons}
 use Rattle.requirement_table.specs.declared.entries.Placed.{Placed}
 use Rattle.requirement_table.specs.Slots.{contains_slot, most_slots}
-use Rattle.requirement_table.proofs.Shared.{sum_where-same}
 use Rattle.planner_policies.specs.declared.Fill.{Fill}
 use Rattle.planner_policies.specs.declared.Fill.TheVariants.{Prefix, Skip}
 use Rattle.planner_policies.specs.declared.due.Due.{Due}
-use Rattle.planner_policies.specs.Due.{taken_of}
-use Rattle.release_wheel.specs.Wheel.{AreDistinct, AreOfRows, IsTaking, IsTook, cost_at, cost_below, has_row, line_from, slot_at}
+use Rattle.planner_policies.specs.Due.{is_due_by, taken_of}
+use Rattle.planner_policies.specs.Plan.{by_number}
+use Rattle.release_wheel.specs.Taking.{AreDistinct, AreOfRows, IsFirstRow, IsLineOfRows, IsTaking, IsTook}
+use Rattle.release_wheel.specs.Wheel.{IsBelow, cost_at, cost_below, has_row, slot_at}
 use Rattle.planner_policies.proofs.Shared.{turned-eq, has_slot, sum_where-zero, cost_of}
-use Rattle.release_wheel.proofs.RowLines.{line-empty, line-first}
-use Rattle.release_wheel.proofs.RowSets.{has-none}
+use Rattle.release_wheel.proofs.RowSets.{from-first, has-none}
 use Rattle.release_wheel.proofs.RowSums.{cost-with}
-
--- the rows of a set, in order
-abbrev pub rows_of : (ℕ → Due) → List Placed → ℕ → List Due
-rows_of dues entries set = line_from dues (has_row set) 0 (length entries)
 
 pub cost-none : (entries : List Placed) (n : ℕ) → cost_below entries n 0 ≡ 0
 cost-none entries n = sum_where-zero n (has_row 0) (cost_at entries) (λ row below. has-none row)
 
-pub taking-start : (fill : Fill) (window : ℕ) (entries : List Placed) (due mask : ℕ) → ((slot : ℕ) → contains_slot mask slot ≡ false)
-    → IsTaking fill window entries due due 0 mask 0
-taking-start fill window entries due mask empty = record {
+-- instances that go before each other are of one slot
+same-last : (a b c a' b' c' : ℕ) → by_number a a' (by_number b b' (nat_le c c')) ≡ true → by_number a' a (by_number b' b (nat_le c' c)) ≡ true → c ≡ c'
+same-last a b c a' b' c' one other = grind (arith, nat_tests)
+
+same-slot : (a b : Due) → is_due_by a b ≡ true → is_due_by b a ≡ true → a.slot ≡ b.slot
+same-slot a b one other = same-last a.key a.priority a.slot b.key b.priority b.slot one other
+
+line-same : (dues : ℕ → Due) (p q : ℕ → Bool) (line : List Due) → ((i : ℕ) → p i ≡ q i) → IsLineOfRows dues p line → IsLineOfRows dues q line
+line-same dues p q [] same is = λ row. sym (same row) ∙ is row
+line-same dues p q (due ∷ line) same is =
+    let row = is.0 in (
+      row,
+      record { stands = sym (same row) ∙ is.1.stands; first = λ other in'. is.1.first other (same other ∙ in') },
+      is.2,
+      line-same dues (λ other. not (nat_eq row other) && p other) (λ other. not (nat_eq row other) && q other) line
+          (λ other. ap (λ b. not (nat_eq row other) && b) (same other)) is.3,
+    )
+
+pub taking-start : (fill : Fill) (window : ℕ) (goes : ℕ → ℕ → Bool) (entries : List Placed) (due mask : ℕ)
+    → ((slot : ℕ) → contains_slot mask slot ≡ false) → IsTaking fill window goes entries due due 0 mask 0
+taking-start fill window goes entries due mask empty = record {
   kept = λ i in'. rw (in', empty (slot_at entries i)) refl;
   rest_in = λ i in'. in';
   left_in = λ i in'. absurd (both_ways (has_row 0 i) (has-none i) in');
   apart = λ i in'. has-none i;
   fits = omega arith;
   cost = let none = cost-none entries (length entries) in omega arith;
-  taken_width = λ dues of. let all : window - 0 ≡ window = omega arith in rw all (omega arith);
-  taken_slots = λ dues of slot. let all : window - 0 ≡ window = omega arith in rw (all, empty slot) refl;
+  taken = λ dues line of is. let all : window - 0 ≡ window = omega arith in
+      record {
+        back = line;
+        of_rest = is;
+        width_is = rw all (omega arith);
+        slots_are = λ slot. rw (all, empty slot) refl;
+      };
 }
 
 -- an instance that fits is taken, with either filling
@@ -47,160 +67,192 @@ taken-stop room due line wide = ap (λ b. if b then due ∷ taken_of Prefix (roo
 taken-pass : (room : ℕ) (due : Due) (line : List Due) → room < due.cost → taken_of Skip room (due ∷ line) ≡ taken_of Skip room line
 taken-pass room due line wide = ap (λ b. if b then due ∷ taken_of Skip (room - due.cost) line else taken_of Skip room line) (lt-leb due.cost room wide)
 
-module _ (fill : Fill) (window : ℕ) (entries : List Placed) (due rest left mask width row less : ℕ) (t : IsTaking fill window entries due rest left mask width)
-    (distinct : AreDistinct entries due) (within : row < length entries) (stands : has_row rest row ≡ true)
-    (none : (i : ℕ) → i < row → has_row rest i ≡ false) (made : (i : ℕ) → has_row less i ≡ (not (nat_eq row i) && has_row rest i)) where
-  rows-first : (dues : ℕ → Due) → rows_of dues entries rest ≡ dues row ∷ rows_of dues entries less
-  rows-first dues = line-first dues (has_row rest) (has_row less) row 0 (length entries) (omega arith) (omega arith) stands none made
+module _ (fill : Fill) (window : ℕ) (goes : ℕ → ℕ → Bool) (entries : List Placed) (due rest left mask width row : ℕ)
+    (t : IsTaking fill window goes entries due rest left mask width) (distinct : AreDistinct entries due) (below : IsBelow (length entries) due)
+    (first : IsFirstRow goes (has_row rest) row) where
+  within : row < length entries
+  within = below row (t.rest_in row first.stands)
 
-  gone-here : has_row less row ≡ false
-  gone-here = made row ∙ ap (λ b. not b && has_row rest row) (eq-eqb row row refl)
+  -- a line of the rows begins with this row
+  record IsPicked (dues : ℕ → Due) (back : List Due) : Type 0 where
+    tail : List Due
+    is : back ≡ dues row ∷ tail
+    others : IsLineOfRows dues (λ i. not (nat_eq row i) && has_row rest i) tail
 
-  same-other : (i : ℕ) → nat_eq row i ≡ false → has_row less i ≡ has_row rest i
-  same-other i other = made i ∙ ap (λ b. not b && has_row rest i) other
-
-  rest-is : (i : ℕ) → has_row rest i ≡ (nat_eq row i || has_row less i)
-  rest-is i =
-      ⊎_elim
-      (λ (same : nat_eq row i ≡ true). ap (has_row rest) (sym (eqb-true row i same)) ∙ stands ∙ sym (ap (λ b. b || has_row less i) same))
-      (λ (other : nat_eq row i ≡ false). sym (same-other i other) ∙ sym (ap (λ b. b || has_row less i) other))
-      (cases_Bool (nat_eq row i))
-
-  less-in : (i : ℕ) → has_row less i ≡ true → has_row rest i ≡ true
-  less-in i in' = rest-is i ∙ ap (λ b. nat_eq row i || b) in' ∙ or-true (nat_eq row i)
-    where
-      or-true : (b : Bool) → (b || true) ≡ true
-      or-true true = refl
-      or-true false = refl
-
-  less-other : (i : ℕ) → has_row less i ≡ true → nat_eq row i ≡ false
-  less-other i in' = pick (nat_eq row i) refl
-    where
-      pick : (b : Bool) → nat_eq row i ≡ b → b ≡ false
-      pick true same = absurd (both_ways (has_row less i) (made i ∙ ap (λ b. not b && has_row rest i) same) in')
-      pick false other = refl
-
-  cost-parts : cost_below entries (length entries) rest ≡ cost_below entries (length entries) less + cost_at entries row
-  cost-parts = cost-with entries (length entries) less rest row within gone-here rest-is
-
-  -- what is taken of this row and those after it, where it fits
-  taken-here : (dues : ℕ → Due) → AreOfRows entries dues → cost_at entries row ≤ window - width
-      → taken_of fill (window - width) (rows_of dues entries rest) ≡ dues row ∷ taken_of fill (window - (width + cost_at entries row)) (rows_of dues entries less)
-  taken-here dues of small =
-      let d = dues row in
-      let cost : d.cost ≡ cost_at entries row = of.cost row in
-      let room : window - width - d.cost ≡ window - (width + cost_at entries row) = omega arith in
-      ap (taken_of fill (window - width)) (rows-first dues) ∙ taken-first fill (window - width) d (rows_of dues entries less) (omega arith)
-      ∙ ap (λ r. d ∷ taken_of fill r (rows_of dues entries less)) room
-
-  -- it fits, and is taken
-  pub taking-take : (more : ℕ) → cost_at entries row ≤ window - width
-      → ((slot : ℕ) → contains_slot more slot ≡ (nat_eq slot (slot_at entries row) || contains_slot mask slot))
-      → IsTaking fill window entries due less left more (width + cost_at entries row)
-  taking-take more small slots = record {
-    kept = λ i in'.
-        ⊎_elim
-        (λ (same : nat_eq row i ≡ true).
-        let P : ℕ → Type 0 = λ j. (has_row less j || has_row left j) ≡ not (contains_slot more (slot_at entries j)) in
-        subst P (eqb-true row i same) (rw (gone-here, t.apart row stands, slots (slot_at entries row), eq-eqb (slot_at entries row) (slot_at entries row) refl) refl))
-        (λ (other : nat_eq row i ≡ false).
-        let apart : slot_at entries i ≢ slot_at entries row
-        = λ same. eqb-false row i other (sym (distinct i row in' (t.rest_in row stands) same)) in
-        rw (same-other i other, slots (slot_at entries i), ne_eqb (slot_at entries i) (slot_at entries row) apart) (t.kept i in'))
-        (cases_Bool (nat_eq row i));
-    rest_in = λ i in'. t.rest_in i (less-in i in');
-    left_in = t.left_in;
-    apart = λ i in'. t.apart i (less-in i in');
-    fits = let fits = t.fits in omega arith;
-    cost = let was = t.cost in let parts = cost-parts in omega arith;
-    taken_width = λ dues of.
-        let d = dues row in
-        let cost : d.cost ≡ cost_at entries row = of.cost row in
-        let line = taken-here dues of small in
-        let was = t.taken_width dues of in
-        let sum = sum_by-cons (λ (due : Due). due.cost) d (taken_of fill (window - (width + cost_at entries row)) (rows_of dues entries less)) in
-        let whole = ap cost_of line in
-        omega arith;
-    taken_slots = λ dues of slot.
-        let d = dues row in
-        let cost : d.cost ≡ cost_at entries row = of.cost row in
-        let line = taken-here dues of small in
-        let later = list_any (has_slot slot) (taken_of fill (window - (width + cost_at entries row)) (rows_of dues entries less)) in
-        ap (λ b. b || later) (slots slot ∙ ap (λ b. b || contains_slot mask slot) (turned-eq slot (slot_at entries row) ∙ ap (λ s. nat_eq s slot) (sym (of.slot row))))
-        ∙ turned (nat_eq d.slot slot) (contains_slot mask slot) later
-        ∙ ap (λ xs. contains_slot mask slot || list_any (has_slot slot) xs) (sym line)
-        ∙ t.taken_slots dues of slot;
-  }
-    where
-      turned : (a b r : Bool) → ((a || b) || r) ≡ (b || (a || r))
-      turned true true r = refl
-      turned true false r = refl
-      turned false b r = refl
-
-  -- it does not fit, and is passed over
-  pub taking-pass : (more : ℕ) → fill ≡ Skip → window - width < cost_at entries row
-      → ((i : ℕ) → has_row more i ≡ (nat_eq row i || has_row left i)) → IsTaking fill window entries due less more mask width
-  taking-pass more skips wide rows = record {
-    kept = λ i in'.
-        ⊎_elim
-        (λ (same : nat_eq row i ≡ true).
-        let P : ℕ → Type 0 = λ j. (has_row less j || has_row more j) ≡ not (contains_slot mask (slot_at entries j)) in
-        subst P (eqb-true row i same)
-        (rw (gone-here, rows row, eq-eqb row row refl) (sym (ap (λ b. b || has_row left row) stands) ∙ t.kept row (t.rest_in row stands))))
-        (λ (other : nat_eq row i ≡ false). rw (same-other i other, rows i, other) (t.kept i in'))
-        (cases_Bool (nat_eq row i));
-    rest_in = λ i in'. t.rest_in i (less-in i in');
-    left_in = λ i in'.
-        ⊎_elim
-        (λ (same : nat_eq row i ≡ true). ap (has_row due) (sym (eqb-true row i same)) ∙ t.rest_in row stands)
-        (λ (other : nat_eq row i ≡ false). t.left_in i (sym (ap (λ b. b || has_row left i) other) ∙ sym (rows i) ∙ in'))
-        (cases_Bool (nat_eq row i));
-    apart = λ i in'. rows i ∙ ap (λ b. b || has_row left i) (less-other i in') ∙ t.apart i (less-in i in');
-    fits = t.fits;
-    cost = let was = t.cost in let parts = cost-parts in
-        let more_cost = cost-with entries (length entries) left more row within (t.apart row stands) rows in omega arith;
-    taken_width = λ dues of. ap (λ xs. width + cost_of xs) (sym (line dues of)) ∙ t.taken_width dues of;
-    taken_slots = λ dues of slot. ap (λ xs. contains_slot mask slot || list_any (has_slot slot) xs) (sym (line dues of)) ∙ t.taken_slots dues of slot;
-  }
-    where
-      line : (dues : ℕ → Due) → AreOfRows entries dues
-          → taken_of fill (window - width) (rows_of dues entries rest) ≡ taken_of fill (window - width) (rows_of dues entries less)
-      line dues of =
-          let cost = of.cost row in
-          ap (taken_of fill (window - width)) (rows-first dues)
-          ∙ ap (λ f. taken_of f (window - width) (dues row ∷ rows_of dues entries less)) skips
-          ∙ taken-pass (window - width) (dues row) (rows_of dues entries less) (omega arith)
-          ∙ ap (λ f. taken_of f (window - width) (rows_of dues entries less)) (sym skips)
+  picked : (dues : ℕ → Due) (back : List Due) → AreOfRows entries goes dues → IsLineOfRows dues (has_row rest) back → IsPicked dues back
+  picked dues [] of is = absurd (both_ways (has_row rest row) (is row) first.stands)
+  picked dues (d ∷ tail) of is =
+      let other = is.0 in
+      let in_one = t.rest_in other is.1.stands in
+      let in_this = t.rest_in row first.stands in
+      let slots : slot_at entries other ≡ slot_at entries row
+      = sym (of.slot other)
+      ∙ same-slot (dues other) (dues row) (is.1.first row first.stands) (of.ordered row other within (below other in_one) (first.first other is.1.stands))
+      ∙ of.slot row in
+      let same : other ≡ row = distinct other row in_one in_this slots in
+      record {
+        tail = tail;
+        is = ap (λ x. x ∷ tail) (is.2 ∙ ap dues same);
+        others = line-same dues (λ i. not (nat_eq other i) && has_row rest i) (λ i. not (nat_eq row i) && has_row rest i) tail
+            (λ i. ap (λ k. not (nat_eq k i) && has_row rest i) same) is.3;
+      }
 
   -- it does not fit, and nothing more is taken
-  pub nothing-fits : fill ≡ Prefix → window - width < cost_at entries row → (dues : ℕ → Due) → AreOfRows entries dues
-      → taken_of fill (window - width) (rows_of dues entries rest) ≡ []
-  nothing-fits stops wide dues of =
+  pub nothing-fits : fill ≡ Prefix → window - width < cost_at entries row → (dues : ℕ → Due) (back : List Due) → AreOfRows entries goes dues
+      → IsLineOfRows dues (has_row rest) back → taken_of fill (window - width) back ≡ []
+  nothing-fits stops wide dues back of is =
+      let next = picked dues back of is in
       let cost = of.cost row in
-      ap (taken_of fill (window - width)) (rows-first dues)
-      ∙ ap (λ f. taken_of f (window - width) (dues row ∷ rows_of dues entries less)) stops
-      ∙ taken-stop (window - width) (dues row) (rows_of dues entries less) (omega arith)
+      ap (taken_of fill (window - width)) next.is
+      ∙ ap (λ f. taken_of f (window - width) (dues row ∷ next.tail)) stops
+      ∙ taken-stop (window - width) (dues row) next.tail (omega arith)
+
+  -- it is looked at
+  module _ (less : ℕ) (made : (i : ℕ) → has_row less i ≡ (not (nat_eq row i) && has_row rest i)) where
+    gone-here : has_row less row ≡ false
+    gone-here = made row ∙ ap (λ b. not b && has_row rest row) (eq-eqb row row refl)
+
+    same-other : (i : ℕ) → nat_eq row i ≡ false → has_row less i ≡ has_row rest i
+    same-other i other = made i ∙ ap (λ b. not b && has_row rest i) other
+
+    rest-is : (i : ℕ) → has_row rest i ≡ (nat_eq row i || has_row less i)
+    rest-is i =
+        ⊎_elim
+        (λ (same : nat_eq row i ≡ true). ap (has_row rest) (sym (eqb-true row i same)) ∙ first.stands ∙ sym (ap (λ b. b || has_row less i) same))
+        (λ (other : nat_eq row i ≡ false). sym (same-other i other) ∙ sym (ap (λ b. b || has_row less i) other))
+        (cases_Bool (nat_eq row i))
+
+    less-in : (i : ℕ) → has_row less i ≡ true → has_row rest i ≡ true
+    less-in i in' = (and_parts (not (nat_eq row i)) (has_row rest i) (sym (made i) ∙ in')).1
+
+    less-other : (i : ℕ) → has_row less i ≡ true → nat_eq row i ≡ false
+    less-other i in' = pick (nat_eq row i) refl
+      where
+        pick : (b : Bool) → nat_eq row i ≡ b → b ≡ false
+        pick true same = absurd (both_ways (has_row less i) (made i ∙ ap (λ b. not b && has_row rest i) same) in')
+        pick false other = refl
+
+    cost-parts : cost_below entries (length entries) rest ≡ cost_below entries (length entries) less + cost_at entries row
+    cost-parts = cost-with entries (length entries) less rest row within gone-here rest-is
+
+    -- it fits, and is taken
+    pub taking-take : (more : ℕ) → cost_at entries row ≤ window - width
+        → ((slot : ℕ) → contains_slot more slot ≡ (nat_eq slot (slot_at entries row) || contains_slot mask slot))
+        → IsTaking fill window goes entries due less left more (width + cost_at entries row)
+    taking-take more small slots = record {
+      kept = λ i in'.
+          ⊎_elim
+          (λ (same : nat_eq row i ≡ true).
+          let P : ℕ → Type 0 = λ j. (has_row less j || has_row left j) ≡ not (contains_slot more (slot_at entries j)) in
+          subst P (eqb-true row i same) (rw (gone-here, t.apart row first.stands, slots (slot_at entries row), eq-eqb (slot_at entries row) (slot_at entries row) refl) refl))
+          (λ (other : nat_eq row i ≡ false).
+          let apart : slot_at entries i ≢ slot_at entries row
+          = λ same. eqb-false row i other (sym (distinct i row in' (t.rest_in row first.stands) same)) in
+          rw (same-other i other, slots (slot_at entries i), ne_eqb (slot_at entries i) (slot_at entries row) apart) (t.kept i in'))
+          (cases_Bool (nat_eq row i));
+      rest_in = λ i in'. t.rest_in i (less-in i in');
+      left_in = t.left_in;
+      apart = λ i in'. t.apart i (less-in i in');
+      fits = let fits = t.fits in omega arith;
+      cost = let was = t.cost in let parts = cost-parts in omega arith;
+      taken = λ dues line of is.
+          let so_far = t.taken dues line of is in
+          let next = picked dues so_far.back of so_far.of_rest in
+          let d = dues row in
+          let cost : d.cost ≡ cost_at entries row = of.cost row in
+          let room : window - width - d.cost ≡ window - (width + cost_at entries row) = omega arith in
+          let taken : taken_of fill (window - width) so_far.back ≡ d ∷ taken_of fill (window - (width + cost_at entries row)) next.tail
+          = ap (taken_of fill (window - width)) next.is ∙ taken-first fill (window - width) d next.tail (omega arith)
+          ∙ ap (λ r. d ∷ taken_of fill r next.tail) room in
+          record {
+            back = next.tail;
+            of_rest = line-same dues (λ i. not (nat_eq row i) && has_row rest i) (has_row less) next.tail (λ i. sym (made i)) next.others;
+            width_is =
+                let was = so_far.width_is in
+                let sum = sum_by-cons (λ (due : Due). due.cost) d (taken_of fill (window - (width + cost_at entries row)) next.tail) in
+                let whole = ap cost_of taken in
+                omega arith;
+            slots_are = λ slot.
+                let later = list_any (has_slot slot) (taken_of fill (window - (width + cost_at entries row)) next.tail) in
+                ap (λ b. b || later)
+                (slots slot ∙ ap (λ b. b || contains_slot mask slot) (turned-eq slot (slot_at entries row) ∙ ap (λ s. nat_eq s slot) (sym (of.slot row))))
+                ∙ turned (nat_eq d.slot slot) (contains_slot mask slot) later
+                ∙ ap (λ xs. contains_slot mask slot || list_any (has_slot slot) xs) (sym taken)
+                ∙ so_far.slots_are slot;
+          };
+    }
+      where
+        turned : (a b r : Bool) → ((a || b) || r) ≡ (b || (a || r))
+        turned true true r = refl
+        turned true false r = refl
+        turned false b r = refl
+
+    -- it does not fit, and is passed over
+    pub taking-pass : (more : ℕ) → fill ≡ Skip → window - width < cost_at entries row
+        → ((i : ℕ) → has_row more i ≡ (nat_eq row i || has_row left i)) → IsTaking fill window goes entries due less more mask width
+    taking-pass more skips wide rows = record {
+      kept = λ i in'.
+          ⊎_elim
+          (λ (same : nat_eq row i ≡ true).
+          let P : ℕ → Type 0 = λ j. (has_row less j || has_row more j) ≡ not (contains_slot mask (slot_at entries j)) in
+          subst P (eqb-true row i same)
+          (rw (gone-here, rows row, eq-eqb row row refl) (sym (ap (λ b. b || has_row left row) first.stands) ∙ t.kept row (t.rest_in row first.stands))))
+          (λ (other : nat_eq row i ≡ false). rw (same-other i other, rows i, other) (t.kept i in'))
+          (cases_Bool (nat_eq row i));
+      rest_in = λ i in'. t.rest_in i (less-in i in');
+      left_in = λ i in'.
+          ⊎_elim
+          (λ (same : nat_eq row i ≡ true). ap (has_row due) (sym (eqb-true row i same)) ∙ t.rest_in row first.stands)
+          (λ (other : nat_eq row i ≡ false). t.left_in i (sym (ap (λ b. b || has_row left i) other) ∙ sym (rows i) ∙ in'))
+          (cases_Bool (nat_eq row i));
+      apart = λ i in'. rows i ∙ ap (λ b. b || has_row left i) (less-other i in') ∙ t.apart i (less-in i in');
+      fits = t.fits;
+      cost = let was = t.cost in let parts = cost-parts in
+          let more_cost = cost-with entries (length entries) left more row within (t.apart row first.stands) rows in omega arith;
+      taken = λ dues line of is.
+          let so_far = t.taken dues line of is in
+          let next = picked dues so_far.back of so_far.of_rest in
+          let cost = of.cost row in
+          let passed : taken_of fill (window - width) so_far.back ≡ taken_of fill (window - width) next.tail
+          = ap (taken_of fill (window - width)) next.is
+          ∙ ap (λ f. taken_of f (window - width) (dues row ∷ next.tail)) skips
+          ∙ taken-pass (window - width) (dues row) next.tail (omega arith)
+          ∙ ap (λ f. taken_of f (window - width) next.tail) (sym skips) in
+          record {
+            back = next.tail;
+            of_rest = line-same dues (λ i. not (nat_eq row i) && has_row rest i) (has_row less) next.tail (λ i. sym (made i)) next.others;
+            width_is = ap (λ xs. width + cost_of xs) (sym passed) ∙ so_far.width_is;
+            slots_are = λ slot. ap (λ xs. contains_slot mask slot || list_any (has_slot slot) xs) (sym passed) ∙ so_far.slots_are slot;
+          };
+    }
 
 -- nothing is to be looked at any more
-pub nothing-left : (fill : Fill) (room : ℕ) (entries : List Placed) (rest : ℕ) (dues : ℕ → Due) → rest ≡ 0 → taken_of fill room (rows_of dues entries rest) ≡ []
-nothing-left fill room entries rest dues none =
-    ap (taken_of fill room) (line-empty dues (has_row rest) 0 (length entries) (λ i. ap (λ m. has_row m i) none ∙ has-none i))
+pub nothing-left : (fill : Fill) (room rest : ℕ) (dues : ℕ → Due) (back : List Due) → rest ≡ 0 → IsLineOfRows dues (has_row rest) back → taken_of fill room back ≡ []
+nothing-left fill room rest dues [] none is = refl
+nothing-left fill room rest dues (d ∷ tail) none is =
+    absurd (both_ways (has_row rest is.0) (ap (λ m. has_row m is.0) none ∙ has-none is.0) is.1.stands)
 
-pub took : (fill : Fill) (window : ℕ) (entries : List Placed) (due rest left mask width gone : ℕ) → IsTaking fill window entries due rest left mask width
-    → ((dues : ℕ → Due) → AreOfRows entries dues → taken_of fill (window - width) (rows_of dues entries rest) ≡ [])
+pub took : (fill : Fill) (window : ℕ) (goes : ℕ → ℕ → Bool) (entries : List Placed) (due rest left mask width gone : ℕ)
+    → IsTaking fill window goes entries due rest left mask width
+    → ((dues : ℕ → Due) (back : List Due) → AreOfRows entries goes dues → IsLineOfRows dues (has_row rest) back
+    → taken_of fill (window - width) back ≡ [])
     → ((i : ℕ) → has_row gone i ≡ (has_row rest i || has_row left i))
     → cost_below entries (length entries) gone ≡ cost_below entries (length entries) rest + cost_below entries (length entries) left
-    → mask < 2 ^ most_slots → IsTook fill window entries due gone mask width
-took fill window entries due rest left mask width gone t stops rows cost below = record {
+    → mask < 2 ^ most_slots → IsTook fill window goes entries due gone mask width
+took fill window goes entries due rest left mask width gone t stops rows cost small = record {
   left_is = λ i. rows i ∙ left-is i (has_row due i) refl;
-  mask_is = λ dues of. record {
-    slots = λ slot.
-        sym (or-none (contains_slot mask slot))
-        ∙ ap (λ xs. contains_slot mask slot || list_any (has_slot slot) xs) (sym (stops dues of))
-        ∙ t.taken_slots dues of slot;
-    below = below;
-  };
-  width_is = λ dues of. let was = t.taken_width dues of in let none = ap cost_of (stops dues of) in omega arith;
+  mask_is = λ dues line of is.
+      let so_far = t.taken dues line of is in
+      record {
+        slots = λ slot.
+            sym (or-none (contains_slot mask slot))
+            ∙ ap (λ xs. contains_slot mask slot || list_any (has_slot slot) xs) (sym (stops dues so_far.back of so_far.of_rest))
+            ∙ so_far.slots_are slot;
+        below = small;
+      };
+  width_is = λ dues line of is.
+      let so_far = t.taken dues line of is in
+      let was = so_far.width_is in let none = ap cost_of (stops dues so_far.back of so_far.of_rest) in omega arith;
   fits = t.fits;
   cost = let was = t.cost in omega arith;
 }
@@ -220,53 +272,9 @@ took fill window entries due rest left mask width gone t stops rows cost below =
     left-is i true is = t.kept i is ∙ sym (ap (λ b. b && not (contains_slot mask (slot_at entries i))) is)
     left-is i false is = rw (is, out i rest t.rest_in is, out i left t.left_in is) refl
 
--- a row that stays is one more of those that are left
-module _ (entries : List Placed) (due rest less left more row mask : ℕ) (stays : Bool)
-    (stays_is : stays ≡ not (contains_slot mask (slot_at entries row))) (in_due : has_row due row ≡ true) (in_rest : has_row rest row ≡ true)
-    (made : (i : ℕ) → has_row less i ≡ (not (nat_eq row i) && has_row rest i))
-    (rows : (i : ℕ) → has_row more i ≡ ((stays && nat_eq row i) || has_row left i))
-    (left_is : (i : ℕ) → has_row left i ≡ ((has_row due i && not (has_row rest i)) && not (contains_slot mask (slot_at entries i))))
-  where
-    not-left : has_row left row ≡ false
-    not-left = left_is row ∙ ap (λ b. (has_row due row && not b) && not (contains_slot mask (slot_at entries row))) in_rest ∙ none (has_row due row) (not (contains_slot mask (slot_at entries row)))
-      where
-        none : (a b : Bool) → ((a && false) && b) ≡ false
-        none true b = refl
-        none false b = refl
-
-    pub left-next : (i : ℕ) → has_row more i ≡ ((has_row due i && not (has_row less i)) && not (contains_slot mask (slot_at entries i)))
-    left-next i =
-        ⊎_elim
-        (λ (same : nat_eq row i ≡ true).
-        let P : ℕ → Type 0 = λ j. has_row more j ≡ ((has_row due j && not (has_row less j)) && not (contains_slot mask (slot_at entries j))) in
-        subst P (eqb-true row i same)
-        (rows row ∙ ap (λ b. (stays && b) || has_row left row) (eq-eqb row row refl) ∙ ap (λ b. (stays && true) || b) not-left
-        ∙ whole stays ∙ stays_is
-        ∙ sym (ap (λ b. (b && not (has_row less row)) && not (contains_slot mask (slot_at entries row))) in_due
-        ∙ ap (λ b. (true && not b) && not (contains_slot mask (slot_at entries row))) (made row ∙ ap (λ b. not b && has_row rest row) (eq-eqb row row refl)))))
-        (λ (other : nat_eq row i ≡ false).
-        rows i ∙ ap (λ b. (stays && b) || has_row left i) other ∙ ap (λ b. b || has_row left i) (part stays) ∙ left_is i
-        ∙ ap (λ b. (has_row due i && not b) && not (contains_slot mask (slot_at entries i))) (sym (made i ∙ ap (λ b. not b && has_row rest i) other)))
-        (cases_Bool (nat_eq row i))
-      where
-        whole : (a : Bool) → ((a && true) || false) ≡ a
-        whole true = refl
-        whole false = refl
-
-        part : (a : Bool) → (a && false) ≡ false
-        part true = refl
-        part false = refl
-
-    pub left-cost : row < length entries
-        → cost_below entries (length entries) more ≡ cost_below entries (length entries) left + (if stays then cost_at entries row else 0)
-    left-cost within =
-        ⊎_elim
-        (λ (on : stays ≡ true).
-        cost-with entries (length entries) left more row within not-left (λ i. rows i ∙ ap (λ b. (b && nat_eq row i) || has_row left i) on)
-        ∙ ap (λ b. cost_below entries (length entries) left + (if b then cost_at entries row else 0)) (sym on))
-        (λ (off : stays ≡ false).
-        let same = sum_where-same (length entries) (has_row more) (has_row left) (cost_at entries)
-        (λ i below. rows i ∙ ap (λ b. (b && nat_eq row i) || has_row left i) off) in
-        let none : (if stays then cost_at entries row else 0) ≡ 0 = ap (λ b. if b then cost_at entries row else 0) off in
-        omega arith)
-        (cases_Bool stays)
+-- the first row of a set goes first by its own number
+pub first-row : (set' row : ℕ) → has_row set' row ≡ true → ((i : ℕ) → i < row → has_row set' i ≡ false) → IsFirstRow nat_le (has_row set') row
+first-row set' row stands none = record {
+  stands = stands;
+  first = λ other in'. le-leb row other (from-first set' row other none in');
+}

@@ -1,3 +1,4 @@
 pub mod Near
 pub mod Passed
+pub mod Taking
 pub mod Wheel

@@ -2,17 +2,15 @@
 --
 -- A row is a placed entry, by its place in the order of the policy. Sets of rows are numbers: row i is bit i.
 use Rattle.std.specs.Prelude.{◌≡◌, ℕ, zero, suc, ◌+◌, ◌-◌, ◌*◌, ◌%◌, ◌^◌, ◌<◌, ◌≤◌, Bool, true, false, ◌&&◌, ◌||◌}
-use Rattle.std.specs.Prelude.{nat_eq, ◌∷◌, [], sum_by}
+use Rattle.std.specs.Prelude.{nat_eq, sum_by}
 use Rattle.std.specs.Prelude.{if◌then◌else◌, List, IsPermutation, None, Some, get_or, length, min, not, set}
 use Rattle.std.specs.Int.{bit_at}
-use Rattle.std.specs.List.{list_any}
 use Rattle.std.specs.Vec.{vec_capacity}
 use Rattle.profile.specs.Limits.{cycles_end}
 use Rattle.requirement_table.specs.declared.entries.Placed.{Placed}
 use Rattle.requirement_table.specs.Instance.{Exists, MaySend, deadline_of, exists, release_of, worst}
 use Rattle.requirement_table.specs.Slots.{contains_slot, sum_where}
 use Rattle.requirement_table.specs.Table.{IsInRange, IsWellPlaced}
-use Rattle.planner_policies.specs.declared.Fill.{Fill}
 use Rattle.planner_policies.specs.declared.Policy.{Policy}
 use Rattle.planner_policies.specs.declared.due.Due.{Due}
 use Rattle.release_wheel.specs.declared.row_set.Rest.{Rest}
@@ -259,64 +257,18 @@ pub record IsReleasing (before : ℕ → Bool) (rest : ℕ) (w : Wheel) : Type 0
   pub stands : (row : ℕ) → row < length w.entries.items → has_row rest row ≡ false → StandsAt w (w.cycle + 1) row
   pub dues : (row : ℕ) → row < length w.entries.items → has_row rest row ≡ false → DueAt w before w.cycle row
 
--- what is kept of the instances of rows, each of its own row
-pub record AreOfRows (entries : List Placed) (dues : ℕ → Due) : Type 0 where
-  pub slot : (row : ℕ) → (dues row).slot ≡ slot_at entries row
-  pub cost : (row : ℕ) → (dues row).cost ≡ cost_at entries row
-
--- the instances of the rows from `first` on, so many rows, of which the test holds, in the order of the rows
-unfoldable pub line_from : (ℕ → Due) → (ℕ → Bool) → ℕ → ℕ → List Due
-line_from dues test first zero = []
-line_from dues test first (suc n) =
-    if test first then dues first ∷ line_from dues test (suc first) n else line_from dues test (suc first) n
-
--- of each slot at most one row stands in the set
-abbrev pub AreDistinct : List Placed → ℕ → Type 0
-AreDistinct entries set = (one other : ℕ) → has_row set one ≡ true → has_row set other ≡ true
-    → slot_at entries one ≡ slot_at entries other → one ≡ other
-
--- what a filling takes of the rows of a set within a window, and what it leaves
-pub record IsTook (fill : Fill) (window : ℕ) (entries : List Placed) (due left mask width : ℕ) : Type 0 where
-  pub left_is : (row : ℕ) → has_row left row ≡ (has_row due row && not (contains_slot mask (slot_at entries row)))
-  pub mask_is : (dues : ℕ → Due) → AreOfRows entries dues
-      → IsSetOf mask (taken_of fill window (line_from dues (has_row due) 0 (length entries)))
-  pub width_is : (dues : ℕ → Due) → AreOfRows entries dues
-      → width ≡ sum_by (λ due. due.cost) (taken_of fill window (line_from dues (has_row due) 0 (length entries)))
-  pub fits : width ≤ window
-  pub cost : cost_below entries (length entries) left + width ≡ cost_below entries (length entries) due
-
--- what a filling takes so far: the rows of `rest` are still to be looked at, and those of `left` were passed over
-pub record IsTaking (fill : Fill) (window : ℕ) (entries : List Placed) (due rest left mask width : ℕ)
-    : Type 0 where
-  pub kept : (i : ℕ) → has_row due i ≡ true
-      → (has_row rest i || has_row left i) ≡ not (contains_slot mask (slot_at entries i))
-  pub rest_in : (i : ℕ) → has_row rest i ≡ true → has_row due i ≡ true
-  pub left_in : (i : ℕ) → has_row left i ≡ true → has_row due i ≡ true
-  pub apart : (i : ℕ) → has_row rest i ≡ true → has_row left i ≡ false
-  pub fits : width ≤ window
-  pub cost : cost_below entries (length entries) rest + cost_below entries (length entries) left + width
-      ≡ cost_below entries (length entries) due
-  pub taken_width : (dues : ℕ → Due) → AreOfRows entries dues
-      → width + sum_by (λ due. due.cost) (taken_of fill (window - width) (line_from dues (has_row rest) 0 (length entries)))
-      ≡ sum_by (λ due. due.cost) (taken_of fill window (line_from dues (has_row due) 0 (length entries)))
-  pub taken_slots : (dues : ℕ → Due) → AreOfRows entries dues → (slot : ℕ)
-      → (contains_slot mask slot || list_any (λ due. nat_eq due.slot slot)
-      (taken_of fill (window - width) (line_from dues (has_row rest) 0 (length entries))))
-      ≡ list_any (λ due. nat_eq due.slot slot) (taken_of fill window (line_from dues (has_row due) 0 (length entries)))
-
--- what the filling of a planning takes of the rows that have something to send, in key order, and what it leaves: its
--- rows, and what these cost together
-pub record IsPart (plan : Planning) (before : ℕ → Bool) (w : Wheel) (left left_cost mask width : ℕ) : Type 0 where
+-- what the filling of a planning takes of the rows that have something to send, in key order, and what it leaves
+pub record IsPart (plan : Planning) (before : ℕ → Bool) (w : Wheel) (left mask width : ℕ) : Type 0 where
   pub line : List Due
   pub whole : IsWholeLine plan w.cycle before line
   pub due : ℕ
   pub due_is : (row : ℕ) → has_row due row ≡ (has_row w.waiting row || has_row w.always row)
   pub left_is : (row : ℕ)
       → has_row left row ≡ (has_row due row && not (contains_slot mask (slot_at w.entries.items row)))
-  pub left_cost_is : left_cost ≡ cost_below w.entries.items (length w.entries.items) left
   pub mask_is : IsSetOf mask (taken_of plan.fill plan.window line)
   pub width_is : width ≡ sum_by (λ due. due.cost) (taken_of plan.fill plan.window line)
   pub fits : width ≤ plan.window
+  pub cost : cost_below w.entries.items (length w.entries.items) left + width ≡ w.cost + w.always_cost
 
 -- the rows are the entries of a ranking, in its order
 pub record IsOfRanking (ranking : Ranking) (w : Wheel) : Type 0 where

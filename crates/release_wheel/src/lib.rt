@@ -5,9 +5,16 @@
 //! 2^42.
 #![tactic(auto)]
 
+mod ahead;
+mod copying;
+mod filling;
 mod near;
+mod picking;
 mod planner;
+mod releases;
 mod row_set;
+mod taking;
 mod wheel;
 
+pub use ahead::Ahead;
 pub use planner::{CyclePlan, Planner};

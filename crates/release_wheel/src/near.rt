@@ -13,9 +13,10 @@ ghost use Rattle.release_wheel.specs.Near.{HasRows, IsForgotten, IsStanding, at_
 ghost use Rattle.release_wheel.specs.Passed.{IsPassed};
 ghost use Rattle.release_wheel.specs.Wheel.{IsKept};
 
+use crate::filling::fill;
 use crate::planner::CyclePlan;
 use crate::row_set::MOST_ROWS;
-use crate::wheel::{Wheel, fill, pass_quiet, step};
+use crate::wheel::{Wheel, pass_quiet, step};
 use planner_policies::{Miss, PlanState, Ranked};
 use requirement_table::laws::entries_that_are_near;
 use requirement_table::{Placed, is_over_in_range};

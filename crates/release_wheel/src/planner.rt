@@ -30,10 +30,10 @@ pub struct CyclePlan {
 /// Contracts see the ranking, the cycle and the pending slots.
 #[derive(Drop, Debug)]
 pub struct Planner {
-    ranked: Ranked,
+    pub(crate) ranked: Ranked,
     /// The entries that begin soon, where there are more than the wheel has room for.
-    near: Option<Near>,
-    wheel: Wheel,
+    pub(crate) near: Option<Near>,
+    pub(crate) wheel: Wheel,
 }
 
 impl Model for Planner {

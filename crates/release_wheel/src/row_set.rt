@@ -15,19 +15,6 @@ const WORD_BITS: usize = 64;
 /// The low word of a number of two words.
 const LOW_WORD: u128 = (1 << WORD_BITS) - 1;
 
-/// Whether the row stands in the set.
-#[inline(always)]
-pub fn has(set: u128, row: usize) -> bool
-    requires known { row < 128 }
-    ensures row { result ≡ has_row set row }
-{
-    if row < WORD_BITS {
-        ((set & LOW_WORD) as u64 >> row) & 1 == 1
-    } else {
-        ((set >> WORD_BITS) as u64 >> (row - WORD_BITS)) & 1 == 1
-    }
-}
-
 /// The set of one row.
 #[inline(always)]
 fn one(row: usize) -> u128
@@ -55,6 +42,7 @@ pub fn with(set: u128, row: usize) -> u128
 pub fn without(set: u128, row: usize) -> u128
     requires known { row < 128 }
     ensures rows { (i : ℕ) → has_row result i ≡ (not (nat_eq row i) && has_row set i) }
+    ensures less { has_row set row ≡ true → result < set }
 {
     set & !one(row)
 }

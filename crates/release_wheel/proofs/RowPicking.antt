@@ -1,0 +1,200 @@
+-- The row of a set that goes first by its last cycle.
+use Rattle.std.proofs.Common.{◌≡◌, ◌≢◌, ℕ, ◌<◌, ◌≤◌, ◌&&◌, not, Bool, true, false, nat_eq, nat_le, if◌then◌else◌, List, get_or, length, refl, sym, ap, ◌∙◌, ◌⊎◌, inl, inr, ⊎_elim, arith}
+use Rattle.std.proofs.lemmas.Bool.{and_from, and_parts, both_ways, cases_Bool, cases_eq, cases_lt, or_cases}
+use Rattle.std.proofs.lemmas.Bool.Decides.{nat_tests}
+use Rattle.planner_policies.specs.Plan.{by_number}
+use Rattle.release_wheel.specs.declared.wheel.Wheel.{Wheel}
+use Rattle.release_wheel.specs.Taking.{AreDue, IsFirstRow, IsSoonest, goes_by, last_of}
+use Rattle.release_wheel.specs.Wheel.{HasRoom, IsBelow, has_row}
+use Rattle.release_wheel.proofs.RowLines.{by-parts, by-place}
+use Rattle.release_wheel.proofs.RowSets.{from-first, has-none, not-first}
+
+by-less : (a b i j : ℕ) → a < b → by_number a b (nat_le i j) ≡ true
+by-less a b i j less = grind (arith, nat_tests)
+
+by-le : (a b i j : ℕ) → a ≤ b → i ≤ j → by_number a b (nat_le i j) ≡ true
+by-le a b i j less from = grind (arith, nat_tests)
+
+-- before a row is looked at
+pub looking-start : (lasts : List ℕ) (rows row : ℕ) → has_row rows row ≡ true → ((i : ℕ) → i < row → has_row rows i ≡ false)
+    → IsSoonest lasts rows rows row (get_or lasts row 0)
+looking-start lasts rows row stands none = record {
+  stands = stands;
+  last_is = refl;
+  rest_in = λ i in'. in';
+  before = λ i in'. from-first rows row i none in';
+  first = λ i in' out. absurd (both_ways (has_row rows i) out in');
+}
+
+-- one more is looked at
+module _ (lasts : List ℕ) (rows rest less row last next : ℕ) (s : IsSoonest lasts rows rest row last) (stands : has_row rest next ≡ true)
+    (none : (i : ℕ) → i < next → has_row rest i ≡ false) (made : (i : ℕ) → has_row less i ≡ (not (nat_eq next i) && has_row rest i)) where
+  less-in : (i : ℕ) → has_row less i ≡ true → has_row rest i ≡ true
+  less-in i in' = (and_parts (not (nat_eq next i)) (has_row rest i) (sym (made i) ∙ in')).1
+
+  -- it is over sooner
+  pub looking-sooner : get_or lasts next 0 < last → IsSoonest lasts rows less next (get_or lasts next 0)
+  looking-sooner sooner = record {
+    stands = s.rest_in next stands;
+    last_is = refl;
+    rest_in = λ i in'. s.rest_in i (less-in i in');
+    before = λ i in'. from-first rest next i none (less-in i in');
+    first = λ i in' out.
+        ⊎_elim
+        (λ (same : next ≡ i). by-le (get_or lasts next 0) (get_or lasts i 0) next i (let at = ap (λ j. get_or lasts j 0) same in omega arith) (omega arith))
+        (λ (other : next ≢ i).
+        let goes = by-parts last (get_or lasts i 0) row i (s.first i in' (not-first rest less next i made out other)) in
+        by-less (get_or lasts next 0) (get_or lasts i 0) next i (omega arith))
+        (cases_eq next i);
+  }
+
+  -- it is not
+  pub looking-on : last ≤ get_or lasts next 0 → IsSoonest lasts rows less row last
+  looking-on later = record {
+    stands = s.stands;
+    last_is = s.last_is;
+    rest_in = λ i in'. s.rest_in i (less-in i in');
+    before = λ i in'. s.before i (less-in i in');
+    first = λ i in' out.
+        ⊎_elim
+        (λ (same : next ≡ i).
+        let from = s.before next stands in
+        by-le last (get_or lasts i 0) row i (let at = ap (λ j. get_or lasts j 0) same in omega arith) (omega arith))
+        (λ (other : next ≢ i). s.first i in' (not-first rest less next i made out other))
+        (cases_eq next i);
+  }
+
+-- when all are looked at
+pub looking-end : (lasts : List ℕ) (rows rest row last : ℕ) → IsSoonest lasts rows rest row last → rest ≡ 0
+    → IsFirstRow (goes_by (λ row. get_or lasts row 0)) (has_row rows) row
+looking-end lasts rows rest row last s none = record {
+  stands = s.stands;
+  first = λ other in'.
+      ap (λ n. by_number n (get_or lasts other 0) (nat_le row other)) (sym s.last_is)
+      ∙ s.first other in' (ap (λ m. has_row m other) none ∙ has-none other);
+}
+
+-- rows that are due are rows of the wheel
+pub due-below : (w : Wheel) (due : ℕ) → HasRoom (length w.entries.items) w → AreDue w due → IsBelow (length w.entries.items) due
+due-below w due room are row in' =
+    ⊎_elim
+    (λ (one : has_row w.waiting row ≡ true). room.waiting row one)
+    (λ (other : has_row w.always row ≡ true). room.always row other)
+    (or_cases (has_row w.waiting row) (has_row w.always row) (are.known row in'))
+
+-- and so are some of them
+pub due-less : (w : Wheel) (due rest : ℕ) → AreDue w due → ((row : ℕ) → has_row rest row ≡ true → has_row due row ≡ true) → AreDue w rest
+due-less w due rest are rest_in = record {
+  known = λ row in'. are.known row (rest_in row in');
+  in_time = are.in_time;
+  apart = are.apart;
+  soonest_is = are.soonest_is;
+}
+
+-- among rows with an instance in each cycle and rows that wait
+module _ (w : Wheel) (rest always : ℕ) (due : AreDue w rest) (always_is : (i : ℕ) → has_row always i ≡ (has_row rest i && has_row w.always i)) where
+  abbrev lasts : ℕ → ℕ
+  lasts i = get_or w.lasts.items i 0
+
+  last-in : (i : ℕ) → has_row w.always i ≡ true → last_of w i ≡ w.cycle
+  last-in i on = ap (λ b. if b then w.cycle else get_or w.lasts.items i 0) on
+
+  last-out : (i : ℕ) → has_row w.always i ≡ false → last_of w i ≡ get_or w.lasts.items i 0
+  last-out i off = ap (λ b. if b then w.cycle else get_or w.lasts.items i 0) off
+
+  waits : (i : ℕ) → has_row rest i ≡ true → has_row w.always i ≡ false → has_row w.waiting i ≡ true
+  waits i in' off =
+      ⊎_elim
+      (λ (one : has_row w.waiting i ≡ true). one)
+      (λ (other : has_row w.always i ≡ true). absurd (both_ways (has_row w.always i) off other))
+      (or_cases (has_row w.waiting i) (has_row w.always i) (due.known i in'))
+
+  -- all wait
+  pub only-waiting : (row : ℕ) → always ≡ 0 → IsFirstRow (goes_by (λ row. get_or w.lasts.items row 0)) (has_row rest) row
+      → IsFirstRow (goes_by (last_of w)) (has_row rest) row
+  only-waiting row none first = record {
+    stands = first.stands;
+    first = λ other in'.
+        ap (λ n. by_number n (last_of w other) (nat_le row other)) (last-out row (off row first.stands))
+        ∙ ap (λ n. by_number (lasts row) n (nat_le row other)) (last-out other (off other in'))
+        ∙ first.first other in';
+  }
+    where
+      out : (a b : Bool) → a ≡ true → (a && b) ≡ false → b ≡ false
+      out true b is none = none
+      out false b is none = absurd (cc)
+
+      off : (i : ℕ) → has_row rest i ≡ true → has_row w.always i ≡ false
+      off i in' = out (has_row rest i) (has_row w.always i) in' (sym (always_is i) ∙ ap (λ m. has_row m i) none ∙ has-none i)
+
+  -- the first of those with an instance in each cycle
+  module _ (own : ℕ) (stands : has_row always own ≡ true) (none : (i : ℕ) → i < own → has_row always i ≡ false) where
+    parts : has_row rest own ≡ true × has_row w.always own ≡ true
+    parts = and_parts (has_row rest own) (has_row w.always own) (sym (always_is own) ∙ stands)
+
+    from-own : (i : ℕ) → has_row rest i ≡ true → has_row w.always i ≡ true → own ≤ i
+    from-own i in' on = from-first always own i none (always_is i ∙ and_from (has_row rest i) (has_row w.always i) in' on)
+
+    -- it goes first where all that wait are later, or as late and behind it
+    pub own-first : ((i : ℕ) → has_row rest i ≡ true → has_row w.waiting i ≡ true → (w.cycle < get_or w.lasts.items i 0) ⊎ (own ≤ i))
+        → IsFirstRow (goes_by (last_of w)) (has_row rest) own
+    own-first later = record {
+      stands = parts.0;
+      first = λ other in'.
+          ⊎_elim
+          (λ (on : has_row w.always other ≡ true).
+          by-le (last_of w own) (last_of w other) own other
+          (let one = last-in own parts.1 in let same = last-in other on in omega arith) (from-own other in' on))
+          (λ (off : has_row w.always other ≡ false).
+          let wait = waits other in' off in
+          let one = last-in own parts.1 in
+          let same = last-out other off in
+          let in_time = due.in_time other wait in
+          ⊎_elim
+          (λ (less : w.cycle < get_or w.lasts.items other 0). by-less (last_of w own) (last_of w other) own other (omega arith))
+          (λ (behind : own ≤ other). by-le (last_of w own) (last_of w other) own other (omega arith) behind)
+          (later other in' wait))
+          (cases_Bool (has_row w.always other));
+    }
+
+    -- and that of those which wait
+    module _ (waiting row : ℕ) (waiting_is : (i : ℕ) → has_row waiting i ≡ (has_row rest i && has_row w.waiting i))
+        (first : IsFirstRow (goes_by (λ row. get_or w.lasts.items row 0)) (has_row waiting) row) where
+      in-waiting : (i : ℕ) → has_row rest i ≡ true → has_row w.waiting i ≡ true → has_row waiting i ≡ true
+      in-waiting i in' wait = waiting_is i ∙ and_from (has_row rest i) (has_row w.waiting i) in' wait
+
+      row-parts : has_row rest row ≡ true × has_row w.waiting row ≡ true
+      row-parts = and_parts (has_row rest row) (has_row w.waiting row) (sym (waiting_is row) ∙ first.stands)
+
+      row-after : (i : ℕ) → has_row rest i ≡ true → has_row w.waiting i ≡ true → get_or w.lasts.items row 0 ≤ get_or w.lasts.items i 0
+      row-after i in' wait = by-parts (lasts row) (lasts i) row i (first.first i (in-waiting i in' wait))
+
+      pub own-sooner : w.cycle < get_or w.lasts.items row 0 → IsFirstRow (goes_by (last_of w)) (has_row rest) own
+      own-sooner sooner = own-first (λ i in' wait. let after = row-after i in' wait in inl (omega arith))
+
+      pub own-before : get_or w.lasts.items row 0 ≤ w.cycle → own < row → IsFirstRow (goes_by (last_of w)) (has_row rest) own
+      own-before last before = own-first (λ i in' wait.
+          ⊎_elim
+          (λ (less : w.cycle < get_or w.lasts.items i 0). inl less)
+          (λ (as_late : get_or w.lasts.items i 0 ≤ w.cycle).
+          let in_time = due.in_time row row-parts.1 in
+          let behind = by-place (lasts row) (lasts i) row i (first.first i (in-waiting i in' wait)) (omega arith) in
+          inr (omega arith))
+          (cases_lt w.cycle (get_or w.lasts.items i 0)))
+
+      pub row-first : get_or w.lasts.items row 0 ≤ w.cycle → row ≤ own → IsFirstRow (goes_by (last_of w)) (has_row rest) row
+      row-first last before = record {
+        stands = row-parts.0;
+        first = λ other in'.
+            let here = last-out row (due.apart row row-parts.1) in
+            ⊎_elim
+            (λ (on : has_row w.always other ≡ true).
+            let from = from-own other in' on in
+            let there = last-in other on in
+            by-le (last_of w row) (last_of w other) row other (omega arith) (omega arith))
+            (λ (off : has_row w.always other ≡ false).
+            ap (λ n. by_number n (last_of w other) (nat_le row other)) here
+            ∙ ap (λ n. by_number (lasts row) n (nat_le row other)) (last-out other off)
+            ∙ first.first other (in-waiting other in' (waits other in' off)))
+            (cases_Bool (has_row w.always other));
+      }

@@ -1,0 +1,15 @@
+use Rattle.std.proofs.Common.{nat_le, ◌≡◌}
+use Rattle.planner_policies.specs.declared.Fill.TheVariants.{Prefix}
+use Rattle.release_wheel.specs.Taking.{IsTaking}
+use Rattle.release_wheel.specs.Wheel.{rows_left}
+use Rattle.release_wheel.proofs.taking.take_front_word.Given as goal
+
+abbrev pub invariant-loop-rest : goal.invariant-loop-rest
+invariant-loop-rest l = record {
+  taking : IsTaking Prefix l.w nat_le l.entries l.due (rows_left l.rest) 0 l.mask l.width;
+  base : l.rest.base ≡ l.fn.front.rest.base;
+  behind : l.rest.behind ≡ l.fn.front.rest.behind;
+}
+
+abbrev pub decreases-loop-rest : goal.decreases-loop-rest
+decreases-loop-rest l = l.rest.word
