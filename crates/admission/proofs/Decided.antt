@@ -6,7 +6,7 @@ use Rattle.requirement_table.specs.Table.{IsWellPlaced, not_over}
 use Rattle.requirement_table.proofs.Shared.{not_over-well_placed}
 use Rattle.planner_policies.specs.declared.state.Miss.{Miss as MissedInstance}
 use Rattle.planner_policies.specs.declared.state.PlanState.{PlanState}
-use Rattle.planner_policies.specs.Plan.{HasNoMiss, IsValid, NeverMisses, Planning, Ranking, planning_of}
+use Rattle.planner_policies.specs.Plan.{HasNoMiss, IsValid, NeverMisses, Planning, Ranking, Standing, planning_of}
 use Rattle.recurrence_check.specs.Course.{Breaks, Course, IsLeastRepeat, StaysNew}
 use Rattle.admission.specs.declared.decision.Decision.{Decision}
 use Rattle.admission.specs.declared.decision.RankedTable.{RankedTable}
@@ -121,11 +121,16 @@ module _ (rules : Rules) (list : List Placed) (from pending : ℕ) (walked : Ran
       (record { well_placed = is.well; held = is.valid; in_time = accepted-never loops one other least })
 
   -- what is ranked of the list is what was walked
-  pub ranked-from : (table : RankedTable) → table.placed ≡ list → table.ranked ≡ walked → IsRankedFrom rules from pending table
-  ranked-from table same ranked = record {
-    left = ranked ∙ is.walked_is ∙ ap (λ (l : List Placed). ranking_of rules l from) (sym same);
-    held = subst (λ (r : Ranking). IsValid r.placed from pending) (sym (ranked ∙ is.walked_is)) (held-reduced list from pending is.valid);
-  }
+  pub ranked-from : (table : RankedTable) → table.placed ≡ list
+      → table.planner ≡ record { ranking = ranking_of rules list from; cycle = from; pending = pending } → IsRankedFrom rules from pending table
+  ranked-from table same stands =
+      let ranked = ap (λ (s : Standing). s.ranking) stands in
+      record {
+        left = ranked ∙ ap (λ (l : List Placed). ranking_of rules l from) (sym same);
+        held = subst (λ (r : Ranking). IsValid r.placed from pending) (sym ranked) (held-reduced list from pending is.valid);
+        cycle = ap (λ (s : Standing). s.cycle) stands;
+        before = ap (λ (s : Standing). s.pending) stands;
+      }
 
   -- no repeat
   no-recurrence-whole : StaysNew walk rules.horizon → HasNoRecurrence whole rules.horizon

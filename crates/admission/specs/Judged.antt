@@ -16,8 +16,10 @@ decision_in judgement = record {
   trail = judgement.trail;
 }
 
--- what is ranked of a table are its entries that are not over by the cycle `from`, by these rules, and it may be planned
--- from there, where these slots are pending before it
+-- what is planned of a table are its entries that are not over by the cycle `from`, by these rules. The planning stands
+-- before that cycle, where these slots are pending
 pub record IsRankedFrom (rules : Rules) (from pending : ℕ) (table : RankedTable) : Type 0 where
-  pub left : table.ranked ≡ ranking_by rules (not_over from table.placed)
-  pub held : IsValid table.ranked.placed from pending
+  pub left : table.planner.ranking ≡ ranking_by rules (not_over from table.placed)
+  pub held : IsValid table.planner.ranking.placed from pending
+  pub cycle : table.planner.cycle ≡ from
+  pub before : table.planner.pending ≡ pending

@@ -10,7 +10,7 @@ ghost use Rattle.admission.specs.Certified.{IsRepeated, end_of};
 ghost use Rattle.admission.specs.Verdict.{IsRules, masks_of, plan_from};
 
 use crate::certify_fault::CertifyFault;
-use crate::deciding::{miss, plan_cycles, walk_over};
+use crate::deciding::{miss, plan_cycles, planner_of, walk_over};
 use crate::walk::PlanWalk;
 use admission_rules::Rules;
 use plan_check::Certificate;
@@ -112,7 +112,8 @@ fn repeated(
         (IsFaultOnPlan rules.now.horizon (plan_from rules.now placed.now state.now.cycle state.now.pending)) }
 {
     loops();
-    let walk = walk_over(alloc, rules, placed, state)?;
+    let start = planner_of(alloc, rules, placed, state)?;
+    let walk = walk_over(rules, placed, state, &start);
     match lasso_keyed(alloc, &walk, rules.horizon) {
         Ok(Repeat { first, length }) => {
             let (planned, _) = plan_cycles(alloc, &walk, first + length)?;
@@ -145,14 +146,14 @@ fn joined(alloc: Global, opened: &[Mask], planned: &[Mask]) -> Result<Vec<Mask>,
 }
 
 /// The miss of a plan, where the first one is in the cycle behind `at` cycles. They are planned once more.
-fn first_miss(alloc: Global, walk: &PlanWalk, at: u64) -> Result<Miss, AllocError>
+fn first_miss(alloc: Global, walk: &PlanWalk<'_>, at: u64) -> Result<Miss, AllocError>
     requires near { at < greatest_horizon }
     requires none_before { let first = walk.now.first in
-        HasNoMiss (planning_of walk.now.entries walk.now.window first.cycle first.pending) at }
+        HasNoMiss (planning_of walk.now.start.now.ranking walk.now.window first.cycle first.pending) at }
     requires missed { let first = walk.now.first in
-        ¬ HasNoMiss (planning_of walk.now.entries walk.now.window first.cycle first.pending) (at + 1) }
+        ¬ HasNoMiss (planning_of walk.now.start.now.ranking walk.now.window first.cycle first.pending) (at + 1) }
     ensures miss { let first = walk.now.first in
-        IfOk result (IsMissBehind (planning_of walk.now.entries walk.now.window first.cycle first.pending) at) }
+        IfOk result (IsMissBehind (planning_of walk.now.start.now.ranking walk.now.window first.cycle first.pending) at) }
 {
     let (_, mut planner) = plan_cycles(alloc, walk, at)?;
     Ok(miss(&mut planner, walk.window))

@@ -3,14 +3,14 @@
 ghost use Rattle.std.specs.Prelude.{◌≡◌, ◌+◌, ◌<◌, ◌≤◌, ℕ, [], None, IfOk, IfSome};
 ghost use Rattle.profile.specs.Limits.{cycles_end, greatest_horizon, openings_end};
 ghost use Rattle.requirement_table.specs.Slots.{contains_slot};
-ghost use Rattle.requirement_table.specs.Table.{IsWellPlaced};
+ghost use Rattle.requirement_table.specs.Table.{IsWellPlaced, not_over};
 ghost use Rattle.change_protocol.specs.Applied.{applied};
 ghost use Rattle.planner_policies.specs.Plan.{HasNoMiss, HasNoMissIn, IsMissIn, IsValid, going_from, planning_of};
 ghost use Rattle.release_wheel.specs.Passed.{IsPassed};
 ghost use Rattle.admission.specs.Course.{state_in};
 ghost use Rattle.admission.specs.Judged.{IsRankedFrom, decision_in};
 ghost use Rattle.admission.specs.Verdict.{IsDecision, IsDecisionOnPlan, IsInTime, IsMalformed, IsMissDecision};
-ghost use Rattle.admission.specs.Verdict.{IsPlannedUpTo, IsRules, IsSafe, IsTakenWhereDue, plan_from};
+ghost use Rattle.admission.specs.Verdict.{IsPlannedUpTo, IsRules, IsSafe, IsTakenWhereDue, plan_from, ranking_by};
 ghost use Rattle.admission.specs.Walked.{IsWalked};
 
 use crate::decision::{Decision, Judgement, RankedTable, Trail};
@@ -22,7 +22,7 @@ use change_protocol::{ApplyFault, Change, apply};
 use planner_policies::laws::{loops, valid_states};
 use planner_policies::{Miss, PlanState, cycle_mask, rank_list};
 use recurrence_check::{Repeat, WalkEnd, lasso_keyed};
-use release_wheel::Planner;
+use release_wheel::{Ahead, Planner};
 use requirement_table::{Mask, Placed, PlacedList, not_over};
 use std::alloc::{AllocError, Global};
 
@@ -59,8 +59,8 @@ pub fn decide(
     Ok(judgement.decision())
 }
 
-/// Does what `decide` does, and gives what an accepted change is planned from with it: the entries that are not over,
-/// ranked. The walk has ranked them, so they are not ranked again.
+/// Does what `decide` does, and gives the planning of an accepted change with it, which goes on from the state. The walk
+/// needs it too, so nothing is ranked or filled in again.
 ///
 /// # Errors
 ///
@@ -148,7 +148,8 @@ pub fn decide_list(
 {
     loops();
     valid_states();
-    let walk = walk_over(alloc, rules, list.as_slice(), state)?;
+    let start = planner_of(alloc, rules, list.as_slice(), state)?;
+    let walk = walk_over(rules, list.as_slice(), state, &start);
     match lasso_keyed(alloc, &walk, rules.horizon) {
         Ok(Repeat { first, length }) => Ok(Judgement {
             verdict: Verdict::Accepted {
@@ -157,7 +158,7 @@ pub fn decide_list(
             },
             table: Some(RankedTable {
                 placed: PlacedList::of(list),
-                ranked: walk.entries,
+                planner: start,
             }),
             trail: Trail::of(Vec::new(alloc)),
         }),
@@ -170,41 +171,68 @@ pub fn decide_list(
     }
 }
 
-/// The walk over the planning of a list, which is without the entries that are over.
-pub fn walk_over(
+/// The planning of a list from a state on, without the entries that are over.
+pub fn planner_of(
     alloc: Global,
     rules: &Rules,
     list: &[Placed],
     state: &PlanState,
-) -> Result<PlanWalk, AllocError>
-    requires horizon { 1 ≤ rules.now.horizon }
+) -> Result<Planner, AllocError>
     requires well_placed { IsWellPlaced list.now }
     requires valid { IsValid list.now state.now.cycle state.now.pending }
     requires next { state.now.cycle ≤ openings_end }
-    ensures walked { IfOk result (λ walk. IsWalked rules.now list.now state.now.cycle state.now.pending
-        walk.entries walk.window walk.first walk.bound walk.period) }
+    ensures standing { IfOk result (λ planner. planner ≡ record {
+      ranking = ranking_by rules.now (not_over state.now.cycle list.now);
+      cycle = state.now.cycle;
+      pending = state.now.pending;
+    }) }
+{
+    let left = not_over(alloc, list, state.cycle)?;
+    let ranked = rank_list(alloc, left, rules.policy, rules.fill)?;
+    Planner::new(alloc, ranked, state)
+}
+
+/// The walk over the planning of a list, by a planner that has it without the entries that are over.
+pub fn walk_over<'a>(
+    rules: &Rules,
+    _list: &[Placed],
+    state: &PlanState,
+    start: &'a Planner,
+) -> PlanWalk<'a>
+    requires horizon { 1 ≤ rules.now.horizon }
+    requires well_placed { IsWellPlaced _list.now }
+    requires valid { IsValid _list.now state.now.cycle state.now.pending }
+    requires next { state.now.cycle ≤ openings_end }
+    requires standing { start.now ≡ record {
+      ranking = ranking_by rules.now (not_over state.now.cycle _list.now);
+      cycle = state.now.cycle;
+      pending = state.now.pending;
+    } }
+    ensures start { result.start.now ≡ start.now }
+    ensures walked { IsWalked rules.now _list.now state.now.cycle state.now.pending
+        result.start.now.ranking result.window result.first result.bound result.period }
 {
     state.pending.known();
-    let left = not_over(alloc, list, state.cycle)?;
-    Ok(PlanWalk {
+    let left = start.ranked().placed();
+    PlanWalk {
+        start,
         window: rules.window,
         first: *state,
-        bound: bound(left.as_slice(), state.cycle),
-        period: period(left.as_slice(), rules.horizon),
-        entries: rank_list(alloc, left, rules.policy, rules.fill)?,
-    })
+        bound: bound(left, state.cycle),
+        period: period(left, rules.horizon),
+    }
 }
 
 /// The answer where the first miss is in the cycle behind `at` cycles. They are planned once more.
-fn missed(alloc: Global, walk: &PlanWalk, at: u64) -> Result<Judgement, AllocError>
+fn missed(alloc: Global, walk: &PlanWalk<'_>, at: u64) -> Result<Judgement, AllocError>
     requires near { at < greatest_horizon }
     requires none_before { let first = walk.now.first in
-        HasNoMiss (planning_of walk.now.entries walk.now.window first.cycle first.pending) at }
+        HasNoMiss (planning_of walk.now.start.now.ranking walk.now.window first.cycle first.pending) at }
     requires missed { let first = walk.now.first in
-        ¬ HasNoMiss (planning_of walk.now.entries walk.now.window first.cycle first.pending) (at + 1) }
+        ¬ HasNoMiss (planning_of walk.now.start.now.ranking walk.now.window first.cycle first.pending) (at + 1) }
     ensures missed { let first = walk.now.first in
         IfOk result (λ judgement. IsMissDecision
-        (planning_of walk.now.entries walk.now.window first.cycle first.pending) at (decision_in judgement)) }
+        (planning_of walk.now.start.now.ranking walk.now.window first.cycle first.pending) at (decision_in judgement)) }
     ensures none { IfOk result (λ judgement. judgement.table ≡ None) }
 {
     let (mut masks, mut planner) = plan_cycles(alloc, walk, at)?;
@@ -227,18 +255,18 @@ fn missed(alloc: Global, walk: &PlanWalk, at: u64) -> Result<Judgement, AllocErr
 }
 
 /// Plans so many cycles, in which nothing is missed: the slots that are planned in them, and the planning behind them.
-pub fn plan_cycles(
+pub fn plan_cycles<'a>(
     alloc: Global,
-    walk: &PlanWalk,
+    walk: &PlanWalk<'a>,
     cycles: u64,
-) -> Result<(Vec<Mask>, Planner), AllocError>
+) -> Result<(Vec<Mask>, Ahead<'a>), AllocError>
     requires near { cycles ≤ greatest_horizon }
     requires none_missed { let first = walk.now.first in
-        HasNoMiss (planning_of walk.now.entries walk.now.window first.cycle first.pending) cycles }
+        HasNoMiss (planning_of walk.now.start.now.ranking walk.now.window first.cycle first.pending) cycles }
     ensures planned { let first = walk.now.first in
-        IfOk result (λ r. IsPlannedUpTo (planning_of walk.now.entries walk.now.window first.cycle first.pending)
+        IfOk result (λ r. IsPlannedUpTo (planning_of walk.now.start.now.ranking walk.now.window first.cycle first.pending)
         cycles r.0.items (state_in r.1)) }
-    ensures entries { IfOk result (λ r. r.1.ranking ≡ walk.now.entries) }
+    ensures entries { IfOk result (λ r. r.1.ranking ≡ walk.now.start.now.ranking) }
 {
     let mut masks = Vec::new(alloc);
     walk.first.pending.known();
@@ -259,23 +287,23 @@ pub fn plan_cycles(
 /// Plans the cycles behind so many in which nothing is planned, as far as they are known, and no more than `cycles` with
 /// those before. The answer is how many they are.
 fn plan_empty(
-    walk: &PlanWalk,
-    planner: &mut Planner,
+    walk: &PlanWalk<'_>,
+    planner: &mut Ahead<'_>,
     masks: &mut Vec<Mask>,
     count: u64,
     cycles: u64,
 ) -> Result<u64, AllocError>
     requires below { count ≤ cycles }
     requires near { planner.old.cycle + cycles < cycles_end }
-    requires entries { planner.old.ranking ≡ walk.now.entries }
+    requires entries { planner.old.ranking ≡ walk.now.start.now.ranking }
     requires planned { let first = walk.now.first in
-        IsPlannedUpTo (planning_of walk.now.entries walk.now.window first.cycle first.pending)
+        IsPlannedUpTo (planning_of walk.now.start.now.ranking walk.now.window first.cycle first.pending)
         count masks.old.items (state_in planner.old) }
     ensures planned { let first = walk.now.first in
-        IfOk result (λ more. IsPlannedUpTo (planning_of walk.now.entries walk.now.window first.cycle first.pending)
+        IfOk result (λ more. IsPlannedUpTo (planning_of walk.now.start.now.ranking walk.now.window first.cycle first.pending)
         (count + more) masks.new.items (state_in planner.new)) }
     ensures within { IfOk result (λ more. count + more ≤ cycles) }
-    ensures entries { planner.new.ranking ≡ walk.now.entries }
+    ensures entries { planner.new.ranking ≡ walk.now.start.now.ranking }
 {
     let here = planner.state().cycle;
     pass_until(planner, here + (cycles - count));
@@ -287,7 +315,7 @@ fn plan_empty(
 }
 
 /// Passes cycles in which nothing is pending, as far as they are known, and no further than to the cycle `end`.
-fn pass_until(planner: &mut Planner, end: u64)
+fn pass_until(planner: &mut Ahead<'_>, end: u64)
     requires onward { planner.old.cycle ≤ end }
     requires end { end < cycles_end }
     ensures standing { planner.new ≡ record planner.old { cycle = planner.new.cycle } }
@@ -310,7 +338,7 @@ fn pass_until(planner: &mut Planner, end: u64)
 }
 
 /// What is missed in the cycle that is planned next.
-pub fn miss(planner: &mut Planner, window: u32) -> Miss
+pub fn miss(planner: &mut Ahead<'_>, window: u32) -> Miss
     requires cycle { planner.old.cycle < cycles_end }
     requires missed { ¬ HasNoMissIn (going_from planner.old window) planner.old.cycle (contains_slot planner.old.pending) }
     ensures miss { IsMissIn (going_from planner.old window) planner.old.cycle (contains_slot planner.old.pending)

@@ -5,7 +5,7 @@ ghost use Rattle.admission.specs.Judged.{decision_in};
 
 use crate::verdict::Verdict;
 use items::Items;
-use planner_policies::Ranked;
+use release_wheel::Planner;
 use requirement_table::{Mask, PlacedList};
 
 /// The slots that a plan flags in some cycles, one set for each cycle. Contracts see the list of sets.
@@ -23,13 +23,14 @@ pub struct Decision {
     pub trail: Trail,
 }
 
-/// The table that an accepted change makes, and what of it is to be planned.
+/// The table that an accepted change makes, and the planning of it.
 #[derive(Drop, Debug)]
 pub struct RankedTable {
     /// The placed entries after the change.
     pub placed: PlacedList,
-    /// Those that are not over by the cycle from which the change was planned, with the policy and the filling.
-    pub ranked: Ranked,
+    /// The planning of those that are not over by the cycle from which the change was planned. It stands before that
+    /// cycle.
+    pub planner: Planner,
 }
 
 /// What is decided of a change, with what an accepted one is planned from.
@@ -68,7 +69,7 @@ fn placed_of(table: Option<RankedTable>) -> Option<PlacedList>
     match table {
         None => None,
         Some(table) => {
-            let RankedTable { placed, ranked: _ } = table;
+            let RankedTable { placed, planner: _ } = table;
             Some(placed)
         }
     }

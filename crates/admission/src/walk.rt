@@ -8,16 +8,16 @@ ghost use Rattle.admission.specs.WalkLaws.{GoesOn};
 ghost use Rattle.admission.specs.Walked.{AreKeys};
 ghost use Rattle.recurrence_check.specs.Keys.{row_places};
 
-use planner_policies::{PlanState, Ranked};
+use planner_policies::PlanState;
 use recurrence_check::{Keyed, PLACES, Stretch, Walk};
-use release_wheel::Planner;
+use release_wheel::{Ahead, Planner};
 use std::alloc::{AllocError, Global};
 
 /// The planning of a list of placed entries. It goes on as long as no deadline is missed.
 #[derive(Drop)]
-pub struct PlanWalk {
-    /// The entries, with the policy and the filling.
-    pub entries: Ranked,
+pub struct PlanWalk<'a> {
+    /// A planner of the entries that stands in the first state, and stays there.
+    pub start: &'a Planner,
     /// The length of the largest synchronous window, in bit times.
     pub window: u32,
     /// The first state.
@@ -26,44 +26,46 @@ pub struct PlanWalk {
     pub bound: u64,
     /// The least common multiple of the periods of the live entries, where it is at most the horizon.
     pub period: Option<u64>,
+    ghost cycle: { start.now.cycle ≡ first.cycle },
+    ghost pending: { start.now.pending ≡ first.pending },
     ghost near: { first.cycle ≤ openings_end },
     ghost held: { (slot : ℕ) → contains_slot first.pending slot ≡ true
-        → is_held_from entries.placed first.cycle slot ≡ true },
+        → is_held_from start.now.ranking.placed first.cycle slot ≡ true },
     ghost positive: { (length : ℕ) → period ≡ Some length → 0 < length },
-    ghost goes_on: { GoesOn entries window bound period },
+    ghost goes_on: { GoesOn start.now.ranking window bound period },
 }
 
 /// A place on the walk over a planning: a state, and a planning that stands there or at a later cycle. Up to that cycle
 /// nothing is planned, so the states until then differ by their cycles alone.
 #[derive(Drop)]
-pub struct PlanPlace {
+pub struct PlanPlace<'a> {
     /// The state.
     pub state: PlanState,
     /// The planning.
-    pub planner: Planner,
+    pub planner: Ahead<'a>,
 }
 
-impl Walk for PlanWalk {
+impl<'a> Walk for PlanWalk<'a> {
     type State = PlanState;
 
-    type Here = PlanPlace;
+    type Here = PlanPlace<'a>;
 
     ghost use Rattle.std.proofs.Common.{◌-◌};
     ghost use Rattle.admission.specs.Course.{IsGoodState, course_of};
     ghost use Rattle.admission.specs.Walked.{IsOn};
     ghost use Rattle.admission.specs.WalkLaws.{kept, same-symmetric, same-transitive};
 
-    ghost course = { λ walk. course_of walk.entries walk.window walk.first walk.bound walk.period };
+    ghost course = { λ walk. course_of walk.start.now.ranking walk.window walk.first walk.bound walk.period };
 
-    ghost is_good = { λ walk state. IsGoodState walk.entries walk.first.cycle state };
+    ghost is_good = { λ walk state. IsGoodState walk.start.now.ranking walk.first.cycle state };
 
     ghost number = { λ walk state. state.cycle - walk.first.cycle };
 
     ghost state_of = { λ here. here.state };
 
-    ghost is_on = { λ walk here. IsOn walk.entries walk.window here.planner here.state };
+    ghost is_on = { λ walk here. IsOn walk.start.now.ranking walk.window here.planner here.state };
 
-    fn begin(&self, alloc: Global) -> Result<PlanPlace, AllocError> {
+    fn begin(&self, alloc: Global) -> Result<PlanPlace<'a>, AllocError> {
         let planner = self.planner(alloc)?;
         Ok(PlanPlace {
             state: self.first,
@@ -71,11 +73,11 @@ impl Walk for PlanWalk {
         })
     }
 
-    fn state(&self, here: &PlanPlace) -> PlanState {
+    fn state(&self, here: &PlanPlace<'a>) -> PlanState {
         here.state
     }
 
-    fn step(&self, here: &mut PlanPlace) -> Option<PlanState> {
+    fn step(&self, here: &mut PlanPlace<'a>) -> Option<PlanState> {
         if here.state.cycle < here.planner.state().cycle {
             here.state.cycle += 1;
             return Some(here.state);
@@ -108,20 +110,19 @@ impl Walk for PlanWalk {
         same-transitive walk.bound walk.period one other third first second };
 
     ghost kept = { λ walk one other _ _ _ _ same.
-        kept walk.entries walk.window walk.bound walk.period walk.goes_on one other same };
+        kept walk.start.now.ranking walk.window walk.bound walk.period walk.goes_on one other same };
 }
 
-impl PlanWalk {
+impl<'a> PlanWalk<'a> {
     /// The planning of the entries from the first state on. It takes all the memory that it needs.
-    pub fn planner(&self, alloc: Global) -> Result<Planner, AllocError>
+    pub fn planner(&self, alloc: Global) -> Result<Ahead<'a>, AllocError>
         ensures standing { IfOk result (λ planner. planner ≡ record {
-          ranking = self.now.entries;
+          ranking = self.now.start.now.ranking;
           cycle = self.now.first.cycle;
           pending = self.now.first.pending;
         }) }
     {
-        let entries = self.entries.copy(alloc)?;
-        Planner::new(alloc, entries, &self.first)
+        self.start.ahead(alloc)
     }
 
     /// As many states behind a state as have no key, or keys whose places go up. Before all of them the same slots are
@@ -158,7 +159,7 @@ impl PlanWalk {
     }
 }
 
-impl Keyed for PlanWalk {
+impl<'a> Keyed for PlanWalk<'a> {
     ghost use Rattle.admission.specs.Course.{key_in_period};
     ghost use Rattle.admission.specs.WalkLaws.{keyed};
 
@@ -172,7 +173,12 @@ impl Keyed for PlanWalk {
         settled.then_some((state.pending.bits(), state.cycle % period))
     }
 
-    fn pass(&self, here: &mut PlanPlace, most: u64) -> Stretch {
+    /// A walk that repeats comes to each place of the period.
+    fn places(&self) -> u64 {
+        self.period.unwrap_or(0)
+    }
+
+    fn pass(&self, here: &mut PlanPlace<'a>, most: u64) -> Stretch {
         let ahead = here.planner.state().cycle;
         if ahead <= here.state.cycle {
             return Stretch {

@@ -141,7 +141,7 @@ pub fn answer_of(
     let change = copy_of(alloc, change)?;
     let made = match table {
         None => None,
-        Some(table) => Some(made_of(alloc, table, state)?),
+        Some(table) => Some(made_of(alloc, table)?),
     };
     Ok(Answer {
         change,
@@ -152,19 +152,17 @@ pub fn answer_of(
     })
 }
 
-/// A table that is planned from the state on, and its list to be learned.
-fn made_of(alloc: Global, table: RankedTable, state: &PlanState) -> Result<Made, AllocError>
-    requires cycle { state.now.cycle ≤ openings_end }
-    requires valid { IsValid table.ranked.placed state.now.cycle state.now.pending }
+/// A table that is planned as it was decided, and its list to be learned.
+fn made_of(alloc: Global, table: RankedTable) -> Result<Made, AllocError>
     ensures placed { IfOk result (λ made. made.table.placed.items ≡ made.learned) }
-    ensures since { IfOk result (λ made. made.table.since ≡ state.now.cycle) }
-    ensures ranked { IfOk result (λ made. made.table.planner.ranking ≡ table.ranked) }
+    ensures since { IfOk result (λ made. made.table.since ≡ table.planner.cycle) }
+    ensures ranked { IfOk result (λ made. made.table.planner.ranking ≡ table.planner.ranking) }
     ensures learned { IfOk result (λ made. made.learned ≡ table.placed) }
 {
-    let RankedTable { placed, ranked } = table;
+    let RankedTable { placed, planner } = table;
     let placed = placed.into_vec();
     let learned = list_of(alloc, placed.as_slice())?;
-    let table = Table::planned(alloc, placed, ranked, state)?;
+    let table = Table::planned(placed, planner);
     Ok(Made { table, learned })
 }
 

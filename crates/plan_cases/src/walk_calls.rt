@@ -113,6 +113,10 @@ impl Keyed for Values {
         Some((u128::from(state.value), 0))
     }
 
+    fn places(&self) -> u64 {
+        1
+    }
+
     fn pass(&self, _here: &mut Place, _most: u64) -> Stretch {
         Stretch {
             steps: 0,

@@ -24,6 +24,9 @@ type Key = (u128, u64);
 /// and a walk passes no stretch of them.
 pub const PLACES: u64 = 100_000;
 
+/// Of how many places at most the room is taken before the walk comes to them.
+const FIRST_PLACES: u64 = 1_024;
+
 /// Does what `lasso` does, for a walk whose states have keys, and takes time for at most about
 /// `horizon` look-ups in an ordered map. Where all places are below 100,000 and none
 /// comes twice, it asks no map.
@@ -44,7 +47,7 @@ pub fn lasso_keyed<W: Keyed>(alloc: Global, walk: &W, horizon: u64) -> Result<Re
     ensures only { (other : Result Repeat WalkEnd) → IsAnswer (W.course walk.now) horizon other
         → result ≢ Err WalkEnd.Memory → other ≢ Err WalkEnd.Memory → result ≡ other }
 {
-    let mut row = Vec::new(alloc);
+    let mut row = Vec::with_capacity(alloc, walk.places().min(FIRST_PLACES) as usize)?;
     let mut others = BTreeMap::new(alloc);
     let mut here = walk.begin(alloc)?;
     let first = walk.state(&here);

@@ -102,6 +102,10 @@ pub trait Keyed: Walk {
     fn key(&self, state: &Self::State) -> Option<(u128, u64)>
         ensures key { result ≡ key_of self.now state.now };
 
+    /// How many places the keys of the walk are expected to have. Room for so many is taken at once; no answer depends
+    /// on it.
+    fn places(&self) -> u64;
+
     /// Leads a place over states whose keys are known at once: `most` of them, or fewer. Where none is passed, the walk
     /// goes on by a step. The places of the keys stay below 100,000.
     fn pass(&self, here: &mut Self::Here, most: u64) -> Stretch

@@ -9,7 +9,7 @@ miss-requires-clause-missed c none =
     let walk = c.args.walk.now in
     let planned = c.in_ok-planner.ensures.planned in
     c.requires.missed
-    (none-there walk.entries walk.window walk.first.cycle walk.first.pending c.args.at c.in_ok-planner.planner planned.state
+    (none-there walk.start.now.ranking walk.window walk.first.cycle walk.first.pending c.args.at c.in_ok-planner.planner planned.state
     c.in_ok-planner.ensures.entries none c.requires.none_before)
 
 pub returns : goal.returns
@@ -21,9 +21,9 @@ returns c =
       miss = record {
         cycle = c.miss.ensures.cycle ∙ ap (λ (s : PlanState). s.cycle) planned.state;
         none_before = c.requires.none_before;
-        at = miss-at walk.entries walk.window walk.first.cycle walk.first.pending c.args.at c.miss.result.slot c.miss.result.release (state_in here)
+        at = miss-at walk.start.now.ranking walk.window walk.first.cycle walk.first.pending c.args.at c.miss.result.slot c.miss.result.release (state_in here)
             planned.state
-            (missed-there walk.entries walk.window walk.first.cycle walk.first.pending c.miss.result.slot c.miss.result.release here
+            (missed-there walk.start.now.ranking walk.window walk.first.cycle walk.first.pending c.miss.result.slot c.miss.result.release here
             c.in_ok-planner.ensures.entries c.miss.ensures.miss);
       };
     }

@@ -10,7 +10,7 @@ miss-slot-requires-clause-missed c none =
     let walk = c.args.walk.now in
     let planned = c.in_ok-masks.ensures.planned in
     c.requires.missed
-    (none-there walk.entries walk.window walk.first.cycle walk.first.pending c.args.at c.in_ok-masks.planner planned.state
+    (none-there walk.start.now.ranking walk.window walk.first.cycle walk.first.pending c.args.at c.in_ok-masks.planner planned.state
     c.in_ok-masks.ensures.entries none c.requires.none_before)
 
 pub returns : goal.returns
@@ -19,13 +19,13 @@ returns c =
     let here = c.in_ok-masks.planner in
     let same = c.in_ok-masks.ensures.entries in
     let state_is : c.state-state.result ≡ state_in here = state-parts c.state-state.result (state_in here) c.state-state.ensures.cycle c.state-state.ensures.pending in
-    let mask_is : c.cycle_mask.result ≡ planned_from walk.entries walk.window (state_in here) =
+    let mask_is : c.cycle_mask.result ≡ planned_from walk.start.now.ranking walk.window (state_in here) =
     c.cycle_mask.ensures.planned ∙ ap (λ (r : Ranking). planned_from r walk.window c.state-state.result) (c.ranked.ensures.ranking ∙ same)
-    ∙ ap (λ (s : PlanState). planned_from walk.entries walk.window s) state_is in
+    ∙ ap (λ (s : PlanState). planned_from walk.start.now.ranking walk.window s) state_is in
     record {
-      missed = miss-decided walk.entries walk.window walk.first.cycle walk.first.pending c.args.at c.miss-slot.result.slot c.miss-slot.result.release
+      missed = miss-decided walk.start.now.ranking walk.window walk.first.cycle walk.first.pending c.args.at c.miss-slot.result.slot c.miss-slot.result.release
           c.miss-slot.result.cycle c.cycle_mask.result c.in_ok-masks.masks.items (state_in here) _ c.in_ok-masks.ensures.planned
-          (missed-there walk.entries walk.window walk.first.cycle walk.first.pending c.miss-slot.result.slot c.miss-slot.result.release here same
+          (missed-there walk.start.now.ranking walk.window walk.first.cycle walk.first.pending c.miss-slot.result.slot c.miss-slot.result.release here same
           c.miss-slot.ensures.miss)
           c.miss-slot.ensures.cycle mask_is refl refl
           (c.of.ensures.list ∙ c.in_ok-push.ensures.items);

@@ -13,13 +13,13 @@ loop-count-init c =
     let stands = c.in_ok-planner.ensures.standing in
     record {
       planned = subst
-          (λ (s : Standing). IsPlannedUpTo (planning_of walk.entries walk.window walk.first.cycle walk.first.pending) 0 c.new-masks.result.items (state_in s))
+          (λ (s : Standing). IsPlannedUpTo (planning_of walk.start.now.ranking walk.window walk.first.cycle walk.first.pending) 0 c.new-masks.result.items (state_in s))
           (sym stands)
           (subst
-          (λ (items : List ℕ). IsPlannedUpTo (planning_of walk.entries walk.window walk.first.cycle walk.first.pending) 0 items walk.first)
+          (λ (items : List ℕ). IsPlannedUpTo (planning_of walk.start.now.ranking walk.window walk.first.cycle walk.first.pending) 0 items walk.first)
           (sym c.new-masks.ensures.items)
-          (planned-start walk.entries walk.window walk.first.cycle walk.first.pending c.known.ensures.below
-          (held-from_tests walk.entries.placed walk.first.cycle walk.first.pending walk.held)));
+          (planned-start walk.start.now.ranking walk.window walk.first.cycle walk.first.pending c.known.ensures.below
+          (held-from_tests walk.start.now.ranking.placed walk.first.cycle walk.first.pending walk.held)));
       entries = ap (λ (s : Standing). s.ranking) stands;
       within = omega arith;
     }
@@ -28,7 +28,7 @@ pub unreachable-requires : goal.unreachable-requires
 unreachable-requires c =
     let walk = c.args.walk.now in
     let missed = rw c.loop-count.invariant.entries at c.in-Err.ensures.missed in
-    let none = none-at walk.entries walk.window walk.first.cycle walk.first.pending c.loop-count.count c.args.cycles (state_in c.loop-count.planner)
+    let none = none-at walk.start.now.ranking walk.window walk.first.cycle walk.first.pending c.loop-count.count c.args.cycles (state_in c.loop-count.planner)
     c.loop-count.invariant.planned.state c.loop-count-test.true c.requires.none_missed in
     let not = none c.in-Err.field-0.slot missed.known in
     let is = missed.missed in
@@ -39,9 +39,9 @@ plan_empty-requires-clause-planned c =
     let walk = c.args.walk.now in
     let next = c.in-Ok.ensures.next in
     subst
-    (λ (items : List ℕ). IsPlannedUpTo (planning_of walk.entries walk.window walk.first.cycle walk.first.pending) (c.loop-count.count + 1) items (state_in c.step.new.self))
+    (λ (items : List ℕ). IsPlannedUpTo (planning_of walk.start.now.ranking walk.window walk.first.cycle walk.first.pending) (c.loop-count.count + 1) items (state_in c.step.new.self))
     (sym c.in_ok-push.ensures.items)
-    (planned-step walk.entries walk.window walk.first.cycle walk.first.pending c.loop-count.count c.in-Ok.planned.mask c.loop-count.masks.items
+    (planned-step walk.start.now.ranking walk.window walk.first.cycle walk.first.pending c.loop-count.count c.in-Ok.planned.mask c.loop-count.masks.items
     c.loop-count.planner c.step.new.self c.loop-count.invariant.planned c.loop-count.invariant.entries c.in-Ok.ensures.planned next c.in-Ok.ensures.next_valid)
 
 pub plan_empty-requires-clause-entries : goal.plan_empty-requires-clause-entries

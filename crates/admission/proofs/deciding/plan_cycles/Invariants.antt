@@ -7,8 +7,8 @@ use Rattle.admission.proofs.deciding.plan_cycles.Given as goal
 -- what is planned so far, by a planner of the entries that are walked
 abbrev pub invariant-loop-count : goal.invariant-loop-count
 invariant-loop-count l = record {
-  planned : IsPlannedUpTo (planning_of l.walk.entries l.walk.window l.walk.first.cycle l.walk.first.pending) l.count l.masks.items (state_in l.planner);
-  entries : l.planner.ranking ≡ l.walk.entries;
+  planned : IsPlannedUpTo (planning_of l.walk.start.now.ranking l.walk.window l.walk.first.cycle l.walk.first.pending) l.count l.masks.items (state_in l.planner);
+  entries : l.planner.ranking ≡ l.walk.start.now.ranking;
   within : l.count ≤ l.cycles;
 }
 

@@ -10,7 +10,7 @@ pub loop-init : goal.loop-init
 loop-init c =
     let walk = c.args.walk.now in
     record {
-      planned = planned-here walk.entries walk.window walk.first.cycle walk.first.pending c.args.count c.args.masks.now.items
+      planned = planned-here walk.start.now.ranking walk.window walk.first.cycle walk.first.pending c.args.count c.args.masks.now.items
           (state_in c.args.planner.now) c.requires.planned;
     }
 
@@ -22,10 +22,10 @@ loop-preserved c =
     let below : here.cycle + n < c.pass_until.new.planner.cycle = omega (arith, c.loop-test.true, c.state.ensures.cycle, c.state-here.ensures.cycle) in
     record {
       planned = subst
-          (λ (items : List ℕ). IsPlannedUpTo (planning_of walk.entries walk.window walk.first.cycle walk.first.pending) (c.args.count + (n + 1)) items
+          (λ (items : List ℕ). IsPlannedUpTo (planning_of walk.start.now.ranking walk.window walk.first.cycle walk.first.pending) (c.args.count + (n + 1)) items
           (record { cycle = here.cycle + (n + 1); pending = here.pending }))
           (sym (c.in_ok-push.ensures.items ∙ ap (λ (m : ℕ). c.loop.masks.items ++ m ∷ []) c.empty.ensures.number))
-          (planned-empty walk.entries walk.window walk.first.cycle walk.first.pending c.args.count c.loop.masks.items here n c.requires.entries
+          (planned-empty walk.start.now.ranking walk.window walk.first.cycle walk.first.pending c.args.count c.loop.masks.items here n c.requires.entries
           c.loop.invariant.planned (c.pass_until.ensures.passed walk.window (here.cycle + n) (omega arith) below)
           (c.pass_until.ensures.valid (here.cycle + n + 1) (omega arith) (omega (arith, below))));
     }
@@ -41,8 +41,8 @@ returns-clause-planned c =
     let is = state-parts (record { cycle = here.cycle + n; pending = here.pending }) (state_in there) end
     (sym (ap (λ (s : Standing). s.pending) c.pass_until.ensures.standing)) in
     subst
-    (λ k. IsPlannedUpTo (planning_of walk.entries walk.window walk.first.cycle walk.first.pending) (c.args.count + k) c.loop.masks.items (state_in there))
+    (λ k. IsPlannedUpTo (planning_of walk.start.now.ranking walk.window walk.first.cycle walk.first.pending) (c.args.count + k) c.loop.masks.items (state_in there))
     all
     (subst
-    (λ (s : PlanState). IsPlannedUpTo (planning_of walk.entries walk.window walk.first.cycle walk.first.pending) (c.args.count + n) c.loop.masks.items s) is
+    (λ (s : PlanState). IsPlannedUpTo (planning_of walk.start.now.ranking walk.window walk.first.cycle walk.first.pending) (c.args.count + n) c.loop.masks.items s) is
     c.loop.invariant.planned)

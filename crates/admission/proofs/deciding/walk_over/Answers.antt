@@ -1,60 +1,51 @@
-use Rattle.std.proofs.Common.{◌∙◌, refl}
-use Rattle.admission.proofs.Decided.{ranked-is, reduced-well_placed, walked-goes_on, walked-held, walked-positive}
+use Rattle.std.proofs.Common.{◌≡◌, ap, ◌∙◌, refl}
+use Rattle.planner_policies.specs.Plan.{Ranking, Standing}
+use Rattle.requirement_table.specs.Table.{not_over}
+use Rattle.admission.proofs.Decided.{walked-goes_on, walked-held, walked-positive}
 use Rattle.admission.proofs.Left.{bound-left, period-left}
 use Rattle.admission.proofs.deciding.walk_over.Goals as goal
+use Rattle.admission.proofs.deciding.walk_over.Goals.{After-placed-left}
 
-pub bound-requires : goal.bound-requires
-bound-requires c =
-    reduced-well_placed c.args.list.now c.as_slice.result.now c.args.state.now.cycle (c.as_slice.ensures.value ∙ c.in_ok-left.ensures.list)
-    c.requires.well_placed
-
-pub period-requires-clause-well_placed : goal.period-requires-clause-well_placed
-period-requires-clause-well_placed c =
-    reduced-well_placed c.args.list.now c.as_slice-2.result.now c.args.state.now.cycle (c.as_slice-2.ensures.value ∙ c.in_ok-left.ensures.list)
-    c.requires.well_placed
-
-pub rank_list-requires : goal.rank_list-requires
-rank_list-requires c = record {
-  well_placed = reduced-well_placed c.args.list.now c.in_ok-left.left.items c.args.state.now.cycle c.in_ok-left.ensures.list
-      c.requires.well_placed;
-}
+-- the entries that are walked
+left-is : (c : After-placed-left) → c.placed-left.result.now ≡ not_over c.args.state.now.cycle c.args._list.now
+left-is c =
+    c.placed-left.ensures.list
+    ∙ ap (λ (r : Ranking). r.placed) (c.ranked.ensures.ranking ∙ ap (λ (s : Standing). s.ranking) c.requires.standing)
 
 pub invariant_of-result : goal.invariant_of-result
 invariant_of-result c =
     let rules = c.args.rules.now in
-    let list = c.args.list.now in
+    let list = c.args._list.now in
     let state = c.args.state.now in
-    let walked = ranked-is rules list c.in_ok-left.left.items state.cycle c.in_ok-rank_list.field-0 c.in_ok-left.ensures.list c.in_ok-rank_list.ensures.ranked in
-    let left = c.in_ok-left.ensures.list in
-    let bound = bound-left state.cycle list c.as_slice.result.now c.bound.result (c.as_slice.ensures.value ∙ left) c.bound.ensures.cycle in
-    let period =
-    period-left rules.horizon state.cycle list c.as_slice-2.result.now c.period.result (c.as_slice-2.ensures.value ∙ left)
-    c.period.ensures.period in
+    let start = c.args.start.now in
+    let stands = c.requires.standing in
+    let walked = ap (λ (s : Standing). s.ranking) stands in
+    let left = left-is (goal.at.invariant_of-result c).After-placed-left in
+    let bound = bound-left state.cycle list c.placed-left.result.now c.bound.result left c.bound.ensures.cycle in
+    let period = period-left rules.horizon state.cycle list c.placed-left.result.now c.period.result left c.period.ensures.period in
     record {
+      cycle = ap (λ (s : Standing). s.cycle) stands;
+      pending = ap (λ (s : Standing). s.pending) stands;
       near = c.requires.next;
-      held = walked-held rules list c.in_ok-rank_list.field-0 state.cycle state.pending walked c.requires.well_placed c.requires.valid;
-      positive = walked-positive rules list c.in_ok-rank_list.field-0 state.cycle state.pending walked c.requires.well_placed c.period.result period;
-      goes_on = walked-goes_on rules list c.in_ok-rank_list.field-0 state.cycle state.pending walked c.requires.well_placed rules.window c.bound.result
+      held = walked-held rules list start.ranking state.cycle state.pending walked c.requires.well_placed c.requires.valid;
+      positive = walked-positive rules list start.ranking state.cycle state.pending walked c.requires.well_placed c.period.result period;
+      goes_on = walked-goes_on rules list start.ranking state.cycle state.pending walked c.requires.well_placed rules.window c.bound.result
           c.period.result bound period;
     }
 
-pub returns : goal.returns
-returns c =
+pub returns-clause-walked : goal.returns-clause-walked
+returns-clause-walked c =
     let rules = c.args.rules.now in
-    let list = c.args.list.now in
+    let list = c.args._list.now in
     let from = c.args.state.now.cycle in
-    let left = c.in_ok-left.ensures.list in
+    let left = left-is (goal.at.returns-clause-walked c).After-placed-left in
     record {
-      walked = record {
-        well = c.requires.well_placed;
-        valid = c.requires.valid;
-        known = c.known.ensures.below;
-        walked_is = ranked-is rules list c.in_ok-left.left.items from c.in_ok-rank_list.field-0 left c.in_ok-rank_list.ensures.ranked;
-        window_is = refl;
-        first_is = refl;
-        bound_is = bound-left from list c.as_slice.result.now c.bound.result (c.as_slice.ensures.value ∙ left) c.bound.ensures.cycle;
-        period_is =
-            period-left rules.horizon from list c.as_slice-2.result.now c.period.result (c.as_slice-2.ensures.value ∙ left)
-            c.period.ensures.period;
-      };
+      well = c.requires.well_placed;
+      valid = c.requires.valid;
+      known = c.known.ensures.below;
+      walked_is = ap (λ (s : Standing). s.ranking) c.requires.standing;
+      window_is = refl;
+      first_is = refl;
+      bound_is = bound-left from list c.placed-left.result.now c.bound.result left c.bound.ensures.cycle;
+      period_is = period-left rules.horizon from list c.placed-left.result.now c.period.result left c.period.ensures.period;
     }

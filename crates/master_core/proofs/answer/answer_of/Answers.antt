@@ -9,7 +9,7 @@ returns-clause-planned c =
     let types = c.in_ok-change.ensures.types in
     let same = c.in_ok-change.ensures.same in
     let decided = c.in_ok-verdict.ensures.decision in
-    elim c.match-table-2.branch [
+    elim c.match-table-3.branch [
       | in-None w ↦
           planned-none _ _ _ _ _ _ _ types same decided (ap (λ (o : Option RankedTable). option_map (λ t. t.placed) o) w.in-None.is) w.made-is
       | in-Some+in_ok-made_of-in-Some w ↦

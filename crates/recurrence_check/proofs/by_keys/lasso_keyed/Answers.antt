@@ -79,11 +79,11 @@ loop-walked-init g c =
     record {
       walking = Walking-start course (g.W.Walk.is_good walk) (g.W.Walk.number walk) (g.W.Walk.state_of c.in_ok-here.here) begun.start
           begun.good begun.number;
-      noted = Noted-start course (g.W.Keyed.key_of walk) (table c.new-row.result.items (get key_cmp c.new-others.result))
+      noted = Noted-start course (g.W.Keyed.key_of walk) (table c.in_ok-row.row.items (get key_cmp c.new-others.result))
           (table c.meet.new.row.items (get key_cmp c.meet.new.others)) (g.W.Walk.state_of c.in_ok-here.here) c.key.result c.in_ok-meet.field-0 begun.start
-          key_is (λ key. rw (c.new-row.ensures.items, c.new-others.ensures.empty)) c.in_ok-meet.ensures.met;
+          key_is (λ key. rw (c.in_ok-row.ensures.items, c.new-others.ensures.empty)) c.in_ok-meet.ensures.met;
       sparse = c.in_ok-meet.ensures.sparse
-          (Meets-empty (table c.new-row.result.items (get key_cmp c.new-others.result)) _ c.key.result 0 c.in_ok-meet.field-0 (λ key. rw (c.new-row.ensures.items, c.new-others.ensures.empty)) c.in_ok-meet.ensures.met);
+          (Meets-empty (table c.in_ok-row.row.items (get key_cmp c.new-others.result)) _ c.key.result 0 c.in_ok-meet.field-0 (λ key. rw (c.in_ok-row.ensures.items, c.new-others.ensures.empty)) c.in_ok-meet.ensures.met);
       on = begun.on;
       within = omega arith;
     }

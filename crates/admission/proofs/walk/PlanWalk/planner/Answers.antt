@@ -1,10 +1,12 @@
-use Rattle.std.proofs.Common.{sym, subst}
-use Rattle.planner_policies.specs.Plan.{IsValid, Ranking}
-use Rattle.admission.proofs.Same.{held-from_tests}
+use Rattle.std.proofs.Common.{◌≡◌, ◌∙◌, ap, IfOk, ℕ, subst}
+use Rattle.planner_policies.specs.Plan.{Standing}
 use Rattle.admission.proofs.walk.PlanWalk.planner.Goals as goal
 
-pub new-requires-clause-valid : goal.new-requires-clause-valid
-new-requires-clause-valid c =
+pub returns : goal.returns
+returns c =
     let walk = c.args.self.now in
-    subst (λ (r : Ranking). IsValid r.placed walk.first.cycle walk.first.pending) (sym c.in_ok-entries.ensures.same)
-    (held-from_tests walk.entries.placed walk.first.cycle walk.first.pending walk.held)
+    let start = walk.start.now in
+    let is : start ≡ record { ranking = start.ranking; cycle = walk.first.cycle; pending = walk.first.pending }
+    = ap (λ (n : ℕ). record start { cycle = n }) walk.cycle
+    ∙ ap (λ (m : ℕ). record { ranking = start.ranking; cycle = walk.first.cycle; pending = m }) walk.pending in
+    record { standing = subst (λ (s : Standing). IfOk c.ahead.result (λ planner. planner ≡ s)) is c.ahead.ensures.same }

@@ -6,7 +6,7 @@ use Rattle.admission.proofs.walk.PlanWalkKeyed.pass.Goals as goal
 pub returns-then-ahead-here-clause-stretch : goal.returns-then-ahead-here-clause-stretch
 returns-then-ahead-here-clause-stretch c =
     let walk = c.args.self.now in
-    stretch-none (course_of walk.entries walk.window walk.first walk.bound walk.period) (λ s. IsGoodState walk.entries walk.first.cycle s)
+    stretch-none (course_of walk.start.now.ranking walk.window walk.first walk.bound walk.period) (λ s. IsGoodState walk.start.now.ranking walk.first.cycle s)
     (λ s. s.cycle - walk.first.cycle) (λ s. key_in_period walk.bound walk.period s) c.args.here.now.state None
 
 pub returns-clause-stretch : goal.returns-clause-stretch
@@ -16,6 +16,6 @@ returns-clause-stretch c =
     let steps = c.min-steps.result in
     let within : here.state.cycle + steps ≤ here.planner.cycle
     = omega (arith, c.min-steps.ensures, c.if-ahead-here.false, c.state-ahead.ensures.cycle) in
-    stretch-passed walk.entries walk.window here.planner here.state (record { cycle = here.state.cycle + steps; pending = here.state.pending }) steps
+    stretch-passed walk.start.now.ranking walk.window here.planner here.state (record { cycle = here.state.cycle + steps; pending = here.state.pending }) steps
     c.requires.on refl refl within walk.first walk.bound walk.period c.known_behind-known.result.key c.requires.good.begun
     (λ k below. c.known_behind-known.ensures.keys k (omega (arith, below, c.min.ensures, c.min-steps.ensures)))

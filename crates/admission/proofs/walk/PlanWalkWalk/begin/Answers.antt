@@ -9,5 +9,5 @@ returns-clause-on c =
     let walk = c.args.self.now in
     let first = walk.first in
     let standing = c.in_ok-planner.ensures.standing in
-    on-start walk.entries walk.window c.in_ok-planner.planner first (ap (λ (s : Standing). s.ranking) standing) (ap (λ (s : Standing). s.cycle) standing)
-    (ap (λ (s : Standing). s.pending) standing) (held-from_tests walk.entries.placed first.cycle first.pending walk.held)
+    on-start walk.start.now.ranking walk.window c.in_ok-planner.planner first (ap (λ (s : Standing). s.ranking) standing) (ap (λ (s : Standing). s.cycle) standing)
+    (ap (λ (s : Standing). s.pending) standing) (held-from_tests walk.start.now.ranking.placed first.cycle first.pending walk.held)

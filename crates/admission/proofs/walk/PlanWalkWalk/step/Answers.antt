@@ -11,7 +11,7 @@ returns-then-here-state-clause-next c =
     let here = c.args.here.now in
     let walk = c.args.self.now in
     let less : here.state.cycle < here.planner.cycle = omega (arith, c.if-here-state.true, c.state.ensures.cycle) in
-    behind-passed walk.entries walk.window here.planner here.state c.requires.on (record { cycle = here.state.cycle + 1; pending = here.state.pending })
+    behind-passed walk.start.now.ranking walk.window here.planner here.state c.requires.on (record { cycle = here.state.cycle + 1; pending = here.state.pending })
     refl refl less
 
 pub returns-in-Ok-clause-next : goal.returns-in-Ok-clause-next
@@ -25,8 +25,8 @@ returns-in-Ok-clause-next c =
     (c.state-here.ensures.cycle ∙ ap (λ (s : Standing). s.cycle) c.in-Ok.ensures.next)
     (c.state-here.ensures.pending ∙ ap (λ (s : Standing). s.pending) c.in-Ok.ensures.next)
     ∙ ap (λ (r : Ranking). state_behind r walk.window (state_in planner)) on.ranking_is
-    ∙ ap (λ (s : PlanState). state_behind walk.entries walk.window s)
-    (stands-here walk.entries walk.window planner here.state on not_later)
+    ∙ ap (λ (s : PlanState). state_behind walk.start.now.ranking walk.window s)
+    (stands-here walk.start.now.ranking walk.window planner here.state on not_later)
 
 pub returns-in-Err-clause-next : goal.returns-in-Err-clause-next
 returns-in-Err-clause-next c =
@@ -37,5 +37,5 @@ returns-in-Err-clause-next c =
     let not_later : planner.cycle ≤ here.state.cycle = omega (arith, c.if-here-state.false, c.state.ensures.cycle) in
     behind-missed planner.ranking walk.window c.in-Err.field-0.slot c.in-Err.field-0.release (state_in planner) c.in-Err.ensures.missed
     ∙ ap (λ (r : Ranking). state_behind r walk.window (state_in planner)) on.ranking_is
-    ∙ ap (λ (s : PlanState). state_behind walk.entries walk.window s)
-    (stands-here walk.entries walk.window planner here.state on not_later)
+    ∙ ap (λ (s : PlanState). state_behind walk.start.now.ranking walk.window s)
+    (stands-here walk.start.now.ranking walk.window planner here.state on not_later)
