@@ -30,7 +30,7 @@ is_request requests past id request first =
     All-contains (Contains requests) (unsent_after requests past id) request unsent (Contains-slice_get (unsent_after requests past id) 0 request first)
 
 -- an owner's identifier is one of its node
-Contains-identifiers : (number : ℕ) (owners : List Owner) (owner : Owner) → Contains owners owner → owner.node ≡ number
+pub Contains-identifiers : (number : ℕ) (owners : List Owner) (owner : Owner) → Contains owners owner → owner.node ≡ number
     → Contains (identifiers_of number owners) owner.id
 Contains-identifiers number owners owner has same =
     let Own : Owner → Bool = λ x. x.node == number in

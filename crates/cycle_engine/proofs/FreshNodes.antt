@@ -1,30 +1,28 @@
 -- The nodes of a bus before cycle 0.
-use Rattle.std.proofs.Common.{◌≡◌, ◌≢◌, ℕ, ◌<◌, ◌≤◌, List, [], length, map, get_or, All, AllPairs, Any, Contains, Some, refl, sym, ap, ◌∙◌, subst, arith}
-use Rattle.std.specs.List.{slice_get}
-use Rattle.std.proofs.lemmas.List.{get_or-map}
+use Rattle.std.proofs.Common.{◌≡◌, ℕ, ◌<◌, ◌≤◌, List, [], length, map, get_or, All, Any, Contains, Some, refl, sym, ap, ◌∙◌, subst, arith}
+use Rattle.std.specs.List.{range_with_len, slice_get}
+use Rattle.std.proofs.lemmas.List.FromFn.{get_or-map-range_with_len, length-map-range_with_len}
 use Rattle.std.proofs.lemmas.List.Elements.{All-contains, All-nil, Contains-get_or}
 use Rattle.std.proofs.lemmas.Option.{slice_get-get_or}
 use Rattle.cycle_layout.specs.Layout.{CycleLayout}
+use Rattle.requirement_table.specs.declared.entries.Placed.{Placed}
 use Rattle.requirement_table.specs.Table.{IsInRange, IsWellPlaced}
 use Rattle.async_window.specs.declared.request.Owner.{Owner}
 use Rattle.async_window.specs.declared.request.Request.{Request}
-use Rattle.node_model.specs.Node.{IsNode, NodeState, NodeView}
+use Rattle.node_model.specs.Node.{NodeState, identifiers_of}
+use Rattle.async_window.specs.Mailbox.{Mail, mail_after, unsent_of}
+use Rattle.async_window.specs.Waiting.{unsent_after}
 use Rattle.async_window.specs.Owners.{AreOwners}
-use Rattle.node_model.specs.Own.{AreApart, Stands}
+use Rattle.node_model.specs.Own.{Stands}
 use Rattle.node_model.specs.Node.{fresh_node}
+use Rattle.cycle_engine.specs.Joint.{IsJoint, identifiers_in, joint_owners, part_of, parts_of}
 use Rattle.cycle_engine.specs.Nodes.{IsBus, IsNumber, IsOwned, states_of}
-use Rattle.cycle_engine.specs.Stations.{AreNodes}
+use Rattle.cycle_engine.proofs.JointMail.{mail-by}
 use Rattle.cycle_engine.proofs.Lists.{Contains-map}
-
--- what nodes know, place by place
-pub known-each : (P : ℕ → NodeState) (nodes : List NodeView) (count : ℕ) → length nodes ≡ count → ((k : ℕ) (d : NodeView) → k < count → (get_or nodes k d).state ≡ P k)
-    → (k : ℕ) (d : NodeState) → k < count → get_or (states_of nodes) k d ≡ P k
-known-each P nodes count long each k d within =
-    let filler : NodeView = record { state = d; spare = 0 } in
-    get_or-map (λ x. x.state) nodes k filler d (omega (arith, within, long)) ∙ each k filler within
+use Rattle.cycle_engine.proofs.Parts.{identifiers-joint, owner-of, states-parts}
 
 -- the list without entries is well placed
-no_entries : IsWellPlaced []
+pub no_entries : IsWellPlaced []
 no_entries = record { in_range = All-nil IsInRange; in_order = λ i j d before within. absurd (omega arith) }
 
 module _ (layout : CycleLayout) (owners : List Owner) (requests : List Request) (nodes : List NodeState) (count : ℕ) (long : length nodes ≡ count)
@@ -50,22 +48,6 @@ module _ (layout : CycleLayout) (owners : List Owner) (requests : List Request) 
     node = IsNumber-below owner.node (All-contains (λ x. x.node < count) owners owner below (place, within, is));
   }
 
-  pub AreNodes-fresh : count ≤ 30 → AreOwners owners → All IsNode nodes
-      → ((one other : NodeState) → one.number ≢ other.number → AreOwners owners → IsWellPlaced []
-      → Stands layout owners requests [] [] 0 one → Stands layout owners requests [] [] 0 other → AreApart one other)
-      → AreNodes layout nodes
-  AreNodes-fresh few are_owners are apart =
-      let differ : AllPairs (λ one other. one.number ≢ other.number) nodes = λ i j d before within same.
-      absurd (omega (arith, before, numbered i d (omega (arith, before, within, long)), numbered j d (omega (arith, within, long)), same)) in
-      record {
-        few = omega (arith, long, few);
-        are = are;
-        layouts = λ k d within. ap (λ node. node.layout) (each k d (omega (arith, within, long)));
-        numbers = differ;
-        apart = λ i j d before within. apart (get_or nodes i d) (get_or nodes j d) (differ i j d before within) are_owners no_entries
-            (stands i d (omega (arith, before, within, long))) (stands j d (omega (arith, within, long)));
-      }
-
   pub IsBus-fresh : AreOwners owners → All (λ owner. owner.node < count) owners → All (λ request. Any (λ owner. owner.id ≡ request.frame.identifier) owners) requests
       → IsBus layout owners requests [] [] 0 nodes
   IsBus-fresh are_owners below owned = record {
@@ -79,3 +61,62 @@ module _ (layout : CycleLayout) (owners : List Owner) (requests : List Request) 
   fresh-at number within =
       let d = fresh_node layout owners requests number in
       slice_get-get_or nodes number d (omega (arith, within, long)) ∙ ap (λ node. Some node) (each number d within)
+
+-- The parts of a joint node before cycle 0
+
+module _ (owners : List Owner) (requests : List Request)
+    (among : (ids : List ℕ) (id : ℕ) → Contains ids id → unsent_of (mail_after ids requests []) id ≡ unsent_after requests [] id) where
+  abbrev all_mail : List Mail
+  all_mail = mail_after (identifiers_of 0 (joint_owners owners)) requests []
+
+  fresh-unsent : (id : ℕ) → Contains (identifiers_in owners) id → unsent_of all_mail id ≡ unsent_after requests [] id
+  fresh-unsent id has = among (identifiers_of 0 (joint_owners owners)) id (subst (λ ids. Contains ids id) (sym (identifiers-joint owners)) has)
+
+  pub fresh-part : (layout : CycleLayout) (number : ℕ)
+      → part_of owners [] (fresh_node layout (joint_owners owners) requests 0) number ≡ fresh_node layout owners requests number
+  fresh-part layout number =
+      ap (λ mail. record (fresh_node layout owners requests number) { mail = mail })
+      (mail-by (identifiers_of number owners) all_mail requests [] (λ id has.
+      let its = owner-of number id owners has in
+      fresh-unsent id (subst (Contains (identifiers_in owners)) its.2 (Contains-map (λ owner. owner.id) owners its.0 its.1))))
+
+  pub fresh-joint : (layout : CycleLayout) (count : ℕ) → 1 ≤ count → count ≤ 30 → AreOwners owners → All (λ owner. owner.node < count) owners
+      → IsJoint owners [] count (fresh_node layout (joint_owners owners) requests 0)
+  fresh-joint layout count some few are below = record {
+    some = some;
+    few = few;
+    number = refl;
+    entries = refl;
+    mail = ap (λ ids. mail_after ids requests []) (identifiers-joint owners)
+        ∙ sym (mail-by (identifiers_in owners) all_mail requests [] fresh-unsent);
+    are_owners = are;
+    numbers = below;
+    well_placed = no_entries;
+  }
+
+  pub fresh-each : (layout : CycleLayout) (spare count : ℕ) (joint : NodeState) → joint ≡ fresh_node layout (joint_owners owners) requests 0
+      → (k : ℕ) (d : NodeState) → k < count → get_or (states_of (parts_of owners [] spare count joint)) k d ≡ fresh_node layout owners requests k
+  fresh-each layout spare count joint same k d within =
+      ap (λ nodes. get_or nodes k d) (states-parts owners [] spare joint (range_with_len 0 count))
+      ∙ get_or-map-range_with_len (part_of owners [] joint) 0 count k k d within (omega arith)
+      ∙ ap (λ j. part_of owners [] j k) same ∙ fresh-part layout k
+
+  pub made-each : (layout : CycleLayout) (spare count : ℕ) (kept : List Owner) (placed : List Placed) (joint : NodeState) → kept ≡ owners → placed ≡ []
+      → joint ≡ fresh_node layout (joint_owners owners) requests 0
+      → (k : ℕ) (d : NodeState) → k < count → get_or (states_of (parts_of kept placed spare count joint)) k d ≡ fresh_node layout owners requests k
+  made-each layout spare count kept placed joint same none is k d within =
+      ap (λ os. get_or (states_of (parts_of os placed spare count joint)) k d) same
+      ∙ ap (λ ps. get_or (states_of (parts_of owners ps spare count joint)) k d) none
+      ∙ fresh-each layout spare count joint is k d within
+
+  pub made-joint : (layout : CycleLayout) (count : ℕ) (kept : List Owner) (placed : List Placed) (joint : NodeState) → kept ≡ owners → placed ≡ []
+      → joint ≡ fresh_node layout (joint_owners owners) requests 0 → 1 ≤ count → count ≤ 30 → AreOwners owners → All (λ owner. owner.node < count) owners
+      → IsJoint kept placed count joint
+  made-joint layout count kept placed joint same none is some few are below =
+      subst (λ os. IsJoint os placed count joint) (sym same)
+      (subst (λ ps. IsJoint owners ps count joint) (sym none)
+      (subst (IsJoint owners [] count) (sym is) (fresh-joint layout count some few are below)))
+
+pub made-count : (owners : List Owner) (placed : List Placed) (spare count : ℕ) (joint : NodeState) → length (states_of (parts_of owners placed spare count joint)) ≡ count
+made-count owners placed spare count joint =
+    ap length (states-parts owners placed spare joint (range_with_len 0 count)) ∙ length-map-range_with_len (part_of owners placed joint) 0 count

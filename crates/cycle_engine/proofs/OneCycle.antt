@@ -1,27 +1,26 @@
 -- One cycle, as its order and the nodes make it.
-use Rattle.std.proofs.Common.{◌≡◌, ℕ, ◌+◌, ◌*◌, ◌^◌, ◌<◌, ◌≤◌, List, [], ◌++◌, All, Option, None, Some, ap, ◌∙◌, subst, get_or, arith}
-use Rattle.std.specs.Prelude.{IfSome}
+use Rattle.std.proofs.Common.{◌≡◌, ℕ, ◌+◌, ◌*◌, ◌^◌, ◌<◌, ◌≤◌, List, [], ◌++◌, All, refl, ap, ◌∙◌, subst, arith}
 use Rattle.std.proofs.Math.Nat.{add-mul}
-use Rattle.std.proofs.lemmas.List.Elements.{All-map, All-weaker}
+use Rattle.std.proofs.lemmas.List.Elements.{All-weaker}
 use Rattle.can_frame.specs.DataFrame.{DataFrame}
 use Rattle.can_frame.specs.declared.data_frame.TimedFrame.{TimedFrame}
 use Rattle.cycle_layout.specs.Layout.{CycleLayout, IsLayout}
 use Rattle.requirement_table.specs.declared.entries.Order.{Order}
 use Rattle.requirement_table.specs.declared.entries.Placed.{Placed}
-use Rattle.requirement_table.specs.Table.{IsWellPlaced}
 use Rattle.trigger_codec.specs.Bytes.{triggers_with}
 use Rattle.async_window.specs.declared.request.Owner.{Owner}
 use Rattle.async_window.specs.declared.request.Request.{Request}
 use Rattle.bus_line.specs.Trace.{Follows}
 use Rattle.bus_line.specs.Stations.{offers_of}
-use Rattle.node_model.specs.Node.{IsNode, NodeState, learnt}
+use Rattle.node_model.specs.Node.{IsNode, NodeState}
 use Rattle.node_model.specs.Own.{Stands, StandsIn}
-use Rattle.cycle_engine.specs.Nodes.{IsBefore, IsBus, heard_by, learnt_by, opening_of}
+use Rattle.cycle_engine.specs.Joint.{BeginsWithTriggers}
+use Rattle.cycle_engine.specs.Nodes.{IsBefore, IsBus, heard_by, opening_of}
 use Rattle.cycle_engine.specs.Offered.{offered_in}
 use Rattle.cycle_engine.specs.Stations.{announced, cycle_line}
 use Rattle.cycle_engine.proofs.Belongs.{known-senders}
 use Rattle.cycle_engine.proofs.TriggerFrames.{frames_long}
-use Rattle.cycle_engine.proofs.Announced.{can-be-heard}
+use Rattle.cycle_engine.proofs.Announced.{can-be-heard, go-first}
 use Rattle.cycle_engine.proofs.NextCycle.{AtCycle-behind}
 use Rattle.cycle_engine.proofs.Along.{Follows-cycle, NodeLaws, Standing, Waiting}
 
@@ -36,29 +35,6 @@ abbrev pub RunsOrder : Order → List TimedFrame → CycleLayout → List NodeSt
 RunsOrder order frames layout nodes =
     Follows (offers_of cycle_line (announced layout (order.cycle * layout.cycle) (triggers_with layout.slots order.cycle order.l order.mask) nodes))
     [] (order.cycle * layout.cycle) ((order.cycle + 1) * layout.cycle) frames
-
-pub RunsOrder-same : (order : Order) (frames : List TimedFrame) (layout also : CycleLayout) (nodes others : List NodeState) → layout ≡ also → nodes ≡ others
-    → RunsOrder order frames layout nodes → RunsOrder order frames also others
-RunsOrder-same order frames layout also nodes others same known runs =
-    subst (λ l. RunsOrder order frames l others) same (subst (RunsOrder order frames layout) known runs)
-
--- what a list changes in no node
-pub learnt_by-next : (learned : Option (List Placed)) (cycle : ℕ) (nodes : List NodeState) → All (λ node. node.next ≡ cycle) nodes
-    → All (λ node. node.next ≡ cycle) (learnt_by learned nodes)
-learnt_by-next None cycle nodes all = all
-learnt_by-next (Some placed) cycle nodes all = All-map (λ node. node.next ≡ cycle) (learnt placed) nodes all
-
-pub learnt_by-are : (learned : Option (List Placed)) (nodes : List NodeState)
-    → ((placed : List Placed) (node : NodeState) → IsWellPlaced placed → IsNode node → IsNode (learnt placed node))
-    → IfSome learned IsWellPlaced → All IsNode nodes → All IsNode (learnt_by learned nodes)
-learnt_by-are None nodes stays well_placed all = all
-learnt_by-are (Some placed) nodes stays well_placed all =
-    All-map IsNode (learnt placed) nodes (λ k d within. stays placed (get_or nodes k d) well_placed (all k d within))
-
-pub learnt_by-layouts : (learned : Option (List Placed)) (layout : CycleLayout) (nodes : List NodeState) → All (λ node. node.layout ≡ layout) nodes
-    → All (λ node. node.layout ≡ layout) (learnt_by learned nodes)
-learnt_by-layouts None layout nodes all = all
-learnt_by-layouts (Some placed) layout nodes all = All-map (λ node. node.layout ≡ layout) (learnt placed) nodes all
 
 -- nodes before the cycle of an order, which is run
 pub record IsRun (layout : CycleLayout) (order : Order) (nodes : List NodeState) (frames : List TimedFrame) : Type 0 where
@@ -79,6 +55,18 @@ cycle_next laws layout order nodes frames run =
     AtCycle-behind laws.in_range laws.stays layout ((order.cycle + 1) * layout.cycle) nodes frames (order.cycle * layout.cycle) order.cycle order.l order.mask
     (omega (arith, long, add-mul order.cycle 1 layout.cycle, run.is_layout.room))
     (can-be-heard layout order.cycle order.l order.mask laws.at_most nodes run.early run.are run.layouts run.next) run.next run.runs
+
+-- the frames begin with the trigger frames
+pub begins : (laws : NodeLaws) (layout : CycleLayout) (order : Order) (nodes : List NodeState) (frames : List TimedFrame) → IsRun layout order nodes frames
+    → BeginsWithTriggers layout order frames
+begins laws layout order nodes frames run =
+    let start = order.cycle * layout.cycle in
+    let triggers = triggers_with layout.slots order.cycle order.l order.mask in
+    let long = frames_long layout.slots order.cycle order.l order.mask in
+    let cut = go-first layout start laws.in_range laws.stays triggers nodes (announced layout start triggers nodes) [] start ((order.cycle + 1) * layout.cycle) frames
+    (omega arith) (omega (arith, long, add-mul order.cycle 1 layout.cycle, run.is_layout.room))
+    (can-be-heard layout order.cycle order.l order.mask laws.at_most nodes run.early run.are run.layouts run.next) refl run.runs in
+    record { sent = cut.sent; later = cut.later; split = cut.split; are = cut.are }
 
 module _ (laws : NodeLaws) (layout : CycleLayout) (order : Order) (nodes : List NodeState) (frames : List TimedFrame) (run : IsRun layout order nodes frames)
     (owners : List Owner) (requests : List Request) (placed : List Placed) (past : List TimedFrame) (before : IsBefore layout owners requests placed past order nodes) where

@@ -1,7 +1,6 @@
 pub mod Cycle
-pub mod Handed
+pub mod Joint
 pub mod Nodes
 pub mod Offered
-pub mod Soonest
 pub mod Stations
 pub mod SyncWindow

@@ -24,10 +24,6 @@ pub record NodesView : Type 0 where
 abbrev pub states_of : List NodeView → List NodeState
 states_of nodes = map (λ node. node.state) nodes
 
--- the greatest length of a list that each of the nodes can learn without memory
-abbrev pub spares_of : List NodeView → List ℕ
-spares_of nodes = map (λ node. node.spare) nodes
-
 -- the nodes' `spare` is at least so much: each of them can learn a list of so many entries without memory
 abbrev pub HaveSpare : ℕ → List NodeView → Type 0
 HaveSpare entries nodes = All (λ node. entries ≤ node.spare) nodes

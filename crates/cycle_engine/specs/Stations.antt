@@ -12,7 +12,6 @@ use Rattle.bus_line.specs.Stations.{Line}
 use Rattle.node_model.specs.Node.{IsNode, NodeState, NodeView, after_hearing, node_frame, node_offer}
 use Rattle.node_model.specs.Node.{opening_identifier}
 use Rattle.node_model.specs.Own.{AreApart}
-use Rattle.cycle_engine.specs.Nodes.{states_of}
 use Rattle.cycle_engine.specs.declared.stations.Due.{Due}
 
 -- a trigger frame, and the time from which on it is offered
@@ -26,14 +25,14 @@ pub record Stationed : Type 0 where
   pub triggers : List DueTrigger
   pub nodes : List NodeState
 
--- the same with the greatest length of a list that each node can learn without memory
+-- the same of one node, with the greatest length of a list that it can learn without memory
 pub record StationsView : Type 0 where
   pub layout : CycleLayout
   pub triggers : List DueTrigger
-  pub nodes : List NodeView
+  pub node : NodeView
 
 abbrev pub stationed : StationsView → Stationed
-stationed view = record { layout = view.layout; triggers = view.triggers; nodes = states_of view.nodes }
+stationed view = record { layout = view.layout; triggers = view.triggers; nodes = view.node.state ∷ [] }
 
 -- trigger frames that are offered from one time on
 abbrev pub due_from : ℕ → List DataFrame → List DueTrigger

@@ -16,8 +16,6 @@ ghost use Rattle.cycle_engine.specs.Nodes.{states_of};
 use crate::nodes::Nodes;
 use crate::segment::Segment;
 use can_frame::TimedFrame;
-use can_frame::laws::wire_lengths;
-use node_model::laws::{hears_a_cycle, offers_in_range, offers_its_part, stays_a_node};
 use requirement_table::Order;
 use std::alloc::{AllocError, Global};
 
@@ -121,14 +119,5 @@ pub fn run_cycle_into(order: &Order, nodes: &mut Nodes, frames: &mut Vec<TimedFr
         → IsBus nodes.old.layout owners requests placed (past ++ frames.new.items)
         (order.now.cycle + 1) (states_of nodes.new.nodes) }
 {
-    wire_lengths();
-    offers_its_part();
-    hears_a_cycle();
-    stays_a_node();
-    offers_in_range();
-    order.mask.known();
-    nodes.are_known();
-    nodes.learn(&order.learned);
-    frames.clear();
     nodes.run(order, frames);
 }

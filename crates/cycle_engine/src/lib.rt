@@ -5,10 +5,8 @@
 #![tactic(auto)]
 
 mod cycle;
-mod each;
-mod handing;
+mod joint;
 pub mod laws;
-mod next_offers;
 mod nodes;
 mod segment;
 mod stations;

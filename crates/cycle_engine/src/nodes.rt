@@ -1,54 +1,69 @@
 //! The nodes of a bus.
 
-ghost use Rattle.std.specs.Prelude.{◌≡◌, ℕ, ◌+◌, ◌*◌, ◌/◌, ◌^◌, ◌<◌, ◌≤◌, [], ◌∷◌, All, AllPairs, Any, IfOk, IfSome};
-ghost use Rattle.std.specs.List.{cons_option};
-ghost use Rattle.std.specs.Prelude.{OnOk, Some, length, slice_get, slice_index_or, vec_capacity};
+ghost use Rattle.std.specs.Prelude.{◌≡◌, ℕ, ◌+◌, ◌*◌, ◌/◌, ◌^◌, ◌<◌, ◌≤◌, ◌++◌, [], All, AllPairs, Any, IfOk, IfSome, List};
+ghost use Rattle.std.specs.Prelude.{OnOk, Some, length, map, slice_get, vec_capacity};
 ghost use Rattle.profile.specs.Limits.{arrivals_end, cycles_end, most_nodes, shortest_frame};
+ghost use Rattle.can_frame.specs.declared.data_frame.TimedFrame.{TimedFrame};
 ghost use Rattle.cycle_layout.specs.Layout.{IsLayout};
+ghost use Rattle.requirement_table.specs.declared.entries.Placed.{Placed};
 ghost use Rattle.requirement_table.specs.Table.{IsWellPlaced};
-ghost use Rattle.trigger_codec.specs.Bytes.{trigger_frame, triggers_with};
-ghost use Rattle.bus_line.specs.Trace.{Follows};
-ghost use Rattle.bus_line.specs.Stations.{offers_of};
-ghost use Rattle.node_model.specs.Node.{IsNode, NodeView};
+ghost use Rattle.async_window.specs.declared.request.Owner.{Owner};
+ghost use Rattle.async_window.specs.declared.request.Request.{Request};
 ghost use Rattle.async_window.specs.Owners.{AreOwners};
+ghost use Rattle.bus_line.specs.Trace.{Follows};
 ghost use Rattle.node_model.specs.Node.{fresh_node};
-ghost use Rattle.cycle_engine.specs.Nodes.{CanLearn, HaveSpare, IsBus, IsNumber, KeepSpare, heard_by, learnt_by, left_in};
-ghost use Rattle.cycle_engine.specs.Nodes.{states_of};
-ghost use Rattle.cycle_engine.specs.Stations.{AreNodes, announced, cycle_line};
-ghost use Rattle.cycle_engine.specs.SyncWindow.{IsBeforeWindow};
-ghost use Rattle.cycle_engine.specs.Handed.{IsNodeTable};
+ghost use Rattle.cycle_engine.specs.Joint.{joint_entries, joint_entry, joint_owners, known_by};
+ghost use Rattle.cycle_engine.specs.Nodes.{CanLearn, HaveSpare, IsBefore, IsBus, IsNumber, KeepSpare, heard_by};
+ghost use Rattle.cycle_engine.specs.Nodes.{learnt_by, left_in, opening_of, states_of};
+ghost use Rattle.cycle_engine.specs.Offered.{offered_in};
 
-use crate::each::SLOTS_OF_ONE;
-use crate::handing::{by_node, nodes_of};
+use crate::joint;
+use crate::laws::OneCycle;
 use crate::stations::NodeStations;
+use async_window::laws::{taking_laws, unsent_laws};
 use async_window::{Owner, Request};
-use bus_line::laws::{StationOffers, same_along, trace_laws};
-use bus_line::run_until;
-use can_frame::laws::wire_lengths;
-use can_frame::{Frame, TimedFrame};
+use bus_line::laws::same_along;
+use can_frame::TimedFrame;
 use cycle_layout::Layout;
 use node_model::Node;
-use node_model::laws::{nodes_are_apart, offers_in_range, sends_its_slots, stays_a_node};
-use requirement_table::{Order, PlacedList};
+use node_model::laws::{sends_its_slots, stays_a_node};
+use requirement_table::{Entry, Order, Placed, PlacedList};
 use std::alloc::{AllocError, Global};
 use std::marker::Model;
-use trigger_codec::{encode, encode_second};
 
 /// The nodes of a bus. Contracts see the layout and the nodes, each with what it knows.
+///
+/// All nodes hear the same frames, no two own one identifier, and no two may send a slot in one cycle. So one node stands
+/// for all of them, the joint node: it owns all identifiers and knows all entries. What each node knows is its part of
+/// that.
 #[derive(Drop)]
 pub struct Nodes {
+    /// The joint node as a station on the bus. It has number 0, and so have its owners and its entries.
     stations: NodeStations,
+    /// The number of nodes.
+    count: u8,
+    /// Who owns which identifier.
+    owners: Vec<Owner>,
+    /// The list that the nodes learnt.
+    placed: Vec<Placed>,
+    /// The same list as that of the joint node.
+    joint: Vec<Placed>,
 }
 
 impl Model for Nodes {
-    ghost use Rattle.std.specs.Prelude.{◌^◌, ◌<◌};
-    ghost use Rattle.cycle_engine.specs.Nodes.{NodesView, left_in, states_of};
+    ghost use Rattle.std.specs.Prelude.{min, vec_capacity};
+    ghost use Rattle.cycle_engine.specs.Joint.{IsJoint, parts_of};
+    ghost use Rattle.cycle_engine.specs.Nodes.{NodesView};
 
     ghost Value = { NodesView };
 
-    ghost view = { λ n. record { layout = n.stations.layout; nodes = n.stations.nodes } };
+    ghost view = { λ n. record {
+      layout = n.stations.layout;
+      nodes = parts_of n.owners.items n.placed.items
+          (min n.stations.node.spare (min (vec_capacity n.placed) (vec_capacity n.joint))) n.count n.stations.node.state;
+    } };
 
-    ghost invariant = { λ n. left_in (states_of n.stations.nodes) < 2 ^ 64 };
+    ghost invariant = { λ n. IsJoint n.owners.items n.placed.items n.count n.stations.node.state };
 }
 
 impl Nodes {
@@ -77,12 +92,16 @@ impl Nodes {
         ensures numbers { IfOk result (λ bus. (number : ℕ) → number < nodes → IsNumber (states_of bus.nodes) number) }
         ensures bus { IfOk result (λ bus. IsBus layout owners.now requests.now [] [] 0 (states_of bus.nodes)) }
     {
-        nodes_are_apart();
-        fit_into_memory(requests);
-        let table = nodes_of(alloc, owners)?;
-        let made = fresh_nodes(alloc, layout, nodes, owners, table.as_slice(), requests)?;
+        unsent_laws();
+        let joint = joint_owners(alloc, owners)?;
+        let node = Node::new(alloc, 0, layout, joint.as_slice(), requests)?;
+        let kept = owners.to_vec(alloc)?;
         Ok(Nodes {
-            stations: NodeStations::new(layout, made, table),
+            stations: NodeStations::new(layout, node),
+            count: nodes,
+            owners: kept,
+            placed: Vec::new(alloc),
+            joint: Vec::new(alloc),
         })
     }
 
@@ -100,12 +119,10 @@ impl Nodes {
         self.stations.layout()
     }
 
-    /// What is true of all nodes and their layout. This does nothing: it brings the facts to a proof.
+    /// What is true of the layout. This does nothing: it brings the fact to a proof.
     pub(crate) fn are_known(&self)
-        ensures nodes { AreNodes self.now.layout (states_of self.now.nodes) }
         ensures known { IsLayout self.now.layout }
     {
-        self.stations.are_known();
         self.stations.layout().is_in_range();
     }
 
@@ -116,6 +133,10 @@ impl Nodes {
         ensures layout { self.new.layout ≡ self.old.layout }
         ensures spare { KeepSpare self.old.nodes self.new.nodes }
     {
+        let additional = entries.saturating_sub(self.placed.len());
+        self.placed.reserve(additional)?;
+        let additional = entries.saturating_sub(self.joint.len());
+        self.joint.reserve(additional)?;
         self.stations.reserve(alloc, entries)
     }
 
@@ -136,123 +157,110 @@ impl Nodes {
         }
     }
 
-    /// Hands a list to each node, where there is one.
-    pub(crate) fn learn(&mut self, learned: &Option<PlacedList>)
-        requires well_placed { IfSome learned.now IsWellPlaced }
-        requires room { CanLearn learned.now self.old.nodes }
-        ensures layout { self.new.layout ≡ self.old.layout }
-        ensures learnt { states_of self.new.nodes ≡ learnt_by learned.now (states_of self.old.nodes) }
-        ensures spare { KeepSpare self.old.nodes self.new.nodes }
-    {
-        if let Some(list) = learned {
-            self.stations.learn(list.as_slice());
-        }
-    }
-
-    /// Runs the bus over the nodes through the cycle of an order, and puts the frames into `frames`, which has room for
-    /// them.
+    /// Hands the list of an order to the nodes, where there is one, and runs its cycle on the bus. The frames of the cycle
+    /// take the place of those of the list, which has room for them.
     pub(crate) fn run(&mut self, order: &Order, frames: &mut Vec<TimedFrame>)
         requires cycle { order.now.cycle < cycles_end }
         requires next { All (λ node. node.next ≡ order.now.cycle) (states_of self.old.nodes) }
+        requires learned { IfSome order.now.learned IsWellPlaced }
         requires window { order.now.l ≤ self.old.layout.window }
         requires slots { order.now.mask < 2 ^ self.old.layout.slots }
-        requires empty { frames.old.items ≡ [] }
+        requires spare { CanLearn order.now.learned self.old.nodes }
         requires room { self.old.layout.cycle / shortest_frame + 1 ≤ vec_capacity frames.old }
         ensures layout { self.new.layout ≡ self.old.layout }
-        ensures heard { states_of self.new.nodes ≡ heard_by frames.new.items (states_of self.old.nodes) }
-        ensures runs { Follows
-            (offers_of cycle_line (announced self.old.layout (order.now.cycle * self.old.layout.cycle)
-            (triggers_with self.old.layout.slots order.now.cycle order.now.l order.now.mask) (states_of self.old.nodes)))
-            [] (order.now.cycle * self.old.layout.cycle)
+        ensures heard { states_of self.new.nodes
+            ≡ heard_by frames.new.items (learnt_by order.now.learned (states_of self.old.nodes)) }
+        ensures next { All (λ node. node.next ≡ order.now.cycle + 1) (states_of self.new.nodes) }
+        ensures spare { KeepSpare self.old.nodes self.new.nodes }
+        ensures capacity { vec_capacity frames.old ≤ vec_capacity frames.new }
+        ensures few { length frames.new.items ≤ self.old.layout.cycle / shortest_frame + 1 }
+        ensures runs { (owners : List Owner) (requests : List Request) (placed : List Placed) (past : List TimedFrame)
+            → IsBefore self.old.layout owners requests placed past order.now
+            (learnt_by order.now.learned (states_of self.old.nodes))
+            → Follows (offered_in self.old.layout requests (opening_of order.now placed)) past
+            (order.now.cycle * self.old.layout.cycle)
             ((order.now.cycle + 1) * self.old.layout.cycle) frames.new.items }
-        ensures capacity { vec_capacity frames.old ≤ vec_capacity frames.new }
-        ensures spare { KeepSpare self.old.nodes self.new.nodes }
+        ensures stand { (owners : List Owner) (requests : List Request) (placed : List Placed) (past : List TimedFrame)
+            → IsBefore self.old.layout owners requests placed past order.now
+            (learnt_by order.now.learned (states_of self.old.nodes))
+            → IsBus self.old.layout owners requests placed (past ++ frames.new.items)
+            (order.now.cycle + 1) (states_of self.new.nodes) }
     {
-        self.are_known();
-        let layout = *self.layout();
-        let end = (order.cycle + 1) * u64::from(layout.cycle());
-        let from = self.run_up_to_window(order, frames);
-        self.stations.run_window(from, end, frames);
-    }
-
-    /// Runs the bus over the nodes through the cycle of an order up to its synchronous window, and puts the frames into
-    /// `frames`, which has room for them. The answer is the first time in that window at which the bus is free.
-    fn run_up_to_window(&mut self, order: &Order, frames: &mut Vec<TimedFrame>) -> u64
-        requires cycle { order.now.cycle < cycles_end }
-        requires next { All (λ node. node.next ≡ order.now.cycle) (states_of self.old.nodes) }
-        requires window { order.now.l ≤ self.old.layout.window }
-        requires slots { order.now.mask < 2 ^ self.old.layout.slots }
-        requires empty { frames.old.items ≡ [] }
-        requires room { self.old.layout.cycle / shortest_frame + 1 ≤ vec_capacity frames.old }
-        ensures layout { self.new.layout ≡ self.old.layout }
-        ensures before_window { IsBeforeWindow self.old.layout order.now.cycle order.now.l order.now.mask
-            (states_of self.old.nodes)
-            (states_of self.new.nodes) frames.new.items result }
-        ensures capacity { vec_capacity frames.old ≤ vec_capacity frames.new }
-        ensures spare { KeepSpare self.old.nodes self.new.nodes }
-    {
-        wire_lengths();
-        trace_laws::<StationOffers<NodeStations>>();
-        same_along::<StationOffers<NodeStations>, StationOffers<NodeStations>>();
+        unsent_laws();
+        taking_laws();
         sends_its_slots();
         stays_a_node();
-        offers_in_range();
-        order.mask.known();
-        self.are_known();
-        let layout = *self.layout();
-        let start = order.cycle * u64::from(layout.cycle());
-        let window = layout.sync_start(order.cycle, order.l);
-        let first = encode(order.cycle, order.l, order.mask);
-        let second = second_trigger(&layout, order);
-        self.stations.announce(start, first, second);
-        window.max(run_until(&mut self.stations, start, window, frames))
+        same_along::<OneCycle, OneCycle>();
+        self.stations.are_known();
+        self.stations.layout().is_in_range();
+        learn(
+            &order.learned,
+            &mut self.placed,
+            &mut self.joint,
+            &mut self.stations,
+        );
+        joint::run_cycle(order, &mut self.stations, frames);
     }
 }
 
-/// The second trigger frame of the cycle of an order, where the layout has one.
-fn second_trigger(layout: &Layout, order: &Order) -> Option<Frame>
-    ensures frames { (l : ℕ) → trigger_frame order.now.cycle l order.now.mask ∷ cons_option result []
-        ≡ triggers_with layout.now.slots order.now.cycle l order.now.mask }
+/// The same owners, of which each has number 0.
+fn joint_owners(alloc: Global, owners: &[Owner]) -> Result<Vec<Owner>, AllocError>
+    ensures owners { IfOk result (λ joint. joint.items ≡ joint_owners owners.now) }
 {
-    if layout.slots() == SLOTS_OF_ONE {
-        None
-    } else {
-        Some(encode_second(order.cycle, order.mask))
+    let mut joint = Vec::with_capacity(alloc, owners.len())?;
+    for owner in owners {
+        joint.push(Owner { node: 0, ..*owner })?;
+    }
+    Ok(joint)
+}
+
+/// Replaces a list by another one, and that of the joint node by the same with number 0, without memory.
+fn copy(list: &[Placed], placed: &mut Vec<Placed>, joint: &mut Vec<Placed>)
+    requires room { length list.now ≤ vec_capacity placed.old }
+    requires joint_room { length list.now ≤ vec_capacity joint.old }
+    ensures placed { placed.new.items ≡ list.now }
+    ensures joint { joint.new.items ≡ joint_entries list.now }
+    ensures capacity { vec_capacity placed.old ≤ vec_capacity placed.new }
+    ensures joint_capacity { vec_capacity joint.old ≤ vec_capacity joint.new }
+{
+    placed.clear();
+    joint.clear();
+    for p in list {
+        placed.push_reserved(*p);
+        joint.push_reserved(joint_entry(p));
     }
 }
 
-/// So many requests fit into memory, and no more are ever left. This does nothing: it brings the fact to a proof.
-fn fit_into_memory(requests: &[Request])
-    ensures few { length requests.now < 2 ^ 64 }
+/// The same entry, with number 0.
+fn joint_entry(p: &Placed) -> Placed
+    ensures entry { result ≡ joint_entry p.now }
 {
-    let _ = requests.len();
+    let entry = Entry { node: 0, ..p.entry };
+    Placed { entry, ..*p }
 }
 
-/// The nodes 0 to `nodes` - 1 before cycle 0. Each is made from the requests of its own. `table` has the node of each
-/// owned identifier.
-fn fresh_nodes(
-    alloc: Global,
-    layout: Layout,
-    nodes: u8,
-    owners: &[Owner],
-    table: &[u8],
-    requests: &[Request],
-) -> Result<Vec<Node>, AllocError>
-    requires owners { AreOwners owners.now }
-    requires table { IsNodeTable owners.now table.now }
-    requires arrivals { AllPairs (λ one other. one.at ≤ other.at) requests.now }
-    requires early { All (λ request. request.at < arrivals_end) requests.now }
-    ensures count { IfOk result (λ made. length made.items ≡ nodes) }
-    ensures each { IfOk result (λ made. (number : ℕ) (d : NodeView) → number < nodes
-        → (slice_index_or made.items number d).state ≡ fresh_node layout owners.now requests.now number) }
-    ensures are { IfOk result (λ made. All IsNode (states_of made.items)) }
+/// Hands a list to the joint node, where there is one, without memory.
+fn learn(
+    learned: &Option<PlacedList>,
+    placed: &mut Vec<Placed>,
+    joint: &mut Vec<Placed>,
+    stations: &mut NodeStations,
+)
+    requires number { stations.old.node.state.number ≡ 0 }
+    requires entries { stations.old.node.state.entries ≡ joint_entries placed.old.items }
+    requires well_placed { IfSome learned.now IsWellPlaced }
+    requires room { IfSome learned.now (λ list. length list ≤ vec_capacity placed.old) }
+    requires joint_room { IfSome learned.now (λ list. length list ≤ vec_capacity joint.old) }
+    requires spare { IfSome learned.now (λ list. length list ≤ stations.old.node.spare) }
+    ensures placed { placed.new.items ≡ known_by learned.now placed.old.items }
+    ensures layout { stations.new.layout ≡ stations.old.layout }
+    ensures learnt { stations.new.node.state ≡ record stations.old.node.state { entries = joint_entries placed.new.items } }
+    ensures capacity { vec_capacity placed.old ≤ vec_capacity placed.new }
+    ensures joint_capacity { vec_capacity joint.old ≤ vec_capacity joint.new }
+    ensures spare { stations.old.node.spare ≤ stations.new.node.spare }
 {
-    let lists = by_node(alloc, table, nodes, requests)?;
-    let mut made = Vec::with_capacity(alloc, usize::from(nodes))?;
-    let mut number = 0;
-    for own in lists {
-        made.push(Node::new(alloc, number, layout, owners, own.as_slice())?)?;
-        number += 1;
+    if let Some(list) = learned {
+        copy(list.as_slice(), placed, joint);
+        stations.learn(joint.as_slice());
     }
-    Ok(made)
 }

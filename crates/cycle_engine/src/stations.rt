@@ -1,20 +1,19 @@
-//! The nodes of a bus as stations on it, and with them the master, which offers the trigger frames of a cycle.
+//! The joint node of a bus as the station on it, and with it the master, which offers the trigger frames of a cycle.
 
-ghost use Rattle.std.specs.Prelude.{◌≡◌, ◌+◌, ◌-◌, ◌/◌, ◌^◌, ◌<◌, ◌≤◌, [], ◌∷◌};
-ghost use Rattle.std.specs.Prelude.{All, Contains, OnOk, length, map, vec_capacity};
+ghost use Rattle.std.specs.Prelude.{◌≡◌, ◌+◌, ◌-◌, ◌/◌, ◌<◌, ◌≤◌, ◌++◌, [], ◌∷◌};
+ghost use Rattle.std.specs.Prelude.{Contains, OnOk, length, vec_capacity};
 ghost use Rattle.std.specs.List.{cons_option};
 ghost use Rattle.profile.specs.Limits.{cycles_end, shortest_frame, times_end};
 ghost use Rattle.requirement_table.specs.Table.{IsWellPlaced};
 ghost use Rattle.node_model.specs.Node.{learnt};
 ghost use Rattle.node_model.specs.Window.{IsInWindow};
-ghost use Rattle.cycle_engine.specs.Nodes.{HaveSpare, KeepSpare, left_in, spares_of, states_of};
-ghost use Rattle.bus_line.specs.Stations.{IsWake};
+ghost use Rattle.async_window.specs.Mailbox.{left};
+ghost use Rattle.arbitration.specs.Arbitration.{AreDistinct};
+ghost use Rattle.bus_line.specs.Stations.{IsWake, sooner};
 ghost use Rattle.cycle_engine.specs.Stations.{AreDue, AreNodes, announced, due_from, due_list, frame_by_nodes};
 ghost use Rattle.cycle_engine.specs.Stations.{offered_by_nodes, offered_trigger, triggers_after};
 ghost use Rattle.cycle_engine.specs.SyncWindow.{IsSentBy};
 
-use crate::each;
-use crate::next_offers::{self, Soonest};
 use crate::sync_window::{self, Fronts};
 use arbitration::Contenders;
 use bus_line::Stations;
@@ -22,7 +21,7 @@ use bus_line::laws::sooner_wake;
 use can_frame::{Frame, KnownFront, TimedFrame};
 use cycle_layout::Layout;
 use node_model::Node;
-use node_model::laws::{nodes_are_apart, offers_in_range, sends_its_slots, stays_a_node};
+use node_model::laws::{nodes_are_apart, offers_in_range, stays_a_node};
 use requirement_table::{MOST_SLOTS, Placed};
 use std::alloc::{AllocError, Global};
 use std::marker::Model;
@@ -38,50 +37,40 @@ pub struct Due {
     pub second: Option<Frame>,
 }
 
-/// The nodes of a bus, and the trigger frames that are offered next, where there are any.
+/// The joint node of a bus, and the trigger frames that are offered next, where there are any.
 #[derive(Drop)]
 pub struct NodeStations {
     layout: Layout,
-    nodes: Vec<Node>,
+    node: Node,
     due: Option<Due>,
-    /// For each identifier the place of the node that is asked first for its frame. All others are asked where that one
-    /// does not offer it.
-    asked_first: Vec<u8>,
-    /// What the nodes offer soonest, where it is known and nothing has changed since.
-    soonest: Option<Soonest>,
     /// For each slot what is known of the first bits of its frames.
     fronts: Fronts,
 }
 
 impl Model for NodeStations {
-    ghost use Rattle.cycle_engine.specs.Nodes.{states_of};
-    ghost use Rattle.cycle_engine.specs.Soonest.{AreKept};
-    ghost use Rattle.cycle_engine.specs.Stations.{StationsView, due_list};
+    ghost use Rattle.cycle_engine.specs.Stations.{AreStations, StationsView, due_list, stationed};
 
     ghost Value = { StationsView };
 
-    ghost view = { λ s. record { layout = s.layout; triggers = due_list s.due; nodes = s.nodes.items } };
+    ghost view = { λ s. record { layout = s.layout; triggers = due_list s.due; node = s.node } };
 
-    ghost invariant = { λ s. AreKept (record {
+    ghost invariant = { λ s. AreStations (stationed (record {
       layout = s.layout;
       triggers = due_list s.due;
-      nodes = states_of s.nodes.items;
-    }) s.soonest };
+      node = s.node;
+    })) };
 }
 
 impl NodeStations {
-    /// The stations without trigger frames. For each identifier, `asked_first` has the place of the node that is asked
-    /// first for its frame.
-    pub fn new(layout: Layout, nodes: Vec<Node>, asked_first: Vec<u8>) -> NodeStations
-        requires nodes { AreNodes layout (states_of nodes.items) }
-        ensures stations { result ≡ record { layout = layout; triggers = []; nodes = nodes.items } }
+    /// The stations without trigger frames.
+    pub fn new(layout: Layout, node: Node) -> NodeStations
+        requires nodes { AreNodes layout (node.state ∷ []) }
+        ensures stations { result ≡ record { layout = layout; triggers = []; node = node } }
     {
         NodeStations {
             layout,
-            nodes,
+            node,
             due: None,
-            asked_first,
-            soonest: None,
             fronts: [KnownFront::new(); MOST_SLOTS as usize],
         }
     }
@@ -93,56 +82,53 @@ impl NodeStations {
         &self.layout
     }
 
-    /// What is true of the nodes of a bus. This does nothing: it brings the fact to a proof.
+    /// What is true of the node. This does nothing: it brings the fact to a proof.
     pub fn are_known(&self)
-        ensures known { AreNodes self.now.layout (states_of self.now.nodes) }
+        ensures known { AreNodes self.now.layout (self.now.node.state ∷ []) }
     {
         let _ = &self.layout;
     }
 
     /// The number of requests that are not sent.
     pub fn left(&self) -> usize
-        requires fits { left_in (states_of self.now.nodes) < 2 ^ 64 }
-        ensures left { result ≡ left_in (states_of self.now.nodes) }
+        ensures left { result ≡ left self.now.node.state.mail }
     {
-        each::left(self.nodes.as_slice())
+        self.node.left()
     }
 
-    /// Makes each node able to learn a list of so many entries without memory.
+    /// Makes the node able to learn a list of so many entries without memory.
     pub fn reserve(&mut self, alloc: Global, entries: usize) -> Result<(), AllocError>
-        ensures room { OnOk result (HaveSpare entries self.new.nodes) }
+        ensures room { OnOk result (entries ≤ self.new.node.spare) }
         ensures layout { self.new.layout ≡ self.old.layout }
-        ensures same { states_of self.new.nodes ≡ states_of self.old.nodes }
-        ensures spare { KeepSpare self.old.nodes self.new.nodes }
+        ensures same { self.new.node.state ≡ self.old.node.state }
+        ensures spare { self.old.node.spare ≤ self.new.node.spare }
     {
-        self.soonest = None;
-        each::reserve(alloc, self.nodes.as_mut_slice(), entries)
+        self.node.reserve(alloc, entries)
     }
 
-    /// Hands a list to each node.
+    /// Hands a list to the node.
     pub fn learn(&mut self, placed: &[Placed])
         requires well_placed { IsWellPlaced placed.now }
-        requires room { HaveSpare (length placed.now) self.old.nodes }
+        requires room { length placed.now ≤ self.old.node.spare }
         ensures layout { self.new.layout ≡ self.old.layout }
-        ensures learnt { states_of self.new.nodes ≡ map (learnt placed.now) (states_of self.old.nodes) }
-        ensures spare { KeepSpare self.old.nodes self.new.nodes }
+        ensures learnt { self.new.node.state ≡ learnt placed.now self.old.node.state }
+        ensures spare { self.old.node.spare ≤ self.new.node.spare }
     {
         stays_a_node();
         nodes_are_apart();
-        self.soonest = None;
-        each::learn(self.nodes.as_mut_slice(), placed);
+        self.node.learn_in(placed);
     }
 
     /// Makes trigger frames the next ones, from a time on: one, and another one behind it, where there are two.
     pub fn announce(&mut self, at: u64, first: Frame, second: Option<Frame>)
         requires due { AreDue self.old.layout (due_from at (first ∷ cons_option second [])) }
-        requires next { All (λ node. node.next < cycles_end) (states_of self.old.nodes) }
+        requires next { self.old.node.state.next < cycles_end }
         ensures announced { self.new ≡ record {
           layout = self.old.layout;
           triggers = due_from at (first ∷ cons_option second []);
-          nodes = self.old.nodes;
+          node = self.old.node;
         } }
-        ensures known { AreNodes self.new.layout (states_of self.new.nodes) }
+        ensures known { AreNodes self.new.layout (self.new.node.state ∷ []) }
     {
         self.due = Some(Due {
             at,
@@ -151,61 +137,38 @@ impl NodeStations {
         });
     }
 
-    /// The place of the node that is asked first for the frame of an identifier.
-    fn first_place(&self, id: u16) -> usize {
-        match self.asked_first.get(usize::from(id)) {
-            Some(place) => usize::from(*place),
-            None => 0,
-        }
-    }
-
-    /// The frame of the node that offers an identifier at a time.
+    /// The frame of the node, where it offers an identifier at a time.
     fn frame_of_node(&self, at: u64, id: u16) -> Frame
         requires time { at < times_end }
-        requires offered { Contains (offered_by_nodes (states_of self.now.nodes) at) id }
-        ensures frame { result ≡ frame_by_nodes (states_of self.now.nodes) at id }
+        requires offered { Contains (offered_by_nodes (self.now.node.state ∷ []) at) id }
+        ensures frame { result ≡ frame_by_nodes (self.now.node.state ∷ []) at id }
         ensures identifier { result.identifier ≡ id }
     {
-        nodes_are_apart();
-        each::frame(self.nodes.as_slice(), self.first_place(id), at, id)
+        self.node.frame(at, id)
     }
 
-    /// Runs the bus over the nodes in their synchronous window from `from` on, and puts the frames that start before
-    /// `until` behind `out`, which has room for them. The trigger frames were sent. The window ends at `until`, and no
-    /// node offers anything from then on up to the next trigger.
+    /// Runs the bus over the node in its synchronous window from `from` on, and puts the frames that start before `until`
+    /// behind `out`, which has room for them. The trigger frames were sent. The window ends at `until`.
     pub fn run_window(&mut self, from: u64, until: u64, out: &mut Vec<TimedFrame>)
         requires time { until < times_end }
-        requires window { All (IsInWindow from until) (states_of self.old.nodes) }
+        requires window { IsInWindow from until self.old.node.state }
         requires room { from < until
             → length out.old.items + ((until - from) / shortest_frame + 1) ≤ vec_capacity out.old }
         ensures layout { self.new.layout ≡ self.old.layout }
-        ensures sent { IsSentBy (states_of self.old.nodes)
-            (states_of self.new.nodes) from until out.old.items out.new.items }
+        ensures sent { IsSentBy (self.old.node.state ∷ [])
+            (self.new.node.state ∷ []) from until out.old.items out.new.items }
         ensures capacity { vec_capacity out.old ≤ vec_capacity out.new }
-        ensures spare { spares_of self.new.nodes ≡ spares_of self.old.nodes }
+        ensures spare { self.new.node.spare ≡ self.old.node.spare }
     {
         stays_a_node();
         nodes_are_apart();
-        sends_its_slots();
-        self.soonest = None;
-        sync_window::run_window(
-            self.nodes.as_mut_slice(),
-            &mut self.fronts,
-            from,
-            until,
-            out,
-        );
+        sync_window::run_window(&mut self.node, &mut self.fronts, from, until, out);
         self.due = None;
-        self.soonest = Some(Soonest {
-            since: until.saturating_sub(1),
-            next: None,
-        });
     }
 }
 
 impl Stations for NodeStations {
-    ghost use Rattle.std.specs.Prelude.{ℕ, List};
-    ghost use Rattle.cycle_engine.specs.Nodes.{spares_of};
+    ghost use Rattle.std.specs.Prelude.{ℕ};
     ghost use Rattle.cycle_engine.specs.Stations.{Stationed, cycle_line, stationed};
 
     ghost State = { Stationed };
@@ -214,22 +177,21 @@ impl Stations for NodeStations {
 
     ghost state = { stationed };
 
-    ghost Fixed = { List ℕ };
+    ghost Fixed = { ℕ };
 
-    ghost fixed = { λ s. spares_of s.nodes };
+    ghost fixed = { λ s. s.node.spare };
 
     fn offers(&self, at: u64, ids: &mut Contenders) {
         offers_in_range();
         nodes_are_apart();
         ids.clear();
         push_trigger(&self.due, at, ids);
-        next_offers::push(self.nodes.as_slice(), &self.soonest, at, ids);
+        push_offer(self.node.offer(at), ids);
     }
 
     fn wake(&self, at: u64) -> Option<u64> {
         sooner_wake();
-        let nodes = next_offers::wake(self.nodes.as_slice(), &self.soonest, at);
-        each::sooner(wake_of_trigger(&self.due, at), nodes)
+        sooner(wake_of_trigger(&self.due, at), self.node.next_offer(at))
     }
 
     fn frame(&self, at: u64, id: u16) -> Frame {
@@ -249,11 +211,30 @@ impl Stations for NodeStations {
         offers_in_range();
         stays_a_node();
         nodes_are_apart();
-        let first = self.first_place(sent.frame.id());
-        let slots = self.layout.slots();
-        each::hear(self.nodes.as_mut_slice(), slots, first, sent);
+        self.node.hear(sent);
         take_due(&mut self.due, sent.frame.id());
-        self.soonest = next_offers::find_behind(self.nodes.as_slice(), sent);
+    }
+}
+
+/// Adds an identifier to the contenders, where there is one.
+fn push_offer(offer: Option<u16>, ids: &mut Contenders)
+    requires few { length ids.old ≤ 1 }
+    requires distinct { AreDistinct (ids.old ++ cons_option offer []) }
+    ensures pushed { ids.new ≡ ids.old ++ cons_option offer [] }
+{
+    if let Some(id) = offer {
+        ids.push(id);
+    }
+}
+
+/// The sooner of two times, where there is one.
+fn sooner(one: Option<u64>, other: Option<u64>) -> Option<u64>
+    ensures sooner { result ≡ sooner one other }
+{
+    match (one, other) {
+        (Some(one), Some(other)) => Some(one.min(other)),
+        (one, None) => one,
+        (None, other) => other,
     }
 }
 

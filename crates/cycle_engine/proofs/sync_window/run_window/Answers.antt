@@ -1,14 +1,17 @@
-use Rattle.std.proofs.Common.{◌≡◌, ℕ, ◌+◌, ◌++◌, ◌<◌, ◌≤◌, ◌||◌, All, drop, take, ◌-◌, false, true, inl, inr, length, vec_len, sym, ap, ◌∙◌, subst, arith}
+use Rattle.std.proofs.Common.{◌≡◌, ℕ, [], ◌∷◌, ◌+◌, ◌++◌, ◌<◌, ◌≤◌, ◌||◌, All, drop, take, ◌-◌, false, true, inl, inr, length, vec_len, sym, ap, ◌∙◌, subst, arith}
 use Rattle.std.proofs.Math.Seq.{drop-append_seam}
 use Rattle.std.proofs.lemmas.Bool.{cases_lt}
 use Rattle.profile.specs.Limits.{first_identifier}
 use Rattle.requirement_table.specs.Slots.{contains_slot, most_slots}
 use Rattle.requirement_table.proofs.Shared.{contains_slot-above}
-use Rattle.cycle_engine.specs.Nodes.{heard_by, states_of}
+use Rattle.cycle_engine.specs.Nodes.{heard_by}
 use Rattle.cycle_engine.specs.SyncWindow.{back_to_back, due_frames, is_among}
 use Rattle.cycle_engine.proofs.Along.{opens_not}
 use Rattle.cycle_engine.proofs.BackToBack.{Follows-due, WindowLaws, behind-front, due-ids}
+use Rattle.node_model.specs.Node.{IsNode}
+use Rattle.node_model.specs.Window.{IsInWindow}
 use Rattle.cycle_engine.proofs.BySlots.{among-all}
+use Rattle.cycle_engine.proofs.One.{one_alone}
 use Rattle.cycle_engine.proofs.Sent.{sent-none, sent-slots}
 use Rattle.cycle_engine.proofs.sync_window.run_window.Goals as goal
 
@@ -23,7 +26,7 @@ send_slots-left-requires-clause-room c = λ early.
 
 pub hear_slots-requires : goal.hear_slots-requires
 hear_slots-requires c =
-    let nodes = states_of c.args.nodes.now in
+    let nodes = c.args.node.now.state ∷ [] in
     let old = c.args.out.now.items in
     let sent = back_to_back (due_frames nodes) c.args.from c.args.until in
     let put = c.send_slots-left.ensures.sent ∙ ap (λ fs. old ++ back_to_back fs c.args.from c.args.until) (among-all nodes c.due_slots-due.result c.due_slots-due.ensures.slots) in
@@ -46,7 +49,7 @@ hear_slots-requires c =
 
 pub returns : goal.returns
 returns c =
-    let nodes = states_of c.args.nodes.now in
+    let nodes = c.args.node.now.state ∷ [] in
     let sent = back_to_back (due_frames nodes) c.args.from c.args.until in
     let put = c.send_slots-left.ensures.sent ∙ ap (λ fs. c.args.out.now.items ++ back_to_back fs c.args.from c.args.until) (among-all nodes c.due_slots-due.result c.due_slots-due.ensures.slots) in
     let same = behind-front c.args.out.now.items sent c.as_slice.result.now (length c.as_slice-before.result.now) (c.as_slice.ensures.value ∙ put) (ap length c.as_slice-before.ensures.value) in
@@ -63,9 +66,9 @@ returns c =
       sent = record {
         frames = sent;
         appended = put;
-        heard = c.hear_slots.ensures.heard ∙ ap (λ fs. heard_by fs nodes) same;
+        heard = ap (λ node. node ∷ []) c.hear_slots.ensures.heard ∙ ap (λ fs. heard_by fs nodes) same;
         no_trigger = λ k d within. omega (arith, (due-ids nodes c.args.from c.args.until k d within).0);
-        follows = λ layout. Follows-due laws layout c.args.from c.args.until nodes c.requires.nodes c.requires.window;
+        follows = λ layout. Follows-due laws layout c.args.from c.args.until nodes (one_alone IsNode c.args.node.now.state c.requires.node) (one_alone (IsInWindow c.args.from c.args.until) c.args.node.now.state c.requires.window);
       };
       capacity = c.send_slots-left.ensures.capacity;
       spare = c.hear_slots.ensures.spare;

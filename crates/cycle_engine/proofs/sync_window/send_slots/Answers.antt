@@ -1,7 +1,6 @@
 use Rattle.std.proofs.Common.{◌≡◌, ℕ, ◌++◌, ◌+◌, ◌||◌, drop, nat_eq, length, sym, ap, ◌∙◌, arith, append-nil, refl, subst, ◌<◌, ◌∷◌, []}
 use Rattle.std.proofs.lemmas.List.{drop_all, length-append}
 use Rattle.can_frame.specs.declared.data_frame.TimedFrame.{TimedFrame}
-use Rattle.cycle_engine.specs.Nodes.{states_of}
 use Rattle.cycle_engine.specs.SyncWindow.{back_to_back, by_slots, due_among, is_among}
 use Rattle.slot_sets.proofs.Shared.{without-less}
 use Rattle.requirement_table.specs.Slots.{contains_slot}
@@ -23,7 +22,7 @@ loop-slot-init c = record {
 
 pub returns-then-at-until : goal.returns-then-at-until
 returns-then-at-until c =
-    let nothing = put-late (by_slots (due_among (states_of c.args.nodes.now) c.loop-slot.left)) c.loop-slot.at c.args.until c.if-at-until.true in
+    let nothing = put-late (by_slots (due_among (c.args.node.now.state ∷ []) c.loop-slot.left)) c.loop-slot.at c.args.until c.if-at-until.true in
     record {
       sent = sym (append-nil c.loop-slot.out.items) ∙ ap (λ fs. c.loop-slot.out.items ++ fs) (sym nothing) ∙ c.loop-slot.invariant.all;
       left = c.loop-slot.invariant.left;
@@ -54,7 +53,7 @@ loop-slot-smaller c =
 pub loop-slot-preserved : goal.loop-slot-preserved
 loop-slot-preserved c =
     let so_far = c.loop-slot.invariant in
-    let nodes = states_of c.args.nodes.now in
+    let nodes = c.args.node.now.state ∷ [] in
     let until = c.args.until in
     let total = c.args.out.now.items ++ back_to_back (by_slots (due_among nodes c.args.set)) c.args.from until in
     let later = by_slots (due_among nodes c.without_least-left.result) in
@@ -82,7 +81,7 @@ loop-slot-preserved c =
 
 pub returns : goal.returns
 returns c =
-    let nothing = among-none (states_of c.args.nodes.now) c.loop-slot.left (sym c.in_default.ensures.least) in
+    let nothing = among-none (c.args.node.now.state ∷ []) c.loop-slot.left (sym c.in_default.ensures.least) in
     record {
       sent = sym (append-nil c.loop-slot.out.items)
           ∙ ap (λ fs. c.loop-slot.out.items ++ back_to_back fs c.loop-slot.at c.args.until) (sym nothing) ∙ c.loop-slot.invariant.all;

@@ -1,14 +1,13 @@
-use Rattle.std.proofs.Common.{◌≡◌, ℕ, ◌+◌, ◌*◌, ◌≤◌, ◌++◌, ◌||◌, drop, false, length, true, vec_len, vec_capacity}
+use Rattle.std.proofs.Common.{◌≡◌, ℕ, [], ◌∷◌, ◌+◌, ◌*◌, ◌≤◌, ◌++◌, ◌||◌, drop, false, length, true, vec_len, vec_capacity}
 use Rattle.requirement_table.specs.Slots.{contains_slot}
-use Rattle.cycle_engine.specs.Nodes.{states_of}
 use Rattle.cycle_engine.specs.SyncWindow.{back_to_back, by_slots, due_among, is_among}
 use Rattle.cycle_engine.proofs.sync_window.send_slots.Given as goal
 
 -- what is put so far, with the frames of the slots that are left, is all that is to be put
 abbrev pub invariant-loop-slot : goal.invariant-loop-slot
 invariant-loop-slot l = record {
-  all : l.out.items ++ back_to_back (by_slots (due_among (states_of l.nodes) l.left)) l.at l.until
-      ≡ l.fn.out.items ++ back_to_back (by_slots (due_among (states_of l.nodes) l.fn.set)) l.from l.until;
+  all : l.out.items ++ back_to_back (by_slots (due_among (l.node.state ∷ []) l.left)) l.at l.until
+      ≡ l.fn.out.items ++ back_to_back (by_slots (due_among (l.node.state ∷ []) l.fn.set)) l.from l.until;
   among : (slot : ℕ) → contains_slot l.left slot ≡ true → contains_slot l.fn.set slot ≡ true;
   few : l.from + 47 * vec_len l.out ≤ l.at + 47 * vec_len l.fn.out;
   left : (slot : ℕ) → contains_slot l.fn.set slot

@@ -1,67 +1,54 @@
-use Rattle.std.proofs.Common.{[], refl, inl, sym, ap, ◌∙◌, subst, arith}
-use Rattle.std.specs.List.{slice_get}
-use Rattle.std.proofs.lemmas.List.{length-map}
-use Rattle.node_model.specs.Node.{fresh_node}
-use Rattle.cycle_engine.specs.Nodes.{IsBus, IsNumber, left_in, states_of}
-use Rattle.cycle_engine.proofs.FreshNodes.{AreNodes-fresh, IsBus-fresh, IsNumber-below, fresh-at, known-each}
-use Rattle.cycle_engine.proofs.Left.{left-fresh}
+use Rattle.std.proofs.Common.{◌≡◌, [], List, min, vec_capacity, rules, sym, ap, ◌∙◌, subst}
+use Rattle.async_window.specs.Owners.{AreOwners}
+use Rattle.node_model.specs.Node.{NodeState, fresh_node}
+use Rattle.cycle_engine.specs.Joint.{joint_owners, parts_of}
+use Rattle.cycle_engine.specs.Nodes.{states_of}
+use Rattle.cycle_engine.specs.Stations.{StationsView}
+use Rattle.cycle_engine.proofs.FreshNodes.{IsBus-fresh, IsNumber-below, fresh-at, made-count, made-each, made-joint}
+use Rattle.cycle_engine.proofs.JointCycle.{joint-are_owners}
+use Rattle.cycle_engine.proofs.One.{AreNodes-one}
 use Rattle.cycle_engine.proofs.nodes.Nodes.new.Goals as goal
 
-pub new-requires : goal.new-requires
-new-requires c =
+pub new-requires-clause-owners : goal.new-requires-clause-owners
+new-requires-clause-owners c =
+    subst AreOwners (sym (c.as_slice.ensures.value ∙ c.in_ok-joint.ensures.owners)) (joint-are_owners c.args.owners.now c.requires.owners)
+
+pub new-requires-2 : goal.new-requires-2
+new-requires-2 c = record {
+  nodes = AreNodes-one c.args.layout c.in_ok-node.node.state c.in_ok-node.ensures.known (ap (λ (node : NodeState). node.layout) c.in_ok-node.ensures.fresh);
+}
+
+pub returns : goal.returns
+returns c =
     let layout = c.args.layout in
     let owners = c.args.owners.now in
     let requests = c.args.requests.now in
-    let made = c.in_ok-made.made.items in
-    let each = known-each (fresh_node layout owners requests) made c.args.nodes c.in_ok-made.ensures.count c.in_ok-made.ensures.each in
+    let count = c.args.nodes in
+    let kept : c.in_ok-kept.kept.items ≡ owners = c.in_ok-kept.ensures.items_if_clones_equal (search rules) in
+    let joint : c.new-2.result.node.state ≡ fresh_node layout (joint_owners owners) requests 0 =
+    ap (λ (v : StationsView). v.node.state) c.new-2.ensures.stations ∙ c.in_ok-node.ensures.fresh
+    ∙ ap (λ os. fresh_node layout os requests 0) (c.as_slice.ensures.value ∙ c.in_ok-joint.ensures.owners) in
+    let spare = min c.new-2.result.node.spare (min (vec_capacity c.new-3.result) (vec_capacity c.new-4.result)) in
+    let nodes : List NodeState = states_of (parts_of c.in_ok-kept.kept.items c.new-3.result.items spare count c.new-2.result.node.state) in
+    let long = made-count c.in_ok-kept.kept.items c.new-3.result.items spare count c.new-2.result.node.state in
+    let each = made-each owners requests (λ ids id. c.unsent_laws.ensures.among ids requests [] id) layout spare count c.in_ok-kept.kept.items c.new-3.result.items
+    c.new-2.result.node.state kept c.new-3.ensures.items joint in
     record {
-      nodes = AreNodes-fresh layout owners requests (states_of made) c.args.nodes (length-map made (λ x. x.state) ∙ c.in_ok-made.ensures.count) each
-          c.requires.few c.requires.owners c.in_ok-made.ensures.are (λ one other apart are well first second.
-          c.nodes_are_apart.ensures.by_number layout owners requests requests [] [] [] [] 0 0 one other apart are well (inl refl) first second);
+      layout = ap (λ (v : StationsView). v.layout) c.new-2.ensures.stations;
+      count = long;
+      each = λ number within. fresh-at layout owners requests nodes count long each number within;
+      numbers = λ number within. IsNumber-below layout owners requests nodes count long each number within;
+      bus = IsBus-fresh layout owners requests nodes count long each c.requires.owners c.requires.numbers c.requires.owned;
     }
-
-pub returns-clause-each : goal.returns-clause-each
-returns-clause-each c = λ number within.
-    let layout = c.args.layout in
-    let owners = c.args.owners.now in
-    let requests = c.args.requests.now in
-    let made = c.in_ok-made.made.items in
-    let each = known-each (fresh_node layout owners requests) made c.args.nodes c.in_ok-made.ensures.count c.in_ok-made.ensures.each in
-    ap (λ v. slice_get (states_of v.nodes) number) c.new.ensures.stations
-    ∙ fresh-at layout owners requests (states_of made) c.args.nodes (length-map made (λ x. x.state) ∙ c.in_ok-made.ensures.count) each number within
-
-pub returns-clause-numbers : goal.returns-clause-numbers
-returns-clause-numbers c = λ number within.
-    let layout = c.args.layout in
-    let owners = c.args.owners.now in
-    let requests = c.args.requests.now in
-    let made = c.in_ok-made.made.items in
-    let each = known-each (fresh_node layout owners requests) made c.args.nodes c.in_ok-made.ensures.count c.in_ok-made.ensures.each in
-    subst (λ v. IsNumber (states_of v.nodes) number) (sym c.new.ensures.stations)
-    (IsNumber-below layout owners requests (states_of made) c.args.nodes (length-map made (λ x. x.state) ∙ c.in_ok-made.ensures.count) each number within)
-
-pub returns-clause-bus : goal.returns-clause-bus
-returns-clause-bus c =
-    let layout = c.args.layout in
-    let owners = c.args.owners.now in
-    let requests = c.args.requests.now in
-    let made = c.in_ok-made.made.items in
-    let each = known-each (fresh_node layout owners requests) made c.args.nodes c.in_ok-made.ensures.count c.in_ok-made.ensures.each in
-    subst (λ v. IsBus layout owners requests [] [] 0 (states_of v.nodes)) (sym c.new.ensures.stations)
-    (IsBus-fresh layout owners requests (states_of made) c.args.nodes (length-map made (λ x. x.state) ∙ c.in_ok-made.ensures.count) each
-    c.requires.owners c.requires.numbers c.requires.owned)
 
 pub invariant_of-result : goal.invariant_of-result
 invariant_of-result c =
     let layout = c.args.layout in
     let owners = c.args.owners.now in
     let requests = c.args.requests.now in
-    let made = c.in_ok-made.made.items in
-    let each = known-each (fresh_node layout owners requests) made c.args.nodes c.in_ok-made.ensures.count c.in_ok-made.ensures.each in
-    let long = length-map made (λ x. x.state) ∙ c.in_ok-made.ensures.count in
-    let are = AreNodes-fresh layout owners requests (states_of made) c.args.nodes long each
-    c.requires.few c.requires.owners c.in_ok-made.ensures.are (λ one other apart are well first second.
-    c.nodes_are_apart.ensures.by_number layout owners requests requests [] [] [] [] 0 0 one other apart are well (inl refl) first second) in
-    let few = left-fresh layout owners requests (states_of made) c.args.nodes long each are in
-    let nodes = ap (λ v. left_in (states_of v.nodes)) c.new.ensures.stations in
-    omega (arith, few, nodes, c.fit_into_memory.ensures.few)
+    let kept : c.in_ok-kept.kept.items ≡ owners = c.in_ok-kept.ensures.items_if_clones_equal (search rules) in
+    let joint : c.new-2.result.node.state ≡ fresh_node layout (joint_owners owners) requests 0 =
+    ap (λ (v : StationsView). v.node.state) c.new-2.ensures.stations ∙ c.in_ok-node.ensures.fresh
+    ∙ ap (λ os. fresh_node layout os requests 0) (c.as_slice.ensures.value ∙ c.in_ok-joint.ensures.owners) in
+    made-joint owners requests (λ ids id. c.unsent_laws.ensures.among ids requests [] id) layout c.args.nodes c.in_ok-kept.kept.items c.new-3.result.items
+    c.new-2.result.node.state kept c.new-3.ensures.items joint c.requires.some c.requires.few c.requires.owners c.requires.numbers

@@ -1,9 +1,8 @@
-use Rattle.std.proofs.Common.{subst}
-use Rattle.cycle_engine.specs.Nodes.{states_of}
+use Rattle.std.proofs.Common.{[], ◌∷◌, subst}
 use Rattle.cycle_engine.specs.Stations.{AreNodes, StationsView}
 use Rattle.cycle_engine.proofs.stations.NodeStations.are_known.Goals as goal
 
 pub returns : goal.returns
 returns c = record {
-  known = subst (λ (v : StationsView). AreNodes v.layout (states_of v.nodes)) c.self.view_is c.self.invariant.are.nodes;
+  known = subst (λ (v : StationsView). AreNodes v.layout (v.node.state ∷ [])) c.self.view_is c.self.invariant.nodes;
 }

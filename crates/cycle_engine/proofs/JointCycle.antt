@@ -1,0 +1,267 @@
+-- What the joint node of a bus sends in a cycle is what is offered on the bus, and its parts stand for the bus.
+use Rattle.std.proofs.Common.{◌≡◌, ◌≢◌, ◌↔◌, ℕ, zero, suc, ◌+◌, ◌*◌, ◌-◌, ◌<◌, ◌≤◌, Bool, true, false, cond, List, [], ◌∷◌, ◌++◌, map, Contains, Option, Some, IsSome, is_some, inl, inr, refl, sym, ap, ◌∙◌, subst, arith}
+use Rattle.std.specs.Option.{option_map, option_map_or}
+use Rattle.std.specs.List.{range_with_len}
+use Rattle.std.proofs.lemmas.List.Elements.{All-contains, All-head, All-map, All-weaker}
+use Rattle.can_frame.specs.DataFrame.{DataFrame}
+use Rattle.can_frame.specs.declared.data_frame.TimedFrame.{TimedFrame}
+use Rattle.cycle_layout.specs.Layout.{CycleLayout}
+use Rattle.requirement_table.specs.declared.entries.Order.{Order}
+use Rattle.requirement_table.specs.declared.entries.Placed.{Placed}
+use Rattle.requirement_table.specs.Instance.{Instance, bytes_of, worst_of}
+use Rattle.requirement_table.specs.Opening.{Opening, width_of}
+use Rattle.requirement_table.specs.Slots.{contains_slot, sum_where, most_slots}
+use Rattle.requirement_table.specs.Table.{instance_in, worst_in}
+use Rattle.trigger_codec.specs.Bytes.{triggers_with}
+use Rattle.async_window.specs.declared.request.Owner.{Owner}
+use Rattle.async_window.specs.declared.request.Request.{Request}
+use Rattle.async_window.specs.Mailbox.{mail_after, unsent_of}
+use Rattle.async_window.specs.Owners.{AreOwners}
+use Rattle.async_window.specs.Waiting.{MayStart, unsent_after}
+use Rattle.node_model.specs.Node.{NodeState, Opened, entries_of, identifiers_of}
+use Rattle.node_model.specs.Offered.{bytes_sent}
+use Rattle.node_model.specs.Own.{Stands}
+use Rattle.node_model.proofs.Shared.{instance-of_all}
+use Rattle.cycle_engine.specs.Joint.{IsJoint, identifiers_in, joint_entries, joint_owner, joint_owners, part_of}
+use Rattle.cycle_engine.specs.Nodes.{IsBefore, IsBus, IsNumber, IsOwned}
+use Rattle.cycle_engine.specs.Offered.{offered_in}
+use Rattle.cycle_engine.proofs.Belongs.{Contains-identifiers, some_instance}
+use Rattle.cycle_engine.proofs.JointEntries.{instance_in-joint, joint_instance, joint-own, joint-well_placed}
+use Rattle.cycle_engine.proofs.JointMail.{mail-by, unsent-by}
+use Rattle.cycle_engine.proofs.Lists.{AllPairs-map, Contains-from_map, Contains-map}
+use Rattle.cycle_engine.proofs.One.{one_alone}
+use Rattle.cycle_engine.proofs.JointHears.{part_with}
+use Rattle.cycle_engine.proofs.Parts.{all-numbers, at-number, identifiers-joint, number-below, numbers-of, owner-of}
+
+-- Two lists of which the flagged slots have instances that send the same
+
+one-same : (b : Bool) (x y : ℕ) → (b ≡ true → x ≡ y) → cond b x 0 ≡ cond b y 0
+one-same true x y same = same refl
+one-same false x y same = refl
+
+sum-same : (n : ℕ) (p : ℕ → Bool) (f g : ℕ → ℕ) → ((slot : ℕ) → slot < n → p slot ≡ true → f slot ≡ g slot) → sum_where n p f ≡ sum_where n p g
+unfolding sum_where
+sum-same zero p f g same = refl
+sum-same (suc n) p f g same =
+    let front = sum-same n p f g (λ slot within. same slot (omega (arith, within))) in
+    let last = one-same (p n) (f n) (g n) (same n (omega arith)) in
+    omega (arith, front, last)
+
+-- the instance of a flagged slot in two lists: in one of them it is that of the joint node
+pub record SendAlike (mask cycle : ℕ) (placed other : List Placed) : Type 0 where
+  pub each : (slot : ℕ) → slot < most_slots → contains_slot mask slot ≡ true
+      → (instance : Instance) × (instance_in placed slot cycle ≡ Some instance) × (instance_in other slot cycle ≡ Some instance)
+
+module _ (layout : CycleLayout) (requests : List Request) (mask cycle : ℕ) (placed other : List Placed) (alike : SendAlike mask cycle placed other) where
+  abbrev joint : Opening
+  joint = record { cycle = cycle; mask = mask; placed = joint_entries placed }
+
+  abbrev plain : Opening
+  plain = record { cycle = cycle; mask = mask; placed = other }
+
+  joint-has : (slot : ℕ) (i : Instance) → instance_in placed slot cycle ≡ Some i → instance_in (joint_entries placed) slot cycle ≡ Some (joint_instance i)
+  joint-has slot i is = instance_in-joint placed slot cycle ∙ ap (option_map joint_instance) is
+
+  same-bytes : (slot : ℕ) → slot < most_slots → contains_slot mask slot ≡ true → bytes_sent bytes_of joint slot ≡ bytes_sent bytes_of plain slot
+  same-bytes slot within flagged =
+      let both = alike.each slot within flagged in
+      ap (option_map bytes_of) (joint-has slot both.0 both.1) ∙ sym (ap (option_map bytes_of) both.2)
+
+  pub same-width : width_of joint ≡ width_of plain
+  same-width =
+      sum-same most_slots (contains_slot mask) (worst_in (joint_entries placed) cycle) (worst_in other cycle) (λ slot within flagged.
+      let both = alike.each slot within flagged in
+      ap (λ o. option_map_or worst_of o 0) (joint-has slot both.0 both.1) ∙ sym (ap (λ o. option_map_or worst_of o 0) both.2))
+
+  -- the same is offered
+  pub same-offered : (past : List TimedFrame) (at : ℕ) (frame : DataFrame)
+      → (offered_in layout requests joint past at frame) ↔ (offered_in layout requests plain past at frame)
+  same-offered past at frame = (to, from)
+    where
+      to : offered_in layout requests joint past at frame → offered_in layout requests plain past at frame
+      to (inl trigger) = inl (record {
+        begun = trigger.begun;
+        within = trigger.within;
+        among = subst (λ w. Contains (triggers_with layout.slots cycle w mask) frame) same-width trigger.among;
+        unsent = trigger.unsent;
+      })
+      to (inr (inl one)) = inr (inl (record {
+        request = one.request;
+        may_start = subst (λ w. MayStart layout cycle w (unsent_after requests past frame.identifier) at one.request) same-width one.may_start;
+        its_frame = one.its_frame;
+      }))
+      to (inr (inr (slot, one))) = inr (inr (
+        slot,
+        record {
+          begun = one.begun;
+          late_enough = subst (λ w. (cycle + 1) * layout.cycle - w ≤ at) same-width one.late_enough;
+          within = one.within;
+          known = one.known;
+          flagged = one.flagged;
+          unsent = one.unsent;
+          identifier = one.identifier;
+          bytes = sym (same-bytes slot one.known one.flagged) ∙ one.bytes;
+        },
+      ))
+
+      from : offered_in layout requests plain past at frame → offered_in layout requests joint past at frame
+      from (inl trigger) = inl (record {
+        begun = trigger.begun;
+        within = trigger.within;
+        among = subst (λ w. Contains (triggers_with layout.slots cycle w mask) frame) (sym same-width) trigger.among;
+        unsent = trigger.unsent;
+      })
+      from (inr (inl one)) = inr (inl (record {
+        request = one.request;
+        may_start = subst (λ w. MayStart layout cycle w (unsent_after requests past frame.identifier) at one.request) (sym same-width) one.may_start;
+        its_frame = one.its_frame;
+      }))
+      from (inr (inr (slot, one))) = inr (inr (
+        slot,
+        record {
+          begun = one.begun;
+          late_enough = subst (λ w. (cycle + 1) * layout.cycle - w ≤ at) (sym same-width) one.late_enough;
+          within = one.within;
+          known = one.known;
+          flagged = one.flagged;
+          unsent = one.unsent;
+          identifier = one.identifier;
+          bytes = same-bytes slot one.known one.flagged ∙ one.bytes;
+        },
+      ))
+
+-- owners of which each has number 0
+pub joint-are_owners : (owners : List Owner) → AreOwners owners → AreOwners (joint_owners owners)
+joint-are_owners owners are = record {
+  distinct = AllPairs-map (λ one other. one.id ≢ other.id) joint_owner owners (λ i j d before within. are.distinct i j d before within);
+  least = All-map (λ owner. 0x200 ≤ owner.id) joint_owner owners are.least;
+  greatest = All-map (λ owner. owner.id ≤ 0x7EF) joint_owner owners are.greatest;
+}
+
+-- The nodes before a cycle, as parts of the joint node, for which any cycle may be open
+
+module _ (owners : List Owner) (placed : List Placed) (count : ℕ) (joint : NodeState) (opened : ℕ → Option Opened) (is : IsJoint owners placed count joint)
+    (layout : CycleLayout) (whose : List Owner) (requests : List Request) (others : List Placed) (past : List TimedFrame) (order : Order)
+    (before : IsBefore layout whose requests others past order (map (λ number. part_with owners placed number joint (opened number)) (range_with_len 0 count))) where
+  abbrev part : ℕ → NodeState
+  part number = part_with owners placed number joint (opened number)
+
+  stands-at : (number : ℕ) → number < count → Stands layout whose requests others past order.cycle (part number)
+  stands-at = at-number (Stands layout whose requests others past order.cycle) part count before.bus.stand
+
+  -- the identifiers of a node, and what is unsent of them
+  mail-at : (number : ℕ) → number < count
+      → (identifiers_of number owners ≡ identifiers_of number whose)
+      × ((id : ℕ) → Contains (identifiers_of number owners) id → unsent_of joint.mail id ≡ unsent_after requests past id)
+  mail-at number within =
+      unsent-by (identifiers_of number owners) (identifiers_of number whose) joint.mail requests past (stands-at number within).own_mail
+
+  unsent-all : (id : ℕ) → Contains (identifiers_in owners) id → unsent_of joint.mail id ≡ unsent_after requests past id
+  unsent-all id has =
+      let its = Contains-from_map (λ owner. owner.id) owners id has in
+      let below = All-contains (λ owner. owner.node < count) owners its.0 is.numbers its.1 in
+      (mail-at its.0.node below).1 id (subst (Contains (identifiers_of its.0.node owners)) its.2 (Contains-identifiers its.0.node owners its.0 its.1 refl))
+
+  joint-stands : Stands layout (joint_owners owners) requests (joint_entries placed) past order.cycle joint
+  joint-stands =
+      let first = stands-at 0 (omega (arith, is.some)) in
+      record {
+        same_layout = first.same_layout;
+        own_entries = is.entries ∙ joint-own placed ∙ ap (λ n. entries_of n (joint_entries placed)) (sym is.number);
+        own_mail = is.mail ∙ mail-by (identifiers_in owners) joint.mail requests past unsent-all
+            ∙ ap (λ ids. mail_after ids requests past) (sym (identifiers-joint owners))
+            ∙ ap (λ n. mail_after (identifiers_of n (joint_owners owners)) requests past) (sym is.number);
+        next_cycle = first.next_cycle;
+      }
+
+  -- the number of a node is that of one of the parts
+  is-below : (number : ℕ) → IsNumber (map part (range_with_len 0 count)) number → number < count
+  is-below number has =
+      let below = number-below 0 count number (subst (λ ns. Contains ns number) (numbers-of part (range_with_len 0 count) (λ n. refl)) has) in
+      omega (arith, below)
+
+  joint-owned : (request : Request) → IsOwned whose (map part (range_with_len 0 count)) request → IsOwned (joint_owners owners) (joint ∷ []) request
+  joint-owned request owned =
+      let number = owned.owner.node in
+      let within = is-below number owned.node in
+      let own : Contains (identifiers_of number owners) owned.owner.id =
+      subst (λ ids. Contains ids owned.owner.id) (sym (mail-at number within).0) (Contains-identifiers number whose owned.owner owned.owns refl) in
+      let its = owner-of number owned.owner.id owners own in
+      record {
+        owner = joint_owner its.0;
+        owns = Contains-map joint_owner owners its.0 its.1;
+        identifier = its.2 ∙ owned.identifier;
+        node = (0, omega arith, is.number);
+      }
+
+  pub alike : SendAlike order.mask order.cycle placed others
+  alike = record {
+    each = λ slot within flagged.
+        let known = before.fits.present slot within flagged in
+        let found = Contains-from_map part (range_with_len 0 count) known.1 (known.0, known.2, known.3) in
+        let number : ℕ = found.0 in
+        let below : number < count = omega (arith, number-below 0 count number found.1) in
+        let some : IsSome (instance_in (entries_of number placed) slot order.cycle) = subst (λ (node : NodeState). IsSome (instance_in node.entries slot order.cycle)) (sym found.2) known.4 in
+        let instance = some_instance (instance_in (entries_of number placed) slot order.cycle) some in
+        let own : instance_in (entries_of number others) slot order.cycle ≡ Some instance.0 =
+        ap (λ entries. instance_in entries slot order.cycle) (sym (stands-at number below).own_entries) ∙ instance.1 in (
+          instance.0,
+          (instance-of_all number placed slot order.cycle instance.0 is.well_placed instance.1).0,
+          (instance-of_all number others slot order.cycle instance.0 before.bus.well_placed own).0,
+        );
+  }
+
+  -- the joint node stands before the cycle of the order
+  pub joint-before : IsBefore layout (joint_owners owners) requests (joint_entries placed) past order (joint ∷ [])
+  joint-before = record {
+    bus = record {
+      well_placed = joint-well_placed placed is.well_placed;
+      are_owners = joint-are_owners owners is.are_owners;
+      stand = one_alone (Stands layout (joint_owners owners) requests (joint_entries placed) past order.cycle) joint joint-stands;
+      owned = All-weaker (IsOwned whose (map part (range_with_len 0 count))) (IsOwned (joint_owners owners) (joint ∷ [])) joint-owned requests before.bus.owned;
+    };
+    fits = record {
+      width = before.fits.width ∙ sym (same-width layout requests order.mask order.cycle placed others alike);
+      present = λ slot within flagged.
+          let both = alike.each slot within flagged in
+          let has = ap (λ es. instance_in es slot order.cycle) is.entries
+          ∙ joint-has layout requests order.mask order.cycle placed others alike slot both.0 both.1 in
+          (0, joint, omega arith, refl, ap is_some has);
+    };
+    before = before.before;
+  }
+
+  -- its parts stand behind it for the bus
+  pub parts-stand : (after : NodeState) (frames : List TimedFrame)
+      → ((ids : List ℕ) (id : ℕ) → Contains ids id → unsent_of (mail_after ids requests (past ++ frames)) id ≡ unsent_after requests (past ++ frames) id)
+      → after.number ≡ 0
+      → IsBus layout (joint_owners owners) requests (joint_entries placed) (past ++ frames) (order.cycle + 1) (after ∷ [])
+      → IsBus layout whose requests others (past ++ frames) (order.cycle + 1) (map (part_of owners placed after) (range_with_len 0 count))
+  parts-stand after frames among numbered bus =
+      let Standing : NodeState → Type 0 = Stands layout (joint_owners owners) requests (joint_entries placed) (past ++ frames) (order.cycle + 1) in
+      let stands : Standing after = All-head Standing after [] bus.stand in
+      let mail : after.mail ≡ mail_after (identifiers_in owners) requests (past ++ frames) =
+      stands.own_mail ∙ ap (λ n. mail_after (identifiers_of n (joint_owners owners)) requests (past ++ frames)) numbered
+      ∙ ap (λ ids. mail_after ids requests (past ++ frames)) (identifiers-joint owners) in
+      record {
+        well_placed = before.bus.well_placed;
+        are_owners = before.bus.are_owners;
+        stand = all-numbers (Stands layout whose requests others (past ++ frames) (order.cycle + 1)) (part_of owners placed after) count (λ number within. record {
+          same_layout = stands.same_layout;
+          own_entries = (stands-at number within).own_entries;
+          own_mail = mail-by (identifiers_of number owners) after.mail requests (past ++ frames) (λ id has.
+              let its = owner-of number id owners has in
+              ap (λ m. unsent_of m id) mail
+              ∙ among (identifiers_in owners) id (subst (Contains (identifiers_in owners)) its.2 (Contains-map (λ owner. owner.id) owners its.0 its.1)))
+              ∙ ap (λ ids. mail_after ids requests (past ++ frames)) (mail-at number within).0;
+          next_cycle = stands.next_cycle;
+        });
+        owned = All-weaker (IsOwned whose (map part (range_with_len 0 count))) (IsOwned whose (map (part_of owners placed after) (range_with_len 0 count)))
+            (λ request owned. record {
+              owner = owned.owner;
+              owns = owned.owns;
+              identifier = owned.identifier;
+              node = subst (λ ns. Contains ns owned.owner.node) (numbers-of part (range_with_len 0 count) (λ n. refl)
+                  ∙ sym (numbers-of (part_of owners placed after) (range_with_len 0 count) (λ n. refl))) owned.node;
+            }) requests before.bus.owned;
+      }

@@ -1,0 +1,54 @@
+use Rattle.std.proofs.Common.{◌≡◌, ◌*◌, ◌∷◌, [], refl, sym, ap, ◌∙◌, subst}
+use Rattle.std.specs.List.{cons_option}
+use Rattle.cycle_layout.specs.Layout.{IsLayout, sync_start}
+use Rattle.trigger_codec.specs.Bytes.{triggers_with}
+use Rattle.node_model.specs.Node.{NodeState}
+use Rattle.cycle_engine.specs.Stations.{AreDue, StationsView, announced, due_from, stationed}
+use Rattle.cycle_engine.specs.SyncWindow.{IsBeforeWindow}
+use Rattle.cycle_engine.proofs.Along.{told-layout}
+use Rattle.cycle_engine.proofs.NodesApart.{AreDue-triggers}
+use Rattle.cycle_engine.proofs.One.{one_alone}
+use Rattle.cycle_engine.proofs.OneCycle.{announced-same}
+use Rattle.cycle_engine.proofs.TwoParts.{PartLaws, before-window}
+use Rattle.cycle_engine.proofs.joint.run_up_to_window.Goals as goal
+
+pub announce-requires-clause-due : goal.announce-requires-clause-due
+announce-requires-clause-due c =
+    let order = c.args.order.now in
+    let layout = c.layout.result.now in
+    let triggers : c.encode-first.result ∷ cons_option c.second_trigger-second.result [] ≡ triggers_with layout.slots order.cycle order.l order.mask =
+    ap (λ frame. frame ∷ cons_option c.second_trigger-second.result []) c.encode-first.ensures.frame ∙ c.second_trigger-second.ensures.frames order.l in
+    subst (λ l. AreDue l (due_from (order.cycle * c.from.result) (c.encode-first.result ∷ cons_option c.second_trigger-second.result []))) c.layout.ensures.layout
+    (subst (λ fs. AreDue layout (due_from (order.cycle * c.from.result) fs)) (sym triggers)
+    (AreDue-triggers layout (order.cycle * c.from.result) order.cycle order.l order.mask))
+
+pub returns-clause-layout : goal.returns-clause-layout
+returns-clause-layout c =
+    let ran = c.run_until.ensures.ran in
+    ap (λ s. s.layout) ran.told_of ∙ told-layout ran.frames (stationed c.announce.new.self) ∙ ap (λ v. v.layout) c.announce.ensures.announced
+
+pub returns-clause-before_window : goal.returns-clause-before_window
+returns-clause-before_window c =
+    let order = c.args.order.now in
+    let layout = c.args.stations.now.layout in
+    let nodes = c.args.stations.now.node.state ∷ [] in
+    let laws : PartLaws = record { joined = c.trace_laws.ensures.joined; along = c.same_along.ensures.along } in
+    let length : c.from.result ≡ layout.cycle = c.from.ensures ∙ c.cycle.ensures.value ∙ ap (λ l. l.cycle) c.layout.ensures.layout in
+    let start : order.cycle * c.from.result ≡ order.cycle * layout.cycle = ap (λ n. order.cycle * n) length in
+    let window : c.sync_start-window.result ≡ sync_start layout order.cycle order.l =
+    c.sync_start-window.ensures.value ∙ ap (λ l. sync_start l order.cycle order.l) c.layout.ensures.layout in
+    let triggers : c.encode-first.result ∷ cons_option c.second_trigger-second.result [] ≡ triggers_with layout.slots order.cycle order.l order.mask =
+    ap (λ frame. frame ∷ cons_option c.second_trigger-second.result []) c.encode-first.ensures.frame
+    ∙ c.second_trigger-second.ensures.frames order.l ∙ ap (λ l. triggers_with l.slots order.cycle order.l order.mask) c.layout.ensures.layout in
+    let before : stationed c.announce.new.self ≡ announced layout (order.cycle * layout.cycle) (triggers_with layout.slots order.cycle order.l order.mask) nodes =
+    ap stationed c.announce.ensures.announced
+    ∙ announced-same layout layout _ _ _ _ nodes nodes refl start triggers refl in
+    let is_layout : IsLayout layout = subst IsLayout c.layout.ensures.layout c.is_in_range.ensures.known in
+    subst (λ from. IsBeforeWindow layout order.cycle order.l order.mask nodes (c.run_until.new.stations.node.state ∷ []) c.run_until.new.out.items from) (sym c.max.ensures)
+    (before-window laws c.wire_lengths.ensures.at_least c.wire_lengths.ensures.at_most c.offers_in_range.ensures.in_range c.stays_a_node.ensures.hearing c.sends_its_slots.ensures.stays c.sends_its_slots.ensures.opens
+    layout order.cycle order.l order.mask is_layout
+    c.requires.cycle c.requires.window c.requires.slots nodes c.are_known.ensures.known (one_alone (λ (node : NodeState). node.next ≡ order.cycle) c.args.stations.now.node.state c.requires.next)
+    (stationed c.announce.new.self) (stationed c.run_until.new.stations) _ _ _ _ _ before start window c.requires.empty c.run_until.ensures.ran)
+
+pub returns-clause-spare : goal.returns-clause-spare
+returns-clause-spare c = c.run_until.ensures.fixed ∙ ap (λ (v : StationsView). v.node.spare) c.announce.ensures.announced

@@ -1,0 +1,143 @@
+//! One cycle on the bus of the joint node.
+
+ghost use Rattle.std.specs.Prelude.{◌≡◌, ℕ, ◌+◌, ◌*◌, ◌/◌, ◌^◌, ◌<◌, ◌≤◌, ◌++◌, [], ◌∷◌, List, fold, length, vec_capacity};
+ghost use Rattle.std.specs.List.{cons_option};
+ghost use Rattle.profile.specs.Limits.{cycles_end, shortest_frame};
+ghost use Rattle.can_frame.specs.declared.data_frame.TimedFrame.{TimedFrame};
+ghost use Rattle.requirement_table.specs.declared.entries.Placed.{Placed};
+ghost use Rattle.async_window.specs.declared.request.Owner.{Owner};
+ghost use Rattle.async_window.specs.declared.request.Request.{Request};
+ghost use Rattle.trigger_codec.specs.Bytes.{trigger_frame, triggers_with};
+ghost use Rattle.bus_line.specs.Trace.{Follows};
+ghost use Rattle.bus_line.specs.Stations.{offers_of};
+ghost use Rattle.node_model.specs.Node.{after_hearing};
+ghost use Rattle.cycle_engine.specs.Joint.{BeginsWithTriggers};
+ghost use Rattle.cycle_engine.specs.Nodes.{IsBefore, IsBus, opening_of};
+ghost use Rattle.cycle_engine.specs.Offered.{offered_in};
+ghost use Rattle.cycle_engine.specs.Stations.{announced, cycle_line};
+ghost use Rattle.cycle_engine.specs.SyncWindow.{IsBeforeWindow};
+
+use crate::stations::NodeStations;
+use bus_line::laws::{StationOffers, same_along, trace_laws};
+use bus_line::run_until;
+use can_frame::laws::wire_lengths;
+use can_frame::{Frame, TimedFrame};
+use cycle_layout::Layout;
+use node_model::laws::{
+    hears_a_cycle, offers_in_range, offers_its_part, sends_its_slots, stays_a_node,
+};
+use requirement_table::Order;
+use trigger_codec::{encode, encode_second};
+
+/// The number of slots of a table whose trigger is one frame.
+const SLOTS_OF_ONE: u8 = 40;
+
+/// Runs the cycle of an order on the bus. The frames of the cycle take the place of those of the list, which has room for
+/// them: one for every 47 bit times, and one.
+///
+/// The order's cycle is the node's next one, below 2^42. `l` is at most the largest synchronous window. The flagged slots
+/// are below the layout's number of slots. What the order says of entries is not looked at.
+pub fn run_cycle(order: &Order, stations: &mut NodeStations, frames: &mut Vec<TimedFrame>)
+    requires cycle { order.now.cycle < cycles_end }
+    requires next { stations.old.node.state.next ≡ order.now.cycle }
+    requires window { order.now.l ≤ stations.old.layout.window }
+    requires slots { order.now.mask < 2 ^ stations.old.layout.slots }
+    requires room { stations.old.layout.cycle / shortest_frame + 1 ≤ vec_capacity frames.old }
+    ensures layout { stations.new.layout ≡ stations.old.layout }
+    ensures heard { stations.new.node.state ≡ fold after_hearing stations.old.node.state frames.new.items }
+    ensures next { stations.new.node.state.next ≡ order.now.cycle + 1 }
+    ensures spare { stations.new.node.spare ≡ stations.old.node.spare }
+    ensures capacity { vec_capacity frames.old ≤ vec_capacity frames.new }
+    ensures few { length frames.new.items ≤ stations.old.layout.cycle / shortest_frame + 1 }
+    ensures opens { BeginsWithTriggers stations.old.layout order.now frames.new.items }
+    ensures runs { (owners : List Owner) (requests : List Request) (placed : List Placed) (past : List TimedFrame)
+        → IsBefore stations.old.layout owners requests placed past order.now (stations.old.node.state ∷ [])
+        → Follows (offered_in stations.old.layout requests (opening_of order.now placed)) past
+        (order.now.cycle * stations.old.layout.cycle)
+        ((order.now.cycle + 1) * stations.old.layout.cycle) frames.new.items }
+    ensures stand { (owners : List Owner) (requests : List Request) (placed : List Placed) (past : List TimedFrame)
+        → IsBefore stations.old.layout owners requests placed past order.now (stations.old.node.state ∷ [])
+        → IsBus stations.old.layout owners requests placed (past ++ frames.new.items)
+        (order.now.cycle + 1) (stations.new.node.state ∷ []) }
+{
+    wire_lengths();
+    offers_its_part();
+    hears_a_cycle();
+    stays_a_node();
+    offers_in_range();
+    order.mask.known();
+    stations.are_known();
+    frames.clear();
+    run(order, stations, frames);
+}
+
+/// Runs the bus through the cycle of an order, and puts the frames into `frames`, which has room for them.
+fn run(order: &Order, stations: &mut NodeStations, frames: &mut Vec<TimedFrame>)
+    requires cycle { order.now.cycle < cycles_end }
+    requires next { stations.old.node.state.next ≡ order.now.cycle }
+    requires window { order.now.l ≤ stations.old.layout.window }
+    requires slots { order.now.mask < 2 ^ stations.old.layout.slots }
+    requires empty { frames.old.items ≡ [] }
+    requires room { stations.old.layout.cycle / shortest_frame + 1 ≤ vec_capacity frames.old }
+    ensures layout { stations.new.layout ≡ stations.old.layout }
+    ensures heard { stations.new.node.state ≡ fold after_hearing stations.old.node.state frames.new.items }
+    ensures runs { Follows
+        (offers_of cycle_line (announced stations.old.layout (order.now.cycle * stations.old.layout.cycle)
+        (triggers_with stations.old.layout.slots order.now.cycle order.now.l order.now.mask)
+        (stations.old.node.state ∷ [])))
+        [] (order.now.cycle * stations.old.layout.cycle)
+        ((order.now.cycle + 1) * stations.old.layout.cycle) frames.new.items }
+    ensures capacity { vec_capacity frames.old ≤ vec_capacity frames.new }
+    ensures spare { stations.new.node.spare ≡ stations.old.node.spare }
+{
+    stations.are_known();
+    let layout = *stations.layout();
+    let end = (order.cycle + 1) * u64::from(layout.cycle());
+    let from = run_up_to_window(order, stations, frames);
+    stations.run_window(from, end, frames);
+}
+
+/// Runs the bus through the cycle of an order up to its synchronous window, and puts the frames into `frames`, which has
+/// room for them. The answer is the first time in that window at which the bus is free.
+fn run_up_to_window(order: &Order, stations: &mut NodeStations, frames: &mut Vec<TimedFrame>) -> u64
+    requires cycle { order.now.cycle < cycles_end }
+    requires next { stations.old.node.state.next ≡ order.now.cycle }
+    requires window { order.now.l ≤ stations.old.layout.window }
+    requires slots { order.now.mask < 2 ^ stations.old.layout.slots }
+    requires empty { frames.old.items ≡ [] }
+    requires room { stations.old.layout.cycle / shortest_frame + 1 ≤ vec_capacity frames.old }
+    ensures layout { stations.new.layout ≡ stations.old.layout }
+    ensures before_window { IsBeforeWindow stations.old.layout order.now.cycle order.now.l order.now.mask
+        (stations.old.node.state ∷ []) (stations.new.node.state ∷ []) frames.new.items result }
+    ensures capacity { vec_capacity frames.old ≤ vec_capacity frames.new }
+    ensures spare { stations.new.node.spare ≡ stations.old.node.spare }
+{
+    wire_lengths();
+    trace_laws::<StationOffers<NodeStations>>();
+    same_along::<StationOffers<NodeStations>, StationOffers<NodeStations>>();
+    sends_its_slots();
+    stays_a_node();
+    offers_in_range();
+    order.mask.known();
+    stations.are_known();
+    let layout = *stations.layout();
+    layout.is_in_range();
+    let start = order.cycle * u64::from(layout.cycle());
+    let window = layout.sync_start(order.cycle, order.l);
+    let first = encode(order.cycle, order.l, order.mask);
+    let second = second_trigger(&layout, order);
+    stations.announce(start, first, second);
+    window.max(run_until(stations, start, window, frames))
+}
+
+/// The second trigger frame of the cycle of an order, where the layout has one.
+fn second_trigger(layout: &Layout, order: &Order) -> Option<Frame>
+    ensures frames { (l : ℕ) → trigger_frame order.now.cycle l order.now.mask ∷ cons_option result []
+        ≡ triggers_with layout.now.slots order.now.cycle l order.now.mask }
+{
+    if layout.slots() == SLOTS_OF_ONE {
+        None
+    } else {
+        Some(encode_second(order.cycle, order.mask))
+    }
+}
