@@ -1,10 +1,10 @@
 -- What a reader of a wishes file has read: the rows so far say the start and these operations.
-use Rattle.std.proofs.Common.{Bor, ◌≡◌, ◌⊎◌, inl, inr, ap, ℕ, ◌+◌, ◌<◌, ◌≤◌, List, [], ◌∷◌, ◌++◌, length, length-append, map, All, Result, Ok, Err, IfErr, MatchResult, refl, sym, subst, arith, lit≤}
+use Rattle.std.proofs.Common.{◌≡◌, ◌⊎◌, inl, inr, ap, ℕ, ◌+◌, ◌<◌, ◌≤◌, List, [], ◌∷◌, ◌++◌, length, length-append, map, All, Result, Ok, Err, IfErr, MatchResult, refl, sym, subst, arith, lit≤}
 use Rattle.std.proofs.lemmas.List.{nil_from_length}
 use Rattle.std.proofs.lemmas.List.Elements.{All-nil, All-push}
 use Rattle.std.specs.Result.{IsErrAnd}
-use Rattle.csv.specs.declared.reader.Reader.{Reader}
-use Rattle.text_fields.specs.CsvReading.{Reads, ReadsOne}
+use Rattle.text_fields.specs.RecordReading.{Reads, ReadsOne}
+use Rattle.text_fields.specs.declared.records.RecordReader.{RecordReader}
 use Rattle.text_fields.specs.CsvRows.{records_of, rows_of, trimmed}
 use Rattle.text_fields.specs.RowByRow.{AreItems}
 use Rattle.text_fields.proofs.Shared.{trimmed-more, trimmed-split}
@@ -18,14 +18,14 @@ use Rattle.elastic.specs.declared.wish_fault.WishFault.{WishFault}
 use Rattle.elastic.specs.declared.wish_fault.WishFault.TheVariants.{Row, Memory}
 use Rattle.elastic.proofs.WishLines.{bad_operation, fault_computed, more_lines, no_operation, one_line, wish_computed}
 
-pub record ReadsWish (bytes : List ℕ) (reader : Reader (Bor (List ℕ))) (start : ℕ) (ops : List WishOp) : Type 0 where
+pub record ReadsWish (bytes : List ℕ) (reader : RecordReader) (start : ℕ) (ops : List WishOp) : Type 0 where
   pub before : List (List (List ℕ))
   pub reads : Reads bytes reader before
   pub says : AreItems meaning (map (map trimmed) before) (Start start ∷ map Operation ops)
   pub few : length ops ≤ 16
   pub each : All HasFileChoices ops
 
-pub reads_first : (bytes : List ℕ) (reader : Reader (Bor (List ℕ))) (start : ℕ) → ReadsStart bytes reader start → ReadsWish bytes reader start []
+pub reads_first : (bytes : List ℕ) (reader : RecordReader) (start : ℕ) → ReadsStart bytes reader start → ReadsWish bytes reader start []
 reads_first bytes reader start first =
     record {
       before = first.fields ∷ [];
@@ -45,7 +45,7 @@ module _ (bytes : List ℕ) (before below : List (List (List ℕ))) (fields : Li
   fault_of_row above Memory is faulty = tt
 
 -- a wish with an operation more
-pub reads_more : (bytes : List ℕ) (old new : Reader (Bor (List ℕ))) (start above : ℕ) (ops : List WishOp) (op : WishOp) (fields : List (List ℕ))
+pub reads_more : (bytes : List ℕ) (old new : RecordReader) (start above : ℕ) (ops : List WishOp) (op : WishOp) (fields : List (List ℕ))
     → (so_far : ReadsWish bytes old start ops) → ReadsOne bytes old new so_far.before fields → above ≡ length ops
     → operation_of above (map trimmed fields) ≡ Ok op → above < 16 → HasFileChoices op
     → ReadsWish bytes new start (ops ++ op ∷ [])

@@ -1,10 +1,9 @@
 -- What a wishes file means: the wish that all its rows say, or its first row that says nothing.
 use Rattle.std.specs.Prelude.{◌≡◌, ℕ, ◌+◌, ◌≤◌, List, [], ◌∷◌, ◌++◌, if◌then◌else◌, nat_lt, length, map}
 use Rattle.std.specs.Prelude.{Result, Ok, Err, All, ⊤}
-use Rattle.std.specs.Borrow.{Bor}
-use Rattle.csv.specs.declared.reader.Reader.{Reader}
-use Rattle.text_fields.specs.CsvReading.{Reads}
 use Rattle.text_fields.specs.CsvRows.{rows_of, trimmed}
+use Rattle.text_fields.specs.RecordReading.{Reads}
+use Rattle.text_fields.specs.declared.records.RecordReader.{RecordReader}
 use Rattle.text_fields.specs.RowByRow.{AreItems, Faulty, IsFirstFault, items_below}
 use Rattle.elastic.specs.Combination.{choices}
 use Rattle.elastic.specs.WishRow.{Line, Start, Operation, meaning, start_of}
@@ -74,7 +73,7 @@ IsFaultOfRow place meant (Row number why) = (number ≡ place) × (meant ≡ Err
 IsFaultOfRow place meant Memory = ⊤
 
 -- the first row was read, and says this start
-pub record ReadsStart (bytes : List ℕ) (reader : Reader (Bor (List ℕ))) (start : ℕ) : Type 0 where
+pub record ReadsStart (bytes : List ℕ) (reader : RecordReader) (start : ℕ) : Type 0 where
   pub fields : List (List ℕ)
   pub reads : Reads bytes reader (fields ∷ [])
   pub says : start_of (map trimmed fields) ≡ Ok start

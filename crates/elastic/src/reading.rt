@@ -3,8 +3,8 @@
 //! There are 1 to 16 rows behind the first one, and an `add` has 1 to 8 periods.
 
 ghost use Rattle.std.specs.Prelude.{◌≡◌, ◌⊎◌, ◌≤◌, ℕ, All, List, [], length, IfOk, IfErr, MatchResult, Ok, Err};
-ghost use Rattle.text_fields.specs.CsvReading.{Reads};
 ghost use Rattle.text_fields.specs.CsvRows.{rows_of};
+ghost use Rattle.text_fields.specs.RecordReading.{Reads};
 ghost use Rattle.elastic.specs.Combination.{HasFewChoices};
 ghost use Rattle.elastic.specs.WishesFile.{Faults, IsLegalWish, ReadsStart, SayWish, wish_of};
 ghost use Rattle.elastic.specs.declared.wish_fault.WishFault.TheVariants.{Memory};
@@ -12,18 +12,17 @@ ghost use Rattle.elastic.specs.declared.wish_fault.WishFault.TheVariants.{Memory
 use crate::wish::{Wish, WishOps};
 use crate::wish_fault::{WishFault, WishWhy};
 use crate::wish_rows::{read_operation, read_start};
-use csv::{ByteRecord, Reader};
 use std::alloc::Global;
-use text_fields::{read_next, records_in};
+use text_fields::{Record, RecordReader, begin_reading, next_record};
 
 /// Reads the first row, which says the start.
-fn read_first(reader: &mut Reader<&[u8]>, row: &mut ByteRecord) -> Result<u64, WishFault>
+fn read_first<'a>(reader: &mut RecordReader<'a>, row: &mut Record<'a>) -> Result<u64, WishFault>
     ensures start { IfOk result (λ start. (bytes : List ℕ) → Reads bytes reader.old []
         → ReadsStart bytes reader.new start) }
     ensures fault { IfErr result (λ fault. (bytes : List ℕ) → Reads bytes reader.old []
         → Faults (rows_of bytes) fault) }
 {
-    if !read_next(reader, row)? {
+    if !next_record(reader, row)? {
         return Err(WishFault::Row {
             number: 1,
             why: WishWhy::Word,
@@ -50,11 +49,11 @@ pub fn read_wish(alloc: Global, bytes: &[u8]) -> Result<Wish, WishFault>
     ensures value { MatchResult result (λ wish. wish_of bytes.now ≡ Ok wish)
         (λ fault. (fault ≡ Memory) ⊎ (wish_of bytes.now ≡ Err fault)) }
 {
-    let mut reader = records_in(alloc, bytes);
-    let mut row = ByteRecord::new(alloc);
+    let mut reader = begin_reading(alloc, bytes);
+    let mut row = Record::new(alloc);
     let start = read_first(&mut reader, &mut row)?;
     let mut ops = Vec::new(alloc);
-    while read_next(&mut reader, &mut row)? {
+    while next_record(&mut reader, &mut row)? {
         let op = read_operation(alloc, &row, ops.len())?;
         ops.push(op)?;
     }

@@ -9,18 +9,17 @@
 //! START is below 2^64, PHASE, DEADLINE and each period are 0 to 65,535, and the others are 0 to 255.
 
 ghost use Rattle.std.specs.Prelude.{◌≡◌, ◌<◌, ◌≤◌, ◌+◌, map, length, IfOk, IfErr, IfSome, Ok, true};
-ghost use Rattle.csv.specs.Records.{fields_of};
 ghost use Rattle.text_fields.specs.CsvRows.{trimmed};
+ghost use Rattle.text_fields.specs.RecordReading.{fields_in};
 ghost use Rattle.elastic.specs.WishFields.{begins, entry_in, has_fields, periods_in, said_as, verb_of, verb_of_word};
 ghost use Rattle.elastic.specs.WishRow.{operation_of, start_of};
 ghost use Rattle.elastic.specs.WishesFile.{HasFileChoices, IsFaultOfRow};
 
 use crate::wish::{Periods, WishOp};
 use crate::wish_fault::{WishFault, WishWhy};
-use csv::ByteRecord;
 use requirement_table::Entry;
 use std::alloc::{AllocError, Global};
-use text_fields::{field_of, number};
+use text_fields::{Record, field_of, number};
 
 /// The most operations.
 const MOST_OPS: usize = 16;
@@ -38,8 +37,8 @@ pub enum Verb {
 }
 
 /// Whether the first field of a row is `start`.
-fn begins(row: &ByteRecord) -> bool
-    ensures value { result ≡ begins (map trimmed (fields_of row.now)) }
+fn begins(row: &Record<'_>) -> bool
+    ensures value { result ≡ begins (map trimmed (fields_in row.now)) }
 {
     match field_of(row, 0) {
         Some(word) => word == b"start".as_slice(),
@@ -53,8 +52,8 @@ fn begins(row: &ByteRecord) -> bool
 ///
 /// `Word`, `Fields` or `Number`: the first of them, in this order, that is so.
 #[tactic(auto, unfolding(crate::specs::WishRow::start_of))]
-pub fn read_start(row: &ByteRecord) -> Result<u64, WishWhy>
-    ensures value { result ≡ start_of (map trimmed (fields_of row.now)) }
+pub fn read_start(row: &Record<'_>) -> Result<u64, WishWhy>
+    ensures value { result ≡ start_of (map trimmed (fields_in row.now)) }
 {
     if !begins(row) {
         return Err(WishWhy::Word);
@@ -83,8 +82,8 @@ fn verb_of_word(word: &[u8]) -> Option<Verb>
 
 /// What the operation of a row does, by the first field.
 #[tactic(auto, unfolding(crate::specs::WishFields::verb_of))]
-fn read_verb(row: &ByteRecord) -> Option<Verb>
-    ensures value { result ≡ verb_of (map trimmed (fields_of row.now)) }
+fn read_verb(row: &Record<'_>) -> Option<Verb>
+    ensures value { result ≡ verb_of (map trimmed (fields_in row.now)) }
 {
     let word = field_of(row, 0)?;
     verb_of_word(word)
@@ -101,8 +100,8 @@ fn has_fields(verb: Verb, fields: usize) -> bool
 }
 
 /// The entry that a row describes, whose period is still to be chosen.
-fn read_entry(row: &ByteRecord) -> Option<Entry>
-    ensures value { result ≡ entry_in (map trimmed (fields_of row.now)) }
+fn read_entry(row: &Record<'_>) -> Option<Entry>
+    ensures value { result ≡ entry_in (map trimmed (fields_in row.now)) }
 {
     let slot = number(row, 1, 0..=255)?;
     let node = number(row, 2, 0..=255)?;
@@ -123,10 +122,10 @@ fn read_entry(row: &ByteRecord) -> Option<Entry>
 
 /// The periods of a row, where each is a number in its range.
 #[tactic(auto, unfolding(crate::specs::WishFields::periods_in))]
-fn read_periods(alloc: Global, row: &ByteRecord) -> Result<Option<Periods>, AllocError>
-    requires many { 7 ≤ length (fields_of row.now) }
-    ensures value { IfOk result (λ read. read ≡ periods_in (map trimmed (fields_of row.now))) }
-    ensures many { IfOk result (λ read. IfSome read (λ periods. length periods + 7 ≡ length (fields_of row.now))) }
+fn read_periods(alloc: Global, row: &Record<'_>) -> Result<Option<Periods>, AllocError>
+    requires many { 7 ≤ length (fields_in row.now) }
+    ensures value { IfOk result (λ read. read ≡ periods_in (map trimmed (fields_in row.now))) }
+    ensures many { IfOk result (λ read. IfSome read (λ periods. length periods + 7 ≡ length (fields_in row.now))) }
 {
     let mut periods = Vec::new(alloc);
     for place in FIRST_PERIOD..row.len() {
@@ -140,9 +139,9 @@ fn read_periods(alloc: Global, row: &ByteRecord) -> Result<Option<Periods>, Allo
 
 /// The operation that a row says, where each field is a number in its range.
 #[tactic(auto, unfolding(crate::specs::WishFields::said_as))]
-fn read_said(alloc: Global, verb: Verb, row: &ByteRecord) -> Result<Option<WishOp>, AllocError>
-    requires fields { has_fields verb (length (fields_of row.now)) ≡ true }
-    ensures value { IfOk result (λ read. read ≡ said_as verb (map trimmed (fields_of row.now))) }
+fn read_said(alloc: Global, verb: Verb, row: &Record<'_>) -> Result<Option<WishOp>, AllocError>
+    requires fields { has_fields verb (length (fields_in row.now)) ≡ true }
+    ensures value { IfOk result (λ read. read ≡ said_as verb (map trimmed (fields_in row.now))) }
     ensures choices { IfOk result (λ read. IfSome read HasFileChoices) }
 {
     match verb {
@@ -169,12 +168,12 @@ fn read_said(alloc: Global, verb: Verb, row: &ByteRecord) -> Result<Option<WishO
 /// `Row` with its number and with `Word`, `Fields`, `Number` or `Many`: the first of them, in this order, that is so.
 /// `Memory` where memory ran out.
 #[tactic(auto, unfolding(crate::specs::WishRow::operation_of))]
-pub fn read_operation(alloc: Global, row: &ByteRecord, above: usize) -> Result<WishOp, WishFault>
+pub fn read_operation(alloc: Global, row: &Record<'_>, above: usize) -> Result<WishOp, WishFault>
     requires few { above ≤ 16 }
-    ensures ok { IfOk result (λ op. operation_of above (map trimmed (fields_of row.now)) ≡ Ok op) }
+    ensures ok { IfOk result (λ op. operation_of above (map trimmed (fields_in row.now)) ≡ Ok op) }
     ensures few { IfOk result (λ op. above < 16) }
     ensures choices { IfOk result HasFileChoices }
-    ensures fault { IfErr result (IsFaultOfRow (above + 2) (operation_of above (map trimmed (fields_of row.now)))) }
+    ensures fault { IfErr result (IsFaultOfRow (above + 2) (operation_of above (map trimmed (fields_in row.now)))) }
 {
     let number = above as u64 + 2;
     let Some(verb) = read_verb(row) else {

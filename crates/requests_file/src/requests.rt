@@ -8,10 +8,10 @@ ghost use Rattle.std.specs.Prelude.{◌≡◌, ◌⊎◌, ℕ, ◌<◌, ◌≤�
 ghost use Rattle.std.specs.Prelude.{Err, Ok, Some, None, map, length, get_or, false, true};
 ghost use Rattle.std.specs.Prelude.{List, option_and_then, option_map, MatchResult};
 ghost use Rattle.profile.specs.Limits.{greatest_identifier};
-ghost use Rattle.csv.specs.Records.{fields_of};
 ghost use Rattle.can_frame.specs.DataFrame.{IsFrame};
 ghost use Rattle.text_fields.specs.CsvRows.{rows_of, trimmed};
 ghost use Rattle.text_fields.specs.Decimal.{number_of, within};
+ghost use Rattle.text_fields.specs.RecordReading.{fields_in};
 ghost use Rattle.requests_file.specs.RequestRow.{hexadecimal_of, identifier_of, identifier_in};
 ghost use Rattle.requests_file.specs.RequestRow.{bytes_in, is_owned, arrival_above, meaning, IsRequest, frame_with};
 ghost use Rattle.requests_file.specs.RequestOwners.{IsOwnedTable};
@@ -22,11 +22,10 @@ ghost use Rattle.requests_file.specs.RequestsFile.{AreRequests, Faults, AreLegal
 use super::request_fault::{RequestFault, RequestWhy};
 use async_window::{Owner, Request};
 use can_frame::Frame;
-use csv::ByteRecord;
 use profile::{ARRIVALS_END, GREATEST_IDENTIFIER, LEAST_ASYNCHRONOUS};
 use std::alloc::{AllocError, Global};
 use text_fields::{
-    field_of, number, read_bytes, read_hexadecimal, read_next, read_number, records_in,
+    Record, begin_reading, field_of, next_record, number, read_bytes, read_hexadecimal, read_number,
 };
 
 /// The greatest arrival, in bit times.
@@ -76,17 +75,17 @@ fn read_identifier(field: &[u8]) -> Option<u16>
 }
 
 /// The identifier in the second field of a row.
-fn identifier(row: &ByteRecord) -> Option<u16>
-    ensures value { result ≡ identifier_in (map trimmed (fields_of row.now)) }
+fn identifier(row: &Record<'_>) -> Option<u16>
+    ensures value { result ≡ identifier_in (map trimmed (fields_in row.now)) }
 {
     let field = field_of(row, 1)?;
     read_identifier(field)
 }
 
 /// The frame of an identifier and of the bytes in the third field of a row.
-fn read_frame(row: &ByteRecord, id: u16) -> Option<Frame>
+fn read_frame(row: &Record<'_>, id: u16) -> Option<Frame>
     requires identifier { id ≤ greatest_identifier }
-    ensures value { result ≡ option_map (frame_with id) (bytes_in (map trimmed (fields_of row.now))) }
+    ensures value { result ≡ option_map (frame_with id) (bytes_in (map trimmed (fields_in row.now))) }
     ensures legal { IfSome result IsFrame }
 {
     let field = field_of(row, 2)?;
@@ -137,10 +136,10 @@ fn last_arrival(above: &[Request]) -> u64
 }
 
 /// The request of a row below these requests.
-fn read_row(row: &ByteRecord, owned: &[bool], above: &[Request]) -> Result<Request, RequestWhy>
+fn read_row(row: &Record<'_>, owned: &[bool], above: &[Request]) -> Result<Request, RequestWhy>
     requires whole { length owned.now ≡ 65536 }
     ensures value { (owners : List Owner) → IsOwnedTable owners owned.now
-        → result ≡ meaning owners above.now (map trimmed (fields_of row.now)) }
+        → result ≡ meaning owners above.now (map trimmed (fields_in row.now)) }
     ensures legal { (owners : List Owner) → IsOwnedTable owners owned.now → IfOk result (IsRequest owners) }
     ensures in_order { IfOk result (λ request. arrival_above above.now ≤ request.at) }
     ensures few { IfOk result (λ request. length above.now < 50000) }
@@ -186,10 +185,10 @@ pub fn read_requests(
         (λ fault. (fault ≡ Memory) ⊎ (requests_of owners.now bytes.now ≡ Err fault)) }
 {
     let owned = owned_numbers(alloc, owners)?;
-    let mut reader = records_in(alloc, bytes);
-    let mut row = ByteRecord::new(alloc);
+    let mut reader = begin_reading(alloc, bytes);
+    let mut row = Record::new(alloc);
     let mut requests = Vec::new(alloc);
-    while read_next(&mut reader, &mut row)? {
+    while next_record(&mut reader, &mut row)? {
         match read_row(&row, &owned, &requests) {
             Ok(request) => requests.push(request)?,
             Err(why) => {

@@ -6,18 +6,17 @@
 ghost use Rattle.std.specs.Prelude.{◌≡◌, ◌⊎◌, ◌<◌, ◌≤◌, IfOk, IfErr, IfSome, MatchResult};
 ghost use Rattle.std.specs.Prelude.{Err, Ok, map, length};
 ghost use Rattle.profile.specs.Limits.{arrivals_end};
-ghost use Rattle.csv.specs.Records.{fields_of};
 ghost use Rattle.text_fields.specs.CsvRows.{rows_of, trimmed};
+ghost use Rattle.text_fields.specs.RecordReading.{fields_in};
 ghost use Rattle.sporadic_poll.specs.StreamRow.{arrival_above, meaning, payload_in};
 ghost use Rattle.sporadic_poll.specs.StreamsFile.{AreLegal, AreStreams, Faults, streams_of};
 ghost use Rattle.sporadic_poll.specs.declared.stream_fault.StreamFault.TheVariants.{Memory};
 
 use crate::stream::{Stream, StreamBytes};
 use crate::stream_fault::{StreamFault, StreamWhy};
-use csv::ByteRecord;
 use profile::ARRIVALS_END;
 use std::alloc::{AllocError, Global};
-use text_fields::{DataBytes, field_of, number, read_bytes, read_next, records_in};
+use text_fields::{DataBytes, Record, begin_reading, field_of, next_record, number, read_bytes};
 
 /// The greatest arrival, in bit times.
 const MAX_ARRIVAL: u64 = ARRIVALS_END - 1;
@@ -32,8 +31,8 @@ const MAX_PAYLOAD: usize = 7;
 const MAX_STREAMS: usize = 10_000;
 
 /// The bytes that the third field of a row writes.
-fn read_payload(row: &ByteRecord) -> Option<DataBytes>
-    ensures value { result ≡ payload_in (map trimmed (fields_of row.now)) }
+fn read_payload(row: &Record<'_>) -> Option<DataBytes>
+    ensures value { result ≡ payload_in (map trimmed (fields_in row.now)) }
     ensures short { IfSome result (λ bytes. length bytes ≤ 7) }
 {
     let field = field_of(row, 2)?;
@@ -64,11 +63,11 @@ struct Fields {
 }
 
 /// The fields of a row below these requests.
-fn read_row(row: &ByteRecord, slots: u8, above: &[Stream]) -> Result<Fields, StreamWhy>
+fn read_row(row: &Record<'_>, slots: u8, above: &[Stream]) -> Result<Fields, StreamWhy>
     ensures value { MatchResult result
-        (λ read. meaning slots above.now (map trimmed (fields_of row.now))
+        (λ read. meaning slots above.now (map trimmed (fields_in row.now))
         ≡ Ok (record { at = read.at; slot = read.slot; payload = read.bytes }))
-        (λ why. meaning slots above.now (map trimmed (fields_of row.now)) ≡ Err why) }
+        (λ why. meaning slots above.now (map trimmed (fields_in row.now)) ≡ Err why) }
     ensures early { IfOk result (λ read. read.at < arrivals_end) }
     ensures known { IfOk result (λ read. read.slot < slots) }
     ensures short { IfOk result (λ read. length read.bytes ≤ 7) }
@@ -128,10 +127,10 @@ pub fn read_streams(alloc: Global, bytes: &[u8], slots: u8) -> Result<Vec<Stream
     ensures value { MatchResult result (λ streams. streams_of slots bytes.now ≡ Ok streams.items)
         (λ fault. (fault ≡ Memory) ⊎ (streams_of slots bytes.now ≡ Err fault)) }
 {
-    let mut reader = records_in(alloc, bytes);
-    let mut row = ByteRecord::new(alloc);
+    let mut reader = begin_reading(alloc, bytes);
+    let mut row = Record::new(alloc);
     let mut streams = Vec::new(alloc);
-    while read_next(&mut reader, &mut row)? {
+    while next_record(&mut reader, &mut row)? {
         match read_row(&row, slots, &streams) {
             Ok(read) => streams.push(stream_of(alloc, &read)?)?,
             Err(why) => {

@@ -1,7 +1,7 @@
 -- How a reader stands between two rows of a steps file.
-use Rattle.std.proofs.Common.{Bor, ◌≡◌, ℕ, List, length, map}
-use Rattle.csv.specs.declared.reader.Reader.{Reader}
-use Rattle.text_fields.specs.CsvReading.{Reads}
+use Rattle.std.proofs.Common.{◌≡◌, ℕ, List, length, map}
+use Rattle.text_fields.specs.RecordReading.{Reads}
+use Rattle.text_fields.specs.declared.records.RecordReader.{RecordReader}
 use Rattle.text_fields.specs.CsvRows.{trimmed}
 use Rattle.text_fields.specs.RowByRow.{AreItems}
 use Rattle.steps_file.specs.StepRow.{meaning}
@@ -11,7 +11,7 @@ use Rattle.steps_file.specs.declared.steps.Draft.{Draft}
 use Rattle.steps_file.specs.declared.steps.Tally.{Tally}
 
 -- the tally and the draft are those of the rows that were read, and the number is how many they are
-pub record ReadsSteps (bytes : List ℕ) (reader : Reader (Bor (List ℕ))) (number : ℕ) (tally : Tally) (draft : Draft) : Type 0 where
+pub record ReadsSteps (bytes : List ℕ) (reader : RecordReader) (number : ℕ) (tally : Tally) (draft : Draft) : Type 0 where
   pub before : List (List (List ℕ))
   pub lines : List Line
   pub reads : Reads bytes reader before

@@ -12,18 +12,17 @@
 //! others are 0 to 255, of which OPERATOR has to be 1 to 8.
 
 ghost use Rattle.std.specs.Prelude.{◌≡◌, ◌≤◌, map, length, option_map};
-ghost use Rattle.csv.specs.Records.{fields_of};
 ghost use Rattle.text_fields.specs.CsvRows.{trimmed};
+ghost use Rattle.text_fields.specs.RecordReading.{fields_in};
 ghost use Rattle.steps_file.specs.StepForm.{verb_of, joins_of, form_of, fields_of_verb, has_fields};
 ghost use Rattle.steps_file.specs.StepFields.{entry_at, operation_at, beginning, said_as};
 ghost use Rattle.steps_file.specs.StepRow.{is_operator, has_operator, line_of};
 
 use super::step_fault::StepWhy;
 use change_protocol::Op;
-use csv::ByteRecord;
 use profile::MOST_CYCLES;
 use requirement_table::Entry;
-use text_fields::{field_of, number};
+use text_fields::{Record, field_of, number};
 
 /// What an operation does.
 #[derive(Clone, Copy, Debug, PartialEq, Eq)]
@@ -106,8 +105,8 @@ fn read_joins(word: Option<&[u8]>) -> Option<Form>
 
 /// The form of a row.
 #[tactic(auto, unfolding(crate::specs::StepForm::form_of))]
-fn read_form(row: &ByteRecord) -> Option<Form>
-    ensures value { result ≡ form_of (map trimmed (fields_of row.now)) }
+fn read_form(row: &Record<'_>) -> Option<Form>
+    ensures value { result ≡ form_of (map trimmed (fields_in row.now)) }
 {
     let word = field_of(row, 0)?;
     if word == b"cycle".as_slice() {
@@ -146,9 +145,9 @@ fn has_fields(form: Form, fields: usize) -> bool
 }
 
 /// The entry that the fields from this place on describe.
-fn read_entry(row: &ByteRecord, place: usize) -> Option<Entry>
+fn read_entry(row: &Record<'_>, place: usize) -> Option<Entry>
     requires near { place ≤ 3 }
-    ensures value { result ≡ entry_at (map trimmed (fields_of row.now)) place }
+    ensures value { result ≡ entry_at (map trimmed (fields_in row.now)) place }
 {
     let slot = number(row, place, 0..=255)?;
     let node = number(row, place + 1, 0..=255)?;
@@ -169,9 +168,9 @@ fn read_entry(row: &ByteRecord, place: usize) -> Option<Entry>
 }
 
 /// The operation that the fields from this place on describe.
-fn read_operation(verb: Verb, row: &ByteRecord, place: usize) -> Option<Op>
+fn read_operation(verb: Verb, row: &Record<'_>, place: usize) -> Option<Op>
     requires near { place ≤ 3 }
-    ensures value { result ≡ operation_at verb (map trimmed (fields_of row.now)) place }
+    ensures value { result ≡ operation_at verb (map trimmed (fields_in row.now)) place }
 {
     match verb {
         Verb::Add => {
@@ -190,8 +189,8 @@ fn read_operation(verb: Verb, row: &ByteRecord, place: usize) -> Option<Op>
 }
 
 /// What a row says that begins a change with this operation.
-fn read_beginning(verb: Verb, row: &ByteRecord) -> Option<Line>
-    ensures value { result ≡ beginning verb (map trimmed (fields_of row.now)) }
+fn read_beginning(verb: Verb, row: &Record<'_>) -> Option<Line>
+    ensures value { result ≡ beginning verb (map trimmed (fields_in row.now)) }
 {
     let caller = number(row, 1, 0..=255)?;
     let start = number(row, 2, 0..=u64::MAX)?;
@@ -205,8 +204,8 @@ fn read_beginning(verb: Verb, row: &ByteRecord) -> Option<Line>
 
 /// What a row of this form says, where each field is a number in its range.
 #[tactic(auto, unfolding(crate::specs::StepFields::said_as))]
-fn read_said(form: Form, row: &ByteRecord) -> Option<Line>
-    ensures value { result ≡ said_as form (map trimmed (fields_of row.now)) }
+fn read_said(form: Form, row: &Record<'_>) -> Option<Line>
+    ensures value { result ≡ said_as form (map trimmed (fields_in row.now)) }
 {
     match form {
         Form::Cycle => {
@@ -251,8 +250,8 @@ fn has_operator(line: Line) -> bool
 ///
 /// `Word`, `Fields`, `Number` or `Operator`: the first of them, in this order, that is so.
 #[tactic(auto, unfolding(crate::specs::StepRow::line_of))]
-pub fn read_line(row: &ByteRecord) -> Result<Line, StepWhy>
-    ensures value { result ≡ line_of (map trimmed (fields_of row.now)) }
+pub fn read_line(row: &Record<'_>) -> Result<Line, StepWhy>
+    ensures value { result ≡ line_of (map trimmed (fields_in row.now)) }
 {
     let Some(form) = read_form(row) else {
         return Err(StepWhy::Word);

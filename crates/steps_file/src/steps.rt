@@ -8,8 +8,8 @@
 ghost use Rattle.std.specs.Prelude.{◌≡◌, ◌⊎◌, ◌+◌, List, [], ◌∷◌, ◌++◌, map, Option, is_some, is_ok, true};
 ghost use Rattle.std.specs.Prelude.{false, nat_lt, nat_le, IfOk, IfErr, Err, Ok, Some, None, MatchResult};
 ghost use Rattle.profile.specs.Limits.{most_cycles};
-ghost use Rattle.csv.specs.Records.{fields_of};
 ghost use Rattle.text_fields.specs.CsvRows.{trimmed, rows_of};
+ghost use Rattle.text_fields.specs.RecordReading.{fields_in};
 ghost use Rattle.steps_file.specs.StepRow.{below, meaning, joins};
 ghost use Rattle.steps_file.specs.StepsReading.{Counts, Drafts, GrowsBy, GrewBy, asking, step_of_asked, last_steps};
 ghost use Rattle.steps_file.specs.StepsFile.{AreSteps, Faults, AreLegalSteps, steps_of};
@@ -20,10 +20,9 @@ ghost use Rattle.steps_file.specs.declared.step_fault.StepWhy.TheVariants.{Loose
 use super::step_fault::{StepFault, StepWhy};
 use super::step_rows::{Line, read_line};
 use change_protocol::{Act, Change, Op, Ops};
-use csv::ByteRecord;
 use profile::MOST_CYCLES;
 use std::alloc::Global;
-use text_fields::{read_next, records_in};
+use text_fields::{Record, begin_reading, next_record};
 
 /// What a steps file asks for, one after the other.
 #[derive(Drop, Debug)]
@@ -157,12 +156,12 @@ impl Tally {
 
 /// What a row says below these rows, and the tally with it.
 #[tactic(auto, unfolding(crate::specs::StepRow::meaning))]
-fn read_row(row: &ByteRecord, above: Tally) -> Result<(Line, Tally), StepWhy>
+fn read_row(row: &Record<'_>, above: Tally) -> Result<(Line, Tally), StepWhy>
     ensures counts { (lines : List Line) → Counts lines above
         → IfOk result (λ read. Counts (lines ++ read.0 ∷ []) read.1) }
     ensures value { (lines : List Line) → Counts lines above
-        → MatchResult result (λ read. meaning lines (map trimmed (fields_of row.now)) ≡ Ok read.0)
-        (λ why. meaning lines (map trimmed (fields_of row.now)) ≡ Err why) }
+        → MatchResult result (λ read. meaning lines (map trimmed (fields_in row.now)) ≡ Ok read.0)
+        (λ why. meaning lines (map trimmed (fields_in row.now)) ≡ Err why) }
     ensures in_change { IfOk result (λ read. joins read.0 ≡ true → above.in_change ≡ true) }
 {
     let line = read_line(row)?;
@@ -334,12 +333,12 @@ pub fn read_steps(alloc: Global, bytes: &[u8]) -> Result<Vec<Step>, StepFault>
     ensures value { MatchResult result (λ steps. steps_of bytes.now ≡ Ok steps.items)
         (λ fault. (fault ≡ Memory) ⊎ (steps_of bytes.now ≡ Err fault)) }
 {
-    let mut reader = records_in(alloc, bytes);
-    let mut row = ByteRecord::new(alloc);
+    let mut reader = begin_reading(alloc, bytes);
+    let mut row = Record::new(alloc);
     let mut tally = Tally::new();
     let mut draft = Draft::new(alloc);
     let mut number = 0u64;
-    while read_next(&mut reader, &mut row)? {
+    while next_record(&mut reader, &mut row)? {
         number += 1;
         match read_row(&row, tally) {
             Ok((line, with_row)) => {

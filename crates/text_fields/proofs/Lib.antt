@@ -9,7 +9,9 @@ mod LineFeeds
 mod LowDigits
 mod MaskDigits
 mod PlainRecords
+mod PlainCuts
 mod Ranges
+mod RecordSteps
 mod RowByRow
 mod RowDigits
 pub mod Shared

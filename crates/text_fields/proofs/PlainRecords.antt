@@ -10,11 +10,8 @@ use Rattle.csv.specs.declared.parser.Action.TheVariants as act
 use Rattle.csv.specs.declared.parser.State.{State}
 use Rattle.csv.specs.declared.parser.State.TheVariants as st
 use Rattle.text_fields.specs.CsvReading.{records_left}
+use Rattle.text_fields.specs.PlainRows.{is_plain}
 use Rattle.text_fields.proofs.CsvReading.{none_at_end, records_left-none, records_left-some}
-
--- neither a comma nor a quote, and no byte that ends a line
-abbrev pub is_plain : ℕ → Bool
-is_plain byte = not (byte == 44) && not (byte == 34) && not (byte == 13) && not (byte == 10)
 
 -- each field is plain
 abbrev pub ArePlain : List (List ℕ) → Type 0
@@ -53,14 +50,14 @@ other b plain =
 in_field : (b : ℕ) → is_plain b ≡ true → step default_config st.InField b ≡ (st.InField, act.Copy)
 in_field b plain = let t = other b plain in rw (t.comma, t.return, t.feed) refl
 
-start_field : (b : ℕ) → is_plain b ≡ true → step default_config st.StartField b ≡ (st.InField, act.Copy)
+pub start_field : (b : ℕ) → is_plain b ≡ true → step default_config st.StartField b ≡ (st.InField, act.Copy)
 start_field b plain = let t = other b plain in rw (t.quote, t.comma, t.return, t.feed) refl
 
 start_record : (b : ℕ) → is_plain b ≡ true → step default_config st.StartRecord b ≡ (st.InField, act.Copy)
 start_record b plain = let t = other b plain in rw (t.return, t.feed, t.quote, t.comma) refl
 
 -- one byte more
-next_by : (s : State) (b : ℕ) (done : List (List ℕ)) (field rest : List ℕ) (after : State) (a : Action) → step default_config s b ≡ (after, a)
+pub next_by : (s : State) (b : ℕ) (done : List (List ℕ)) (field rest : List ℕ) (after : State) (a : Action) → step default_config s b ≡ (after, a)
     → next_record default_config s done field (b ∷ rest)
     ≡ cond (is_end a) (Some (fields_after a done field, after, rest)) (next_record default_config after (fields_after a done field) (field_after a b field) rest)
 unfolding next_record
@@ -68,7 +65,7 @@ next_by s b done field rest after a is =
     ap (λ (p : State × Action). cond (is_end p.1) (Some (fields_after p.1 done field, p.0, rest))
     (next_record default_config p.0 (fields_after p.1 done field) (field_after p.1 b field) rest)) is
 
-run : (xs : List ℕ) (done : List (List ℕ)) (field rest : List ℕ) → list_all is_plain xs ≡ true
+pub run : (xs : List ℕ) (done : List (List ℕ)) (field rest : List ℕ) → list_all is_plain xs ≡ true
     → next_record default_config st.InField done field (xs ++ rest) ≡ next_record default_config st.InField done (field ++ xs) rest
 run [] done field rest all = ap (λ (f : List ℕ). next_record default_config st.InField done f rest) (sym (append-nil field))
 run (b ∷ xs) done field rest all =

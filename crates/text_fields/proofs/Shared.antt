@@ -9,4 +9,5 @@ pub use Rattle.text_fields.proofs.Ranges.{if-some, within-found, within-is}
 pub use Rattle.text_fields.proofs.RowByRow.{all_items, all_mean, fault_means, first_fault, get_more, held, more_items, no_items}
 pub use Rattle.text_fields.proofs.Splits.{no-all, no_split, same_last, same_split}
 pub use Rattle.text_fields.proofs.TrimmedRows.{trimmed-more, trimmed-split}
-pub use Rattle.text_fields.proofs.PlainRecords.{ArePlain, IsPlainRecord, is_plain, no-mark, no-mark-empty, none-next, plain-next}
+pub use Rattle.text_fields.proofs.PlainRecords.{ArePlain, IsPlainRecord, no-mark, no-mark-empty, none-next, plain-next}
+pub use Rattle.text_fields.specs.PlainRows.{is_plain}

@@ -9,5 +9,7 @@ pub mod HexPairs
 pub mod KeptDigits
 pub mod Lines
 pub mod MaskText
+pub mod PlainRows
+pub mod RecordReading
 pub mod RowByRow
 pub mod Whys

@@ -77,7 +77,7 @@ fn drop_trailing_spaces(mut field: &[u8]) -> &[u8]
 }
 
 /// The field without the spaces at both ends.
-fn trim(field: &[u8]) -> &[u8]
+pub fn trim(field: &[u8]) -> &[u8]
     ensures value { result.now ≡ trimmed field.now }
 {
     drop_trailing_spaces(drop_leading_spaces(field))
@@ -88,28 +88,4 @@ pub fn field_in(row: &ByteRecord, place: usize) -> Option<&[u8]>
     ensures value { option_map (λ field. field.now) result ≡ slice_get (fields_of row.now) place }
 {
     row.get(place)
-}
-
-/// The field at this place of a row, from 0, without the spaces at both ends.
-pub fn field_of(row: &ByteRecord, place: usize) -> Option<&[u8]>
-    ensures value { option_map (λ field. field.now) result ≡ field_at (map trimmed (fields_of row.now)) place }
-{
-    let field = row.get(place)?;
-    Some(trim(field))
-}
-
-/// The number in the field at this place of a row, where it is in the range.
-pub fn number(row: &ByteRecord, place: usize, range: RangeInclusive<u64>) -> Option<u64>
-    ensures value { result
-        ≡ number_at (map trimmed (fields_of row.now)) place (range_inclusive_start range) (range_inclusive_end range) }
-    ensures within { IfSome result
-        (λ number. (range_inclusive_start range ≤ number) × (number ≤ range_inclusive_end range)) }
-{
-    let field = field_of(row, place)?;
-    let number = read_number(field)?;
-    if *range.start() <= number && number <= *range.end() {
-        Some(number)
-    } else {
-        None
-    }
 }

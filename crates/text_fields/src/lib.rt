@@ -12,15 +12,17 @@ mod hexadecimal;
 mod high_digits;
 mod lines;
 mod masks;
+mod records;
 mod row_parts;
 
-pub use csv_rows::{field_in, field_of, number, read_next, records_in};
+pub use csv_rows::{field_in, read_next, records_in};
 pub use data_bytes::{DataBytes, read_bytes, read_data};
 pub use decimals::{read_decimal, read_number};
 pub use hexadecimal::{read_hex, read_hexadecimal};
 pub use high_digits::HighDigits;
 pub use lines::split_line;
 pub use masks::{masks_are_read, put_mask, read_mask};
+pub use records::{Record, RecordReader, begin_reading, field_of, next_record, number};
 pub use row_parts::{
     ROOM, put_byte, put_data_bytes, put_decimal, put_field, put_first, put_hex, put_identifier,
     put_length, put_line_feed, put_word, row_from,

@@ -1,5 +1,5 @@
 -- The start and the operations so far are what the rows that were read say.
-use Rattle.text_fields.specs.CsvReading.{bytes_left}
+use Rattle.text_fields.specs.RecordReading.{bytes_left}
 use Rattle.elastic.proofs.ReadingWish.{ReadsWish}
 use Rattle.elastic.proofs.reading.read_wish.Given as goal
 

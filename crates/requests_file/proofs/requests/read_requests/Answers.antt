@@ -1,7 +1,7 @@
 -- What the reader gives is the next record of the bytes that it has left.
 use Rattle.std.proofs.Common.{◌≡◌, [], Ok, Err, ap, inr, map, rules, subst, sym, ◌++◌, ◌∷◌, true, ◌+◌, arith}
 use Rattle.std.specs.Result.{is_ok}
-use Rattle.csv.specs.Records.{fields_of}
+use Rattle.text_fields.specs.RecordReading.{fields_in}
 use Rattle.text_fields.specs.CsvRows.{rows_of, trimmed}
 use Rattle.requests_file.specs.RequestRow.{meaning}
 use Rattle.requests_file.specs.RequestOwners.{IsOwnedTable}
@@ -17,7 +17,7 @@ pub loop-requests-init : goal.loop-requests-init
 loop-requests-init c =
     record {
       before = [];
-      reads = c.records_in-reader.ensures.reads;
+      reads = c.begin_reading-reader.ensures.reads;
       means = rw c.new-requests.ensures.items (no_items (meaning c.args.owners.now));
       legal = rw c.new-requests.ensures.items (none_legal c.args.owners.now);
     }
@@ -25,15 +25,15 @@ loop-requests-init c =
 pub loop-requests-smaller : goal.loop-requests-smaller
 loop-requests-smaller c =
     let so_far = c.loop-requests.invariant in
-    (c.in_ok-read_next.ensures.one c.if-branch.true c.args.bytes.now so_far.before so_far.reads).fewer
+    (c.in_ok-next_record.ensures.one c.if-branch.true c.args.bytes.now so_far.before so_far.reads).fewer
 
 pub returns-in-Err-clause-fault : goal.returns-in-Err-clause-fault
 returns-in-Err-clause-fault c =
     let so_far = c.loop-requests.invariant in
     let owners = c.args.owners.now in
     let table : IsOwnedTable owners c.deref.result.now = rw c.deref.ensures.value c.in_ok-owned.ensures.ok in
-    let fields = fields_of c.read_next.new.row in
-    let read = c.in_ok-read_next.ensures.one c.if-branch.true c.args.bytes.now so_far.before so_far.reads in
+    let fields = fields_in c.next_record.new.row in
+    let read = c.in_ok-next_record.ensures.one c.if-branch.true c.args.bytes.now so_far.before so_far.reads in
     let why : meaning owners c.loop-requests.requests.items (map trimmed fields) ≡ Err c.in-Err.why = rw c.deref-in-loop-requests.ensures.value at (sym (c.in-Err.ensures.value owners table)) in
     record {
       before = map (map trimmed) so_far.before;
@@ -59,8 +59,8 @@ loop-requests-preserved c =
     let above = c.loop-requests.requests.items in
     let request = c.in-Ok.request in
     let table : IsOwnedTable owners c.deref.result.now = rw c.deref.ensures.value c.in_ok-owned.ensures.ok in
-    let fields = fields_of c.read_next.new.row in
-    let read = c.in_ok-read_next.ensures.one c.if-branch.true c.args.bytes.now so_far.before so_far.reads in
+    let fields = fields_in c.next_record.new.row in
+    let read = c.in_ok-next_record.ensures.one c.if-branch.true c.args.bytes.now so_far.before so_far.reads in
     let is : meaning owners above (map trimmed fields) ≡ Ok request = rw c.deref-in-loop-requests.ensures.value at (sym (c.in-Ok.ensures.value owners table)) in
     let good : is_ok c.push.result ≡ true = search rules in
     let items = rw good at c.push.ensures.items in
@@ -76,7 +76,7 @@ pub returns-clause-ok : goal.returns-clause-ok
 returns-clause-ok c =
     let so_far = c.loop-requests.invariant in
     let rows : rows_of c.args.bytes.now ≡ map (map trimmed) so_far.before
-    = ap (map (map trimmed)) (c.in_ok-read_next.ensures.all c.if-branch.false c.args.bytes.now so_far.before so_far.reads) in
+    = ap (map (map trimmed)) (c.in_ok-next_record.ensures.all c.if-branch.false c.args.bytes.now so_far.before so_far.reads) in
     rw (c.shrink_to_fit.ensures.items, rows) so_far.means
 
 pub returns-clause-value : goal.returns-clause-value

@@ -1,5 +1,5 @@
 -- The requests so far are those of the rows that were read.
-use Rattle.text_fields.specs.CsvReading.{bytes_left}
+use Rattle.text_fields.specs.RecordReading.{bytes_left}
 use Rattle.requests_file.proofs.RequestsReading.{ReadsRequests}
 use Rattle.requests_file.proofs.requests.read_requests.Given as goal
 

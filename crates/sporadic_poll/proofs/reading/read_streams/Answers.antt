@@ -1,7 +1,7 @@
 -- What the reader gives is the next record of the bytes that it has left.
 use Rattle.std.proofs.Common.{◌≡◌, [], Ok, Err, ap, inr, map, rules, subst, sym, ◌++◌, ◌∷◌, true, ◌+◌, arith}
 use Rattle.std.specs.Result.{is_ok}
-use Rattle.csv.specs.Records.{fields_of}
+use Rattle.text_fields.specs.RecordReading.{fields_in}
 use Rattle.text_fields.specs.CsvRows.{rows_of, trimmed}
 use Rattle.text_fields.specs.RowByRow.{IsFirstFault}
 use Rattle.text_fields.proofs.Shared.{more_items, no_items, trimmed-more, trimmed-split}
@@ -15,7 +15,7 @@ pub loop-streams-init : goal.loop-streams-init
 loop-streams-init c =
     record {
       before = [];
-      reads = c.records_in-reader.ensures.reads;
+      reads = c.begin_reading-reader.ensures.reads;
       means = rw c.new-streams.ensures.items (no_items (meaning c.args.slots));
       legal = rw c.new-streams.ensures.items (none_legal c.args.slots);
     }
@@ -23,13 +23,13 @@ loop-streams-init c =
 pub loop-streams-smaller : goal.loop-streams-smaller
 loop-streams-smaller c =
     let so_far = c.loop-streams.invariant in
-    (c.in_ok-read_next.ensures.one c.if-branch.true c.args.bytes.now so_far.before so_far.reads).fewer
+    (c.in_ok-next_record.ensures.one c.if-branch.true c.args.bytes.now so_far.before so_far.reads).fewer
 
 pub returns-in-Err-clause-fault : goal.returns-in-Err-clause-fault
 returns-in-Err-clause-fault c =
     let so_far = c.loop-streams.invariant in
-    let fields = fields_of c.read_next.new.row in
-    let read = c.in_ok-read_next.ensures.one c.if-branch.true c.args.bytes.now so_far.before so_far.reads in
+    let fields = fields_in c.next_record.new.row in
+    let read = c.in_ok-next_record.ensures.one c.if-branch.true c.args.bytes.now so_far.before so_far.reads in
     let why : meaning c.args.slots c.loop-streams.streams.items (map trimmed fields) ≡ Err c.in-Err.why = rw c.deref.ensures.value at c.in-Err.ensures.value in
     record {
       before = map (map trimmed) so_far.before;
@@ -52,7 +52,7 @@ pub returns-clause-ok : goal.returns-clause-ok
 returns-clause-ok c =
     let so_far = c.loop-streams.invariant in
     let rows : rows_of c.args.bytes.now ≡ map (map trimmed) so_far.before
-    = ap (map (map trimmed)) (c.in_ok-read_next.ensures.all c.if-branch.false c.args.bytes.now so_far.before so_far.reads) in
+    = ap (map (map trimmed)) (c.in_ok-next_record.ensures.all c.if-branch.false c.args.bytes.now so_far.before so_far.reads) in
     rw rows so_far.means
 
 pub returns-clause-value : goal.returns-clause-value
@@ -66,8 +66,8 @@ loop-streams-preserved c =
     let so_far = c.loop-streams.invariant in
     let above = c.loop-streams.streams.items in
     let stream = c.in_ok-stream_of-in-Ok.field-0 in
-    let fields = fields_of c.read_next.new.row in
-    let read = c.in_ok-read_next.ensures.one c.if-branch.true c.args.bytes.now so_far.before so_far.reads in
+    let fields = fields_in c.next_record.new.row in
+    let read = c.in_ok-next_record.ensures.one c.if-branch.true c.args.bytes.now so_far.before so_far.reads in
     let said = c.in_ok-stream_of-in-Ok.ensures.value in
     let is : meaning c.args.slots above (map trimmed fields) ≡ Ok stream = rw said (rw c.deref.ensures.value at c.in-Ok.ensures.value) in
     let good : is_ok c.push.result ≡ true = search rules in

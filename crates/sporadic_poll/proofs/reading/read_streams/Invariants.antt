@@ -1,5 +1,5 @@
 -- The requests so far are those of the rows that were read.
-use Rattle.text_fields.specs.CsvReading.{bytes_left}
+use Rattle.text_fields.specs.RecordReading.{bytes_left}
 use Rattle.sporadic_poll.proofs.StreamsReading.{ReadsStreams}
 use Rattle.sporadic_poll.proofs.reading.read_streams.Given as goal
 

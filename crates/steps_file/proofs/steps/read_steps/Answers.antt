@@ -1,6 +1,6 @@
 -- What the reader gives is the next record of the bytes that it has left.
 use Rattle.std.proofs.Common.{◌≡◌, ◌+◌, ◌≤◌, [], ◌∷◌, ◌++◌, Ok, ap, IfOk, inl, inr, length, length-append, map, refl, subst, sym, arith}
-use Rattle.csv.specs.Records.{fields_of}
+use Rattle.text_fields.specs.RecordReading.{fields_in}
 use Rattle.text_fields.specs.CsvRows.{rows_of, trimmed}
 use Rattle.steps_file.specs.StepRow.{meaning}
 use Rattle.text_fields.proofs.Shared.{trimmed-more, trimmed-split}
@@ -18,7 +18,7 @@ loop-draft-init c =
     record {
       before = [];
       lines = [];
-      reads = c.records_in-reader.ensures.reads;
+      reads = c.begin_reading-reader.ensures.reads;
       are = no_items meaning;
       counts = c.new-tally.ensures.counts;
       drafts = c.new-draft.ensures.drafts;
@@ -28,21 +28,21 @@ loop-draft-init c =
 pub loop-draft-smaller : goal.loop-draft-smaller
 loop-draft-smaller c =
     let so_far = c.loop-draft.invariant in
-    (c.in_ok-read_next.ensures.one c.if-branch.true c.args.bytes.now so_far.before so_far.reads).fewer
+    (c.in_ok-next_record.ensures.one c.if-branch.true c.args.bytes.now so_far.before so_far.reads).fewer
 
 pub overflow_add-number : goal.overflow_add-number
 overflow_add-number c =
     let so_far = c.loop-draft.invariant in
-    let fields = fields_of c.read_next.new.row in
-    let read = c.in_ok-read_next.ensures.one c.if-branch.true c.args.bytes.now so_far.before so_far.reads in
+    let fields = fields_in c.next_record.new.row in
+    let read = c.in_ok-next_record.ensures.one c.if-branch.true c.args.bytes.now so_far.before so_far.reads in
     let few : c.loop-draft.number + 1 ≤ length c.args.bytes.now = omega (arith, read.reads.few, so_far.numbered, length-append so_far.before (fields ∷ [])) in
     omega (arith, few)
 
 pub returns-in-Err-clause-fault : goal.returns-in-Err-clause-fault
 returns-in-Err-clause-fault c =
     let so_far = c.loop-draft.invariant in
-    let fields = fields_of c.read_next.new.row in
-    let read = c.in_ok-read_next.ensures.one c.if-branch.true c.args.bytes.now so_far.before so_far.reads in
+    let fields = fields_in c.next_record.new.row in
+    let read = c.in_ok-next_record.ensures.one c.if-branch.true c.args.bytes.now so_far.before so_far.reads in
     record {
       before = map (map trimmed) so_far.before;
       row = map trimmed fields;
@@ -57,9 +57,9 @@ returns-in-Err-clause-fault c =
 pub loop-draft-preserved : goal.loop-draft-preserved
 loop-draft-preserved c =
     let so_far = c.loop-draft.invariant in
-    let fields = fields_of c.read_next.new.row in
+    let fields = fields_in c.next_record.new.row in
     let line = c.in-Ok.line in
-    let read = c.in_ok-read_next.ensures.one c.if-branch.true c.args.bytes.now so_far.before so_far.reads in
+    let read = c.in_ok-next_record.ensures.one c.if-branch.true c.args.bytes.now so_far.before so_far.reads in
     let is : meaning so_far.lines (map trimmed fields) ≡ Ok line = c.in-Ok.ensures.value so_far.lines so_far.counts in
     record {
       before = so_far.before ++ fields ∷ [];
@@ -82,7 +82,7 @@ pub returns-clause-ok : goal.returns-clause-ok
 returns-clause-ok c =
     let so_far = c.loop-draft.invariant in
     let rows : rows_of c.args.bytes.now ≡ map (map trimmed) so_far.before
-    = ap (map (map trimmed)) (c.in_ok-read_next.ensures.all c.if-branch.false c.args.bytes.now so_far.before so_far.reads) in
+    = ap (map (map trimmed)) (c.in_ok-next_record.ensures.all c.if-branch.false c.args.bytes.now so_far.before so_far.reads) in
     IfOk-weaker c.into_steps.result _ _ (λ steps e. rw rows record { lines = so_far.lines; read = so_far.are; say = subst (Say so_far.lines) (sym e) so_far.drafts.say }) c.into_steps.ensures.ok
 
 pub returns-clause-value : goal.returns-clause-value

@@ -1,5 +1,5 @@
 -- The tally and the draft so far are those of the rows that were read.
-use Rattle.text_fields.specs.CsvReading.{bytes_left}
+use Rattle.text_fields.specs.RecordReading.{bytes_left}
 use Rattle.steps_file.proofs.StepsReading.{ReadsSteps}
 use Rattle.steps_file.proofs.steps.read_steps.Given as goal
 
