@@ -1,3 +1,5 @@
+mod FieldBytes
+mod LaneBits
 mod Readings
 mod RowForms
 mod RowLines

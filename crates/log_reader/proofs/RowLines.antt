@@ -1,21 +1,24 @@
 -- The text of rows, read as records: the fields of each row.
-use Rattle.std.proofs.Common.{◌≡◌, ℕ, Bool, ◌^◌, ◌<◌, ◌++◌, true, List, [], ◌∷◌, All, Some, None, length, map, refl, sym, ap, ◌∙◌, arith, append_assoc}
-use Rattle.std.proofs.lemmas.List.{append-nil, length-append}
-use Rattle.std.proofs.lemmas.Bool.{and_parts, and_from}
+use Rattle.std.proofs.Common.{◌≡◌, ℕ, Bool, ◌^◌, ◌<◌, ◌≤◌, ◌++◌, true, List, [], ◌∷◌, All, Some, None, length, map, refl, sym, ap, ◌∙◌, arith, append_assoc}
+use Rattle.std.proofs.lemmas.List.{append-nil, length-append, length-map}
+use Rattle.std.proofs.lemmas.Bool.{and_parts, and_from, ne_eqb}
 use Rattle.std.proofs.lemmas.Bool.Decides.{nat_tests}
 use Rattle.std.proofs.lemmas.List.Elements.{All-head, All-tail}
 use Rattle.std.specs.Char.{is_ascii_digit}
 use Rattle.std.specs.Fmt.{decimal}
 use Rattle.std.specs.List.{flat_map, list_all}
+use Rattle.std.specs.Borrow.{Bor}
 use Rattle.csv.specs.Reading.{strip_bom}
+use Rattle.csv.specs.declared.reader.Reader.{Reader}
 use Rattle.csv.specs.declared.parser.State.TheVariants as st
-use Rattle.text_fields.specs.CsvReading.{records_left}
+use Rattle.text_fields.specs.CsvReading.{Reads, records_left}
 use Rattle.text_fields.specs.CsvRows.{records_of}
 use Rattle.text_fields.specs.Hexadecimal.{is_hex_digit}
 use Rattle.text_fields.proofs.Shared.{ArePlain, IsPlainRecord, all-data, all-decimal, all-hex, is_plain, no-mark, no-mark-empty, none-next, plain-next}
 use Rattle.text_fields.specs.MaskText.{mask_digits, mask_width}
 use Rattle.text_fields.specs.Hexadecimal.{hex_digits}
 use Rattle.log_reader.specs.Row.{IsLogRow, IsLogVerdict, fields_of_row, fields_of_verdict, row_line, row_text, text_of_rows}
+use Rattle.log_reader.specs.RowBytes.{HasNoMark}
 use Rattle.log_reader.specs.declared.row.LogRow.{LogRow}
 use Rattle.log_reader.specs.declared.row.LogRow.TheVariants as row
 use Rattle.log_reader.specs.declared.row.LogVerdict.{LogVerdict}
@@ -72,27 +75,69 @@ record-plain (row.Open cycle mask width) legal = row-plain (row.Open cycle mask 
 record-plain (row.Frame timed) legal = row-plain (row.Frame timed) legal
 record-plain (row.End next) legal = row-plain (row.End next) legal
 
-text-records : (rows : List LogRow) → All IsLogRow rows → records_left st.StartRecord (text_of_rows rows) ≡ map fields_of_row rows
-text-records [] legal = none-next
-text-records (read ∷ rows) legal =
-    plain-next (fields_of_row read) (text_of_rows rows) (record-plain read (All-head IsLogRow read rows legal))
-    ∙ ap (λ (l : List (List (List ℕ))). fields_of_row read ∷ l) (text-records rows (All-tail IsLogRow read rows legal))
+-- behind the texts of rows stand the records of what follows
+front-records : (rows : List LogRow) (rest : List ℕ) → All IsLogRow rows
+    → records_left st.StartRecord (text_of_rows rows ++ rest) ≡ map fields_of_row rows ++ records_left st.StartRecord rest
+front-records [] rest legal = refl
+front-records (read ∷ rows) rest legal =
+    ap (records_left st.StartRecord) (append_assoc (row_text read) (text_of_rows rows) rest)
+    ∙ plain-next (fields_of_row read) (text_of_rows rows ++ rest) (record-plain read (All-head IsLogRow read rows legal))
+    ∙ ap (λ (l : List (List (List ℕ))). fields_of_row read ∷ l) (front-records rows rest (All-tail IsLogRow read rows legal))
 
-unmarked : (rows : List LogRow) → strip_bom (text_of_rows rows) ≡ text_of_rows rows
-unmarked [] = no-mark-empty
-unmarked (row.Submit caller from said ∷ rows) = no-mark 115 _ refl
-unmarked (row.Plan cycle mask ∷ rows) = no-mark 112 _ refl
-unmarked (row.Look caller next ∷ rows) = no-mark 108 _ refl
-unmarked (row.Open cycle mask width ∷ rows) = no-mark 111 _ refl
-unmarked (row.Frame timed ∷ rows) = no-mark 102 _ refl
-unmarked (row.End next ∷ rows) = no-mark 101 _ refl
+unmarked : (rows : List LogRow) (rest : List ℕ) → HasNoMark rest → strip_bom (text_of_rows rows ++ rest) ≡ text_of_rows rows ++ rest
+unmarked [] [] none = no-mark-empty
+unmarked [] (byte ∷ rest) none = no-mark byte rest (ne_eqb byte 239 none)
+unmarked (row.Submit caller from said ∷ rows) rest none = no-mark 115 _ refl
+unmarked (row.Plan cycle mask ∷ rows) rest none = no-mark 112 _ refl
+unmarked (row.Look caller next ∷ rows) rest none = no-mark 108 _ refl
+unmarked (row.Open cycle mask width ∷ rows) rest none = no-mark 111 _ refl
+unmarked (row.Frame timed ∷ rows) rest none = no-mark 102 _ refl
+unmarked (row.End next ∷ rows) rest none = no-mark 101 _ refl
+
+-- the records of a text that begins with the texts of rows are the fields of these, and the records of the rest
+records-front : (bytes rest : List ℕ) (rows : List LogRow) → All IsLogRow rows → bytes ≡ text_of_rows rows ++ rest → HasNoMark rest
+    → records_of bytes ≡ map fields_of_row rows ++ records_left st.StartRecord rest
+records-front bytes rest rows legal is none =
+    ap (λ (b : List ℕ). records_left st.StartRecord (strip_bom b)) is
+    ∙ ap (records_left st.StartRecord) (unmarked rows rest none)
+    ∙ front-records rows rest legal
 
 -- the records of the text of rows are their fields
 pub records-text : (bytes : List ℕ) (rows : List LogRow) → All IsLogRow rows → bytes ≡ text_of_rows rows → records_of bytes ≡ map fields_of_row rows
 records-text bytes rows legal is =
-    ap (λ (b : List ℕ). records_left st.StartRecord (strip_bom b)) is
-    ∙ ap (records_left st.StartRecord) (unmarked rows)
-    ∙ text-records rows legal
+    records-front bytes [] rows legal (is ∙ sym (append-nil (text_of_rows rows))) (λ marked. absurd (omega (arith, marked)))
+    ∙ ap (λ (l : List (List (List ℕ))). map fields_of_row rows ++ l) none-next
+    ∙ append-nil (map fields_of_row rows)
+
+-- there are no more rows than bytes of them
+rows-few : (rows : List LogRow) → length rows ≤ length (text_of_rows rows)
+rows-few [] = omega arith
+rows-few (read ∷ rows) =
+    let later = rows-few rows in
+    let both = length-append (row_text read) (text_of_rows rows) in
+    let own = length-append (row_line read) (10 ∷ []) in
+    omega (arith, later, both, own)
+
+-- a reader that was begun behind rows stands behind them
+pub reads-behind : (bytes rest : List ℕ) (reader : Reader (Bor (List ℕ))) (rows : List LogRow) → All IsLogRow rows
+    → bytes ≡ text_of_rows rows ++ rest → HasNoMark rest → Reads rest reader [] → Reads bytes reader (map fields_of_row rows)
+reads-behind bytes rest reader rows legal is none begun =
+    let own : records_left st.StartRecord rest ≡ records_left reader.state begun.left =
+    sym (ap (records_left st.StartRecord) (unmarked [] rest none)) ∙ begun.rows in
+    let many = rows-few rows in
+    let all = ap length is ∙ length-append (text_of_rows rows) rest in
+    let same = length-map rows fields_of_row in
+    let left = begun.few in
+    record {
+      trim = begun.trim;
+      ready = begun.ready;
+      config = begun.config;
+      between = begun.between;
+      left = begun.left;
+      source = begun.source;
+      rows = records-front bytes rest rows legal is none ∙ ap (λ (l : List (List (List ℕ))). map fields_of_row rows ++ l) own;
+      few = omega (arith, many, all, same, left);
+    }
 
 -- Row by row
 

@@ -4,11 +4,13 @@
 #![tactic(auto)]
 
 mod ahead;
+mod lanes;
 pub mod laws;
 mod log_fault;
 mod log_reading;
 mod reader;
 mod row;
+mod row_bytes;
 mod row_fields;
 mod row_reading;
 mod written;

@@ -5,9 +5,11 @@
 //! the writer gives it: no leading zeros, hexadecimal digits in lower case. Each row is tested by itself: whether rows
 //! follow each other rightly is not asked.
 
-ghost use Rattle.std.specs.Prelude.{◌≡◌, ◌⊎◌, ℕ, List, All, IfOk, IfErr, MatchResult, OnOk, map, true};
+ghost use Rattle.std.specs.Prelude.{◌≡◌, ◌⊎◌, ℕ, List, All, IfOk, IfErr, MatchResult, OnOk, false, map};
 ghost use Rattle.text_fields.specs.CsvRows.{records_of};
+ghost use Rattle.log_reader.specs.LogReading.{IsBehind};
 ghost use Rattle.log_reader.specs.Row.{AreRowsOf, IsFirstFaultyRow, IsLogFault, IsLogRow, fields_of_row, text_of_rows};
+ghost use Rattle.log_reader.specs.RowBytes.{BeginsWithRows, HasNoMark};
 ghost use Rattle.log_reader.specs.declared.log_fault.LogFault.TheVariants.{Memory, Row};
 ghost use Rattle.log_reader.specs.declared.row.LogRow.{LogRow};
 
@@ -41,23 +43,42 @@ pub fn read_log(alloc: Global, bytes: &[u8]) -> Result<Vec<LogRow>, LogFault>
     Ok(rows)
 }
 
-/// Whether a text is the texts of rows of a log, one after the other.
-fn are_written(alloc: Global, bytes: &[u8]) -> bool
-    ensures rows { result ≡ true
-        → (rows : List LogRow) × All IsLogRow rows × (bytes.now ≡ text_of_rows rows) }
+/// What stands behind the rows in the form in which they are written with which a text begins, and how many these are.
+fn behind_rows(alloc: Global, bytes: &[u8]) -> (&[u8], u64)
+    ensures rows { BeginsWithRows bytes.now result.0.now result.1 }
 {
     let mut rest = bytes;
-    while !rest.is_empty() {
-        match behind_next(alloc, rest) {
-            Some(later) => rest = later,
-            None => return false,
-        }
+    let mut count = 0;
+    while let Some(later) = behind_next(alloc, rest) {
+        rest = later;
+        count += 1;
     }
-    true
+    (rest, count)
 }
 
-/// Whether the records of a text are those of rows of a log. It keeps one record at a time, and no row. Only where the
-/// rows are not in the form in which they are written are the records read by `csv`.
+/// Whether a text begins as a byte order mark does.
+fn has_mark(text: &[u8]) -> bool
+    ensures none { result ≡ false → HasNoMark text.now }
+{
+    match text {
+        [first, ..] => *first == 0xEF,
+        _ => false,
+    }
+}
+
+/// A reader of the rows of a text from the first one on that is not in the form in which it is written.
+fn reader_behind<'a>(alloc: Global, bytes: &'a [u8], rest: &'a [u8], count: u64) -> LogReader<'a>
+    requires rows { BeginsWithRows bytes.now rest.now count }
+    ensures behind { (rows : List LogRow) × IsBehind bytes.now result rows }
+{
+    if has_mark(rest) {
+        return LogReader::new(alloc, bytes);
+    }
+    LogReader::behind(alloc, bytes, rest, count)
+}
+
+/// Whether the records of a text are those of rows of a log. It keeps one record at a time, and no row. Only from the
+/// first row on that is not in the form in which it is written are the records read by `csv`.
 ///
 /// # Errors
 ///
@@ -69,10 +90,11 @@ pub fn check_log(alloc: Global, bytes: &[u8]) -> Result<(), LogFault>
     ensures first { (number : ℕ) → IsFirstFaultyRow bytes.now number
         → MatchResult result (λ _. ⊥) (λ fault. (fault ≡ Row number) ⊎ (fault ≡ Memory)) }
 {
-    if are_written(alloc, bytes) {
+    let (rest, count) = behind_rows(alloc, bytes);
+    if rest.is_empty() {
         return Ok(());
     }
-    let mut reader = LogReader::new(alloc, bytes);
+    let mut reader = reader_behind(alloc, bytes, rest, count);
     while let Some(_row) = reader.next_row()? {}
     Ok(())
 }

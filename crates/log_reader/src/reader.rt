@@ -1,8 +1,9 @@
 //! The rows of a log, one after the other.
 
-ghost use Rattle.std.specs.Prelude.{◌≡◌, ℕ, List, [], IfErr, IfNone, IfOk, IfSome};
+ghost use Rattle.std.specs.Prelude.{◌≡◌, ◌++◌, ℕ, All, List, [], IfErr, IfNone, IfOk, IfSome, length};
 ghost use Rattle.log_reader.specs.LogReading.{CountsAtFault, IsBehind, ReadsRow};
-ghost use Rattle.log_reader.specs.Row.{AreRowsOf, IsLogFault};
+ghost use Rattle.log_reader.specs.Row.{AreRowsOf, IsLogFault, IsLogRow, text_of_rows};
+ghost use Rattle.log_reader.specs.RowBytes.{HasNoMark};
 ghost use Rattle.log_reader.specs.declared.row.LogRow.{LogRow};
 
 use crate::log_fault::LogFault;
@@ -41,6 +42,20 @@ impl<'a> LogReader<'a> {
             records: records_in(alloc, bytes),
             fields: ByteRecord::new(alloc),
             count: 0,
+        }
+    }
+
+    /// Behind so many rows with which a text begins, in the form in which they are written; the rest of the text is not a
+    /// byte order mark and something behind it.
+    pub(crate) fn behind(alloc: Global, bytes: &[u8], rest: &'a [u8], count: u64) -> LogReader<'a>
+        requires no_mark { HasNoMark rest.now }
+        ensures behind { (rows : List LogRow) → All IsLogRow rows → bytes.now ≡ text_of_rows rows ++ rest.now
+            → count ≡ length rows → IsBehind bytes.now result rows }
+    {
+        LogReader {
+            records: records_in(alloc, rest),
+            fields: ByteRecord::new(alloc),
+            count,
         }
     }
 

@@ -9,12 +9,14 @@ ghost use Rattle.std.specs.List.{flat_map, join_with_byte};
 ghost use Rattle.can_frame.specs.DataFrame.{IsFrame};
 ghost use Rattle.text_fields.specs.Hexadecimal.{hex_digits};
 ghost use Rattle.log_reader.specs.Row.{IsLogRow, IsLogVerdict, fields_of_verdict, row_text};
-ghost use Rattle.log_reader.specs.declared.row.LogRow.{LogRow};
+ghost use Rattle.log_reader.specs.RowBytes.{BeginsWithRow};
 ghost use Rattle.log_reader.specs.declared.row.LogRow.TheVariants.{Submit, Plan, Look, Open, Frame, End};
 ghost use Rattle.log_reader.specs.declared.row.LogVerdict.TheVariants.{Malformed};
 
 use crate::ahead::row_ahead;
+use crate::lanes::are_same;
 use crate::row::{LogRow, LogVerdict};
+use crate::row_bytes::behind_common;
 use can_frame::TimedFrame;
 use requirement_table::Mask;
 use std::alloc::Global;
@@ -223,7 +225,11 @@ fn behind<'a>(bytes: &'a [u8], first: &[u8]) -> Option<&'a [u8]>
         return None;
     }
     let (front, rest) = bytes.split_at(first.len());
-    if front == first { Some(rest) } else { None }
+    if are_same(front, first) {
+        Some(rest)
+    } else {
+        None
+    }
 }
 
 /// What stands behind the text of a row, where the bytes begin with it and it is a row of a log.
@@ -253,12 +259,22 @@ pub fn next_written(alloc: Global, bytes: &[u8]) -> Option<(LogRow, &[u8])>
     }
 }
 
-/// What stands behind the text of a row of a log, where the bytes begin with one that [`next_written`] finds.
-pub(crate) fn behind_next(alloc: Global, bytes: &[u8]) -> Option<&[u8]>
-    ensures row { IfSome result (λ rest. (row : LogRow) × IsLogRow row × (bytes.now ≡ row_text row ++ rest.now)) }
+/// What stands behind the text of a row of a log, where the bytes begin with one in another than a common form.
+fn behind_rare(alloc: Global, bytes: &[u8]) -> Option<&[u8]>
+    ensures row { IfSome result (λ rest. BeginsWithRow bytes.now rest.now) }
 {
     match row_ahead(alloc, bytes) {
         Some(row) => behind_row(bytes, &row),
         None => None,
+    }
+}
+
+/// What stands behind the text of a row of a log, where the bytes begin with one that is found.
+pub(crate) fn behind_next(alloc: Global, bytes: &[u8]) -> Option<&[u8]>
+    ensures row { IfSome result (λ rest. BeginsWithRow bytes.now rest.now) }
+{
+    match behind_common(bytes) {
+        Some(rest) => Some(rest),
+        None => behind_rare(alloc, bytes),
     }
 }

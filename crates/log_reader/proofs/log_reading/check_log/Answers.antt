@@ -1,18 +1,28 @@
-use Rattle.std.proofs.Common.{◌≡◌, ◌⊎◌, ◌++◌, ◌∷◌, []}
-use Rattle.log_reader.specs.Row.{IsLogFault}
+use Rattle.std.proofs.Common.{◌≡◌, ◌⊎◌, ◌++◌, ◌∷◌, [], length, ap, ◌∙◌, arith}
+use Rattle.std.proofs.lemmas.Bool.Decides.{nat_tests}
+use Rattle.std.proofs.lemmas.List.{append-nil, nil_from_length}
+use Rattle.log_reader.specs.Row.{IsLogFault, text_of_rows}
 use Rattle.log_reader.specs.declared.log_fault.LogFault.TheVariants.{Memory, Row}
 use Rattle.log_reader.proofs.Readings.{no-rows, none-faulty, none-found, passes-match, passes-on, same-fault}
 use Rattle.log_reader.proofs.RowLines.{records-text}
 use Rattle.log_reader.proofs.log_reading.check_log.Goals as goal
 
-pub returns-then-are_written-clause-rows : goal.returns-then-are_written-clause-rows
-returns-then-are_written-clause-rows c =
-    let (rows, legal, is) = c.are_written.ensures.rows c.if-are_written.true in
-    (rows, (legal, records-text c.args.bytes.now rows legal is))
+pub returns-then-is_empty-clause-rows : goal.returns-then-is_empty-clause-rows
+returns-then-is_empty-clause-rows c =
+    let found = c.behind_rows-count.ensures.rows in
+    let size : length c.behind_rows-count.result.0.now ≡ 0 = grind (arith, nat_tests) in
+    let none = nil_from_length c.behind_rows-count.result.0.now size in (
+      found.rows,
+      (
+        found.legal,
+        records-text c.args.bytes.now found.rows found.legal
+            (found.written ∙ ap (λ l. text_of_rows found.rows ++ l) none ∙ append-nil (text_of_rows found.rows)),
+      ),
+    )
 
-pub returns-then-are_written-clause-first : goal.returns-then-are_written-clause-first
-returns-then-are_written-clause-first c = λ number first.
-    let (rows, are) = returns-then-are_written-clause-rows c in
+pub returns-then-is_empty-clause-first : goal.returns-then-is_empty-clause-first
+returns-then-is_empty-clause-first c = λ number first.
+    let (rows, are) = returns-then-is_empty-clause-rows c in
     none-faulty c.args.bytes.now rows are.0 are.1 number first
 
 pub returns-in_err-_row-clause-faulty : goal.returns-in_err-_row-clause-faulty

@@ -1,0 +1,78 @@
+-- From the bits of a comparison of 16 lanes to the bytes that pass a test.
+use Rattle.std.proofs.Common.{◌≡◌, ℕ, ◌+◌, ◌-◌, ◌/◌, ◌%◌, ◌^◌, ◌<◌, ◌≤◌, ◌==◌, Bool, true, false, cond, not, ◌||◌, List, map, length, get_or, Fits, w8, refl, sym, ap, ◌∙◌, subst, arith, inl, inr}
+use Rattle.std.proofs.lemmas.Bool.{agree_below, agree_below_at, not-true, cases_eq, eq-eqb, eqb-true, ne_eqb, cond-true, cond-false}
+use Rattle.std.proofs.lemmas.Simd.{map-map, mask_l-mod, length-chunk, get_or-chunk, leading_from_mask_l, trailing_mask_l, bit_mask_l, get_or-zip2, length-zip2, tops_compared}
+use Rattle.std.proofs.lemmas.List.{length-map}
+use Rattle.std.proofs.lemmas.List.Sums.{prefix_len-le-length, prefix_len_passes}
+use Rattle.std.specs.List.{prefix_len}
+use lib.Lanes.{chunk, mask_l, top, zip2}
+use Rattle.log_reader.specs.RowBytes.{first_set}
+
+-- the lowest bit that is set is how many lanes come before the first that passes
+before-first : (p : ℕ → Bool) (lanes : List ℕ) → length lanes ≡ 16 → first_set (mask_l (map p lanes)) ≡ prefix_len (λ x. not (p x)) lanes
+before-first p lanes long = elim (cases_eq (mask_l (map p lanes)) 0) [
+  | inl none ↦ cond-true _ _ _ (eq-eqb _ _ none) ∙ sym (leading_from_mask_l p lanes none ∙ long)
+  | inr some ↦ cond-false _ _ _ (ne_eqb _ _ some) ∙ trailing_mask_l p 64 lanes (omega (arith, long)) (omega (arith, some))
+]
+
+-- the lanes were worked out of the first 16 bytes, one by one, and the run ends at the first whose top bit is set: where
+-- each byte without that bit passes the test, all bytes of the run do
+module _ (test : ℕ → Bool) (bytes : List ℕ) (run : ℕ) (lanes : List ℕ) (f : ℕ → ℕ) (enough : 16 ≤ length bytes)
+    (fits : (i : ℕ) → Fits w8 (get_or bytes i 0)) (found : run ≡ first_set (mask_l (map (top 7) lanes) % 2 ^ 64))
+    (each : lanes ≡ map f (chunk 0 16 bytes)) where
+  abbrev ends : ℕ → Bool
+  ends x = top 7 (f x)
+
+  long : length (chunk 0 16 bytes) ≡ 16
+  long = length-chunk 0 16 bytes enough
+
+  counted : run ≡ prefix_len (λ x. not (ends x)) (chunk 0 16 bytes)
+  counted =
+      let own = chunk 0 16 bytes in
+      let bits = ap (λ l. mask_l l % 2 ^ 64) (ap (map (top 7)) each ∙ map-map (top 7) f own)
+      ∙ mask_l-mod (map ends own) 64 (omega (arith, length-map own ends, long)) in
+      found ∙ ap first_set bits ∙ before-first ends own long
+
+  pub run-few : run ≤ 16
+  run-few = omega (arith, counted, long, prefix_len-le-length (λ x. not (ends x)) (chunk 0 16 bytes))
+
+  pub run-passes : agree_below (λ x. ends x || test x) (λ _. true) 256 ≡ true → (i : ℕ) → i < run → test (get_or bytes i 0) ≡ true
+  run-passes all i before =
+      let bound = prefix_len-le-length (λ x. not (ends x)) (chunk 0 16 bytes) in
+      let same : 0 + i ≡ i = omega arith in
+      let at = get_or-chunk 0 16 bytes i 0 (omega (arith, counted, long, bound, before)) ∙ ap (λ j. get_or bytes j 0) same in
+      let goes_on : ends (get_or bytes i 0) ≡ false = subst (λ x. ends x ≡ false) at
+      (not-true _ (prefix_len_passes (λ x. not (ends x)) (chunk 0 16 bytes) i 0 (omega (arith, counted, before)))) in
+      sym (ap (λ b. b || test (get_or bytes i 0)) goes_on)
+      ∙ agree_below_at (λ x. ends x || test x) (λ _. true) 256 (get_or bytes i 0) all (fits i).fits
+
+-- Two texts
+
+is-set : (b : Bool) → cond {A = ℕ} b 1 0 ≡ 1 → b ≡ true
+is-set true is = refl
+is-set false is = absurd (omega (arith, is))
+
+-- where the bits of all lanes are set, so is each
+each-set : (bits : List Bool) → length bits ≡ 16 → mask_l bits % 2 ^ 64 ≡ 65535 → (i : ℕ) → i < 16 → get_or bits i false ≡ true
+each-set bits long is i few =
+    let whole : mask_l bits ≡ 65535 = sym (mask_l-mod bits 64 (omega (arith, long))) ∙ is in
+    let one : 65535 / 2 ^ i % 2 ≡ 1 = eqb-true _ _ (agree_below_at (λ k. 65535 / 2 ^ k % 2 == 1) (λ _. true) 16 i refl few) in
+    is-set (get_or bits i false) (sym (bit_mask_l bits i) ∙ ap (λ m. m / 2 ^ i % 2) whole ∙ one)
+
+-- bytes are the same where each comparison of 16 is true
+pub same-lanes : (one other : List ℕ) (place : ℕ) → place + 16 ≤ length one → place + 16 ≤ length other
+    → mask_l (map (top 7) (zip2 (λ a b. cond (a == b) 255 0) (chunk place 16 one) (chunk place 16 other))) % 2 ^ 64 ≡ 65535
+    → (i : ℕ) → place ≤ i → i < place + 16 → get_or one i 0 ≡ get_or other i 0
+same-lanes one other place first second is i from to =
+    let xs = chunk place 16 one in
+    let ys = chunk place 16 other in
+    let size = length-chunk place 16 one first in
+    let other_size = length-chunk place 16 other second in
+    let k = i - place in
+    let few : k < 16 = omega (arith, from, to) in
+    let back : place + k ≡ i = omega (arith, from) in
+    let compared = ap (λ bits. mask_l bits % 2 ^ 64) (sym (tops_compared w8 (λ a b. a == b) xs ys)) ∙ is in
+    let set = each-set (zip2 (λ a b. a == b) xs ys) (length-zip2 (λ a b. a == b) xs ys (size ∙ sym other_size) ∙ size) compared k few in
+    let same = eqb-true _ _ (sym (get_or-zip2 (λ a b. a == b) xs ys k 0 0 false (omega (arith, size, few)) (omega (arith, other_size, few))) ∙ set) in
+    ap (λ j. get_or one j 0) (sym back) ∙ sym (get_or-chunk place 16 one k 0 few) ∙ same
+    ∙ get_or-chunk place 16 other k 0 few ∙ ap (λ j. get_or other j 0) back
