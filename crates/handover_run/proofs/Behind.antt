@@ -23,7 +23,8 @@ use Rattle.standby.specs.Core.{core_of}
 use Rattle.standby.specs.Following.{StandbyView}
 use Rattle.handover_run.specs.declared.handed.Handed.{Handed}
 use Rattle.handover_run.specs.Following.{Follows, IsFollowing}
-use Rattle.handover_run.specs.Handed.{CanHand, HandsSame, IsHanded}
+use Rattle.handover_run.specs.Handed.{IsHanded}
+use Rattle.replay_run.specs.Runs.{CanRun, RunsStill}
 
 -- what is worked out of the core of a history
 pub record OneCore : Type 0 where
@@ -79,7 +80,7 @@ module _ (laws : OneCore) where
   -- the standby takes over
   pub taken-over : (run : Handed) (standby : StandbyView) (master : LeanView) → run.standby ≡ Some standby → master.rules ≡ standby.rules
       → master.history ≡ standby.history → IsPlainlyLegal master.rules master.history → master.keeps ≡ run.bus.master.keeps
-      → HandsSame run (record run { bus = record run.bus { master = master }; standby = None })
+      → RunsStill IsHanded run (record run { bus = record run.bus { master = master }; standby = None })
   taken-over run standby master there rules history plain events = λ setting whole trace is.
       let follows : IsFollowing setting.rules whole standby = subst (Follows setting.rules whole) there is.followed in
       let same_rules : master.rules ≡ setting.rules = rules ∙ follows.same_rules in
@@ -96,7 +97,7 @@ module _ (laws : OneCore) where
 
   -- and the next cycle is that of the first master
   pub next-taken-over : (run : Handed) (standby : StandbyView) (master : LeanView) → run.standby ≡ Some standby → master.history ≡ standby.history
-      → CanHand run → next_of master.history ≡ next_of run.bus.master.history
+      → CanRun IsHanded run → next_of master.history ≡ next_of run.bus.master.history
   next-taken-over run standby master there history can =
       let is = can.3 in
       let follows : IsFollowing can.0.rules can.1 standby = subst (Follows can.0.rules can.1) there is.followed in

@@ -19,7 +19,8 @@ use Rattle.standby.specs.Core.{Item, core_of, items_of}
 use Rattle.standby.specs.Following.{StandbyView}
 use Rattle.handover_run.specs.declared.handed.Handed.{Handed}
 use Rattle.handover_run.specs.Following.{Follows, IsFollowing, IsRightBehind}
-use Rattle.handover_run.specs.Handed.{IsHanded, IsHandedOn}
+use Rattle.handover_run.specs.Handed.{IsHanded}
+use Rattle.replay_run.specs.Runs.{IsRunOn}
 use Rattle.handover_run.proofs.Behind.{OneCore, under-way-behind}
 use Rattle.handover_run.proofs.Calls.{IsOpening, answered-by, opening-of}
 
@@ -56,13 +57,13 @@ module _ (laws : OneCore) (goes : GoesOnPlain) (setting : Setting) (whole : List
 
   pub handed-on : (calls : List Call) → map call_of after.bus.master.history ≡ map call_of own ++ calls
       → Follows setting.rules (whole ++ on.event ∷ []) after.standby → after.quiet ≡ all_accepted (whole ++ on.event ∷ [])
-      → IsHandedOn setting whole trace after frames calls
+      → IsRunOn IsHanded setting whole trace after.bus.master.history frames calls after
   handed-on calls answered follows quiet = record {
     event = on.event;
     ends = record { before = own; is = on.history };
     answers = map-append call_of whole (on.event ∷ [])
         ∙ ap (λ (l : List Call). map call_of whole ++ l) (answered-by own after.bus.master.history on.event calls on.history answered);
-    handed = record {
+    goes = record {
       going = on.going;
       plain = whole-plain;
       under_way = under-way-behind laws setting after.bus.master.history (whole ++ on.event ∷ []) (trace ++ frames) (sym whole-core) whole-plain.legal
@@ -77,7 +78,7 @@ module _ (laws : OneCore) (goes : GoesOnPlain) (setting : Setting) (whole : List
   -- where a cycle was opened
   pub opened-on : map call_of after.bus.master.history ≡ map call_of own ++ opens ∷ []
       → ((cycle mask : ℕ) → IsRight setting.rules whole (Open cycle mask) → Follows setting.rules (whole ++ Open cycle mask ∷ []) after.standby)
-      → after.quiet ≡ run.quiet → IsHandedOn setting whole trace after frames (opens ∷ [])
+      → after.quiet ≡ run.quiet → IsRunOn IsHanded setting whole trace after.bus.master.history frames (opens ∷ []) after
   opened-on answered follow same =
       let opening : IsOpening on.event = opening-of on.event (answered-by own after.bus.master.history on.event (opens ∷ []) on.history answered) in
       let right : IsRight setting.rules whole (Open opening.cycle opening.mask) =
@@ -102,7 +103,7 @@ module _ (laws : OneCore) (goes : GoesOnPlain) (setting : Setting) (whole : List
   -- where an act was answered
   pub answered-on : (caller : ℕ) (act : Act) → map call_of after.bus.master.history ≡ map call_of own ++ asked caller act ∷ []
       → Follows setting.rules (whole ++ on.event ∷ []) after.standby → after.quiet ≡ (run.quiet && refuses_nothing on.event)
-      → IsHandedOn setting whole trace after frames (asked caller act ∷ [])
+      → IsRunOn IsHanded setting whole trace after.bus.master.history frames (asked caller act ∷ []) after
   answered-on caller act answered follows quiet =
       let all : (run.quiet && refuses_nothing on.event) ≡ all_accepted (whole ++ on.event ∷ []) =
       ap (λ (b : Bool). b && refuses_nothing on.event) is.quiet

@@ -1,8 +1,6 @@
 mod Behind
 mod Calls
 mod Carried
-mod Cutting
 mod Due
-mod Passing
 mod Told
 mod Whole

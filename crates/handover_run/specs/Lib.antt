@@ -1,4 +1,3 @@
 pub mod Following
 pub mod Handed
 pub mod HandedOver
-pub mod Joined

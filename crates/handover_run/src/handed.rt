@@ -7,13 +7,15 @@ ghost use Rattle.requests_file.specs.RequestsFile.{AreLegal};
 ghost use Rattle.master_core.specs.Calls.{asked, opens};
 ghost use Rattle.master_core.specs.History.{next_of};
 ghost use Rattle.replay_run.specs.Progress.{CanTellLast, setting_of};
-ghost use Rattle.handover_run.specs.Handed.{CanHand, HandsOn, HandsSame, IsHanded};
+ghost use Rattle.replay_run.specs.Runs.{CanRun, RunsOn, RunsStill};
+ghost use Rattle.handover_run.specs.Handed.{IsHanded};
 
 use crate::following::{follow_answer, follow_opening};
 use async_window::Request;
+use can_frame::TimedFrame;
 use change_protocol::Act;
 use master_core::{LeanMaster, refuses_nothing};
-use replay_run::Bus;
+use replay_run::{Bus, Runs};
 use standby::Standby;
 use standby::laws::{goes_on, one_core};
 use std::alloc::{AllocError, Global};
@@ -60,9 +62,9 @@ impl Handed {
 
     /// Where so many cycles were opened, drops the first master. The standby goes on in its place, with the nodes as
     /// they are.
-    pub fn hand_over(&mut self)
-        ensures same { HandsSame self.old self.new }
-        ensures next { CanHand self.old
+    fn hand_over(&mut self)
+        ensures still { RunsStill IsHanded self.old self.new }
+        ensures next { CanRun IsHanded self.old
             → next_of self.new.bus.master.history ≡ next_of self.old.bus.master.history }
     {
         one_core();
@@ -74,21 +76,38 @@ impl Handed {
             self.bus.master = LeanMaster::of(standby.take_over(), keeps);
         }
     }
+}
 
-    /// Opens the next cycle, and runs it on the bus. The standby hears its trigger. Its frames are the bus's segment
-    /// then.
-    ///
-    /// # Errors
-    ///
-    /// Only where memory runs out.
-    pub fn run_next(&mut self, alloc: Global) -> Result<(), AllocError>
-        requires can { CanHand self.old }
-        requires few { next_of self.old.bus.master.history < most_cycles }
-        ensures on { OnOk result (HandsOn self.old self.new self.new.bus.segment (opens ∷ [])) }
-        ensures last { OnOk result (CanTellLast self.new.bus.master.history self.new.bus.segment) }
-        ensures next { OnOk result
-            (next_of self.new.bus.master.history ≡ next_of self.old.bus.master.history + 1) }
-    {
+impl Runs for Handed {
+    ghost use Rattle.kept_run.specs.Progress.{Setting};
+    ghost use Rattle.replay_run.specs.Progress.{IsOnBus};
+    ghost use Rattle.handover_run.specs.Handed.{IsHanded, on-bus};
+
+    ghost Setting = { Setting };
+
+    ghost goes = { IsHanded };
+
+    ghost keeps = { IsOnBus };
+
+    ghost bus = { λ handed. handed.bus };
+
+    ghost frames = { λ handed. handed.bus.segment };
+
+    fn bus(&self) -> &Bus {
+        &self.bus
+    }
+
+    fn frames(&self) -> &[TimedFrame] {
+        self.bus.segment.frames()
+    }
+
+    fn opened(&self) -> u64 {
+        one_core();
+        self.bus.master.next()
+    }
+
+    /// Opens the next cycle, and runs it on the bus. The standby hears its trigger.
+    fn run_cycle(&mut self, alloc: Global) -> Result<(), AllocError> {
         one_core();
         goes_on();
         self.bus.make_ready(alloc)?;
@@ -97,20 +116,8 @@ impl Handed {
         follow_opening(&mut self.standby, alloc, slots, self.bus.segment.frames())
     }
 
-    /// Answers an act of operator `caller`, 1 to 8. The standby is told the change where it was accepted.
-    ///
-    /// # Errors
-    ///
-    /// Only where memory runs out.
-    pub fn answer(&mut self, alloc: Global, caller: u8, act: &Act) -> Result<(), AllocError>
-        requires can { CanHand self.old }
-        requires caller { (1 ≤ caller) × (caller ≤ 8) }
-        requires few { next_of self.old.bus.master.history ≤ most_cycles }
-        ensures on { OnOk result (HandsOn self.old self.new [] (asked caller act.now ∷ [])) }
-        ensures last { OnOk result (CanTellLast self.new.bus.master.history []) }
-        ensures next { OnOk result
-            (next_of self.new.bus.master.history ≡ next_of self.old.bus.master.history) }
-    {
+    /// Answers an act. The standby is told the change where it was accepted.
+    fn answer_act(&mut self, alloc: Global, caller: u8, act: &Act) -> Result<(), AllocError> {
         one_core();
         goes_on();
         self.bus.answer(alloc, caller, act)?;
@@ -118,4 +125,11 @@ impl Handed {
         self.quiet = self.quiet & refuses_nothing(event);
         follow_answer(&mut self.standby, alloc, event)
     }
+
+    /// Hands over, once the rows of the last cycle of the first master were told.
+    fn settle(&mut self) {
+        self.hand_over();
+    }
+
+    ghost going_keeps = { on-bus };
 }

@@ -15,7 +15,7 @@ use Rattle.async_window.specs.declared.request.Request.{Request}
 use Rattle.bus_line.specs.Trace.{Follows}
 use Rattle.cycle_engine.specs.Cycle.{FitsWindow, RunsCycleWith}
 use Rattle.cycle_engine.specs.Offered.{AreOfDistinctCycles, SendsWhole, offered_in, offered_in_with}
-use Rattle.master_core.specs.Calls.{asked, call_of, opens}
+use Rattle.master_core.specs.Calls.{Call, asked, call_of, opens}
 use Rattle.master_core.specs.declared.event.Event.{Event}
 use Rattle.master_core.specs.declared.event.Event.TheVariants.{Open}
 use Rattle.master_core.specs.History.{IsLegal, is_open, next_of, placed_of}
@@ -27,6 +27,7 @@ use Rattle.bus_trace.specs.Log.{events_rows, triggers_in}
 use Rattle.master_core.specs.Accepted.{all_accepted, refuses_nothing}
 use Rattle.replay_run.specs.declared.bus.Bus.{Bus}
 use Rattle.replay_run.specs.Progress.{BringsOn, CanTellLast, GoesStill, IsBroughtOn, IsGoing, IsRunNext, RunsNext}
+use Rattle.replay_run.specs.Runs.{CanRun, RunsOn}
 use Rattle.replay_run.proofs.Shared.{distinct}
 use Rattle.sporadic_poll.specs.declared.stream.Stream.{Stream}
 use Rattle.sporadic_poll.specs.Polled.{AreRides, lengths_of, polled_bytes}
@@ -34,7 +35,7 @@ use Rattle.sporadic_poll.specs.Ride.{IsRide}
 use Rattle.sporadic_poll.specs.Rides.{AreFates, AreRidesAt, HaveRidden, IsPlainCycle, Riding}
 use Rattle.sporadic_poll.specs.Waiting.{ride_of}
 use Rattle.poll_run.specs.declared.polled.Polled.{Polled}
-use Rattle.poll_run.specs.Polling.{CanPoll, IsPolled, IsPolledOn, SoFar}
+use Rattle.poll_run.specs.Polling.{CanPoll, IsPolled, IsPolledAt, IsPolledOn, PollsOn, SoFar}
 use Rattle.poll_run.proofs.Bytes.{polled-whole}
 use Rattle.poll_run.proofs.Calls.{closed-by, quiet-opened, quiet-push}
 use Rattle.poll_run.proofs.Openings.{all-front, all-last, openings-closed, openings-push, placed-push, right-last}
@@ -273,7 +274,7 @@ module _ (laws : CycleLaws) (run : Polled) (between : Bus) (after : Polled) (cyc
         let room : 2128 ≤ vec_capacity run.frames = is.room in
         record {
           event = Open next.cycle next.mask;
-          ends = record { before = history; is = now };
+          history = now;
           answers = calls ∙ ap (λ (h : List Event). map call_of h ++ opens ∷ []) still.same;
           polled = record {
             plain_trace = is.plain_trace ++ after.bus.segment;
@@ -337,7 +338,7 @@ answered-on laws setting streams trace run after caller act brings calls layout 
     holds lengths carried (subst (All (λ o. AreRidesAt setting.layout.cycle streams o lengths carried)) (sym opened) all) in
     record {
       event = event;
-      ends = record { before = own; is = on.history };
+      history = on.history;
       answers = calls;
       polled = record {
         plain_trace = is.plain_trace ++ [];
@@ -390,3 +391,23 @@ begins-polled setting streams run going empty none layout same_streams slots way
       room = room;
       quiet = quiet ∙ ap all_accepted back;
     }
+
+-- a run that polls on runs on
+pub polls-on : (run after : Polled) (frames : List TimedFrame) (calls : List Call) → PollsOn run after frames calls
+    → RunsOn IsPolledAt run after.bus.master.history frames calls after
+polls-on run after frames calls polls = λ on whole trace is.
+    let brought = polls on.setting on.streams trace is.is_polled in
+    let history : after.bus.master.history ≡ whole ++ brought.event ∷ [] =
+    brought.history ∙ ap (λ (h : List Event). h ++ brought.event ∷ []) is.history_is in
+    record {
+      event = brought.event;
+      ends = record { before = run.bus.master.history; is = brought.history };
+      answers = ap (map call_of) (sym history) ∙ brought.answers ∙ ap (λ (h : List Event). map call_of h ++ calls) is.history_is;
+      goes = record { history_is = history; is_polled = brought.polled };
+      rows = ap (events_rows (trace ++ frames) []) (sym history) ∙ brought.rows
+          ∙ ap (λ (h : List Event). events_rows trace [] h ++ rows_of_event brought.event frames) is.history_is;
+    }
+
+-- a run in some setting can poll
+pub can-poll : (run : Polled) → CanRun IsPolledAt run → CanPoll run
+can-poll run can = (can.0.setting, can.0.streams, can.2, can.3.is_polled)

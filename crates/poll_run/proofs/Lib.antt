@@ -2,12 +2,10 @@ mod Begun
 mod Bytes
 mod Calls
 mod Carrying
-mod Cutting
 mod Ended
 mod OnTime
 mod OneRun
 mod Openings
-mod Passing
 mod Puttings
 mod Rows
 mod Sent

@@ -11,7 +11,8 @@ use Rattle.sporadic_poll.specs.declared.stream.Stream.{Stream}
 use Rattle.poll_run.specs.declared.polled.Polled.{Polled}
 use Rattle.poll_run.specs.PolledWritten.{IsPolledCut, IsPolledWritten}
 use Rattle.poll_run.specs.RequestRows.{IsPolledText, request_rows}
-use Rattle.poll_run.specs.Whole.{IsCutOff, IsHeard, IsHeardInPart}
+use Rattle.replay_run.specs.Whole.{IsCutOff, IsHeardInPart}
+use Rattle.poll_run.specs.Whole.{IsBegun, IsHeard, IsRun}
 
 module _ {L : Type 0} (Heard : L → List ℕ → L → Type 0) (told : L → Option (List ℕ))
     (took : (one : L) (rows : List ℕ) (other : L) → Heard one rows other → Puts (told one) (told other) rows)
@@ -71,32 +72,34 @@ module _ {L : Type 0} (Heard Broke : L → List ℕ → L → Type 0) (told : L 
     (took : (one : L) (rows : List ℕ) (other : L) → Heard one rows other → Puts (told one) (told other) rows)
     (failed : (one : L) (rows : List ℕ) (other : L) → Broke one rows other → PutsPrefix (told one) (told other) rows)
     (system : System) (steps : List Step) (streams : List Stream) (old middle : L) where
-  part : (why : Cut) → IsHeardInPart Heard Broke system steps streams old middle why → IsPolledCut system steps streams (told old) (told middle)
+  part : (why : Cut) → IsHeardInPart Heard Broke (IsBegun system steps streams) (IsRun system steps streams) old middle why
+      → IsPolledCut system steps streams (told old) (told middle)
   part Memory is = inl (record {
     history = is.history;
-    carried = is.carried;
+    carried = is.begun.carried;
     trace = is.trace;
-    begun = is.begun;
+    begun = is.begun.begun;
     puts = PutsPrefix-all (told old) (told middle) (events_rows is.trace [] is.history) (took old (events_rows is.trace [] is.history) middle is.heard);
   })
   part Write is = inl (record {
     history = is.history;
-    carried = is.carried;
+    carried = is.begun.carried;
     trace = is.trace;
-    begun = is.begun;
+    begun = is.begun.begun;
     puts = failed old (events_rows is.trace [] is.history) middle is.heard;
   })
 
-  pub cut-in_log : (why : Cut) → IsCutOff Heard Broke system steps streams old middle why → IsPolledCut system steps streams (told old) (told middle)
+  pub cut-in_log : (why : Cut) → IsCutOff Heard Broke (IsBegun system steps streams) (IsRun system steps streams) old middle why
+      → IsPolledCut system steps streams (told old) (told middle)
   cut-in_log why (inl is) = part why is
   cut-in_log why (inr is) =
       let text : List ℕ = log_text is.history is.trace in
       inr (record {
         history = is.history;
-        carried = is.carried;
+        carried = is.run.carried;
         trace = is.trace;
-        run = is.run;
-        text = text ++ request_rows 1 streams is.fates;
-        is_text = record { fates = is.fates; are = is.are; text_is = refl };
-        puts = PutsPrefix-longer (request_rows 1 streams is.fates) (failed old text middle is.broke);
+        run = is.run.run;
+        text = text ++ request_rows 1 streams is.run.fates;
+        is_text = record { fates = is.run.fates; are = is.run.are; text_is = refl };
+        puts = PutsPrefix-longer (request_rows 1 streams is.run.fates) (failed old text middle is.broke);
       })

@@ -1,5 +1,4 @@
 pub mod Delay
-pub mod Joined
 pub mod PolledRun
 pub mod PolledWritten
 pub mod Polling

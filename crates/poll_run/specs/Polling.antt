@@ -1,5 +1,6 @@
--- A polled run between two of its calls, the rows of which something hears.
-use Rattle.std.specs.Prelude.{◌≡◌, ℕ, ◌≤◌, List, [], ◌++◌, All, Option, length, map, vec_capacity}
+-- A polled run between two of its calls.
+use Rattle.std.specs.Prelude.{◌≡◌, ℕ, ◌≤◌, List, [], ◌∷◌, ◌++◌, All, Option, length, map, vec_capacity}
+use Rattle.std.proofs.Common.{subst}
 use Rattle.can_frame.specs.declared.data_frame.TimedFrame.{TimedFrame}
 use Rattle.master_core.specs.Calls.{Call, call_of}
 use Rattle.master_core.specs.declared.event.Event.{Event}
@@ -9,8 +10,8 @@ use Rattle.kept_run.specs.Progress.{IsSetting, IsUnderWayWith, Setting}
 use Rattle.bus_trace.specs.EventRows.{rows_of_event}
 use Rattle.bus_trace.specs.Log.{events_rows, triggers_in}
 use Rattle.master_core.specs.Accepted.{all_accepted}
-use Rattle.replay_run.specs.Progress.{EndsIn, HeardAt, IsGoing}
-use Rattle.replay_run.specs.declared.cut.Cut.{Cut}
+use Rattle.replay_run.specs.Progress.{IsGoing}
+use Rattle.sporadic_poll.specs.declared.fate.Fate.{Fate}
 use Rattle.sporadic_poll.specs.declared.stream.Stream.{Stream}
 use Rattle.sporadic_poll.specs.Polled.{polled_bytes}
 use Rattle.sporadic_poll.specs.Rides.{AreFates, AreRidesAt, HaveRidden}
@@ -49,7 +50,7 @@ CanPoll polled = (setting : Setting) × (streams : List Stream) × (trace : List
 pub record IsPolledOn (setting : Setting) (streams : List Stream) (trace : List TimedFrame) (old new : Polled)
     (frames : List TimedFrame) (calls : List Call) : Type 0 where
   pub event : Event
-  pub ends : EndsIn new.bus.master.history event
+  pub history : new.bus.master.history ≡ old.bus.master.history ++ event ∷ []
   pub answers : map call_of new.bus.master.history ≡ map call_of old.bus.master.history ++ calls
   pub polled : IsPolled setting streams (trace ++ frames) new
   pub rows : events_rows (trace ++ frames) [] new.bus.master.history
@@ -60,45 +61,35 @@ abbrev pub PollsOn : Polled → Polled → List TimedFrame → List Call → Typ
 PollsOn old new frames calls = (setting : Setting) (streams : List Stream) (trace : List TimedFrame)
     → IsPolled setting streams trace old → IsPolledOn setting streams trace old new frames calls
 
--- what a polled run stands on, and what heard its rows when it began
-pub record Start (L : Type 0) : Type 0 where
+-- what a polled run stands on
+pub record PollSetting : Type 0 where
   pub setting : Setting
   pub streams : List Stream
-  pub listener : L
 
--- where `Heard` says that one who hears has heard some rows
-module _ {L : Type 0} (Heard : L → List ℕ → L → Type 0) where
-  -- the run has a trace, and its rows so far were heard
-  pub record IsLogged (start : Start L) (polled : Polled) (now : L) : Type 0 where
-    pub trace : List TimedFrame
-    pub is_polled : IsPolled start.setting start.streams trace polled
-    pub heard : Heard start.listener (events_rows trace [] polled.bus.master.history) now
+-- its master has answered the calls of this history, with this trace
+pub record IsPolledAt (on : PollSetting) (history : List Event) (trace : List TimedFrame) (polled : Polled) : Type 0 where
+  pub history_is : polled.bus.master.history ≡ history
+  pub is_polled : IsPolled on.setting on.streams trace polled
 
-  -- from some start it is so
-  abbrev pub CanLog : Polled → L → Type 0
-  CanLog polled now = (start : Start L) × IsLogged start polled now
+-- what a history and a trace of a polled run keep: the trace is that of the history's cycles, whatever later instances
+-- take, each change is planned when it is answered, and something became of each request
+pub record IsPolledOnBus (on : PollSetting) (history : List Event) (trace : List TimedFrame) : Type 0 where
+  pub known : IsSetting on.setting
+  pub no_requests : on.setting.requests ≡ []
+  pub plain : IsPlainlyLegal on.setting.rules history
+  pub under_way : SoFar on.setting on.streams history
+      (λ carried. IsUnderWayWith (polled_bytes on.streams carried) on.setting history trace)
+  pub fates : List Fate
+  pub are : SoFar on.setting on.streams history (λ carried. AreFates on.streams (openings_of history) carried fates)
 
-  -- the run has answered these calls, and from each start from which its rows were heard, they are
-  pub record GoesOn (old : Polled) (told : L) (calls : List Call) (new : Polled) (now : L) : Type 0 where
-    pub answers : map call_of new.bus.master.history ≡ map call_of old.bus.master.history ++ calls
-    pub logged : (start : Start L) → IsLogged start old told → IsLogged start new now
-
--- and `Broke` that it broke off within them
-module _ {L : Type 0} (Heard Broke : L → List ℕ → L → Type 0) where
-  -- the first of these calls were answered, and the rows of the run so far were heard, or the first of them
-  pub record IsCutIn (start : Start L) (calls : List Call) (now : L) (why : Cut) : Type 0 where
-    pub history : List Event
-    pub trace : List TimedFrame
-    pub later : List Call
-    pub answers : map call_of history ++ later ≡ calls
-    pub known : IsSetting start.setting
-    pub no_requests : start.setting.requests ≡ []
-    pub plain : IsPlainlyLegal start.setting.rules history
-    pub under_way : SoFar start.setting start.streams history
-        (λ carried. IsUnderWayWith (polled_bytes start.streams carried) start.setting history trace)
-    pub heard : HeardAt Heard Broke why start.listener (events_rows trace [] history) now
-
-  -- the run was cut in these calls after those before
-  abbrev pub IsCutBehind : Polled → L → List Call → L → Cut → Type 0
-  IsCutBehind old told calls now why = (start : Start L) → IsLogged Heard start old told
-      → IsCutIn start (map call_of old.bus.master.history ++ calls) now why
+pub polled-on-bus : (on : PollSetting) (history : List Event) (trace : List TimedFrame) (polled : Polled) → IsPolledAt on history trace polled
+    → IsPolledOnBus on history trace
+polled-on-bus on history trace polled is = subst (λ h. IsPolledOnBus on h trace) is.history_is
+    (record {
+      known = is.is_polled.going.way.known;
+      no_requests = is.is_polled.no_requests;
+      plain = is.is_polled.going.plain;
+      under_way = is.is_polled.under_way;
+      fates = polled.rides.fates;
+      are = is.is_polled.fates;
+    })

@@ -17,8 +17,8 @@ use kept_run::laws::{beginning, calls_between, cycles_run};
 use master_core::laws::{legal_histories, opened_cycles};
 use master_core::refuses_nothing;
 use profile::MOST_FRAMES;
-use replay_run::Bus;
 use replay_run::laws::{opened_frames, rows_appended};
+use replay_run::{Bus, Runs};
 use sporadic_poll::laws::{one_ride, rides_of_openings};
 use sporadic_poll::{Rides, Stream};
 use std::alloc::{AllocError, Global};
@@ -121,4 +121,42 @@ impl Polled {
         self.quiet = self.quiet & refuses_nothing(self.bus.master.last());
         Ok(())
     }
+}
+
+impl Runs for Polled {
+    ghost use Rattle.poll_run.specs.Polling.{IsPolledAt, IsPolledOnBus, PollSetting, polled-on-bus};
+
+    ghost Setting = { PollSetting };
+
+    ghost goes = { IsPolledAt };
+
+    ghost keeps = { IsPolledOnBus };
+
+    ghost bus = { λ polled. polled.bus };
+
+    ghost frames = { λ polled. polled.frames.items };
+
+    fn bus(&self) -> &Bus {
+        &self.bus
+    }
+
+    fn frames(&self) -> &[TimedFrame] {
+        self.frames.as_slice()
+    }
+
+    fn opened(&self) -> u64 {
+        self.bus.master.next()
+    }
+
+    fn run_cycle(&mut self, alloc: Global) -> Result<(), AllocError> {
+        self.run_next(alloc)
+    }
+
+    fn answer_act(&mut self, alloc: Global, caller: u8, act: &Act) -> Result<(), AllocError> {
+        self.answer(alloc, caller, act)
+    }
+
+    fn settle(&mut self) {}
+
+    ghost going_keeps = { polled-on-bus };
 }

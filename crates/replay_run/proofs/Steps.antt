@@ -8,7 +8,7 @@ use Rattle.std.proofs.lemmas.List.Concat.{flat_map-append}
 use Rattle.std.proofs.lemmas.List.Sums.{sum_by_more_le}
 use Rattle.steps_file.specs.StepsFile.{AreLegalSteps, IsStep, count_of}
 use Rattle.steps_file.specs.declared.steps.Step.{Step}
-use Rattle.master_core.specs.Calls.{Call, opens}
+use Rattle.master_core.specs.Calls.{opens}
 use Rattle.replay_run.specs.Run.{calls_of}
 
 -- the next step is in its ranges, and its cycles are not too many

@@ -1,118 +1,149 @@
 -- A run whose rows were heard, as a whole.
-use Rattle.std.proofs.Common.{◌≡◌, ℕ, List, [], ◌++◌, map, refl, sym, ap, ◌∙◌, subst, inl, inr}
-use Rattle.std.specs.Prelude.{◌⊎◌, is_some}
-use Rattle.std.specs.List.{flat_map}
+use Rattle.std.proofs.Common.{◌≡◌, ℕ, Bool, Some, Result, Ok, Err, IfErr, IsErrAnd, List, [], ◌++◌, map, refl, sym, ap, ◌∙◌, subst, inl, inr}
+use Rattle.std.specs.List.{concat, flat_map}
 use Rattle.can_frame.specs.declared.data_frame.TimedFrame.{TimedFrame}
 use Rattle.async_window.specs.declared.request.Request.{Request}
 use Rattle.steps_file.specs.declared.steps.Step.{Step}
 use Rattle.system_file.specs.declared.system.System.{System}
-use Rattle.master_core.specs.Calls.{call_of}
+use Rattle.master_core.specs.Calls.{Call, call_of}
+use Rattle.master_core.specs.declared.event.Event.{Event}
 use Rattle.master_core.specs.History.{next_of}
 use Rattle.kept_run.specs.Progress.{IsSetting, IsUnderWay}
 use Rattle.kept_run.proofs.Shared.{Promises}
-use Rattle.bus_trace.specs.Log.{end_row, events_rows}
+use Rattle.bus_trace.specs.LastRows.{AreRows, IsTailOf, last_rows}
+use Rattle.bus_trace.specs.Log.{end_row, events_rows, log_text}
+use Rattle.replay_run.specs.Begun.{IsBegun}
+use Rattle.replay_run.specs.Heard.{Keeps}
+use Rattle.replay_run.specs.Progress.{BusSetting, IsBusAt, IsOnBus, setting_of}
 use Rattle.replay_run.specs.Run.{AnswersSteps, IsRun, calls_of}
+use Rattle.replay_run.specs.Runs.{GoesOn, AnswersAll, IsCutAfter, AnswersFirst, IsHeardSoFar, IsLogHeard, Start}
+use Rattle.replay_run.specs.Whole.{IsCutOff, IsHeard}
 use Rattle.replay_run.specs.declared.bus.Bus.{Bus}
 use Rattle.replay_run.specs.declared.cut.Cut.{Cut}
 use Rattle.replay_run.specs.declared.cut.Cut.TheVariants.{Memory, Write}
-use Rattle.replay_run.specs.Progress.{GoesOn, IsCutBehind, IsGoing, IsLogged, Start, setting_of}
-use Rattle.replay_run.specs.Whole.{IsCutOff, IsHeard, IsHeardInPart, IsHeardToEnd}
 
--- a run that answered all its steps
-is-run : Promises → (system : System) (steps : List Step) (requests : List Request) (after : Bus) (trace : List TimedFrame)
-    → IsGoing (setting_of system requests) trace after → AnswersSteps after.master.history steps → IsRun system steps requests after.master.history trace
-is-run laws system steps requests after trace going answers = record {
-  answers = answers;
-  plain = going.plain;
-  kept = laws.kept (setting_of system requests) after.master.history trace going.way.known going.way.under_way;
-}
+-- Whatever runs
 
-module _ {L : Type 0} (Heard Broke : L → List ℕ → L → Type 0) (nothing : (one : L) → Heard one [] one)
-    (laws : Promises) (system : System) (steps : List Step) (requests : List Request) (told : L) where
+-- what holds of a cause holds of an error of that cause
+pub caused : {T : Type 0} (result : Result T Cut) (P : Cut → Type 0) (why : Cut) → IsErrAnd result (λ cause. cause ≡ why) → P why → IfErr result P
+caused (Ok value) P why is holds = absurd is
+caused (Err cause) P why is holds = subst P (sym is) holds
+
+-- what is so of a run of the first calls, and of a whole one, may be said weaker
+pub cut-weaker : {L : Type 0} (Heard Broke : L → List ℕ → L → Type 0) (Begun Run Less Least : List Event → List TimedFrame → Type 0) (old new : L) (why : Cut)
+    → ((history : List Event) (trace : List TimedFrame) → Begun history trace → Less history trace)
+    → ((history : List Event) (trace : List TimedFrame) → Run history trace → Least history trace)
+    → IsCutOff Heard Broke Begun Run old new why → IsCutOff Heard Broke Less Least old new why
+cut-weaker Heard Broke Begun Run Less Least old new why less least (inl is) =
+    inl (record { history = is.history; trace = is.trace; begun = less is.history is.trace is.begun; heard = is.heard })
+cut-weaker Heard Broke Begun Run Less Least old new why less least (inr is) =
+    inr (record { history = is.history; trace = is.trace; run = least is.history is.trace is.run; write = is.write; broke = is.broke })
+
+-- a run that could not begin
+pub not-begun : {L : Type 0} (Heard Broke : L → List ℕ → L → Type 0) (Begun Run : List Event → List TimedFrame → Type 0) (told : L)
+    → Heard told [] told → Begun [] [] → IsCutOff Heard Broke Begun Run told told Memory
+not-begun Heard Broke Begun Run told nothing begun = inl (record { history = []; trace = []; begun = begun; heard = nothing })
+
+module _ {S R : Type 0} (Goes : S → List Event → List TimedFrame → R → Type 0) {L : Type 0} (Heard : L → List ℕ → L → Type 0)
+    (setting : S) (told : L) (nothing : Heard told [] told) where
   -- where the hearing begins
-  abbrev pub start_at : Start L
-  start_at = record { setting = setting_of system requests; listener = told }
+  abbrev pub start_at : Start S L
+  start_at = record { setting = setting; listener = told }
 
-  pub begins-logged : (run : Bus) → IsGoing (setting_of system requests) [] run → run.master.history ≡ []
-      → IsLogged Heard start_at run told
-  begins-logged run going empty = record {
-    trace = [];
-    going = going;
-    heard = subst (λ h. Heard told (events_rows [] [] h) told) (sym empty) (nothing told);
+  pub begins-heard : (run : R) → Goes setting [] [] run → IsHeardSoFar Goes Heard start_at [] run told
+  begins-heard run goes = record { whole = []; trace = []; answers = refl; goes = goes; heard = nothing }
+
+  -- a run that answered its calls, and its last row
+  pub log-heard : ((one other third : L) (rows later : List ℕ) → Heard one rows other → Heard other later third → Heard one (rows ++ later) third)
+      → (calls : List Call) (run after : R) (middle now : L) (next : ℕ) → Goes setting [] [] run → GoesOn Goes Heard run told calls after middle
+      → ((whole : List Event) (trace : List TimedFrame) → Goes setting whole trace after → next ≡ next_of whole) → Heard middle (end_row next) now
+      → IsLogHeard Goes Heard setting calls after told now
+  log-heard more calls run after middle now next fresh on count heard =
+      let is = on start_at [] (begins-heard run fresh) in
+      record {
+        whole = is.whole;
+        trace = is.trace;
+        answers = is.answers;
+        goes = is.goes;
+        log = more told middle now (events_rows is.trace [] is.whole) (end_row (next_of is.whole)) is.heard
+            (subst (λ n. Heard middle (end_row n) now) (count is.whole is.trace is.goes) heard);
+      }
+
+  module _ (Keeps : S → List Event → List TimedFrame → Type 0) (Broke : L → List ℕ → L → Type 0) (calls : List Call) where
+    -- a run that was cut in its calls
+    pub cut-short : (run : R) (now : L) (why : Cut) → Goes setting [] [] run → IsCutAfter Heard Broke Keeps Goes run told calls now why
+        → IsCutOff Heard Broke (AnswersFirst Keeps setting calls) (AnswersAll Keeps setting calls) told now why
+    cut-short run now why fresh cut =
+        let is = cut start_at [] (begins-heard run fresh) in
+        inl (record { history = is.history; trace = is.trace; begun = is.front; heard = is.heard })
+
+    -- one whose last row was not heard
+    pub cut-at_end : ((one other third : L) (rows later : List ℕ) → Heard one rows other → Broke other later third → Broke one (rows ++ later) third)
+        → ((one : R) (whole : List Event) (trace : List TimedFrame) → Goes setting whole trace one → Keeps setting whole trace)
+        → (run after : R) (middle now : L) (next : ℕ) → Goes setting [] [] run → GoesOn Goes Heard run told calls after middle
+        → ((whole : List Event) (trace : List TimedFrame) → Goes setting whole trace after → next ≡ next_of whole) → Broke middle (end_row next) now
+        → IsCutOff Heard Broke (AnswersFirst Keeps setting calls) (AnswersAll Keeps setting calls) told now Write
+    cut-at_end later keeps run after middle now next fresh on count broke =
+        let is = on start_at [] (begins-heard run fresh) in
+        inr (record {
+          history = is.whole;
+          trace = is.trace;
+          run = record { answers = is.answers; keeps = keeps after is.whole is.trace is.goes };
+          write = refl;
+          broke = later told middle now (events_rows is.trace [] is.whole) (end_row (next_of is.whole)) is.heard
+              (subst (λ n. Broke middle (end_row n) now) (count is.whole is.trace is.goes) broke);
+        })
+
+-- A bus
+
+module _ (laws : Promises) (system : System) (steps : List Step) (requests : List Request) where
+  -- a run of the first calls of the steps
+  pub begun-of : (history : List Event) (trace : List TimedFrame) (later : List Call) → map call_of history ++ later ≡ flat_map calls_of steps
+      → IsOnBus (setting_of system requests) history trace → IsBegun system steps requests history trace
+  begun-of history trace later answers is = record {
+    later = later;
+    answers = answers;
+    plain = is.plain;
+    kept = laws.kept (setting_of system requests) history trace is.known is.under_way;
   }
 
-  -- a run that could not begin
-  pub not-begun : IsSetting (setting_of system requests) → IsUnderWay (setting_of system requests) [] []
-      → IsHeardInPart Heard Broke system steps requests told told Memory
-  not-begun known way = record {
-    history = [];
-    trace = [];
-    begun = record {
-      later = flat_map calls_of steps;
-      answers = refl;
-      plain = record { legal = tt; now = tt };
-      kept = laws.kept (setting_of system requests) [] [] known way;
-    };
-    heard = nothing told;
+  -- and of all of them
+  pub run-of : (history : List Event) (trace : List TimedFrame) → AnswersSteps history steps → IsOnBus (setting_of system requests) history trace
+      → IsRun system steps requests history trace
+  run-of history trace answers is = record {
+    answers = answers;
+    plain = is.plain;
+    kept = laws.kept (setting_of system requests) history trace is.known is.under_way;
   }
 
-  -- a run that was cut in the calls of its steps
-  pub cut-short : (run : Bus) (now : L) (why : Cut) → IsGoing (setting_of system requests) [] run → run.master.history ≡ []
-      → IsCutBehind Heard Broke run told (flat_map calls_of steps) now why → IsHeardInPart Heard Broke system steps requests told now why
-  cut-short run now why going empty cut =
-      let is = cut start_at (begins-logged run going empty) in
-      record {
-        history = is.history;
-        trace = is.trace;
-        begun = record {
-          later = is.later;
-          answers = is.answers ∙ ap (λ h. map call_of h ++ flat_map calls_of steps) empty;
-          plain = is.plain;
-          kept = laws.kept (setting_of system requests) is.history is.trace is.known is.under_way;
-        };
-        heard = is.heard;
-      }
+  -- of none
+  pub begun-at_once : IsSetting (setting_of system requests) → IsUnderWay (setting_of system requests) [] [] → IsBegun system steps requests [] []
+  begun-at_once known way =
+      begun-of [] [] (flat_map calls_of steps) refl (record { known = known; plain = record { legal = tt; now = tt }; under_way = way })
 
-  answered : (run after : Bus) (middle : L) → run.master.history ≡ [] → GoesOn Heard run told (flat_map calls_of steps) after middle
-      → AnswersSteps after.master.history steps
-  answered run after middle empty on = on.answers ∙ ap (λ h. map call_of h ++ flat_map calls_of steps) empty
+  -- what is kept of frames and events, or not
+  abbrev pub kept_so : Bool → BusSetting
+  kept_so keeps = record { setting = setting_of system requests; keeps = keeps }
 
-  -- a run that answered them all, and its last row
-  pub heard-all : ((one other third : L) (rows later : List ℕ) → Heard one rows other → Heard other later third → Heard one (rows ++ later) third)
-      → (run after : Bus) (middle now : L) (next : ℕ) → IsGoing (setting_of system requests) [] run → run.master.history ≡ []
-      → GoesOn Heard run told (flat_map calls_of steps) after middle → next ≡ next_of after.master.history → Heard middle (end_row next) now
-      → IsHeard Heard system steps requests after.master.history after.trace told now
-  heard-all more run after middle now next going empty on count heard =
-      let is = on.logged start_at (begins-logged run going empty) in
+  -- a bus whose whole log was heard
+  pub heard-of : {L : Type 0} (Heard : L → List ℕ → L → Type 0) (keeps : Bool) (bus : Bus) (told now : L)
+      → IsLogHeard IsBusAt Heard (kept_so keeps) (flat_map calls_of steps) bus told now
+      → IsHeard Heard system steps requests bus.master.history bus.trace told now
+  heard-of Heard keeps bus told now is =
+      let going = is.goes.going in
       record {
         trace = is.trace;
-        run = is-run laws system steps requests after is.trace is.going (answered run after middle empty on);
-        log = more told middle now (events_rows is.trace [] after.master.history) (end_row (next_of after.master.history)) is.heard
-            (subst (λ n. Heard middle (end_row n) now) count heard);
-        frames = is.going.frames;
+        run = run-of bus.master.history is.trace (ap (map call_of) is.goes.history_is ∙ is.answers)
+            (record { known = going.way.known; plain = going.plain; under_way = going.way.under_way });
+        log = subst (λ h. Heard told (log_text h is.trace) now) (sym is.goes.history_is) is.log;
+        frames = going.frames;
       }
 
-  pub cut-at_end : ((one other third : L) (rows later : List ℕ) → Heard one rows other → Broke other later third → Broke one (rows ++ later) third)
-      → (run after : Bus) (middle now : L) (next : ℕ) → IsGoing (setting_of system requests) [] run → run.master.history ≡ []
-      → GoesOn Heard run told (flat_map calls_of steps) after middle → next ≡ next_of after.master.history → Broke middle (end_row next) now
-      → IsHeardToEnd Heard Broke system steps requests told now Write
-  cut-at_end later run after middle now next going empty on count broke =
-      let is = on.logged start_at (begins-logged run going empty) in
-      record {
-        history = after.master.history;
-        trace = is.trace;
-        run = is-run laws system steps requests after is.trace is.going (answered run after middle empty on);
-        write = refl;
-        broke = later told middle now (events_rows is.trace [] after.master.history) (end_row (next_of after.master.history)) is.heard
-            (subst (λ n. Broke middle (end_row n) now) count broke);
-      }
+-- The last rows
 
-  -- its master has the rules of the system
-  pub same-rules : (run after : Bus) (middle : L) → IsGoing (setting_of system requests) [] run → run.master.history ≡ []
-      → GoesOn Heard run told (flat_map calls_of steps) after middle → after.master.rules ≡ system.rules
-  same-rules run after middle going empty on = (on.logged start_at (begins-logged run going empty)).going.same_rules
-
-  -- and it keeps all events where frames are kept
-  pub same-events : (run after : Bus) (middle : L) → IsGoing (setting_of system requests) [] run → run.master.history ≡ []
-      → GoesOn Heard run told (flat_map calls_of steps) after middle → after.master.keeps ≡ is_some run.trace
-  same-events run after middle going empty on = (on.logged start_at (begins-logged run going empty)).going.events ∙ on.kept
+-- what was kept of a log is its last rows
+pub tail-of : (log : List ℕ) (was : ℕ) (old : List ℕ) (is : ℕ) (new text : List ℕ) (count : ℕ) → Keeps was old log is new → IsTailOf [] was old
+    → (AreRows new → text ≡ last_rows (Some is) new) → was ≡ count → text ≡ last_rows (Some count) log
+tail-of log was old is new text count keeps none last most =
+    let tail : IsTailOf log was new = keeps.last [] none in
+    last tail.kept_whole ∙ ap (λ m. last_rows (Some m) new) keeps.most ∙ ap concat tail.rows ∙ ap (λ m. last_rows (Some m) log) most

@@ -1,5 +1,4 @@
 -- What a master is after it has answered calls.
-use Rattle.std.specs.Prelude.{ℕ}
 use Rattle.std.proofs.Common.{◌≡◌, List, [], ◌++◌, map, refl, sym, ap, ◌∙◌, append-nil, append_assoc}
 use Rattle.master_core.specs.Calls.{Call, call_of}
 use Rattle.master_core.specs.History.{IsPlainlyLegal}

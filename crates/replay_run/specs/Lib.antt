@@ -7,5 +7,6 @@ pub mod Heard
 pub mod Logging
 pub mod Progress
 pub mod Run
+pub mod Runs
 pub mod Whole
 pub mod Written

@@ -1,47 +1,47 @@
 -- What is driven on a bus goes on call by call, and is cut within later calls where it is cut within some of them.
 use Rattle.std.specs.Prelude.{ℕ}
-use Rattle.std.proofs.Common.{◌≡◌, List, [], ◌++◌, map, refl, sym, ap, ◌∙◌, subst, append-nil, append_assoc}
+use Rattle.std.proofs.Common.{◌≡◌, List, [], ◌++◌, map, sym, ap, ◌∙◌, subst, append-nil, append_assoc}
+use Rattle.can_frame.specs.declared.data_frame.TimedFrame.{TimedFrame}
 use Rattle.master_core.specs.Calls.{Call, call_of}
-use Rattle.replay_run.specs.Progress.{GoesOn, IsCutBehind, IsCutIn, Start}
-use Rattle.replay_run.specs.declared.bus.Bus.{Bus}
+use Rattle.master_core.specs.declared.event.Event.{Event}
+use Rattle.replay_run.specs.Runs.{CanLog, GoesOn, IsCutAfter, IsCutIn, IsHeardSoFar, Start}
 use Rattle.replay_run.specs.declared.cut.Cut.{Cut}
 
-module _ {L : Type 0} (Heard : L → List ℕ → L → Type 0) where
-  pub goes-at_once : (one : Bus) (told : L) → GoesOn Heard one told [] one told
-  goes-at_once one told = record {
-    answers = sym (append-nil (map call_of one.master.history));
-    kept = refl;
-    logged = λ start logged. logged;
-  }
+module _ {S R : Type 0} (Goes : S → List Event → List TimedFrame → R → Type 0) {L : Type 0} (Heard : L → List ℕ → L → Type 0) where
+  pub goes-at_once : (one : R) (told : L) → GoesOn Goes Heard one told [] one told
+  goes-at_once one told = λ start before heard.
+      subst (λ calls. IsHeardSoFar Goes Heard start calls one told) (sym (append-nil before)) heard
 
-  pub goes-in_turn : (one other third : Bus) (told middle now : L) (calls later : List Call) → GoesOn Heard one told calls other middle
-      → GoesOn Heard other middle later third now → GoesOn Heard one told (calls ++ later) third now
-  goes-in_turn one other third told middle now calls later first second = record {
-    answers = second.answers ∙ ap (λ l. l ++ later) first.answers ∙ append_assoc (map call_of one.master.history) calls later;
-    kept = second.kept ∙ first.kept;
-    logged = λ start logged. second.logged start (first.logged start logged);
-  }
+  pub goes-in_turn : (one other third : R) (told middle now : L) (calls later : List Call) → GoesOn Goes Heard one told calls other middle
+      → GoesOn Goes Heard other middle later third now → GoesOn Goes Heard one told (calls ++ later) third now
+  goes-in_turn one other third told middle now calls later first second = λ start before heard.
+      subst (λ all. IsHeardSoFar Goes Heard start all third now) (append_assoc before calls later)
+      (second start (before ++ calls) (first start before heard))
 
-module _ {L : Type 0} (Heard Broke : L → List ℕ → L → Type 0) where
+  pub ready-still : (one other : R) (told now : L) (calls : List Call) → CanLog Goes Heard one told → GoesOn Goes Heard one told calls other now
+      → CanLog Goes Heard other now
+  ready-still one other told now calls can on = (can.0, can.1 ++ calls, on can.0 can.1 can.2)
+
+module _ {S R : Type 0} (Goes : S → List Event → List TimedFrame → R → Type 0) (Keeps : S → List Event → List TimedFrame → Type 0)
+    {L : Type 0} (Heard Broke : L → List ℕ → L → Type 0) where
   -- the first of some calls are the first of more
-  pub cut-longer : (start : Start L) (calls more : List Call) (now : L) (why : Cut) → IsCutIn Heard Broke start calls now why
-      → IsCutIn Heard Broke start (calls ++ more) now why
+  cut-longer : (start : Start S L) (calls more : List Call) (now : L) (why : Cut) → IsCutIn Heard Broke Keeps start calls now why
+      → IsCutIn Heard Broke Keeps start (calls ++ more) now why
   cut-longer start calls more now why is = record {
     history = is.history;
     trace = is.trace;
-    later = is.later ++ more;
-    answers = sym (append_assoc (map call_of is.history) is.later more) ∙ ap (λ l. l ++ more) is.answers;
-    known = is.known;
-    plain = is.plain;
-    under_way = is.under_way;
+    front = record {
+      later = is.front.later ++ more;
+      answers = sym (append_assoc (map call_of is.history) is.front.later more) ∙ ap (λ l. l ++ more) is.front.answers;
+      keeps = is.front.keeps;
+    };
     heard = is.heard;
   }
 
-  pub cut-later : (one other : Bus) (told middle now : L) (calls later more : List Call) (why : Cut) → GoesOn Heard one told calls other middle
-      → IsCutBehind Heard Broke other middle later now why → IsCutBehind Heard Broke one told (calls ++ (later ++ more)) now why
-  cut-later one other told middle now calls later more why first cut = λ start logged.
-      let before : List Call = map call_of one.master.history in
-      let all : (map call_of other.master.history ++ later) ++ more ≡ before ++ (calls ++ (later ++ more)) =
-      ap (λ l. (l ++ later) ++ more) first.answers ∙ append_assoc (before ++ calls) later more ∙ append_assoc before calls (later ++ more) in
-      subst (λ l. IsCutIn Heard Broke start l now why) all
-      (cut-longer start (map call_of other.master.history ++ later) more now why (cut start (first.logged start logged)))
+  pub cut-later : (one other : R) (told middle now : L) (calls later more : List Call) (why : Cut) → GoesOn Goes Heard one told calls other middle
+      → IsCutAfter Heard Broke Keeps Goes other middle later now why → IsCutAfter Heard Broke Keeps Goes one told (calls ++ (later ++ more)) now why
+  cut-later one other told middle now calls later more why first cut = λ start before heard.
+      let all : ((before ++ calls) ++ later) ++ more ≡ before ++ (calls ++ (later ++ more)) =
+      append_assoc (before ++ calls) later more ∙ append_assoc before calls (later ++ more) in
+      subst (λ l. IsCutIn Heard Broke Keeps start l now why) all
+      (cut-longer start ((before ++ calls) ++ later) more now why (cut start (before ++ calls) (first start before heard)))

@@ -1,5 +1,6 @@
--- A run between two of its steps, the rows of which something hears.
-use Rattle.std.specs.Prelude.{◌≡◌, ℕ, ◌+◌, ◌*◌, ◌/◌, ◌≤◌, List, [], ◌∷◌, ◌++◌, Option, Some, None, Vec, is_some, length, map, vec_len, vec_capacity}
+-- A master and its bus between two calls.
+use Rattle.std.specs.Prelude.{◌≡◌, ℕ, ◌+◌, ◌*◌, ◌/◌, ◌≤◌, Bool, List, [], ◌∷◌, ◌++◌, Option, Some, None, Vec, is_some, length, map, vec_len, vec_capacity}
+use Rattle.std.proofs.Common.{subst}
 use Rattle.profile.specs.Limits.{shortest_frame}
 use Rattle.can_frame.specs.DataFrame.{DataFrame}
 use Rattle.can_frame.specs.declared.data_frame.TimedFrame.{TimedFrame}
@@ -8,7 +9,6 @@ use Rattle.admission_rules.specs.declared.Rules.{Rules}
 use Rattle.trigger_codec.specs.Bytes.{triggers_with}
 use Rattle.async_window.specs.declared.request.Request.{Request}
 use Rattle.system_file.specs.declared.system.System.{System}
-use Rattle.master_core.specs.Calls.{Call, call_of}
 use Rattle.master_core.specs.declared.event.Event.{Event}
 use Rattle.master_core.specs.declared.event.Event.TheVariants.{Open}
 use Rattle.master_core.specs.History.{IsLegal, IsPlainlyLegal, next_of, placed_of}
@@ -22,8 +22,6 @@ use Rattle.bus_trace.specs.Log.{events_rows, triggers_in}
 use Rattle.bus_trace.specs.Logged.{IsNear}
 use Rattle.replay_run.specs.Written.{KeepsFrames}
 use Rattle.replay_run.specs.declared.bus.Bus.{Bus}
-use Rattle.replay_run.specs.declared.cut.Cut.{Cut}
-use Rattle.replay_run.specs.declared.cut.Cut.TheVariants.{Memory, Write}
 
 -- what a system and its requests give a run to stand on
 abbrev pub setting_of : System → List Request → Setting
@@ -116,54 +114,27 @@ abbrev pub RunsNext : Bus → Bus → List TimedFrame → Type 0
 RunsNext old new frames = (setting : Setting) (trace : List TimedFrame)
     → IsGoing setting trace old → IsRunNext setting trace old new frames
 
--- What hears the rows
+-- What runs
 
--- what a run stands on, and what heard its rows when it began
-pub record Start (L : Type 0) : Type 0 where
+-- what a bus stands on, and whether its frames and all events are kept
+pub record BusSetting : Type 0 where
   pub setting : Setting
-  pub listener : L
+  pub keeps : Bool
 
--- where `Heard` says that one who hears has heard some rows
-module _ {L : Type 0} (Heard : L → List ℕ → L → Type 0) where
-  -- it heard the rows of the history's last event
-  abbrev pub HearsLast : List Event → List TimedFrame → L → L → Type 0
-  HearsLast history frames old new = (event : Event) → EndsIn history event → Heard old (rows_of_event event frames) new
+-- its master has answered the calls of this history, with this trace
+pub record IsBusAt (on : BusSetting) (history : List Event) (trace : List TimedFrame) (bus : Bus) : Type 0 where
+  pub history_is : bus.master.history ≡ history
+  pub going : IsGoing on.setting trace bus
+  pub kept : is_some bus.trace ≡ on.keeps
 
-  -- the run has a trace with which it is going, and its rows so far were heard
-  pub record IsLogged (start : Start L) (bus : Bus) (now : L) : Type 0 where
-    pub trace : List TimedFrame
-    pub going : IsGoing start.setting trace bus
-    pub heard : Heard start.listener (events_rows trace [] bus.master.history) now
+-- what a history and a trace on a bus keep: the trace is that of the history's cycles, and each change is planned when it
+-- is answered
+pub record IsOnBus (setting : Setting) (history : List Event) (trace : List TimedFrame) : Type 0 where
+  pub known : IsSetting setting
+  pub plain : IsPlainlyLegal setting.rules history
+  pub under_way : IsUnderWay setting history trace
 
-  -- from some start it is so
-  abbrev pub CanLog : Bus → L → Type 0
-  CanLog bus now = (start : Start L) × IsLogged start bus now
-
-  -- the run has answered these calls, and from each start from which its rows were heard, they are
-  pub record GoesOn (old : Bus) (told : L) (calls : List Call) (new : Bus) (now : L) : Type 0 where
-    pub answers : map call_of new.master.history ≡ map call_of old.master.history ++ calls
-    pub kept : is_some new.trace ≡ is_some old.trace
-    pub logged : (start : Start L) → IsLogged start old told → IsLogged start new now
-
--- and `Broke` that it broke off within them
-module _ {L : Type 0} (Heard Broke : L → List ℕ → L → Type 0) where
-  -- what was heard of rows when a run was cut: all of them where memory ran out, else the first of them
-  abbrev pub HeardAt : Cut → L → List ℕ → L → Type 0
-  HeardAt Memory old rows now = Heard old rows now
-  HeardAt Write old rows now = Broke old rows now
-
-  -- the first of these calls were answered, and the rows of the run so far were heard, or the first of them
-  pub record IsCutIn (start : Start L) (calls : List Call) (now : L) (why : Cut) : Type 0 where
-    pub history : List Event
-    pub trace : List TimedFrame
-    pub later : List Call
-    pub answers : map call_of history ++ later ≡ calls
-    pub known : IsSetting start.setting
-    pub plain : IsPlainlyLegal start.setting.rules history
-    pub under_way : IsUnderWay start.setting history trace
-    pub heard : HeardAt why start.listener (events_rows trace [] history) now
-
-  -- the run was cut in these calls behind those before
-  abbrev pub IsCutBehind : Bus → L → List Call → L → Cut → Type 0
-  IsCutBehind old told calls now why = (start : Start L) → IsLogged Heard start old told
-      → IsCutIn start (map call_of old.master.history ++ calls) now why
+pub on-bus : (on : BusSetting) (history : List Event) (trace : List TimedFrame) (bus : Bus) → IsBusAt on history trace bus
+    → IsOnBus on.setting history trace
+on-bus on history trace bus is = subst (λ h. IsOnBus on.setting h trace) is.history_is
+    (record { known = is.going.way.known; plain = is.going.plain; under_way = is.going.way.under_way })

@@ -14,6 +14,7 @@ pub mod laws;
 mod listener;
 mod logging;
 mod replaying;
+mod runs;
 
 pub use answering::answer;
 pub use asked::asked_table;
@@ -21,5 +22,6 @@ pub use bus::{Bus, fresh_nodes, in_ranges};
 pub use cut::Cut;
 pub use driver::{Driven, drive};
 pub use listener::{Listener, ToSink};
-pub use logging::tell_last;
+pub use logging::log_run;
 pub use replaying::{Run, Tailed, Written, replay, replay_tail, replay_to};
+pub use runs::Runs;

@@ -1,6 +1,6 @@
 -- The answer to the rows of a log so far, and to all of them.
-use Rattle.std.proofs.Common.{◌≡◌, ◌+◌, ◌<◌, ◌≤◌, ◌++◌, ℕ, zero, suc, Bool, false, true, List, [], ◌∷◌, All, Some, drop, get_or, length, take, refl, sym, ap, ◌∙◌, subst, arith, inl, inr}
-use Rattle.std.specs.Prelude.{slice_get, sum_by}
+use Rattle.std.proofs.Common.{◌≡◌, ◌+◌, ◌<◌, ◌≤◌, ◌++◌, ℕ, zero, suc, Result, Ok, Err, IsErrAnd, Bool, false, true, List, [], ◌∷◌, All, Some, drop, get_or, length, take, refl, sym, ap, ◌∙◌, subst, arith, inl, inr}
+use Rattle.std.specs.Prelude.{MatchResult, slice_get, sum_by}
 use Rattle.std.proofs.lemmas.Bool.{cases_lt}
 use Rattle.std.proofs.lemmas.List.{length-append}
 use Rattle.std.proofs.lemmas.List.Elements.{All-head, All-nil, All-push, All-tail}
@@ -17,6 +17,8 @@ use Rattle.log_reader.specs.declared.row.LogRow.{LogRow}
 use Rattle.log_reader.specs.declared.row.LogRow.TheVariants as row
 use Rattle.trace_audit.specs.Audit.{AllStand, CanStand, IsAudited, IsFirstBreak, IsUnfinished, IsWholeLog}
 use Rattle.trace_audit.specs.Auditing.{AnswersAll, Hears, IsAuditing, IsEnded, IsHeard, IsUpTo, Takes, is_end, is_inner}
+use Rattle.trace_audit.specs.declared.audit_fault.AuditFault.{AuditFault}
+use Rattle.trace_audit.specs.declared.audit_fault.AuditFault.TheVariants.{Memory}
 use Rattle.trace_audit.specs.declared.log_audit.LogAudit.{LogAudit}
 use Rattle.trace_audit.proofs.Ending.{answers-operators, behind-breaks, can-stand, end-breaks, end-stands, is-whole, operators-answer, whole-answers}
 use Rattle.trace_audit.proofs.Readings.{drop-next}
@@ -253,3 +255,9 @@ module _ (system : System) (steps : List Step) (requests : List Request) (rows :
           kept = kept.kept (setting_of system requests) history last.auditing.trace way.known way.under_way;
         } in
         subst (IsAudited system steps requests) (sym last.rows_are) audited
+
+-- where memory ran out, nothing is said of the log
+pub no-memory : {T : Type 0} (result : Result T AuditFault) (Holds : T → Type 0) (Fault : AuditFault → Type 0) → IsErrAnd result (λ fault. fault ≡ Memory)
+    → Fault Memory → MatchResult result Holds Fault
+no-memory (Ok value) Holds Fault is holds = absurd is
+no-memory (Err fault) Holds Fault is holds = subst Fault (sym is) holds

@@ -1,58 +1,48 @@
-use Rattle.std.proofs.Common.{[], inr, rules}
-use Rattle.replay_run.specs.Progress.{setting_of}
-use Rattle.replay_run.specs.declared.cut.Cut.TheVariants.{Write}
+use Rattle.std.proofs.Common.{rules}
+use Rattle.std.specs.List.{flat_map}
+use Rattle.kept_run.proofs.Shared.{Promises}
+use Rattle.replay_run.specs.Begun.{IsBegun}
+use Rattle.replay_run.specs.Progress.{IsOnBus, setting_of}
+use Rattle.replay_run.specs.Run.{IsRun, calls_of}
+use Rattle.replay_run.specs.Runs.{AnswersAll, AnswersFirst}
 use Rattle.replay_run.specs.Whole.{IsCutOff}
-use Rattle.handover_run.proofs.Cutting.{caused}
-use Rattle.handover_run.proofs.Whole.{begins-heard, cut-at_end, cut-short, heard-all, not-begun, start_at}
+use Rattle.replay_run.proofs.Shared.{begun-at_once, begun-of, caused, cut-weaker, not-begun, run-of}
+use Rattle.handover_run.proofs.Whole.{heard-whole}
 use Rattle.handover_run.proofs.handing.log_handed.Goals as goal
 
 pub returns-in_err-handed-clause-cut : goal.returns-in_err-handed-clause-cut
 returns-in_err-handed-clause-cut g c =
-    let all = not-begun g.L.Listener.heard g.L.Listener.broke g.met.L.Listener.nothing (record { kept = c.promise.ensures.kept }) c.args.system.now c.args.steps.now c.args.requests.now
-    c.args.listener.now c.in_ranges.ensures.setting (c.beginning.ensures.under_way (setting_of c.args.system.now c.args.requests.now)) in
+    let system = c.args.system.now in
+    let steps = c.args.steps.now in
+    let requests = c.args.requests.now in
+    let all = not-begun g.L.Listener.heard g.L.Listener.broke (IsBegun system steps requests) (IsRun system steps requests) c.args.listener.now
+    (g.met.L.Listener.nothing c.args.listener.now)
+    (begun-at_once (record { kept = c.promise.ensures.kept }) system steps requests c.in_ranges.ensures.setting
+    (c.beginning.ensures.under_way (setting_of system requests))) in
     search (rules, all)
 
-pub log_calls-requires-clause-ready : goal.log_calls-requires-clause-ready
-log_calls-requires-clause-ready g c = (
-  start_at g.L.Listener.heard g.L.Listener.broke g.met.L.Listener.nothing (record { kept = c.promise.ensures.kept }) c.args.system.now c.args.steps.now c.args.requests.now c.args.listener.now,
-  [],
-  begins-heard g.L.Listener.heard g.L.Listener.broke g.met.L.Listener.nothing (record { kept = c.promise.ensures.kept }) c.args.system.now c.args.steps.now c.args.requests.now c.args.listener.now
-      c.in_ok-handed.handed c.in_ok-handed.ensures.begun,
-)
+pub log_run-requires-clause-fresh : goal.log_run-requires-clause-fresh
+log_run-requires-clause-fresh g c = (setting_of c.args.system.now c.args.requests.now, c.in_ok-handed.ensures.begun)
 
-pub returns-in_err-log_calls-clause-cut : goal.returns-in_err-log_calls-clause-cut
-returns-in_err-log_calls-clause-cut g c =
-    let all = cut-short g.L.Listener.heard g.L.Listener.broke g.met.L.Listener.nothing (record { kept = c.promise.ensures.kept }) c.args.system.now c.args.steps.now c.args.requests.now
-    c.args.listener.now c.in_ok-handed.handed c.log_calls.new.listener c.in_err-log_calls.field-0.0 c.in_ok-handed.ensures.begun c.in_err-log_calls.ensures.stops in
-    search (rules, all)
-
-pub returns-in_err-hear_end-clause-cut : goal.returns-in_err-hear_end-clause-cut
-returns-in_err-hear_end-clause-cut g c =
-    let all = cut-at_end g.L.Listener.heard g.L.Listener.broke g.met.L.Listener.nothing (record { kept = c.promise.ensures.kept }) c.args.system.now c.args.steps.now c.args.requests.now
-    c.args.listener.now
-    (record {
-      placed = c.one_core.ensures.placed;
-      next = c.one_core.ensures.next;
-      changed = c.one_core.ensures.changed;
-      openings = c.one_core.ensures.openings;
-      order = c.one_core.ensures.order;
-    })
-    g.met.L.Listener.broke_later c.in_ok-handed.handed c.log_calls.new.handed c.log_calls.new.listener c.hear_end.new.self c.next.result
-    c.in_ok-handed.ensures.begun c.in_ok-log_calls.ensures.goes_on c.next.ensures.next c.in_err-hear_end.ensures.broke in
-    caused c.from_residual-in_err-hear_end.result
-    (IsCutOff g.L.Listener.heard g.L.Listener.broke c.args.system.now c.args.steps.now c.args.requests.now c.args.listener.now c.hear_end.new.self) Write
-    c.from_residual-in_err-hear_end.ensures.1 (inr all)
+pub returns-in_err-log_run-clause-cut : goal.returns-in_err-log_run-clause-cut
+returns-in_err-log_run-clause-cut g c =
+    let laws : Promises = record { kept = c.promise.ensures.kept } in
+    let system = c.args.system.now in
+    let steps = c.args.steps.now in
+    let requests = c.args.requests.now in
+    let setting = setting_of system requests in
+    let calls = flat_map calls_of steps in
+    let all = cut-weaker g.L.Listener.heard g.L.Listener.broke (AnswersFirst IsOnBus setting calls) (AnswersAll IsOnBus setting calls)
+    (IsBegun system steps requests) (IsRun system steps requests) c.args.listener.now c.log_run.new.listener c.in_err-log_run.field-0.0
+    (λ history trace is. begun-of laws system steps requests history trace is.later is.answers is.keeps)
+    (λ history trace is. run-of laws system steps requests history trace is.answers is.keeps)
+    (c.in_err-log_run.ensures.cut setting c.in_ok-handed.ensures.begun) in
+    caused c.from_residual-in_err-log_run.result
+    (IsCutOff g.L.Listener.heard g.L.Listener.broke (IsBegun system steps requests) (IsRun system steps requests) c.args.listener.now c.log_run.new.listener)
+    c.in_err-log_run.field-0.0 c.from_residual-in_err-log_run.ensures.1 all
 
 pub returns-clause-heard : goal.returns-clause-heard
 returns-clause-heard g c =
-    heard-all g.L.Listener.heard g.L.Listener.broke g.met.L.Listener.nothing (record { kept = c.promise.ensures.kept }) c.args.system.now c.args.steps.now c.args.requests.now
-    c.args.listener.now
-    (record {
-      placed = c.one_core.ensures.placed;
-      next = c.one_core.ensures.next;
-      changed = c.one_core.ensures.changed;
-      openings = c.one_core.ensures.openings;
-      order = c.one_core.ensures.order;
-    })
-    g.met.L.Listener.more c.in_ok-handed.handed c.log_calls.new.handed c.log_calls.new.listener c.hear_end.new.self c.next.result
-    c.in_ok-handed.ensures.begun c.in_ok-log_calls.ensures.goes_on c.next.ensures.next c.in_ok-hear_end.ensures.heard
+    heard-whole (record { kept = c.promise.ensures.kept }) c.args.system.now c.args.steps.now c.args.requests.now g.L.Listener.heard c.log_run.new.run
+    c.args.listener.now c.log_run.new.listener
+    (c.in_ok-log_run.ensures.heard (setting_of c.args.system.now c.args.requests.now) c.in_ok-handed.ensures.begun)

@@ -1,54 +1,52 @@
-use Rattle.std.proofs.Common.{[], inl, inr}
-use Rattle.replay_run.specs.Progress.{setting_of}
-use Rattle.replay_run.specs.declared.cut.Cut.TheVariants.{Memory, Write}
-use Rattle.poll_run.specs.Whole.{IsCutOff}
-use Rattle.poll_run.proofs.Cutting.{caused}
-use Rattle.poll_run.proofs.Ended.{begins-logged, cut-at_end, cut-short, heard-all, not-begun, start_at}
+use Rattle.std.proofs.Common.{rules}
+use Rattle.std.specs.List.{flat_map}
+use Rattle.replay_run.specs.Run.{calls_of}
+use Rattle.replay_run.specs.Runs.{AnswersAll, AnswersFirst}
+use Rattle.replay_run.specs.Whole.{IsCutOff}
+use Rattle.replay_run.proofs.Shared.{caused, cut-weaker, not-begun}
+use Rattle.poll_run.specs.Polling.{IsPolledOnBus}
+use Rattle.poll_run.specs.Whole.{IsBegun, IsRun}
+use Rattle.poll_run.proofs.Ended.{EndLaws, begun-at_once, begun-of, heard-of, run-of, start}
 use Rattle.poll_run.proofs.polling.log_polled.Goals as goal
 
 pub returns-in_err-polled-clause-cut : goal.returns-in_err-polled-clause-cut
 returns-in_err-polled-clause-cut g c =
-    let setting = setting_of c.args.system.now [] in
-    let all = not-begun g.L.Listener.heard g.L.Listener.broke g.met.L.Listener.nothing
-    (record { rides = record { is = c.one_ride.ensures.is; at = c.rides_of_openings.ensures.at; cycles = c.opened_cycles.ensures.cycles }; kept = c.promise.ensures.kept_with })
-    c.args.system.now c.args.steps.now c.args.streams.items c.args.listener.now c.in_ranges.ensures.setting (λ sends. c.beginning.ensures.under_way_with sends setting) in
-    caused c.from_residual.result
-    (IsCutOff g.L.Listener.heard g.L.Listener.broke c.args.system.now c.args.steps.now c.args.streams.items c.args.listener.now c.args.listener.now) Memory c.from_residual.ensures.1 (inl all)
+    let laws : EndLaws = record { rides = record { is = c.one_ride.ensures.is; at = c.rides_of_openings.ensures.at; cycles = c.opened_cycles.ensures.cycles }; kept = c.promise.ensures.kept_with } in
+    let system = c.args.system.now in
+    let steps = c.args.steps.now in
+    let streams = c.args.streams.items in
+    let all = not-begun g.L.Listener.heard g.L.Listener.broke (IsBegun system steps streams) (IsRun system steps streams) c.args.listener.now
+    (g.met.L.Listener.nothing c.args.listener.now)
+    (begun-at_once laws system steps streams c.in_ranges.ensures.setting (λ sends. c.beginning.ensures.under_way_with sends (start laws system steps streams).setting)) in
+    search (rules, all)
 
-pub log_calls-requires-clause-ready : goal.log_calls-requires-clause-ready
-log_calls-requires-clause-ready g c = (
-  start_at g.L.Listener.heard g.L.Listener.broke g.met.L.Listener.nothing
-      (record { rides = record { is = c.one_ride.ensures.is; at = c.rides_of_openings.ensures.at; cycles = c.opened_cycles.ensures.cycles }; kept = c.promise.ensures.kept_with })
-      c.args.system.now c.args.steps.now c.args.streams.items c.args.listener.now,
-  begins-logged g.L.Listener.heard g.L.Listener.broke g.met.L.Listener.nothing
-      (record { rides = record { is = c.one_ride.ensures.is; at = c.rides_of_openings.ensures.at; cycles = c.opened_cycles.ensures.cycles }; kept = c.promise.ensures.kept_with })
-      c.args.system.now c.args.steps.now c.args.streams.items c.args.listener.now c.in_ok-polled.polled c.in_ok-polled.ensures.begun c.in_ok-polled.ensures.empty,
-)
+pub log_run-requires-clause-fresh : goal.log_run-requires-clause-fresh
+log_run-requires-clause-fresh g c =
+    let laws : EndLaws = record { rides = record { is = c.one_ride.ensures.is; at = c.rides_of_openings.ensures.at; cycles = c.opened_cycles.ensures.cycles }; kept = c.promise.ensures.kept_with } in
+    (start laws c.args.system.now c.args.steps.now c.args.streams.items, record { history_is = c.in_ok-polled.ensures.empty; is_polled = c.in_ok-polled.ensures.begun })
 
-pub returns-in_err-log_calls-clause-cut : goal.returns-in_err-log_calls-clause-cut
-returns-in_err-log_calls-clause-cut g c =
-    let all = cut-short g.L.Listener.heard g.L.Listener.broke g.met.L.Listener.nothing
-    (record { rides = record { is = c.one_ride.ensures.is; at = c.rides_of_openings.ensures.at; cycles = c.opened_cycles.ensures.cycles }; kept = c.promise.ensures.kept_with })
-    c.args.system.now c.args.steps.now c.args.streams.items c.args.listener.now c.in_ok-polled.polled c.log_calls.new.listener c.in_err-log_calls.field-0.0
-    c.in_ok-polled.ensures.begun c.in_ok-polled.ensures.empty c.in_err-log_calls.ensures.stops in
-    caused c.from_residual-in_err-log_calls.result
-    (IsCutOff g.L.Listener.heard g.L.Listener.broke c.args.system.now c.args.steps.now c.args.streams.items c.args.listener.now c.log_calls.new.listener) c.in_err-log_calls.field-0.0
-    c.from_residual-in_err-log_calls.ensures.1 (inl all)
-
-pub returns-in_err-hear_end-clause-cut : goal.returns-in_err-hear_end-clause-cut
-returns-in_err-hear_end-clause-cut g c =
-    let all = cut-at_end g.L.Listener.heard g.L.Listener.broke g.met.L.Listener.nothing
-    (record { rides = record { is = c.one_ride.ensures.is; at = c.rides_of_openings.ensures.at; cycles = c.opened_cycles.ensures.cycles }; kept = c.promise.ensures.kept_with })
-    c.args.system.now c.args.steps.now c.args.streams.items c.args.listener.now g.met.L.Listener.broke_later c.in_ok-polled.polled c.log_calls.new.polled
-    c.log_calls.new.listener c.hear_end.new.self c.next.result c.in_ok-polled.ensures.begun c.in_ok-polled.ensures.empty c.in_ok-log_calls.ensures.goes_on
-    c.next.ensures.next c.in_err-hear_end.ensures.broke in
-    caused c.from_residual-in_err-hear_end.result
-    (IsCutOff g.L.Listener.heard g.L.Listener.broke c.args.system.now c.args.steps.now c.args.streams.items c.args.listener.now c.hear_end.new.self) Write c.from_residual-in_err-hear_end.ensures.1 (inr all)
+pub returns-in_err-log_run-clause-cut : goal.returns-in_err-log_run-clause-cut
+returns-in_err-log_run-clause-cut g c =
+    let laws : EndLaws = record { rides = record { is = c.one_ride.ensures.is; at = c.rides_of_openings.ensures.at; cycles = c.opened_cycles.ensures.cycles }; kept = c.promise.ensures.kept_with } in
+    let system = c.args.system.now in
+    let steps = c.args.steps.now in
+    let streams = c.args.streams.items in
+    let on = start laws system steps streams in
+    let calls = flat_map calls_of steps in
+    let all = cut-weaker g.L.Listener.heard g.L.Listener.broke (AnswersFirst IsPolledOnBus on calls) (AnswersAll IsPolledOnBus on calls)
+    (IsBegun system steps streams) (IsRun system steps streams) c.args.listener.now c.log_run.new.listener c.in_err-log_run.field-0.0
+    (begun-of laws system steps streams) (run-of laws system steps streams)
+    (c.in_err-log_run.ensures.cut on (record { history_is = c.in_ok-polled.ensures.empty; is_polled = c.in_ok-polled.ensures.begun })) in
+    caused c.from_residual-in_err-log_run.result
+    (IsCutOff g.L.Listener.heard g.L.Listener.broke (IsBegun system steps streams) (IsRun system steps streams) c.args.listener.now c.log_run.new.listener)
+    c.in_err-log_run.field-0.0 c.from_residual-in_err-log_run.ensures.1 all
 
 pub returns-clause-heard : goal.returns-clause-heard
 returns-clause-heard g c =
-    heard-all g.L.Listener.heard g.L.Listener.broke g.met.L.Listener.nothing
-    (record { rides = record { is = c.one_ride.ensures.is; at = c.rides_of_openings.ensures.at; cycles = c.opened_cycles.ensures.cycles }; kept = c.promise.ensures.kept_with })
-    c.args.system.now c.args.steps.now c.args.streams.items c.args.listener.now g.met.L.Listener.more c.in_ok-polled.polled c.log_calls.new.polled
-    c.log_calls.new.listener c.hear_end.new.self c.next.result c.in_ok-polled.ensures.begun c.in_ok-polled.ensures.empty c.in_ok-log_calls.ensures.goes_on
-    c.next.ensures.next c.in_ok-hear_end.ensures.heard
+    let laws : EndLaws = record { rides = record { is = c.one_ride.ensures.is; at = c.rides_of_openings.ensures.at; cycles = c.opened_cycles.ensures.cycles }; kept = c.promise.ensures.kept_with } in
+    let system = c.args.system.now in
+    let steps = c.args.steps.now in
+    let streams = c.args.streams.items in
+    heard-of laws system steps streams g.L.Listener.heard c.log_run.new.run c.args.listener.now c.log_run.new.listener
+    (c.in_ok-log_run.ensures.heard (start laws system steps streams)
+    (record { history_is = c.in_ok-polled.ensures.empty; is_polled = c.in_ok-polled.ensures.begun }))

@@ -1,7 +1,7 @@
 use Rattle.std.proofs.Common.{◌+◌, arith, drop, rules, subst, sym, take}
 use Rattle.std.specs.List.{flat_map}
 use Rattle.replay_run.specs.Run.{calls_of}
-use Rattle.replay_run.proofs.Steps.{calls-of_steps, step-next}
+use Rattle.replay_run.proofs.Steps.{calls-of_steps}
 use Rattle.replay_run.proofs.driver.drive.Goals as goal
 
 pub returns-in_err-take_step-clause-stops : goal.returns-in_err-take_step-clause-stops

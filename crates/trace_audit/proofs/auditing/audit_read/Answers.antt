@@ -1,7 +1,8 @@
 use Rattle.std.proofs.Common.{◌≡◌, ◌++◌, ◌∷◌, [], length-append, subst, arith}
+use Rattle.trace_audit.specs.Audit.{IsAuditFault, IsAudited}
 use Rattle.trace_audit.specs.Auditing.{IsHeard}
 use Rattle.log_reader.proofs.Shared.{none-found}
-use Rattle.trace_audit.proofs.Whole.{first-break}
+use Rattle.trace_audit.proofs.Whole.{first-break, no-memory}
 use Rattle.trace_audit.proofs.auditing.audit_read.Goals as goal
 
 pub loop-reader-init : goal.loop-reader-init
@@ -37,6 +38,20 @@ returns-then-not-branch c =
           (c.in_ok-take.ensures.hears.break c.if-not-branch.true system requests read heard)
           split (omega (arith, number, counted, length-append read (line ∷ [])));
     }
+
+pub returns-in_err-line : goal.returns-in_err-line
+returns-in_err-line c = record {
+  answer = λ rows are.
+      no-memory c.from_residual-in_err-line.result (λ done. IsAudited c.args.system.now c.args.steps.now c.args.requests.now rows)
+      (IsAuditFault c.args.system.now c.args.steps.now c.args.requests.now rows) c.from_residual-in_err-line.ensures.1 tt;
+}
+
+pub returns-in_err-take : goal.returns-in_err-take
+returns-in_err-take c = record {
+  answer = λ rows are.
+      no-memory c.from_residual-in_err-take.result (λ done. IsAudited c.args.system.now c.args.steps.now c.args.requests.now rows)
+      (IsAuditFault c.args.system.now c.args.steps.now c.args.requests.now rows) c.from_residual-in_err-take.ensures.1 tt;
+}
 
 pub loop-reader-smaller : goal.loop-reader-smaller
 loop-reader-smaller c =

@@ -3,8 +3,8 @@ use Rattle.handover_run.specs.Handed.{IsHanded}
 use Rattle.handover_run.proofs.Behind.{next-taken-over, taken-over}
 use Rattle.handover_run.proofs.handed.Handed.hand_over.Goals as goal
 
-pub returns-in-Some-clause-same : goal.returns-in-Some-clause-same
-returns-in-Some-clause-same c = λ setting whole trace is.
+pub returns-in-Some-clause-still : goal.returns-in-Some-clause-still
+returns-in-Some-clause-still c = λ setting whole trace is.
     let run = c.args.self.now in
     subst
     (λ standby. IsHanded setting whole trace (record run { bus = record run.bus { master = c.of.result }; standby = standby }))

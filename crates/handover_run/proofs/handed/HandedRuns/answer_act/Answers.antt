@@ -5,7 +5,7 @@ use Rattle.replay_run.proofs.Shared.{some-event}
 use Rattle.handover_run.specs.Following.{Follows, IsRightBehind}
 use Rattle.handover_run.proofs.Carried.{answered-on, right-told}
 use Rattle.handover_run.proofs.Told.{each-answer, if-followed}
-use Rattle.handover_run.proofs.handed.Handed.answer.Goals as goal
+use Rattle.handover_run.proofs.handed.HandedRuns.answer_act.Goals as goal
 
 pub last-event-requires : goal.last-event-requires
 last-event-requires c =

@@ -6,7 +6,7 @@ use Rattle.handover_run.proofs.Behind.{still-handed}
 use Rattle.handover_run.proofs.Carried.{opened-on}
 use Rattle.handover_run.proofs.Due.{hears-due}
 use Rattle.handover_run.proofs.Told.{each-opening, if-followed}
-use Rattle.handover_run.proofs.handed.Handed.run_next.Goals as goal
+use Rattle.handover_run.proofs.handed.HandedRuns.run_cycle.Goals as goal
 
 pub run_next-requires-clause-going : goal.run_next-requires-clause-going
 run_next-requires-clause-going c =
