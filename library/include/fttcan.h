@@ -7,26 +7,26 @@
  *
  * Calls. A call that can fail answers a status, FTTCAN_OK or another one of the list below. After a status other than
  * FTTCAN_OK every out value is as it was before the call, and so is what a handle holds, unless a call says otherwise.
- * Where several statuses fit a call, FTTCAN_OPEN comes before FTTCAN_CLOSED, that before FTTCAN_ARGUMENT, and that before
+ * If several statuses fit a call, FTTCAN_OPEN comes before FTTCAN_CLOSED, that before FTTCAN_ARGUMENT, and that before
  * all others. Of the others it answers one that fits. fttcan_run alone answers the exit status of a program instead.
  * No call ends the program, prints, starts a thread, takes a lock, or reads a clock. All memory is taken by malloc and
- * realloc, and given back by free. Each call ends.
+ * realloc, and given back by free, or by three functions of the program (fttcan_heap.h). Each call ends.
  *
  * Memory. Each pointer is valid for the whole call, and not null. A slice is a pointer and then a count of elements. Its
- * pointer is not null either, also where the count is 0: then it is never read. What a call writes to overlaps nothing
+ * pointer is not null either, even if the count is 0: then it is never read. What a call writes to overlaps nothing
  * else that is passed to it. The caller keeps all of this memory: no call keeps a pointer. A struct that is passed in is
  * read as it is: bytes of padding have no meaning.
  *
  * Handles. A handle is a struct of one pointer. All zero, it holds nothing: `fttcan_master m = {0};`. What it holds
- * belongs to it, until its free, or a call that takes it. Never look behind the pointer, never write it, and never copy a
- * handle that holds something: two copies that are both used free the same memory twice. A struct that holds the handle
- * may be passed by its address.
+ * belongs to it, until its free, or a call that takes it. Never read or write what the pointer points at, never write the
+ * pointer, and never copy a handle that holds something: two copies that are both used free the same memory twice. A
+ * struct that holds the handle may be passed by its address.
  *
- * Threads. A handle is used by one call at a time, and never from a signal handler that can interrupt another call of
- * this library, or of malloc. Different handles may be used by different threads at the same time. A snapshot or a
- * planned change may be handed to another thread, as any memory is: by a lock, a queue, or the start or end of a thread.
- * So may a master or a standby, as long as one thread at a time uses it. Calls without a handle can run at the same
- * time, on different memory. What is proved is proved of calls in one thread: of threads there is a test alone,
+ * Threads. A handle is used by one call at a time, and never from an interrupt or a signal handler that can interrupt
+ * another call of this library, or of the heap. Different handles may be used by different threads at the same time. A
+ * snapshot or a planned change may be handed to another thread, as any memory is: by a lock, a queue, or the start or end
+ * of a thread. So may a master or a standby, as long as one thread at a time uses it. Calls without a handle can run at
+ * the same time, on different memory. What is proved is proved of calls in one thread. Of threads there is only a test,
  * library/tests/threads.c.
  */
 #ifndef FTTCAN_H
@@ -94,7 +94,7 @@ typedef struct {
     uint64_t low, high;
 } fttcan_mask;
 
-/* A data frame with an identifier of 11 bits, 0 to 0x7EF, and `len` data bytes, 0 to 8. Bytes behind them have no
+/* A data frame with an identifier of 11 bits, 0 to 0x7EF, and `len` data bytes, 0 to 8. Bytes after them have no
  * meaning, and are written as 0. */
 typedef struct {
     uint16_t id;
@@ -103,14 +103,16 @@ typedef struct {
 } fttcan_frame;
 
 /* What a trigger says: the slots whose instances are sent in its cycle, the cycle, and the length of the cycle's
- * synchronous window in bit times, at most 16,383. On the bus a trigger has the low 8 bits of the cycle alone. */
+ * synchronous window in bit times, at most 16,383. On the bus a trigger has only the low 8 bits of the cycle. The bytes
+ * stand in docs/FORMATS.md, "The trigger's bytes". */
 typedef struct {
     fttcan_mask flags;
     uint64_t cycle;
     uint32_t window;
 } fttcan_trigger;
 
-/* The rules of a network. */
+/* The rules of a network. The library knows neither the length of a cycle nor the bit rate. The caller sees to it that the
+ * trigger part (135 bit times, or 270 with 96 slots), the turnaround and the window fit into a cycle together. */
 typedef struct {
     uint64_t horizon; /* within how many cycles the plan has to repeat: 1 to 100,000 */
     uint32_t window;  /* the largest synchronous window in bit times: 55 to 16,383 */
@@ -131,10 +133,10 @@ typedef struct {
     uint8_t priority;  /* of two with the same key the lower number goes first */
 } fttcan_entry;
 
-/* An entry in its place. Instance k is released in cycle origin + phase + k * period, where that is below the end. Where
+/* An entry in its place. Instance k is released in cycle origin + phase + k * period, if that is below the end. If
  * `ended` is 0 it has no end, and `end` has no meaning and is written as 0; any other value says that it has.
  *
- * A table is well placed where of each entry the slot is below 96, there are at most 8 data bytes, the deadline is 1 to the
+ * A table is well placed if of each entry the slot is below 96, there are at most 8 data bytes, the deadline is 1 to the
  * period, origin and end are below 2^42, and the end is not below the origin. Of two entries of a slot the earlier one has an
  * end, and its end + deadline - 1 is at most the origin of the later one. Else a call that is passed the table answers
  * FTTCAN_TABLE. The slots and nodes of the rules are not looked at then. */
@@ -160,14 +162,15 @@ typedef struct {
 
 /* The answer to a change. Numbers that a kind does not name are 0.
  *
- * FTTCAN_MALFORMED: operation `op`, counted from 0, breaks rule `why`, 1 to 11 (fttcan_why_name). Where `known` is 1 the
- *     rule is 10, and the slot is taken until cycle `first`: it is free from there on, or its entry begins then. Where rule
+ * FTTCAN_MALFORMED: operation `op`, counted from 0, breaks rule `why`, 1 to 11 (fttcan_why_name). If `known` is 1 the
+ *     rule is 10, and the slot is taken until cycle `first`: it is free from there on, or its entry begins then. If rule
  *     10 is broken and `known` is 0 the slot has an entry without an end.
  * FTTCAN_PASSED: the start `first` is over, since cycle `second` is the next one.
  * FTTCAN_MISSED: the instance of `slot` that is released in cycle `first` would be missed in `second`, its last one.
  * FTTCAN_HORIZON: planned from cycle `first` on, no state came again within `second` cycles.
- * FTTCAN_ACCEPTED: from cycle `first` on the plan does the same again every `second` cycles. No deadline is missed, ever, as
- *     long as the cycles are opened by this plan: up to the next accepted change, which has such a plan again. */
+ * FTTCAN_ACCEPTED: the change holds from its start on. From cycle `first` on, which may be later, the plan does the same
+ *     again every `second` cycles. No deadline is missed, ever, as long as the cycles are opened by this plan: up to the
+ *     next accepted change, which has such a plan again. */
 typedef struct {
     uint64_t first, second;
     uint8_t kind, op, why, slot, known;
@@ -179,8 +182,9 @@ typedef struct {
     uint32_t window;
 } fttcan_plan;
 
-/* What a master orders for a cycle that it opened: what its trigger says. `learned` is 1 where the table has changed
- * since the last opening: then the nodes are told the table (fttcan_master_table) before the trigger is sent. */
+/* What a master orders for a cycle that it opened: what its trigger says. The master is told nothing of the bus: what it
+ * flags counts as sent. `learned` is 1 if the table has changed since the last opening: then the nodes are told the table
+ * (fttcan_master_table) before the trigger is sent. docs/LIBRARY.md says how that is done on a real bus. */
 typedef struct {
     uint64_t cycle;
     fttcan_mask flags;
@@ -193,7 +197,7 @@ typedef struct {
  * 1: in cycle `first` an instance of `slot` is sent that is not released, or was sent before.
  * 2: in cycle `first` the worst lengths sum to `second` bit times, which is more than the window.
  * 3: the instance of `slot` that is released in cycle `first` is not sent by cycle `second`, its last one.
- * 4: behind the loop what waits of `slot` is not what waited before it.
+ * 4: after the loop what waits of `slot` is not what waited before it.
  * After FTTCAN_TEXT `first` is the first line that breaks the form of a plan text, counted from 1, and the rest is as it was. */
 typedef struct {
     uint64_t first, second;
@@ -210,7 +214,7 @@ typedef struct {
     uint8_t kind;
 } fttcan_follow;
 
-/* An elementary cycle in bit times: its length (400 to 100,000), the turnaround behind the trigger (at most 1,000), the
+/* An elementary cycle in bit times: its length (400 to 100,000), the turnaround after the trigger (at most 1,000), the
  * largest synchronous window (55 to 16,383), and the slots (40 or 96). The trigger part takes 135 bit times, or 270 with
  * 96 slots. Trigger, turnaround and window together are at most the cycle. */
 typedef struct {
@@ -219,7 +223,7 @@ typedef struct {
 } fttcan_layout;
 
 /* A stream: the requests of an asynchronous identifier (0x200 to 0x7EF). Their frames have at most so many data bytes (0 to
- * 8). Each arrives at least `gap` bit times (1 to 2^32 - 1) behind the one that stands `burst` places (1 to 1,024) before
+ * 8). Each arrives at least `gap` bit times (1 to 2^32 - 1) after the one that stands `burst` places (1 to 1,024) before
  * it: so with a burst of 1 any two of them are that far apart. */
 typedef struct {
     uint64_t gap;
@@ -252,7 +256,7 @@ typedef struct {
 uint32_t fttcan_version(void);
 
 /* ---- A master. Its memory does not grow with the cycles that it opens, and it has room for FTTCAN_MOST_PLACED entries.
- *      Each call but _new, _restore and _free answers FTTCAN_CLOSED where `m` holds nothing. */
+ *      Each call but _new, _restore and _free answers FTTCAN_CLOSED if `m` holds nothing. */
 
 /* Makes a master with these rules and no entry, whose next cycle is 0.
  * FTTCAN_OPEN: `m` holds one already. FTTCAN_ARGUMENT: a rule is out of its range. FTTCAN_MEMORY. */
@@ -262,16 +266,16 @@ uint32_t fttcan_master_new(fttcan_master *m, const fttcan_rules *rules);
 void fttcan_master_free(fttcan_master *m);
 
 /* Answers the change of operator `caller`, 1 to 8, that begins in cycle `start`. All its operations are done, or none.
- * The table changes only where the verdict is FTTCAN_ACCEPTED. FTTCAN_OK says that `verdict` is the answer, whatever it
+ * The table changes only if the verdict is FTTCAN_ACCEPTED. FTTCAN_OK says that `verdict` is the answer, whatever it
  * is. Time: see docs/LIBRARY.md; it grows with the cycles up to the repeat, at most the horizon.
- * FTTCAN_ARGUMENT: the caller, or a kind of operation. FTTCAN_MEMORY: also where more entries than FTTCAN_MOST_PLACED would be
+ * FTTCAN_ARGUMENT: the caller, or a kind of operation. FTTCAN_MEMORY: also if more entries than FTTCAN_MOST_PLACED would be
  * kept, or 2^64 - 1 changes were accepted. */
 uint32_t fttcan_master_submit(fttcan_master *m, uint8_t caller, uint64_t start, const fttcan_op *ops, size_t ops_count,
                               fttcan_verdict *verdict);
 
-/* What led to the last answer of this master, where that was FTTCAN_MISSED: what each cycle would have sent, up to the missed
+/* What led to the last answer of this master, if that was FTTCAN_MISSED: what each cycle would have sent, up to the missed
  * one, which is cycle `second` of the verdict. The first one is the next cycle then, and after fttcan_master_settle it may be
- * the next one of the snapshot: second + 1 - count in any case. After any other answer, and where there was none, `count` is
+ * the next one of the snapshot: second + 1 - count in any case. After any other answer, and if there was none, `count` is
  * 0. FTTCAN_ROOM: `count` is written, and nothing else. FTTCAN_MEMORY. */
 uint32_t fttcan_master_trail(fttcan_master *m, fttcan_mask *room, size_t room_count, size_t *count);
 
@@ -322,7 +326,7 @@ uint32_t fttcan_master_restore(fttcan_master *m, const uint8_t *bytes, size_t le
 
 /* ---- A change that is planned in another thread while cycles are opened: a snapshot is taken, planned from apart, and
  *      settled. _plan_apart takes long. _settle takes time for the entries and for the cycles that were opened since the
- *      snapshot, and long where it has to plan anew. */
+ *      snapshot, and long if it has to plan anew. */
 
 /* Takes what changes are planned from. FTTCAN_OPEN: `s` holds something. FTTCAN_CLOSED: `m` holds no master. FTTCAN_MEMORY. */
 uint32_t fttcan_master_snapshot(fttcan_master *m, fttcan_snapshot *s);
@@ -341,9 +345,9 @@ uint32_t fttcan_planned_verdict(fttcan_planned *p, fttcan_verdict *verdict);
 /* Lets go what `p` holds, if anything. */
 void fttcan_planned_free(fttcan_planned *p);
 
-/* Has the master answer a planned change, for operator `caller`, 1 to 8. That plan decides exactly where it leads to the
+/* Has the master answer a planned change, for operator `caller`, 1 to 8. That plan decides exactly if it leads to the
  * master: rules, table and number of accepted changes are those of the snapshot, and the plan from there comes to the next
- * cycle with the same slots pending. So it is where the master has only opened cycles since the snapshot. The answer is then
+ * cycle with the same slots pending. So it does if the master has only opened cycles since the snapshot. The answer is then
  * that of fttcan_planned_verdict, but that a start which has passed since is refused. Else the change is planned anew, from
  * the next cycle on, in this call. After FTTCAN_OK `p` holds nothing, and `verdict` is the answer. FTTCAN_MEMORY: `p` holds
  * nothing then either, and the master is as it was: the change is asked for anew. After any other status `p` and the master
@@ -352,7 +356,7 @@ void fttcan_planned_free(fttcan_planned *p);
 uint32_t fttcan_master_settle(fttcan_master *m, uint8_t caller, fttcan_planned *p, fttcan_verdict *verdict);
 
 /* ---- A standby: it is told the accepted changes and hears the triggers, and takes over from there. Each call but _new and
- *      _free answers FTTCAN_CLOSED where `s` holds nothing. */
+ *      _free answers FTTCAN_CLOSED if `s` holds nothing. */
 
 /* Makes a standby of a master with these rules that has answered nothing yet. Statuses as fttcan_master_new. */
 uint32_t fttcan_standby_new(fttcan_standby *s, const fttcan_rules *rules);
@@ -362,15 +366,16 @@ void fttcan_standby_free(fttcan_standby *s);
 
 /* Tells the standby a change that the master has accepted. FTTCAN_OK: the standby accepts it too, and `verdict` is its
  * answer, planned from its own next cycle on. The change takes effect in cycle `start`, which the standby has not opened yet.
- * FTTCAN_NO: it would not accept it, `verdict` says what it would answer, and it is as it was. That never comes where the
+ * FTTCAN_NO: it would not accept it, `verdict` says what it would answer, and it is as it was. That never comes if the
  * standby followed all openings and accepted changes before this one. FTTCAN_ARGUMENT: the caller, or a kind of operation.
  * FTTCAN_MEMORY: as fttcan_master_submit. */
 uint32_t fttcan_standby_change(fttcan_standby *s, uint8_t caller, uint64_t start, const fttcan_op *ops, size_t ops_count,
                                fttcan_verdict *verdict);
 
-/* Tells the standby the trigger frames of a cycle: one with 40 slots, two with 96. FTTCAN_OK: they say what its own plan
- * has for that cycle, and the next cycle is one later. FTTCAN_NO: they do not, `fault` says why, and the standby is as it
- * was. FTTCAN_ARGUMENT: a frame that is none. FTTCAN_STATE: 2^41 cycles were opened. It takes no memory. */
+/* Tells the standby the trigger frames of its next cycle: one with 40 slots, two with 96. FTTCAN_OK: they say what its own
+ * plan has for that cycle, and the next cycle is one later. FTTCAN_NO: they do not, `fault` says why, and the standby is as
+ * it was. So after a trigger that it missed, it does not follow the next ones. FTTCAN_ARGUMENT: a frame that is none.
+ * FTTCAN_STATE: 2^41 cycles were opened. It takes no memory. */
 uint32_t fttcan_standby_trigger(fttcan_standby *s, const fttcan_frame *frames, size_t frames_count, fttcan_follow *fault);
 
 /* The next cycle whose trigger the standby expects. */
@@ -382,7 +387,7 @@ uint32_t fttcan_standby_take_over(fttcan_standby *s, fttcan_master *m);
 
 /* ---- The stateless pair: the caller keeps table and state. */
 
-/* Decides of a change of a table whose next cycle is that of the state. Where the verdict is FTTCAN_ACCEPTED, the changed
+/* Decides of a change of a table whose next cycle is that of the state. If the verdict is FTTCAN_ACCEPTED, the changed
  * table is written to `room`, and `count` is its length. Else nothing is written to `room`, and `count` is 0. The state stays
  * as it is. Entries that are over stay in the table.
  * FTTCAN_ARGUMENT: a rule, or a kind of operation. FTTCAN_TABLE. FTTCAN_STATE. FTTCAN_ROOM: `count` is written, and nothing
@@ -391,17 +396,17 @@ uint32_t fttcan_decide(const fttcan_rules *rules, const fttcan_placed *placed, s
                        uint64_t start, const fttcan_op *ops, size_t ops_count, fttcan_verdict *verdict, fttcan_placed *room,
                        size_t room_count, size_t *count);
 
-/* Plans the cycle of a state, and makes the state that of the next one. No FTTCAN_MISS ever comes where all calls have the
+/* Plans the cycle of a state, and makes the state that of the next one. No FTTCAN_MISS ever comes if all calls have the
  * same rules, each call is passed the table of the last accepted verdict of fttcan_decide, and each state is that of the last
  * call of this one. At first the table has no entry, and the state is {0, {0, 0}}.
- * FTTCAN_ARGUMENT: a rule. FTTCAN_TABLE. FTTCAN_STATE: also where the cycle is 2^41. FTTCAN_MISS. FTTCAN_MEMORY. */
+ * FTTCAN_ARGUMENT: a rule. FTTCAN_TABLE. FTTCAN_STATE: also if the cycle is 2^41. FTTCAN_MISS. FTTCAN_MEMORY. */
 uint32_t fttcan_open(const fttcan_rules *rules, const fttcan_placed *placed, size_t placed_count, fttcan_state *state,
                      fttcan_plan *plan);
 
 /* ---- A checker of plans, whoever made them. */
 
-/* Whether the text of a plan keeps a table for ever within a window of so many bit times: FTTCAN_OK or FTTCAN_NO, where
- * `breach` says why not. The plan begins in its cycle FROM, with its slots PENDING. FTTCAN_TEXT: `breach->first` is the
+/* Whether the text of a plan keeps a table for ever within a window of so many bit times: FTTCAN_OK, or FTTCAN_NO, and
+ * then `breach` says why. The plan begins in its cycle FROM, with its slots PENDING. FTTCAN_TEXT: `breach->first` is the
  * first wrong line. FTTCAN_STATE: a slot of PENDING has no instance that was released before FROM and may be sent then, or a
  * cycle of the plan is 2^42 or above. FTTCAN_TABLE. FTTCAN_MEMORY. */
 uint32_t fttcan_check(const fttcan_placed *placed, size_t placed_count, uint32_t window, const uint8_t *text, size_t text_len,
@@ -418,7 +423,7 @@ uint32_t fttcan_wire_length(uint16_t id, const uint8_t *data, size_t len, uint32
 uint32_t fttcan_wire_bits(uint16_t id, const uint8_t *data, size_t len, uint8_t *room, size_t room_len, size_t *count);
 
 /* The frame that has these bits on the wire, one a byte, 0 or 1. FTTCAN_TEXT: no frame has them, and `place` is the place
- * of the first one that can't stand, counted from 0; where they end early, or have another CRC sequence, it is their
+ * of the first one that can't stand, counted from 0; if they end early, or have another CRC sequence, it is their
  * number. FTTCAN_ARGUMENT: a byte above 1. FTTCAN_MEMORY. */
 uint32_t fttcan_read_wire(const uint8_t *bits, size_t count, fttcan_frame *frame, size_t *place);
 
@@ -435,18 +440,18 @@ uint32_t fttcan_trigger_decode(uint8_t slots, const fttcan_frame *frames, size_t
 uint32_t fttcan_payload(uint64_t number, uint8_t *room, size_t len);
 
 /* Whether an asynchronous data frame with `dlc` data bytes may start at bit time `at`, which is counted from the start of
- * cycle 0: behind the turnaround of its cycle, and so that at its longest it ends before the synchronous window of that
+ * cycle 0: after the turnaround of its cycle, and so that at its longest it ends before the synchronous window of that
  * cycle, which has `window` bit times. FTTCAN_ARGUMENT: the layout, `dlc` above 8, or a window above that of the layout. */
 uint32_t fttcan_fits(const fttcan_layout *layout, uint64_t at, uint8_t dlc, uint32_t window, uint8_t *fits);
 
-/* How late the frames of the stream at the place `which` (from 0) start at most, where all requests belong to the streams:
- * less than `*start` bit times behind the arrival of the request. So they end less than `*start` + 55 + 10 * bytes behind
+/* How late the frames of the stream at the place `which` (from 0) start at most, if all requests belong to the streams:
+ * less than `*start` bit times after the arrival of the request. So they end less than `*start` + 55 + 10 * bytes after
  * it, intermission included. It is the least number that the test of docs/ASYNC.md lets pass. FTTCAN_NO: none does up to
  * the `gap` of the stream. FTTCAN_ARGUMENT: the layout, a stream, `which`, or more than 2,048 streams. */
 uint32_t fttcan_async_bound(const fttcan_layout *layout, const fttcan_stream *streams, size_t streams_count, size_t which,
                             uint64_t *start);
 
-/* ---- Whole commands over memory. They are a second object of the library, which is linked only where they are called. */
+/* ---- Whole commands over memory. They are a second object of the library, which is linked only if they are called. */
 
 /* Carries out the words of a call of the program fttcan, between which bytes 0 stand: every command but live. Its files are
  * named 0, 1, 2 and 3. What it writes goes to `out`, what it says of a fault to `err`, each as far as there is room, and
@@ -456,7 +461,7 @@ uint32_t fttcan_run(const uint8_t *words, size_t words_len, const uint8_t *file0
                     const uint8_t *file2, size_t len2, const uint8_t *file3, size_t len3, uint8_t *out, size_t out_len,
                     size_t *out_count, uint8_t *err, size_t err_len, size_t *err_count);
 
-/* Whether a log, whoever made it, is that of a whole run of the steps. Where the requests have no bytes there are none.
+/* Whether a log, whoever made it, is that of a whole run of the steps. If the requests have no bytes there are none.
  * FTTCAN_OK: it is. FTTCAN_NO: `row` is the first row that can't stand, counted from 1. FTTCAN_UNFINISHED: all rows can stand,
  * and they are not all rows of a whole run. FTTCAN_TEXT: a file is refused. FTTCAN_MEMORY. */
 uint32_t fttcan_audit(const uint8_t *system, size_t system_len, const uint8_t *steps, size_t steps_len, const uint8_t *log,
@@ -513,7 +518,7 @@ static inline const char *fttcan_why_name(uint8_t why) {
     }
 }
 
-/* A verdict as a sentence, with a 0 at its end, cut where `room_len` bytes are too few. It answers the bytes of the whole
+/* A verdict as a sentence, with a 0 at its end, cut if `room_len` bytes are too few. It answers the bytes of the whole
  * sentence, without the 0. 160 bytes hold each of them. */
 static inline size_t fttcan_verdict_words(const fttcan_verdict *verdict, char *room, size_t room_len) {
     /* In a form, % stands for the next number. */

@@ -2,7 +2,7 @@
 //
 // The header is all: it needs libfttcan and nothing else. fttcan.h says what each call does, and in which units; the rules
 // on threads are those of its handles. An object that was moved from holds nothing, and its calls throw fttcan::closed.
-// Lists are passed as spans: std::span where the compiler has it, else a class that takes what has data() and size().
+// Lists are passed as spans: std::span if the compiler has it, else a class that takes what has data() and size().
 #ifndef FTTCAN_HPP
 #define FTTCAN_HPP
 
@@ -52,7 +52,7 @@ private:
 
 using bytes = span<const std::uint8_t>;
 
-/// What a call throws that did not answer FTTCAN_OK. Where memory ran out that is std::bad_alloc.
+/// What a call throws that did not answer FTTCAN_OK. If memory ran out, that is std::bad_alloc.
 class fault : public std::runtime_error {
 public:
     fault(std::uint32_t status, const std::string &told) : std::runtime_error(told), status_(status) {}
@@ -93,7 +93,7 @@ public:
 };
 
 /// FTTCAN_TEXT: a text, bytes or frames that are none of the form. `place` is the line, counted from 1, or the bit, from
-/// 0, of the first fault, where there is one to tell.
+/// 0, of the first fault, if there is one to tell.
 class bad_text : public fault {
 public:
     explicit bad_text(const std::string &told, std::uint64_t where = 0) : fault(FTTCAN_TEXT, told), place(where) {}
@@ -114,7 +114,7 @@ private:
     }
 };
 
-/// Operation `op` breaks rule `why`, 1 to 11. Where `is_known`, the slot is free from cycle `until` on, or its entry
+/// Operation `op` breaks rule `why`, 1 to 11. If `is_known`, the slot is free from cycle `until` on, or its entry
 /// begins in it.
 class malformed : public refused {
 public:
@@ -297,7 +297,7 @@ public:
         return submit(caller, start, span<const fttcan_op>(ops.begin(), ops.size()));
     }
 
-    /// What led to the last answer, where that was a miss.
+    /// What led to the last answer, if that was a miss.
     std::vector<fttcan_mask> trail() {
         return of::filled<std::vector<fttcan_mask>>("master::trail", [this](fttcan_mask *room, std::size_t size, std::size_t *count) {
             return fttcan_master_trail(get(), room, size, count);
@@ -370,8 +370,8 @@ public:
     }
 
     /// Answers a change that was planned apart, and takes it. It throws what a refusal stands for. After std::bad_alloc the
-    /// change is gone too, and is asked for anew. After fttcan::closed, where this or the change holds nothing, and after
-    /// fttcan::bad_argument, where the caller is not 1 to 8, both are as before.
+    /// change is gone too, and is asked for anew. After fttcan::closed (this or the change holds nothing) and after
+    /// fttcan::bad_argument (the caller is not 1 to 8) both are as before.
     accepted settle(std::uint8_t caller, planned &&change) {
         fttcan_verdict verdict{};
         of::check(fttcan_master_settle(get(), caller, change.get(), &verdict), "master::settle");
@@ -395,7 +395,7 @@ public:
     explicit standby(const fttcan_rules &rules) { of::check(fttcan_standby_new(get(), &rules), "standby"); }
 
     /// Tells a change that the master has accepted, which takes effect in cycle `start`. It throws what the standby's own
-    /// refusal stands for: that never comes where the standby followed all that the master did before.
+    /// refusal stands for: that never comes if the standby followed all that the master did before.
     accepted change(std::uint8_t caller, std::uint64_t start, span<const fttcan_op> ops) {
         fttcan_verdict verdict{};
         const std::uint32_t status = fttcan_standby_change(get(), caller, start, of::at(ops), ops.size(), &verdict);
@@ -431,7 +431,7 @@ public:
     }
 };
 
-/// What was decided of a change of a table that the caller keeps: the verdict, and the changed table where it is accepted.
+/// What was decided of a change of a table that the caller keeps: the verdict, and the changed table if it is accepted.
 struct decision {
     fttcan_verdict verdict;
     std::vector<fttcan_placed> table;
@@ -456,7 +456,7 @@ inline fttcan_plan open(const fttcan_rules &rules, span<const fttcan_placed> tab
     return plan;
 }
 
-/// Throws plan_refused where a plan does not keep a table, and bad_text where the text is none of a plan.
+/// Throws plan_refused if a plan does not keep a table, and bad_text if the text is none of a plan.
 inline void check(span<const fttcan_placed> table, std::uint32_t window, std::string_view text) {
     fttcan_breach breach{};
     const bytes lent(reinterpret_cast<const std::uint8_t *>(text.data()), text.size());
@@ -526,8 +526,8 @@ inline bool fits(const fttcan_layout &layout, std::uint64_t at, std::uint8_t dlc
     return answer != 0;
 }
 
-/// How late the frames of a stream start at most: less than so many bit times behind the arrival of their request. Nothing
-/// where no such number up to the stream's `gap` is known.
+/// How late the frames of a stream start at most: less than so many bit times after the arrival of their request. Nothing
+/// if no such number up to the stream's `gap` is known.
 inline std::optional<std::uint64_t> async_bound(const fttcan_layout &layout, span<const fttcan_stream> streams,
                                                 std::size_t which) {
     std::uint64_t start = 0;

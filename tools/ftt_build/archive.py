@@ -3,6 +3,7 @@ import pathlib
 import re
 import shutil
 import subprocess
+import sys
 import tempfile
 
 from . import exports, kit, unproved
@@ -44,6 +45,31 @@ def version():
     """The version in the header, as text."""
     text = (LIBRARY / "include" / "fttcan.h").read_text(encoding="utf-8")
     return ".".join(re.search(rf"#define FTTCAN_VERSION_{part} (\d+)", text)[1] for part in ("MAJOR", "MINOR", "PATCH"))
+
+
+def crates_below():
+    """The crates of the library and those of this repository below them, with their lines of crates.txt."""
+    lines = [line for line in (TOP / "crates.txt").read_text(encoding="utf-8").splitlines() if ":" in line and line[0] != "#"]
+    rows = {line.split()[0].rstrip(":"): line for line in lines}
+    found, left = {}, list(CRATES)
+    while left:
+        name = left.pop()
+        if name in rows and name not in found:
+            found[name] = rows[name]
+            left += rows[name].partition(":")[2].split()
+    return found
+
+
+def sources():
+    """One sum over the names and bytes of all that the library is made of. Two libraries of one sum are the same."""
+    sys.path.insert(0, str(TOP / "tools"))
+    from ftt import version as of_tools  # pylint: disable=import-outside-toplevel
+    crates = crates_below()
+    folders = [TOP / "crates" / name / part for name in crates for part in ("src", "specs", "proofs")]
+    paths = [path for folder in folders for path in folder.rglob("*") if path.is_file()]
+    paths += [path for path in LIBRARY.rglob("*") if path.is_file() and (LIBRARY / "tests") not in path.parents]
+    files = [(str(path.relative_to(TOP)), path.read_bytes()) for path in [*paths, TOP / "HANDLES"]]
+    return of_tools.sum_of([*files, ("crates.txt", "\n".join(sorted(crates.values())).encode())])
 
 
 class Unproved:
@@ -163,14 +189,16 @@ def shared(made, folder, target=HOST):
 
 
 def beside(prefix, is_proved, libdir="lib"):
-    """Puts the headers and the file for pkg-config below a prefix. That file says whether the library is proved."""
+    """Puts the headers and the file for pkg-config below a prefix. That file says whether the library is proved, and has the
+    sum of its sources."""
     prefix = pathlib.Path(prefix)
     (prefix / "include").mkdir(parents=True, exist_ok=True)
     for name in HEADERS:
         shutil.copyfile(LIBRARY / "include" / name, prefix / "include" / name)
     (prefix / libdir / "pkgconfig").mkdir(parents=True, exist_ok=True)
     text = (LIBRARY / "fttcan.pc.in").read_text(encoding="utf-8")
-    values = {"PREFIX": prefix.resolve(), "LIBDIR": libdir, "VERSION": version(), "PROVED": "proved" if is_proved else "NOT PROVED"}
+    values = {"PREFIX": prefix.resolve(), "LIBDIR": libdir, "VERSION": version(), "SOURCES": sources(),
+              "PROVED": "proved" if is_proved else "NOT PROVED"}
     for name, value in values.items():
         text = text.replace(f"@{name}@", str(value))
     (prefix / libdir / "pkgconfig" / "fttcan.pc").write_text(text, encoding="utf-8")

@@ -160,6 +160,7 @@ def of_replays(built, mode, runner=(), compiler="gcc", link=(), most=None):
             if rows != replays.wanted(folder, mode) or done.returncode:
                 raise BuildFault(f"{folder.name}: {replays.first_difference(replays.wanted(folder, mode), rows) if not done.returncode else rows[-3:]}")
             many += 1
+    assert many, "no example was played"
     return f"{many} runs"
 
 
@@ -170,6 +171,7 @@ def of_frames(built, runner=(), compiler="gcc", link=()):
     for folder in sorted(replays.EXAMPLES.iterdir()):
         if (folder / "expected.log").is_file():
             rows += [row for row in replays.log_of(folder) if row.startswith("frame,")]
+    assert rows, "no log has a frame"
     done = subprocess.run([str(word) for word in (*runner, made)], input="".join(f"{row}\n" for row in rows), capture_output=True,
                           text=True, timeout=SECONDS, check=False)
     if done.returncode:
@@ -201,6 +203,7 @@ def of_commands(built):
             assert cut.returncode == 5, f"{folder.name}: with too little room the status is {cut.returncode}"
             assert wanted.startswith(cut.stdout), f"{folder.name}: with too little room the output is no front"
         many += 1
+    assert many, "no example was run"
     return f"{many} examples"
 
 
@@ -215,6 +218,7 @@ def of_audits(built):
         wanted = (folder / "expected.log").read_text(encoding="utf-8")
         assert told == wanted, f"{folder.name}: {told.strip()}, and not {wanted.strip()}"
         many += 1
+    assert many, "no example was audited"
     return f"{many} examples"
 
 

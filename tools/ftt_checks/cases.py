@@ -6,6 +6,10 @@ import sys
 TOP = pathlib.Path(__file__).resolve().parent.parent.parent
 TOOLS = TOP / "tools"
 FAILED = []
+# The cases that were tried.
+TRIED = []
+# The status of a check of which nothing could be tried here.
+NOTHING = 77
 # So many lines of what a failed case says are shown.
 SHOWN = 40
 
@@ -20,6 +24,7 @@ def say_help(text):
 def case(name, is_right, said=""):
     """Notes whether a case is as it must be. What was said, a text or lines, is shown where it is not."""
     print(("ok      " if is_right else "FAILED  ") + name, flush=True)
+    TRIED.append(name)
     if not is_right:
         FAILED.append(name)
         lines = said if isinstance(said, list) else str(said).splitlines()
@@ -27,9 +32,12 @@ def case(name, is_right, said=""):
 
 
 def end(left_out=()):
-    """Says what was left out, and how many cases failed. The status."""
+    """Says what was left out, and how many cases failed. The status: 0 where none did, 77 where nothing was tried."""
     for what in left_out:
         print(f"left out: {what}")
+    if not TRIED:
+        print("nothing was tried")
+        return NOTHING
     print(f"{len(FAILED)} failed")
     return 1 if FAILED else 0
 

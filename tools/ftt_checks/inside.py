@@ -1,8 +1,6 @@
-"""Calls of tools/fttlog inside the process of a check, and the Python that has python-can."""
+"""Calls of tools/fttlog inside the process of a check."""
 import contextlib
 import io
-import shutil
-import subprocess
 import sys
 
 from ftt import log as fttlog
@@ -24,12 +22,3 @@ def told(*words, log=None):
     finally:
         sys.argv, sys.stdin = kept
     return out.getvalue(), err.getvalue(), status
-
-
-def python_of_can():
-    """A Python that has the module can: the one that runs this, or that of the system; None where neither has it."""
-    for python in (sys.executable, "/usr/bin/python3"):
-        if shutil.which(python) and not subprocess.run([python, "-c", "import can"], capture_output=True,
-                                                       check=False).returncode:
-            return python
-    return None

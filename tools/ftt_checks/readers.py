@@ -1,8 +1,9 @@
-"""Other people's readers, which checks ask where they are there: tshark, and canmatrix of Debian."""
+"""Other people's readers, which checks ask where they are there: tshark, and modules of Python, as canmatrix of Debian."""
 import json
 import os
 import shutil
 import subprocess
+import sys
 
 # The Python whose modules Debian's packages are.
 PYTHON = "/usr/bin/python3"
@@ -39,10 +40,20 @@ for line in sys.stdin if sys.argv[2] == "decode" else ():
 """
 
 
+def has(python, *modules):
+    """Whether this Python is there and has these modules."""
+    return os.access(python, os.X_OK) and subprocess.run(
+        [python, "-c", f"import {', '.join(modules)}"], capture_output=True, check=False).returncode == 0
+
+
+def python_of(*modules):
+    """A Python that has modules: the one that runs this, or that of the system; None where neither has them."""
+    return next((python for python in (sys.executable, PYTHON) if has(python, *modules)), None)
+
+
 def has_canmatrix():
     """Whether Debian's canmatrix is there."""
-    return os.access(PYTHON, os.X_OK) and subprocess.run(
-        [PYTHON, "-c", "import canmatrix"], capture_output=True, check=False).returncode == 0
+    return has(PYTHON, "canmatrix")
 
 
 def by_canmatrix(path, rows=None):

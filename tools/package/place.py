@@ -18,6 +18,10 @@ sys.dont_write_bytecode = True
 import tree  # noqa: E402  pylint: disable=wrong-import-position
 from helps import REFERENCE, REFERENCE_SCRIPT, TOOLS, TOP  # noqa: E402  pylint: disable=wrong-import-position
 
+sys.path.insert(0, str(TOP / "tools"))
+
+from ftt_build import archive  # noqa: E402  pylint: disable=wrong-import-position
+
 LIST = "share/fttcan/installed"
 SCRIPTS = {name: name for name in TOOLS} | {REFERENCE: REFERENCE_SCRIPT}
 # Pages of the repository that go along, and folders of them.
@@ -60,6 +64,8 @@ def library(folder, prefix, libdir):
     told = (folder / "lib/pkgconfig/fttcan.pc").read_text(encoding="utf-8")
     if "NOT PROVED" in told:
         sys.exit(f"{folder}: this library was built without proofs, and is not installed")
+    if f"\nsources={archive.sources()}\n" not in told:
+        sys.exit(f"{folder}: this library was built from other sources. `make library` builds it anew, and LIBRARY= leaves it out")
     told = re.sub(r"^prefix=.*", f"prefix={prefix}", told, flags=re.MULTILINE)
     told = re.sub(r"^libdir=.*", f"libdir=${{prefix}}/{libdir}", told, flags=re.MULTILINE)
     found[f"{libdir}/pkgconfig/fttcan.pc"] = tree.File(told.encode(), False)

@@ -35,8 +35,11 @@ BIT = 0.001 / KBITS
 RULES, LAYOUT = Rules(WINDOW, NODES), Layout(CYCLE, TURNAROUND, WINDOW)
 # When asynchronous frames may begin: behind the trigger part, which is 135 bit times, and the turnaround.
 BEGIN = 135 + TURNAROUND
-# Cycles without a trigger after which the standby takes over. A master that is later than LATE cycles is silent for ever.
-PATIENCE, LATE = 5, 4
+# Cycles after a trigger in which the standby listens for the next one; then it sends that itself. A master that is more
+# than LATE cycles late is silent for ever: LATE + 1 cycles after its last trigger. So one cycle lies between the two.
+PATIENCE, LATE = 6, 4
+# So many seconds before its turn the standby stops to listen, to be ready.
+READY = 0.001
 # Seconds after which a node does not send a frame any more, counted from its time.
 OVER = 0.005
 # Seconds without a trigger after which nodes and the recorder end.
@@ -230,10 +233,10 @@ def node(wire, number):
 
 
 def standby_of(wire, last):
-    """A standby: hears changes and triggers, and takes over where no trigger comes."""
+    """A standby: hears changes and triggers up to its turn, and takes over where no trigger comes."""
     standby, told, at = Standby(RULES), Told(), None
     while True:
-        heard = wire.hear(60 if at is None else at + PATIENCE * CYCLE * BIT - time.time())
+        heard = wire.hear(60 if at is None else at + PATIENCE * CYCLE * BIT - READY - time.time())
         if heard is None:
             break
         if heard[0].identifier in TELLS:
@@ -247,7 +250,7 @@ def standby_of(wire, last):
             except NotPlanned as fault:
                 tell(part="standby", cycle=standby.next, fault=str(fault))
     if at is not None:
-        cycle, begin = standby.next, max(time.time(), at + (PATIENCE + 1) * CYCLE * BIT)
+        cycle, begin = standby.next, max(time.time(), at + PATIENCE * CYCLE * BIT)
         tell(part="standby", takes_over=cycle, after=1000 * (begin - at))
         Opener(wire, standby.take_over(), "standby").run(begin, last, {})
 
