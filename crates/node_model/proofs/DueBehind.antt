@@ -1,13 +1,14 @@
 -- What is due for a node behind frames of slots that it heard.
 use Rattle.std.proofs.Common.{◌≡◌, ℕ, ◌^◌, ◌<◌, ◌&&◌, ◌||◌, Bool, true, false, not, Option, Some, None, IfSome, List, is_some, option_map, refl, sym, ap, ◌∙◌, subst}
-use Rattle.std.proofs.lemmas.Bool.{lt-ltb}
+use Rattle.std.proofs.lemmas.Bool.{and_parts, lt-ltb}
 use Rattle.requirement_table.specs.declared.entries.Placed.{Placed}
 use Rattle.requirement_table.specs.Slots.{contains_slot, set_of, most_slots}
 use Rattle.requirement_table.specs.Table.{instance_in}
 use Rattle.requirement_table.proofs.Shared.{contains_slot-set_of}
 use Rattle.node_model.specs.Node.{is_due}
-use Rattle.node_model.specs.Kept.{KnowsDue, opened_of}
+use Rattle.node_model.specs.Kept.{AreSendableIn, KnowsDue, KnowsInstances, opened_of}
 use Rattle.node_model.specs.declared.cycle.Open.{Open}
+use Rattle.node_model.specs.declared.entries.Ready.{Ready}
 
 -- the slots that are due behind frames that were heard
 not_either : (flagged some was now : Bool) → ((flagged && (some && not was)) && not now) ≡ (flagged && (some && not (was || now)))
@@ -31,6 +32,14 @@ due-heard before o all_heard due heard is all without entries knows slot within 
     (sym (ap (λ n. contains_slot n slot) all
     ∙ contains_slot-set_of most_slots (λ s. contains_slot o.heard s || contains_slot heard s) slot
     ∙ ap (λ b. b && (contains_slot o.heard slot || contains_slot heard slot)) (lt-ltb slot most_slots within)))
+
+-- the instances of the slots that are still due are known
+pub instances-heard : (before : Option Open) (o : Open) (due heard : ℕ) → before ≡ Some o
+    → ((slot : ℕ) → contains_slot due slot ≡ (contains_slot o.due slot && not (contains_slot heard slot)))
+    → (slots : List Ready) → IfSome before (KnowsInstances slots) → AreSendableIn o.cycle due slots
+instances-heard before o due heard is without slots knows slot has =
+    let known : KnowsInstances slots o = subst (λ x. IfSome x (KnowsInstances slots)) is knows in
+    known slot (and_parts (contains_slot o.due slot) (not (contains_slot heard slot)) (sym (without slot) ∙ has)).0
 
 pub small-opened : (before : Option Open) → IfSome before (λ o. o.heard < 2 ^ most_slots) → IfSome (option_map opened_of before) (λ o. o.heard < 2 ^ most_slots)
 small-opened None small = tt

@@ -1,13 +1,20 @@
--- The slots that a node is to send in the cycle that is open for it.
-use Rattle.std.proofs.Common.{◌≡◌, ℕ, ◌<◌, ◌&&◌, ◌||◌, false, Some, sym, ap, ◌∙◌}
+-- The slots that a node is to send in the cycle that is open for it, and their instances.
+use Rattle.std.proofs.Common.{◌≡◌, ℕ, ◌<◌, ◌≤◌, ◌&&◌, ◌||◌, Bool, true, false, not, is_some, Option, None, Some, option_map, List, [], get_or, refl, sym, ap, ◌∙◌, arith}
+use Rattle.std.specs.Prelude.{IfSome}
 use Rattle.std.specs.Option.{option_map_or}
-use Rattle.std.proofs.lemmas.Bool.{lt-ltb}
+use Rattle.std.proofs.lemmas.Bool.{and_parts, false≢true, lt-ltb}
+use Rattle.std.proofs.lemmas.Option.{none-some, same_Some}
+use Rattle.requirement_table.specs.declared.entries.Placed.{Placed}
+use Rattle.requirement_table.specs.Instance.{Instance, bytes_of, payload}
 use Rattle.requirement_table.specs.Slots.{contains_slot, set_of, most_slots}
+use Rattle.requirement_table.specs.Table.{instance_in}
 use Rattle.requirement_table.proofs.Shared.{contains_slot-set_of}
 use Rattle.node_model.specs.Node.{NodeState, is_due}
-use Rattle.node_model.specs.Kept.{KnowsDue, opened_of}
+use Rattle.node_model.specs.Kept.{AreReady, AreSendableIn, HaveInstances, KnowsDue, KnowsInstances, opened_of, sends_from}
 use Rattle.node_model.specs.Window.{is_due_slot}
 use Rattle.node_model.specs.declared.cycle.Open.{Open}
+use Rattle.node_model.specs.declared.entries.Ready.{Ready}
+use Rattle.node_model.proofs.Ready.{known-slot}
 
 -- a set of slots with those of an open cycle
 pub with-due : (node : NodeState) (o : Open) (others result : ℕ) → node.opened ≡ Some (opened_of o) → KnowsDue node.entries o
@@ -19,3 +26,41 @@ with-due node o others result open_cycle knows is slot within =
     ∙ ap (λ b. b && (contains_slot others slot || contains_slot o.due slot)) (lt-ltb slot most_slots within)
     ∙ ap (λ b. contains_slot others slot || b) (knows slot within)
     ∙ ap (λ opened. contains_slot others slot || option_map_or (λ x. is_due node.entries x slot) opened false) (sym open_cycle)
+
+-- the slots that are due in a cycle that was opened, of those that can be sent
+flagged-same : (flagged one other left : Bool) → (flagged ≡ true → one ≡ other) → (flagged && (one && left)) ≡ (flagged && (other && left))
+flagged-same true one other left same = ap (λ b. b && left) (same refl)
+flagged-same false one other left same = refl
+
+module _ (o : Open) (sendable : ℕ)
+    (unheard : (slot : ℕ) → contains_slot o.due slot ≡ (contains_slot o.mask slot && (contains_slot sendable slot && not (contains_slot o.heard slot)))) where
+  pub opened-due : (entries : List Placed)
+      → ((slot : ℕ) → contains_slot o.mask slot ≡ true → contains_slot sendable slot ≡ is_some (instance_in entries slot o.cycle)) → KnowsDue entries o
+  opened-due entries slots slot within =
+      unheard slot
+      ∙ flagged-same (contains_slot o.mask slot) (contains_slot sendable slot) (is_some (instance_in entries slot o.cycle)) (not (contains_slot o.heard slot)) (slots slot)
+
+  pub opened-instances : (slots : List Ready) → AreSendableIn o.cycle sendable slots → KnowsInstances slots o
+  opened-instances slots known slot has =
+      let flagged = and_parts (contains_slot o.mask slot) (contains_slot sendable slot && not (contains_slot o.heard slot)) (sym (unheard slot) ∙ has) in
+      known slot (and_parts (contains_slot sendable slot) (not (contains_slot o.heard slot)) flagged.1).0
+
+-- the frame of a slot that is due is known
+bytes-some : (found : Option Instance) (bytes : List ℕ) → option_map bytes_of found ≡ Some bytes → option_map_or bytes_of found [] ≡ bytes
+bytes-some (Some i) bytes is = same_Some (bytes_of i) bytes is
+bytes-some None bytes is = absurd (none-some bytes is)
+
+pub due-known : (entries left : List Placed) (slots : List Ready) (d : Ready) (current : Option Open) (slot next : ℕ) → slot < most_slots
+    → IfSome current (KnowsDue entries) → IfSome current (KnowsInstances slots)
+    → HaveInstances entries (sends_from (option_map opened_of current) next) left → AreReady left slots
+    → option_map_or (λ x. is_due entries x slot) (option_map opened_of current) false ≡ true
+    → (option_map_or (λ x. option_map_or bytes_of (instance_in entries slot x.cycle) []) (option_map opened_of current) []
+    ≡ payload (get_or slots slot d).length (get_or slots slot d).number) × ((get_or slots slot d).length ≤ 8)
+due-known entries left slots d None slot next within knows told have ready due = absurd (false≢true due)
+due-known entries left slots d (Some o) slot next within knows told have ready due =
+    let found = get_or slots slot d in
+    let known = known-slot left slots slot o.cycle d ready (told slot (knows slot within ∙ due)) in
+    let same : instance_in left slot o.cycle ≡ instance_in entries slot o.cycle = have slot o.cycle (omega arith) in (
+      bytes-some (instance_in entries slot o.cycle) _ (ap (option_map bytes_of) (sym same) ∙ known.0) ∙ ap (payload found.length) (omega arith),
+      known.1,
+    )

@@ -1,7 +1,7 @@
 -- What a node offers at the times of its open cycle.
-use Rattle.std.proofs.Common.{◌≡◌, ℕ, ◌+◌, ◌-◌, ◌*◌, ◌/◌, ◌<◌, ◌≤◌, ◌&&◌, Bool, true, false, max, nat_eq, nat_le, nat_lt, is_some, if◌then◌else◌, cond, Option, Some, None, IsSome, [], slice_get, ◌⊎◌, inl, inr, refl, sym, ap, ◌∙◌, subst, arith, ⊎_elim}
+use Rattle.std.proofs.Common.{◌≡◌, ℕ, ◌+◌, ◌-◌, ◌*◌, ◌/◌, ◌<◌, ◌≤◌, ◌&&◌, Bool, true, false, max, nat_eq, nat_le, nat_lt, is_some, if◌then◌else◌, cond, Option, Some, None, IsSome, List, [], slice_get, ◌⊎◌, inl, inr, refl, sym, ap, ◌∙◌, subst, arith, ⊎_elim}
 use Rattle.std.specs.Option.{option_map, option_map_or}
-use Rattle.std.proofs.lemmas.Bool.{eq-eqb, eqb-true, leb-true, le-leb, cases_Bool, ltb-true, lt-ltb, cases_lt, false≢true, and_parts, and_from}
+use Rattle.std.proofs.lemmas.Bool.{cond-false, eq-eqb, eqb-true, leb-true, le-leb, lt-leb, cases_Bool, ltb-true, lt-ltb, cases_lt, false≢true, and_parts, and_from}
 use Rattle.std.proofs.lemmas.Bool.Decides.{nat_tests}
 use Rattle.std.proofs.lemmas.Option.{none-some, same_Some}
 use Rattle.std.proofs.Math.Nat.{div-eq_of_lt-le, div-lt_iff_lt-mul, le-div_iff_mul-le}
@@ -9,7 +9,7 @@ use Rattle.profile.specs.Limits.{first_identifier}
 use Rattle.stuff_bound.specs.Stuffing.{worst}
 use Rattle.cycle_layout.specs.Layout.{sync_start, trigger_part, trigger_part_of}
 use Rattle.requirement_table.specs.Slots.{contains_slot, most_slots}
-use Rattle.requirement_table.specs.Instance.{Instance, bytes_of}
+use Rattle.requirement_table.specs.Instance.{bytes_of}
 use Rattle.requirement_table.specs.Table.{instance_in}
 use Rattle.can_frame.specs.DataFrame.{DataFrame}
 use Rattle.async_window.specs.declared.request.Request.{Request}
@@ -17,7 +17,8 @@ use Rattle.async_window.specs.Mailbox.{IsMail, IsNextInCycle, mail_offer, unsent
 use Rattle.async_window.proofs.Shared.{IsLeastWith-same}
 use Rattle.slot_sets.specs.Least.{least_where}
 use Rattle.node_model.specs.Node.{IsNextOffer, IsNode, NodeState, Opened, is_due, node_frame, node_offer, offer_in}
-use Rattle.node_model.specs.Kept.{IsOpenAt, KnowsDue, opened_of, sends_from}
+use Rattle.node_model.specs.Kept.{IsOpenAt, KnowsDue, opened_of}
+use Rattle.node_model.specs.Window.{due_bytes, due_frame, is_due_slot}
 use Rattle.node_model.specs.declared.cycle.Open.{Open}
 use Rattle.slot_sets.proofs.Shared.{least_where-same, least_where-sound}
 use Rattle.node_model.proofs.Mail.{offered-early, offered-asynchronous, offered-request}
@@ -282,35 +283,47 @@ offer-cases true true None other id offered = absurd (none-some id offered)
 offer-cases true false slot other id offered = inr offered
 offer-cases false late slot other id offered = absurd (none-some id offered)
 
--- the slot of a synchronous identifier, with the instance that may be sent
+-- the slot of a synchronous identifier: the node is to send it, and the frame is that of the slot
 pub record IsOfferedSlot (node : NodeState) (at id : ℕ) : Type 0 where
   pub from : first_identifier ≤ id
   pub below : id < first_identifier + most_slots
-  pub instance : is_some (instance_in node.entries (id - first_identifier) (at / node.layout.cycle)) ≡ true
+  pub due : is_due_slot node (id - first_identifier) ≡ true
+  pub frame : due_frame node (id - first_identifier) ≡ node_frame node at id
 
-offered_slot-at : (node : NodeState) (at id slot : ℕ) (o : Opened) → at / node.layout.cycle ≡ o.cycle → first_identifier + slot ≡ id → slot < most_slots → is_due node.entries o slot ≡ true → IsOfferedSlot node at id
-offered_slot-at node at id slot o cycle is within due =
-    let parts = and_parts (contains_slot o.mask slot) _ due in
-    let more = and_parts (is_some (instance_in node.entries slot o.cycle)) _ parts.1 in
+offered_slot-at : (node : NodeState) (at id slot : ℕ) (o : Opened) → node.opened ≡ Some o → at / node.layout.cycle ≡ o.cycle → first_identifier + slot ≡ id
+    → slot < most_slots → is_due node.entries o slot ≡ true → IsOfferedSlot node at id
+offered_slot-at node at id slot o opened cycle is within due =
     let slot_is : id - first_identifier ≡ slot = omega arith in
-    record { from = omega arith; below = omega arith; instance = rw (slot_is, cycle) more.0 }
+    let bytes_in : ℕ → List ℕ = λ c. option_map_or bytes_of (instance_in node.entries (id - first_identifier) c) [] in
+    record {
+      from = omega arith;
+      below = omega arith;
+      due = ap (λ found. option_map_or (λ x. is_due node.entries x (id - first_identifier)) found false) opened
+          ∙ ap (is_due node.entries o) slot_is ∙ due;
+      frame =
+          ap (λ n. record { identifier = n; bytes = due_bytes node (id - first_identifier) }) (omega (arith, is))
+          ∙ ap (λ bytes. record { identifier = id; bytes = bytes })
+          (ap (λ found. option_map_or (λ x. bytes_in x.cycle) found []) opened
+          ∙ ap bytes_in (sym cycle)
+          ∙ sym (cond-false (nat_le 0x200 id) _ _ (lt-leb 0x200 id (omega (arith, is, within)))));
+    }
 
 abbrev IsOffered : NodeState → ℕ → ℕ → Type 0
 IsOffered node at id = IsOfferedSlot node at id ⊎ ((l : ℕ) × (mail_offer node.layout l node.mail at ≡ Some id))
 
-offered-in : (node : NodeState) (at id : ℕ) (o : Opened) → offer_in node at o ≡ Some id → IsOffered node at id
-offered-in node at id o offered =
+offered-in : (node : NodeState) (at id : ℕ) (o : Opened) → node.opened ≡ Some o → offer_in node at o ≡ Some id → IsOffered node at id
+offered-in node at id o opened offered =
     ⊎_elim
     (λ (slot : (nat_eq (at / node.layout.cycle) o.cycle ≡ true) × (s : ℕ) × (least_where most_slots (is_due node.entries o) ≡ Some s) × (first_identifier + s ≡ id)).
     let least = least_where-sound most_slots (is_due node.entries o) slot.1 slot.2 in
-    inl (offered_slot-at node at id slot.1 o (eqb-true _ _ slot.0) slot.3 least.0 least.1))
+    inl (offered_slot-at node at id slot.1 o opened (eqb-true _ _ slot.0) slot.3 least.0 least.1))
     (λ (mail : mail_offer node.layout o.width node.mail at ≡ Some id). inr (o.width, mail))
     (offer-cases (nat_eq (at / node.layout.cycle) o.cycle) (nat_le (sync_start node.layout o.cycle o.width) at)
     (least_where most_slots (is_due node.entries o)) (mail_offer node.layout o.width node.mail at) id offered)
 
 offered-cases : (node : NodeState) (at id : ℕ) (opened : Option Opened) → node.opened ≡ opened → node_offer node at ≡ Some id → IsOffered node at id
 offered-cases node at id None is offered = let none : node_offer node at ≡ None = rw is refl in absurd (none-some id (sym none ∙ offered))
-offered-cases node at id (Some o) is offered = let in_open : node_offer node at ≡ offer_in node at o = rw is refl in offered-in node at id o (sym in_open ∙ offered)
+offered-cases node at id (Some o) is offered = let in_open : node_offer node at ≡ offer_in node at o = rw is refl in offered-in node at id o is (sym in_open ∙ offered)
 
 pub offered-slot : (node : NodeState) (at id : ℕ) → IsMail node.mail → node_offer node at ≡ Some id → id < 0x200 → IsOfferedSlot node at id
 offered-slot node at id known offered synchronous =
@@ -327,26 +340,6 @@ offered-mail node at id known offered asynchronous =
     (λ (mail : (l : ℕ) × (mail_offer node.layout l node.mail at ≡ Some id)).
     ap is_some (offered-request node.layout mail.0 at id node.mail known mail.1).1.waiting.first)
     (offered-cases node at id node.opened refl offered)
-
-in_open-cycle : (same : Bool) (one : Option ℕ) (id : ℕ) → (if same then one else None) ≡ Some id → same ≡ true
-in_open-cycle true one id offered = refl
-in_open-cycle false one id offered = absurd (none-some id offered)
-
-offered-from_cases : (node : NodeState) (at id : ℕ) (opened : Option Opened) → node.opened ≡ opened → node_offer node at ≡ Some id → sends_from opened node.next ≤ at / node.layout.cycle
-offered-from_cases node at id None is offered = let none : node_offer node at ≡ None = rw is refl in absurd (none-some id (sym none ∙ offered))
-offered-from_cases node at id (Some o) is offered =
-    let in_open : node_offer node at ≡ offer_in node at o = rw is refl in
-    let same : at / node.layout.cycle ≡ o.cycle = eqb-true _ _ (in_open-cycle (nat_eq (at / node.layout.cycle) o.cycle) _ id (sym in_open ∙ offered)) in
-    omega (arith, same)
-
--- what is offered is offered from the cycle on from which the node may have to send
-pub offered-from : (node : NodeState) (at id : ℕ) → node_offer node at ≡ Some id → sends_from node.opened node.next ≤ at / node.layout.cycle
-offered-from node at id offered = offered-from_cases node at id node.opened refl offered
-
--- an instance that is there has bytes
-pub no-instance : (found : Option Instance) → option_map bytes_of found ≡ None → is_some found ≡ true → ⊥
-no-instance None bytes some = false≢true some
-no-instance (Some i) bytes some = none-some (bytes_of i) (sym bytes)
 
 -- a frame that a node offers of its mailboxes is that of a first unsent request
 pub no-request : (found : Option Request) → option_map (λ request. request.frame) found ≡ None → is_some found ≡ true → ⊥

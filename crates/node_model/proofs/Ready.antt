@@ -1,14 +1,18 @@
--- What is known of the instances of slots: of none, and of one more.
-use Rattle.std.proofs.Common.{◌≡◌, ℕ, zero, suc, ◌+◌, ◌%◌, ◌^◌, ◌<◌, ◌≤◌, Option, Some, option_map, List, [], ◌∷◌, slice_get, get_or, set, length, replicate, ap, subst, arith}
-use Rattle.std.specs.Prelude.{IfSome}
-use Rattle.std.proofs.lemmas.Option.{slice_get-get_or}
+-- What is known of the instances of slots: of none, of one more, and of those that an entry releases next.
+use Rattle.std.proofs.Common.{◌≡◌, ◌≢◌, ℕ, zero, suc, ◌+◌, ◌-◌, ◌*◌, ◌%◌, ◌^◌, ◌<◌, ◌≤◌, ◌&&◌, ◌==◌, Bool, true, false, not, is_some, Option, None, Some, option_map, List, [], ◌∷◌, slice_get, get_or, set, length, replicate, inl, inr, refl, sym, ap, ◌∙◌, subst, arith}
+use Rattle.std.specs.Prelude.{IfSome, IsSomeAnd}
+use Rattle.std.specs.Option.{option_map_or}
+use Rattle.std.proofs.lemmas.Bool.{cases_eq, false≢true, ne_eqb}
+use Rattle.std.proofs.lemmas.Option.{none-some}
 use Rattle.requirement_table.specs.declared.entries.Placed.{Placed}
-use Rattle.requirement_table.specs.Instance.{bytes_of, instance_of}
-use Rattle.requirement_table.specs.Table.{IsWellPlaced, instance_in}
-use Rattle.requirement_table.proofs.Shared.{MaySend-from_instance, instance_in-found}
-use Rattle.node_model.specs.declared.entries.Content.{Content}
+use Rattle.requirement_table.specs.Slots.{contains_slot, most_slots}
+use Rattle.requirement_table.specs.Instance.{Instance, MaySend, bytes_of, payload, release_of}
+use Rattle.requirement_table.specs.Table.{IsInRange, IsWellPlaced, instance_in}
+use Rattle.requirement_table.proofs.Shared.{instance_in-found}
+use Rattle.slot_sets.specs.Least.{least_where}
+use Rattle.slot_sets.proofs.Shared.{IsLeastBelow, least_where-least}
 use Rattle.node_model.specs.declared.entries.Ready.{Ready}
-use Rattle.node_model.specs.Kept.{AreReady, IsReady, carried_by}
+use Rattle.node_model.specs.Kept.{AreReady, IsReady, IsSendableIn, carried_after, ready_of, released_after}
 
 module _ {X : Type 0} where
   each-of : (P : ℕ → X → Type 0) (n : ℕ) (x : X) → ((k : ℕ) → P k x) → (j : ℕ) → IfSome (slice_get (replicate n x) j) (P j)
@@ -24,29 +28,122 @@ module _ {X : Type 0} where
   each-set P (y ∷ xs) (suc i) x new old zero = old 0
   each-set P (y ∷ xs) (suc i) x new old (suc j) = each-set (λ k. P (suc k)) xs i x new (λ k. old (suc k)) j
 
+  -- what holds of the element at a place
+  pub at-place : (P : X → Type 0) (xs : List X) (i : ℕ) (d : X) → i < length xs → IfSome (slice_get xs i) P → P (get_or xs i d)
+  at-place P [] i d within holds = absurd (omega arith)
+  at-place P (x ∷ xs) zero d within holds = holds
+  at-place P (x ∷ xs) (suc i) d within holds = at-place P xs i d (omega (arith, within)) holds
+
+  pub at-both : (P Q : X → Type 0) (xs : List X) (i : ℕ) (d : X) → IsSomeAnd (slice_get xs i) P → IfSome (slice_get xs i) Q
+      → P (get_or xs i d) × Q (get_or xs i d)
+  at-both P Q [] i d one other = absurd one
+  at-both P Q (x ∷ xs) zero d one other = (one, other)
+  at-both P Q (x ∷ xs) (suc i) d one other = at-both P Q xs i d one other
+
 -- nothing is known
-pub nothing-ready : (entries : List Placed) (n : ℕ) (content : Content) → AreReady entries (replicate n (record { next = 0; content = content }))
-nothing-ready entries n content = each-of (IsReady entries) n (record { next = 0; content = content }) (λ slot c is. absurd (omega (arith, is)))
+abbrev pub unknown : Ready
+unknown = record { release = 0; end = 0; number = 0; period = 0; deadline = 0; length = 0 }
 
--- it is known of one slot more
-pub one-ready : (entries : List Placed) (slots : List Ready) (slot cycle next : ℕ) (content : Content) → cycle < 2 ^ 64 → next ≡ (cycle + 1) % 2 ^ 64
-    → IsReady entries slot (record { next = cycle + 1; content = content }) → AreReady entries slots
-    → AreReady entries (set slots slot (record { next = next; content = content }))
-one-ready entries slots slot cycle next content small wraps known before =
-    each-set (IsReady entries) slots slot (record { next = next; content = content }) (λ c is. known c (omega (arith, small, wraps, is))) before
+pub nothing-ready : (entries : List Placed) (n : ℕ) → AreReady entries (replicate n unknown)
+nothing-ready entries n = each-of (IsReady entries) n unknown (λ slot. record {
+  number = omega arith;
+  deadline = omega arith;
+  length = omega arith;
+  each = λ k c before from in_time. absurd (omega (arith, from, in_time));
+})
 
--- an instance of an entry that may be sent in a cycle is that of its slot
-pub entry-ready : (entries : List Placed) (place cycle number length : ℕ) (p : Placed) → IsWellPlaced entries → slice_get entries place ≡ Some p
-    → instance_of p cycle ≡ Some number → length ≡ p.entry.length → p.entry.length ≤ 8
-    → IsReady entries p.entry.slot (record { next = cycle + 1; content = record { number = number; length = length } })
-entry-ready entries place cycle number length p well at found long few c is =
-    let same : c ≡ cycle = omega (arith, is) in
-    let instance = instance_in-found entries well place number cycle p at (MaySend-from_instance p number cycle found) in
-    rw (same, long) (ap (option_map bytes_of) instance, few)
+-- more is known of one slot
+pub one-ready : (entries : List Placed) (slots : List Ready) (slot : ℕ) (found : Ready) → IsReady entries slot found → AreReady entries slots
+    → AreReady entries (set slots slot found)
+one-ready entries slots slot found known before = each-set (IsReady entries) slots slot found known before
 
--- what is known of a slot
-pub slot-ready : (entries : List Placed) (slots : List Ready) (slot cycle : ℕ) (d : Ready) → slot < length slots → (get_or slots slot d).next ≡ cycle + 1
-    → AreReady entries slots
-    → (option_map bytes_of (instance_in entries slot cycle) ≡ Some (carried_by (get_or slots slot d).content)) × ((get_or slots slot d).content.length ≤ 8)
-slot-ready entries slots slot cycle d within is ready =
-    subst (λ (o : Option Ready). IfSome o (IsReady entries slot)) (slice_get-get_or slots slot d within) (ready slot) cycle is
+-- The instances of an entry
+
+exists-before : (end : Option ℕ) (release : ℕ) → release < option_map_or (λ e. e) end (2 ^ 64 - 1) → IfSome end (λ e. release < e)
+exists-before None release before = tt
+exists-before (Some e) release before = before
+
+times-some : (k n : ℕ) → 1 ≤ n → k ≤ k * n
+times-some k zero some = absurd (omega arith)
+times-some k (suc n) some = let parts : k * suc n ≡ k * n + k = omega arith in omega (arith, parts)
+
+-- what is known once an instance of an entry was found
+pub entry-ready : (entries : List Placed) (place k : ℕ) (p : Placed) → IsWellPlaced entries → slice_get entries place ≡ Some p → IsInRange p
+    → IsReady entries p.entry.slot (ready_of p k)
+entry-ready entries place k p well at range = record {
+  number = omega (arith, times-some k p.entry.period (omega (arith, range.entry.some_time, range.entry.deadline)));
+  deadline = range.entry.deadline;
+  length = range.entry.length;
+  each = λ more c before from in_time.
+      let same : release_of p (k + more) ≡ released_after (ready_of p k) more = omega arith in
+      let sends : MaySend p (k + more) c = record {
+        exists = exists-before p.end (release_of p (k + more)) (rw same before);
+        released = rw same from;
+        in_time = rw same in_time;
+      } in
+      ap (option_map bytes_of) (instance_in-found entries well place (k + more) c p at sends);
+}
+
+-- what is known of the instance that the entry releases next
+pub next-ready : (entries : List Placed) (slot : ℕ) (found : Ready) (release number c : ℕ) → IsReady entries slot found
+    → release ≡ found.release + found.period → number ≡ (found.number + 1) % 2 ^ 64 → c < 2 ^ 64
+    → IsSendableIn c (record found { release = release; number = number }) → IsReady entries slot (record found { release = release; number = number })
+next-ready entries slot found release number c known later wraps small now =
+    let some : 1 ≤ found.period = omega (arith, now.released, now.in_time, known.deadline) in
+    let next : number ≡ found.number + 1 = omega (arith, wraps, later, known.number, now.released, small, some) in
+    record {
+      number = omega (arith, next, later, known.number, some);
+      deadline = known.deadline;
+      length = known.length;
+      each = λ k at before from in_time.
+          let same : release + k * found.period ≡ found.release + (k + 1) * found.period = omega (arith, later) in
+          let count : found.number + (k + 1) ≡ number + k = omega (arith, next) in
+          known.each (k + 1) at (rw (← same) before) (rw (← same) from) (rw (← same) in_time) ∙ ap (λ n. Some (payload found.length n)) count;
+    }
+
+-- an instance that is known and may be sent is the slot's
+pub known-instance : (entries : List Placed) (slot c : ℕ) (found : Ready) → IsReady entries slot found → IsSendableIn c found
+    → option_map bytes_of (instance_in entries slot c) ≡ Some (carried_after found 0)
+known-instance entries slot c found known now =
+    known.each 0 c (omega (arith, now.exists)) (omega (arith, now.released)) (omega (arith, now.in_time))
+
+some-mapped : (o : Option Instance) (bytes : List ℕ) → option_map bytes_of o ≡ Some bytes → is_some o ≡ true
+some-mapped (Some i) bytes is = refl
+some-mapped None bytes is = absurd (none-some bytes is)
+
+pub known-slot : (entries : List Placed) (slots : List Ready) (slot c : ℕ) (d : Ready) → AreReady entries slots → IsSomeAnd (slice_get slots slot) (IsSendableIn c)
+    → (option_map bytes_of (instance_in entries slot c) ≡ Some (carried_after (get_or slots slot d) 0)) × ((get_or slots slot d).length ≤ 8)
+known-slot entries slots slot c d ready now =
+    let both = at-both (IsSendableIn c) (IsReady entries slot) slots slot d now (ready slot) in
+    (known-instance entries slot c (get_or slots slot d) both.1 both.0, both.1.length)
+
+pub is_some-known : (entries : List Placed) (slots : List Ready) (slot c : ℕ) → AreReady entries slots → IsSomeAnd (slice_get slots slot) (IsSendableIn c)
+    → is_some (instance_in entries slot c) ≡ true
+is_some-known entries slots slot c ready now =
+    let known = known-slot entries slots slot c unknown ready now in
+    some-mapped (instance_in entries slot c) (carried_after (get_or slots slot unknown) 0) known.0
+
+-- Sets of slots whose instances are known
+
+-- one slot more was looked at, of those that are left
+and-other : (same has : Bool) → same ≡ false → (not same && has) ≡ false → has ≡ false
+and-other true has other both = absurd (false≢true (sym other))
+and-other false has other both = both
+
+pub sendable-next : (c set_of left rest slot : ℕ) (old new : List Ready) → ((s : ℕ) → contains_slot rest s ≡ (not (s == slot) && contains_slot left s))
+    → IsSomeAnd (slice_get new slot) (IsSendableIn c) → ((s : ℕ) → s ≢ slot → slice_get new s ≡ slice_get old s)
+    → ((s : ℕ) → contains_slot set_of s ≡ true → contains_slot left s ≡ false → IsSomeAnd (slice_get old s) (IsSendableIn c))
+    → (s : ℕ) → contains_slot set_of s ≡ true → contains_slot rest s ≡ false → IsSomeAnd (slice_get new s) (IsSendableIn c)
+sendable-next c set_of left rest slot old new without now others before s has gone = elim (cases_eq s slot) [
+  | inl same ↦ subst (λ j. IsSomeAnd (slice_get new j) (IsSendableIn c)) (sym same) now
+  | inr other ↦
+      subst (λ o. IsSomeAnd o (IsSendableIn c)) (sym (others s other))
+      (before s has (and-other (s == slot) (contains_slot left s) (ne_eqb s slot other) (sym (without s) ∙ gone)))
+]
+
+-- the least slot of those that are left, where there is one
+pub least-of : (left slot : ℕ) → least_where most_slots (contains_slot left) ≡ Some slot → IsLeastBelow most_slots (contains_slot left) (Some slot)
+least-of left slot is = subst (IsLeastBelow most_slots (contains_slot left)) is (least_where-least most_slots (contains_slot left))
+
+pub none-left : (left : ℕ) → least_where most_slots (contains_slot left) ≡ None → (slot : ℕ) → slot < most_slots → contains_slot left slot ≡ false
+none-left left none = subst (IsLeastBelow most_slots (contains_slot left)) none (least_where-least most_slots (contains_slot left))

@@ -1,16 +1,15 @@
 -- What a node keeps besides what it knows, so that it answers without a look at its entries, or at those of them that
 -- are over.
-use Rattle.std.specs.Prelude.{◌≡◌, ℕ, ◌+◌, ◌/◌, ◌<◌, ◌≤◌, ◌==◌, List, slice_get, Option, Some, None, IfSome, option_map}
+use Rattle.std.specs.Prelude.{◌≡◌, ℕ, ◌+◌, ◌-◌, ◌*◌, ◌/◌, ◌^◌, ◌<◌, ◌≤◌, ◌==◌, true, List, slice_get, Option, Some, None, IfSome, IsSomeAnd, option_map}
 use Rattle.std.specs.Option.{option_map_or}
 use Rattle.std.specs.List.{list_any}
 use Rattle.requirement_table.specs.declared.entries.Placed.{Placed}
-use Rattle.requirement_table.specs.Instance.{bytes_of, payload}
+use Rattle.requirement_table.specs.Instance.{bytes_of, payload, release_of}
 use Rattle.requirement_table.specs.Slots.{contains_slot, most_slots}
 use Rattle.requirement_table.specs.Table.{instance_in, IsWellPlaced}
 use Rattle.node_model.specs.Node.{IsNode, NodeState, Opened, is_due, node_offer}
 use Rattle.node_model.specs.declared.cycle.Open.{Open}
 use Rattle.node_model.specs.declared.ahead.Ahead.{Ahead}
-use Rattle.node_model.specs.declared.entries.Content.{Content}
 use Rattle.node_model.specs.declared.entries.Ready.{Ready}
 use Rattle.node_model.specs.Ahead.{IsAhead}
 
@@ -36,19 +35,52 @@ sends_from opened next = option_map_or (λ o. o.cycle) opened next
 abbrev pub HaveInstances : List Placed → ℕ → List Placed → Type 0
 HaveInstances entries from left = (slot c : ℕ) → from ≤ c → instance_in left slot c ≡ instance_in entries slot c
 
--- the bytes that a frame carries with this content: the low ones of the instance's number
-abbrev pub carried_by : Content → List ℕ
-carried_by content = payload content.length content.number
+-- what is known of the instances of a slot once this instance of an entry was found
+abbrev pub ready_of : Placed → ℕ → Ready
+ready_of p k = record {
+  release = release_of p k;
+  end = option_map_or (λ end. end) p.end (2 ^ 64 - 1);
+  number = k;
+  period = p.entry.period;
+  deadline = p.entry.deadline;
+  length = p.entry.length;
+}
 
--- what is known of the slot's instance is right, where something is: in that cycle one may be sent, and its frame
--- carries this
-abbrev pub IsReady : List Placed → ℕ → Ready → Type 0
-IsReady entries slot ready = (c : ℕ) → ready.next ≡ c + 1
-    → (option_map bytes_of (instance_in entries slot c) ≡ Some (carried_by ready.content)) × (ready.content.length ≤ 8)
+-- the cycle in which the instance is released that is `k` releases after the one that is known
+abbrev pub released_after : Ready → ℕ → ℕ
+released_after ready k = ready.release + k * ready.period
+
+-- the bytes of its frame: the low ones of its number
+abbrev pub carried_after : Ready → ℕ → List ℕ
+carried_after ready k = payload ready.length (ready.number + k)
+
+-- what is known of the slot's instances is right, where something is: the known one, and each that its entry releases
+-- after it, may be sent in as many cycles from its release on as the deadline says, and its frame carries this
+pub record IsReady (entries : List Placed) (slot : ℕ) (ready : Ready) : Type 0 where
+  pub number : ready.number ≤ ready.release
+  pub deadline : ready.deadline ≤ ready.period
+  pub length : ready.length ≤ 8
+  pub each : (k c : ℕ) → released_after ready k < ready.end → released_after ready k ≤ c
+      → c < released_after ready k + ready.deadline
+      → option_map bytes_of (instance_in entries slot c) ≡ Some (carried_after ready k)
 
 -- the same of each slot
 abbrev pub AreReady : List Placed → List Ready → Type 0
 AreReady entries slots = (slot : ℕ) → IfSome (slice_get slots slot) (IsReady entries slot)
+
+-- the known instance exists, and may be sent in this cycle
+pub record IsSendableIn (c : ℕ) (ready : Ready) : Type 0 where
+  pub released : ready.release ≤ c
+  pub in_time : c < ready.release + ready.deadline
+  pub exists : ready.release < ready.end
+
+-- that of each slot of a set is known, exists, and may be sent in this cycle
+abbrev pub AreSendableIn : ℕ → ℕ → List Ready → Type 0
+AreSendableIn c set slots = (slot : ℕ) → contains_slot set slot ≡ true → IsSomeAnd (slice_get slots slot) (IsSendableIn c)
+
+-- of each slot that the node is to send in the open cycle the instance is known
+abbrev pub KnowsInstances : List Ready → Open → Type 0
+KnowsInstances slots open_cycle = AreSendableIn open_cycle.cycle open_cycle.due slots
 
 -- what is true of the fields of every node: those that contracts see make a node, and the others follow from them
 pub record IsKept (state : NodeState) (own : ℕ) (left : List Placed) (slots : List Ready) (current : Option Open)
@@ -59,6 +91,7 @@ pub record IsKept (state : NodeState) (own : ℕ) (left : List Placed) (slots : 
   pub instances : HaveInstances state.entries (sends_from state.opened state.next) left
   pub ready : AreReady left slots
   pub due : IfSome current (KnowsDue state.entries)
+  pub instances_due : IfSome current (KnowsInstances slots)
   pub ahead : IfSome look (IsAhead state)
 
 -- this cycle is open for the node, and the time lies in it

@@ -3,15 +3,16 @@
 ghost use Rattle.std.specs.Prelude.{◌≡◌, ℕ, ◌+◌, ◌-◌, ◌*◌, ◌/◌, ◌^◌, ◌<◌, ◌&&◌, not, nat_eq};
 ghost use Rattle.std.specs.Prelude.{nat_lt, max, if◌then◌else◌, is_some, false, true, List};
 ghost use Rattle.std.specs.Prelude.{Some, None, IfSome, MatchOption, option_map};
-ghost use Rattle.profile.specs.Limits.{first_identifier, times_end};
+ghost use Rattle.profile.specs.Limits.{cycles_end, first_identifier, times_end};
 ghost use Rattle.requirement_table.specs.declared.entries.Placed.{Placed};
 ghost use Rattle.requirement_table.specs.Slots.{contains_slot, most_slots};
 ghost use Rattle.requirement_table.specs.Table.{IsWellPlaced};
 ghost use Rattle.slot_sets.specs.Least.{least_where};
 ghost use Rattle.node_model.specs.Node.{opened_by, with_heard};
-ghost use Rattle.node_model.specs.Kept.{AreReady, KnowsDue, opened_of, sends_from};
+ghost use Rattle.node_model.specs.declared.entries.Ready.{Ready};
+ghost use Rattle.node_model.specs.Kept.{AreReady, KnowsDue, KnowsInstances, opened_of, sends_from};
 
-use crate::entries::{ReadySlots, sendable_slots};
+use crate::entries::{ReadySlots, sendable_among, sendable_slots};
 use async_window::Offer;
 use profile::FIRST_IDENTIFIER;
 use requirement_table::{MOST_SLOTS, Mask, Placed};
@@ -43,8 +44,8 @@ pub fn is_in(at: u64, cycle: u64, length: u64) -> bool
     start <= at && at - start < length
 }
 
-/// The cycle as its trigger opens it for a node with these entries; without one it has nothing synchronous. What the
-/// frames of the instances carry that may be sent in it is noted by slot.
+/// The cycle as its trigger opens it for a node with these entries; without one it has nothing synchronous. What is known
+/// of the slots that are due in it then tells of their instances.
 #[inline(always)]
 pub fn opened_by(
     cycle: u64,
@@ -52,23 +53,26 @@ pub fn opened_by(
     entries: &[Placed],
     ready: &mut ReadySlots,
 ) -> Open
+    requires cycle { cycle < cycles_end }
     requires well_placed { IsWellPlaced entries.now }
     requires ready { AreReady entries.now ready.old }
     ensures opened { opened_of result ≡ opened_by cycle trigger }
     ensures due { KnowsDue entries.now result }
+    ensures instances { KnowsInstances ready.new result }
     ensures ready { AreReady entries.now ready.new }
 {
     let (width, mask) = match trigger {
         Some(trigger) => (trigger.l, trigger.mask),
         None => (0, Mask::empty()),
     };
+    let sendable = sendable_among(mask, entries, cycle, ready);
     let heard = Mask::empty();
     Open {
         cycle,
         width,
         mask,
         heard,
-        due: unheard(mask, sendable_slots(entries, cycle, ready), heard),
+        due: unheard(mask, sendable, heard),
     }
 }
 
@@ -82,17 +86,19 @@ pub fn sends_from(opened: &Option<Open>, next: u64) -> u64
     }
 }
 
-/// The open cycle, where there is one, of a node that learnt these entries. What the frames of the instances carry that
-/// may be sent in it is noted by slot.
+/// The open cycle, where there is one, of a node that learnt these entries. What is known of the slots that are due in it
+/// then tells of their instances.
 pub fn after_learning(
     before: &Option<Open>,
     entries: &[Placed],
     ready: &mut ReadySlots,
 ) -> Option<Open>
+    requires cycle { IfSome before.now (λ open_cycle. open_cycle.cycle < cycles_end) }
     requires well_placed { IsWellPlaced entries.now }
     requires ready { AreReady entries.now ready.old }
     ensures opened { option_map opened_of result ≡ option_map opened_of before.now }
     ensures due { IfSome result (KnowsDue entries.now) }
+    ensures instances { IfSome result (KnowsInstances ready.new) }
     ensures ready { AreReady entries.now ready.new }
 {
     let before = before.as_ref()?;
@@ -108,6 +114,8 @@ pub fn after_slot(before: &Option<Open>, slot: u8) -> Option<Open>
     requires slot { slot < most_slots }
     ensures opened { option_map opened_of result ≡ option_map (with_heard slot) (option_map opened_of before.now) }
     ensures due { (entries : List Placed) → IfSome before.now (KnowsDue entries) → IfSome result (KnowsDue entries) }
+    ensures instances { (slots : List Ready) → IfSome before.now (KnowsInstances slots)
+        → IfSome result (KnowsInstances slots) }
 {
     let before = before.as_ref()?;
     let heard = before.heard.with(slot);
@@ -157,7 +165,7 @@ pub fn next_due(open_cycle: &Open, at: u64, window: u64, end: u64) -> Option<u64
 
 /// The flagged slots that can be sent and were not heard.
 fn unheard(flags: Mask, sendable: Mask, heard: Mask) -> Mask
-    ensures slots { (slot : ℕ) → slot < most_slots → contains_slot result slot
+    ensures slots { (slot : ℕ) → contains_slot result slot
         ≡ (contains_slot flags slot && (contains_slot sendable slot && not (contains_slot heard slot))) }
 {
     difference(common(flags, sendable), heard)

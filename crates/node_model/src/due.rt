@@ -1,13 +1,16 @@
 //! What a node does in the synchronous window of the cycle that is open for it, for all its slots at once.
 
-ghost use Rattle.std.specs.Prelude.{◌≡◌, ◌^◌, ◌<◌, Some, IfSome, List, fold, option_map, true};
+ghost use Rattle.std.specs.Prelude.{◌≡◌, ◌^◌, ◌<◌, ◌≤◌, IfSome, List, fold, option_map, true};
 ghost use Rattle.requirement_table.specs.declared.entries.Placed.{Placed};
+ghost use Rattle.requirement_table.specs.Instance.{payload};
 ghost use Rattle.requirement_table.specs.Slots.{most_slots};
 ghost use Rattle.node_model.specs.Node.{after_hearing};
-ghost use Rattle.node_model.specs.Kept.{KnowsDue, opened_of};
-ghost use Rattle.node_model.specs.Window.{AreOfSlots, due_frame, is_due_slot, with_all_heard};
+ghost use Rattle.node_model.specs.declared.entries.Ready.{Ready};
+ghost use Rattle.node_model.specs.Kept.{KnowsDue, KnowsInstances, opened_of};
+ghost use Rattle.node_model.specs.Window.{AreOfSlots, due_bytes, due_frame, is_due_slot, with_all_heard};
 
 use crate::cycle::Open;
+use crate::entries::Ready;
 use crate::node::Node;
 use can_frame::{Frame, TimedFrame};
 use profile::FIRST_IDENTIFIER;
@@ -16,17 +19,27 @@ use slot_sets::{common, difference, union};
 
 impl Node {
     /// The frame of a slot that the node is to send in the open cycle.
-    pub(crate) fn due_frame(&self, open_cycle: &Open, slot: u8) -> Frame
+    pub(crate) fn due_frame(&self, slot: u8) -> Frame
         requires slot { slot < most_slots }
-        requires open_cycle { self.now.state.opened ≡ Some (opened_of open_cycle.now) }
         requires due { is_due_slot self.now.state slot ≡ true }
         ensures frame { result ≡ due_frame self.now.state slot }
     {
-        let id = FIRST_IDENTIFIER + u16::from(slot);
-        match self.content(slot, open_cycle.cycle) {
-            Some(content) => Frame::of_number(id, content.length as u8, content.number),
-            None => unreachable!(),
-        }
+        let found = self.due_instance(slot);
+        Frame::of_number(
+            FIRST_IDENTIFIER + u16::from(slot),
+            found.length,
+            found.number,
+        )
+    }
+
+    /// What is known of the instance of a slot that the node is to send in the open cycle.
+    fn due_instance(&self, slot: u8) -> Ready
+        requires slot { slot < most_slots }
+        requires due { is_due_slot self.now.state slot ≡ true }
+        ensures bytes { due_bytes self.now.state slot ≡ payload result.length result.number }
+        ensures few { result.length ≤ 8 }
+    {
+        self.remaining.ready[usize::from(slot)]
     }
 
     /// Hears frames of slots, one after the other. These are their slots.
@@ -47,6 +60,8 @@ fn mark_slots(opened: &mut Option<Open>, heard: Mask)
     ensures opened { option_map opened_of opened.new
         ≡ option_map (with_all_heard heard) (option_map opened_of opened.old) }
     ensures due { (entries : List Placed) → IfSome opened.old (KnowsDue entries) → IfSome opened.new (KnowsDue entries) }
+    ensures instances { (slots : List Ready) → IfSome opened.old (KnowsInstances slots)
+        → IfSome opened.new (KnowsInstances slots) }
     ensures known { IfSome opened.old (λ open_cycle. open_cycle.heard < 2 ^ most_slots) }
 {
     if let Some(open_cycle) = opened {

@@ -1,18 +1,18 @@
 //! The entries of a node: which of a list are its own, their slots, and the instances that may be sent in a cycle.
 
-ghost use Rattle.std.specs.Prelude.{◌≡◌, ◌<◌, ◌≤◌, ℕ, [], Some, ◌+◌};
-ghost use Rattle.std.specs.Prelude.{List, is_some, length, nat_eq, option_map, slice_get, vec_capacity, ◌&&◌, ◌||◌};
-ghost use Rattle.std.specs.Prelude.{IfOk, IfSome};
+ghost use Rattle.std.specs.Prelude.{◌≡◌, ◌≢◌, ◌<◌, ◌≤◌, ℕ, [], Some, false, true};
+ghost use Rattle.std.specs.Prelude.{List, is_some, length, nat_eq, slice_get, vec_capacity, ◌&&◌, ◌||◌};
+ghost use Rattle.std.specs.Prelude.{IfOk, IsSomeAnd, MatchOption};
+ghost use Rattle.profile.specs.Limits.{cycles_end};
 ghost use Rattle.requirement_table.specs.Slots.{contains_slot, most_slots};
-ghost use Rattle.requirement_table.specs.Instance.{bytes_of, exists, instance_of};
+ghost use Rattle.requirement_table.specs.Instance.{instance_of, latest, release_of};
 ghost use Rattle.requirement_table.specs.Table.{IsInRange, IsWellPlaced, instance_in, not_over};
 ghost use Rattle.node_model.specs.Node.{entries_of, identifiers_of};
-ghost use Rattle.node_model.specs.Kept.{AreReady, AreSlotsOf, HaveInstances, IsReady, carried_by};
+ghost use Rattle.node_model.specs.Kept.{AreReady, AreSendableIn, AreSlotsOf, HaveInstances, IsReady, IsSendableIn, ready_of};
 
 use async_window::Owner;
-use requirement_table::{
-    MOST_SLOTS, Mask, Placed, drop_over, exists, first_over, is_over_in_range,
-};
+use requirement_table::{MOST_SLOTS, Mask, Placed, drop_over, first_over, is_over_in_range};
+use slot_sets::{least_slot, without_least};
 use std::alloc::{AllocError, Global};
 
 /// The identifiers that `owners` gives to a node.
@@ -49,34 +49,35 @@ pub fn keep_own(number: u8, placed: &[Placed], entries: &mut Vec<Placed>) -> Mas
     slots
 }
 
-/// What the frame of an instance carries: the low `length` bytes of the instance's number.
-#[derive(Clone, Copy)]
-pub struct Content {
-    /// The number of the instance.
-    pub number: u64,
-    /// The number of bytes, at most 8.
-    pub length: usize,
-}
-
-/// What is known of the instance of a slot that may be sent in one cycle.
+/// What is known of the instances of a slot: one of them, and those that its entry releases after it.
 #[derive(Clone, Copy)]
 pub struct Ready {
-    /// The cycle after that one, and 0 where nothing is known.
-    pub next: u64,
-    /// What its frame carries.
-    pub content: Content,
+    /// The cycle in which the instance is released.
+    pub release: u64,
+    /// The cycle from which on its entry releases nothing more, the greatest u64 where it has no end, and 0 where nothing
+    /// is known.
+    pub end: u64,
+    /// The number of the instance.
+    pub number: u64,
+    /// The cycles from one release to the next.
+    pub period: u16,
+    /// The number of cycles in which an instance may be sent.
+    pub deadline: u16,
+    /// The number of data bytes of its frame, at most 8.
+    pub length: u8,
 }
 
 /// Nothing is known.
 const UNKNOWN: Ready = Ready {
-    next: 0,
-    content: Content {
-        number: 0,
-        length: 0,
-    },
+    release: 0,
+    end: 0,
+    number: 0,
+    period: 0,
+    deadline: 0,
+    length: 0,
 };
 
-/// For each slot what is known of its instance.
+/// For each slot what is known of its instances.
 pub type ReadySlots = [Ready; MOST_SLOTS as usize];
 
 /// The entries of a node that are not over.
@@ -86,7 +87,7 @@ pub struct Remaining {
     pub entries: Vec<Placed>,
     /// A cycle before which none of them is over.
     pub until: u64,
-    /// For each slot what is known of its instance in the cycle that was looked at last.
+    /// For each slot what is known of its instances.
     pub ready: ReadySlots,
 }
 
@@ -133,39 +134,6 @@ impl Remaining {
             self.ready = [UNKNOWN; MOST_SLOTS as usize];
         }
     }
-
-    /// What the frame of the instance of a slot carries that may be sent in a cycle. The entries are gone through only
-    /// where nothing is known of it.
-    pub fn content(&self, slot: u8, cycle: u64) -> Option<Content>
-        requires slot { slot < most_slots }
-        requires well_placed { IsWellPlaced self.now.entries.items }
-        requires ready { AreReady self.now.entries.items self.now.ready }
-        ensures bytes { option_map carried_by result
-            ≡ option_map bytes_of (instance_in self.now.entries.items slot cycle) }
-        ensures few { IfSome result (λ content. content.length ≤ 8) }
-    {
-        match ready_in(&self.ready, slot, cycle) {
-            Some(content) => Some(content),
-            None => content_in(self.entries.as_slice(), slot, cycle),
-        }
-    }
-}
-
-/// What the frame of the instance of a slot carries that may be sent in a cycle, where it is known.
-fn ready_in(ready: &ReadySlots, slot: u8, cycle: u64) -> Option<Content>
-    requires slot { slot < most_slots }
-    ensures bytes { IfSome result (λ content. (entries : List Placed) → AreReady entries ready.now
-        → option_map bytes_of (instance_in entries slot cycle) ≡ Some (carried_by content)) }
-    ensures few { IfSome result
-        (λ content. (entries : List Placed) → AreReady entries ready.now → content.length ≤ 8) }
-{
-    let found = ready[usize::from(slot)];
-    let next = cycle.wrapping_add(1);
-    if next != 0 && found.next == next {
-        Some(found.content)
-    } else {
-        None
-    }
 }
 
 /// Replaces a list by those of some entries that are not over by a cycle, without memory.
@@ -183,11 +151,93 @@ fn keep_not_over(entries: &[Placed], cycle: u64, left: &mut Vec<Placed>)
     }
 }
 
-/// The slots of which an instance may be sent in a cycle. What these instances' frames carry is noted by slot.
+/// A set that has those of some slots of which an instance may be sent in a cycle, and of these slots no others. What is
+/// known of its slots then tells of that instance. The entries are gone through only where not all of it was known.
+#[inline(always)]
+pub fn sendable_among(set: Mask, entries: &[Placed], cycle: u64, ready: &mut ReadySlots) -> Mask
+    requires cycle { cycle < cycles_end }
+    requires well_placed { IsWellPlaced entries.now }
+    requires ready { AreReady entries.now ready.old }
+    ensures slots { (slot : ℕ) → contains_slot set slot ≡ true
+        → contains_slot result slot ≡ is_some (instance_in entries.now slot cycle) }
+    ensures sendable { AreSendableIn cycle result ready.new }
+    ensures ready { AreReady entries.now ready.new }
+{
+    if turn_all(set, cycle, ready) {
+        set
+    } else {
+        sendable_slots(entries, cycle, ready)
+    }
+}
+
+/// Goes on to the instances of some slots that may be sent in a cycle, as far as what is known tells of them. The answer
+/// is whether it does of all.
+#[inline(always)]
+fn turn_all(set: Mask, cycle: u64, ready: &mut ReadySlots) -> bool
+    ensures sendable { result ≡ true → AreSendableIn cycle set ready.new }
+    ensures ready { (entries : List Placed) → AreReady entries ready.old → AreReady entries ready.new }
+{
+    set.known();
+    let mut left = set;
+    while let Some(slot) = least_slot(left) {
+        if !turn(ready, slot, cycle) {
+            return false;
+        }
+        left.known();
+        left = without_least(left);
+        left.known();
+    }
+    true
+}
+
+/// Goes on to the instance of a slot that may be sent in a cycle, where what is known tells of that one or of the one
+/// before it. The answer is whether it does.
+#[inline(always)]
+fn turn(ready: &mut ReadySlots, slot: u8, cycle: u64) -> bool
+    requires slot { slot < most_slots }
+    ensures sendable { result ≡ true → IsSomeAnd (slice_get ready.new slot) (IsSendableIn cycle) }
+    ensures others { (other : ℕ) → other ≢ slot → slice_get ready.new other ≡ slice_get ready.old other }
+    ensures ready { (entries : List Placed) → AreReady entries ready.old → AreReady entries ready.new }
+{
+    let place = usize::from(slot);
+    let found = ready[place];
+    if cycle < found.release {
+        return false;
+    }
+    let period = u64::from(found.period);
+    if cycle - found.release < period {
+        return is_sendable(&found, cycle);
+    }
+    let next = Ready {
+        release: found.release + period,
+        number: found.number.wrapping_add(1),
+        ..found
+    };
+    if !is_sendable(&next, cycle) {
+        return false;
+    }
+    ready[place] = next;
+    true
+}
+
+/// Whether this tells of an instance that may be sent in a cycle, which is not before its release.
+#[inline(always)]
+fn is_sendable(found: &Ready, cycle: u64) -> bool
+    requires released { found.now.release ≤ cycle }
+    ensures sendable { result ≡ true → IsSendableIn cycle found.now }
+    ensures not_sendable { result ≡ false → IsSendableIn cycle found.now → ⊥ }
+{
+    cycle - found.release < u64::from(found.deadline) && found.release < found.end
+}
+
+/// The slots of which an instance may be sent in a cycle. What is known of these slots then tells of that instance.
+#[inline(never)]
 pub fn sendable_slots(entries: &[Placed], cycle: u64, ready: &mut ReadySlots) -> Mask
+    requires cycle { cycle < cycles_end }
     requires well_placed { IsWellPlaced entries.now }
     requires ready { AreReady entries.now ready.old }
     ensures slots { (slot : ℕ) → contains_slot result slot ≡ is_some (instance_in entries.now slot cycle) }
+    ensures sendable { AreSendableIn cycle result ready.new }
     ensures ready { AreReady entries.now ready.new }
 {
     let mut slots = Mask::empty();
@@ -197,29 +247,37 @@ pub fn sendable_slots(entries: &[Placed], cycle: u64, ready: &mut ReadySlots) ->
     slots
 }
 
-/// A set of slots, with that of an entry where an instance of it may be sent in a cycle. What the instance's frame
-/// carries is noted.
+/// A set of slots, with that of an entry where an instance of it may be sent in a cycle. What is known of the entry's
+/// latest instance is noted, but for one of another entry of the slot that may be sent.
 fn with_sendable(slots: Mask, p: &Placed, cycle: u64, ready: &mut ReadySlots) -> Mask
+    requires cycle { cycle < cycles_end }
     requires in_range { IsInRange p.now }
     ensures slots { (slot : ℕ) → contains_slot result slot
         ≡ ((nat_eq p.now.entry.slot slot && is_some (instance_of p.now cycle)) || contains_slot slots slot) }
+    ensures sendable { AreSendableIn cycle slots ready.old → AreSendableIn cycle result ready.new }
     ensures ready { (entries : List Placed) (place : ℕ) → IsWellPlaced entries → slice_get entries place ≡ Some p.now
         → AreReady entries ready.old → AreReady entries ready.new }
 {
-    match number_in(p, cycle) {
-        Some(number) => {
-            let length = usize::from(p.entry.length);
-            note(ready, p.entry.slot, cycle, Content { number, length });
-            slots.with(p.entry.slot)
+    match latest_of(p, cycle) {
+        Some(found) => {
+            if is_sendable(&found, cycle) {
+                ready[usize::from(p.entry.slot)] = found;
+                slots.with(p.entry.slot)
+            } else {
+                note_other(slots, p.entry.slot, found, ready);
+                slots
+            }
         }
         None => slots,
     }
 }
 
-/// The number of the instance of an entry that may be sent in a cycle.
-fn number_in(p: &Placed, cycle: u64) -> Option<u64>
+/// What is known of the latest instance that an entry released by a cycle, as if it had no end; nothing before its first
+/// release.
+fn latest_of(p: &Placed, cycle: u64) -> Option<Ready>
     requires in_range { IsInRange p.now }
-    ensures number { result ≡ instance_of p.now cycle }
+    ensures latest { MatchOption result (cycle < release_of p.now 0)
+        (λ found. (release_of p.now 0 ≤ cycle) × (found ≡ ready_of p.now (latest p.now cycle))) }
 {
     let first = p.origin + u64::from(p.entry.phase);
     if cycle < first {
@@ -227,38 +285,24 @@ fn number_in(p: &Placed, cycle: u64) -> Option<u64>
     }
     let since = cycle - first;
     let period = u64::from(p.entry.period);
-    let age = since % period;
-    if age < u64::from(p.entry.deadline) && exists(p, cycle - age) {
-        Some(since / period)
-    } else {
-        None
-    }
+    Some(Ready {
+        release: cycle - since % period,
+        end: p.end.unwrap_or(u64::MAX),
+        number: since / period,
+        period: p.entry.period,
+        deadline: p.entry.deadline,
+        length: p.entry.length,
+    })
 }
 
-/// Notes what the frame of the instance of a slot carries that may be sent in a cycle.
-fn note(ready: &mut ReadySlots, slot: u8, cycle: u64, content: Content)
+/// Notes what is known of a slot where it is none of these.
+fn note_other(slots: Mask, slot: u8, found: Ready, ready: &mut ReadySlots)
     requires slot { slot < most_slots }
-    ensures noted { (entries : List Placed)
-        → IsReady entries slot (record { next = cycle + 1; content = content })
+    ensures sendable { (cycle : ℕ) → AreSendableIn cycle slots ready.old → AreSendableIn cycle slots ready.new }
+    ensures ready { (entries : List Placed) → IsReady entries slot found
         → AreReady entries ready.old → AreReady entries ready.new }
 {
-    let next = cycle.wrapping_add(1);
-    ready[usize::from(slot)] = Ready { next, content };
-}
-
-/// What the frame of the instance of a slot carries that may be sent in a cycle.
-fn content_in(entries: &[Placed], slot: u8, cycle: u64) -> Option<Content>
-    requires well_placed { IsWellPlaced entries.now }
-    ensures bytes { option_map carried_by result ≡ option_map bytes_of (instance_in entries.now slot cycle) }
-    ensures few { IfSome result (λ content. content.length ≤ 8) }
-{
-    for p in entries {
-        if p.entry.slot == slot {
-            if let Some(number) = number_in(p, cycle) {
-                let length = usize::from(p.entry.length);
-                return Some(Content { number, length });
-            }
-        }
+    if !slots.has(slot) {
+        ready[usize::from(slot)] = found;
     }
-    None
 }

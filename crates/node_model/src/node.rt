@@ -7,20 +7,19 @@ ghost use Rattle.profile.specs.Limits.{arrivals_end, cycles_end, first_identifie
 ghost use Rattle.can_frame.specs.DataFrame.{DataFrame};
 ghost use Rattle.trigger_codec.specs.Bytes.{second_of, trigger_of};
 ghost use Rattle.requirement_table.specs.Slots.{most_slots};
-ghost use Rattle.requirement_table.specs.Instance.{bytes_of};
-ghost use Rattle.requirement_table.specs.Table.{IsWellPlaced, instance_in};
+ghost use Rattle.requirement_table.specs.Table.{IsWellPlaced};
 ghost use Rattle.async_window.specs.Mailbox.{IsNextInCycle, left};
 ghost use Rattle.async_window.specs.Owners.{AreOwners};
 ghost use Rattle.node_model.specs.Node.{IsNextOffer, IsNode, after_hearing, after_request, after_slot, fresh_node};
 ghost use Rattle.node_model.specs.Node.{is_own_slot, joined, learnt, next_trigger, node_frame, node_offer};
 ghost use Rattle.node_model.specs.Node.{opened_by, opening_identifier};
 ghost use Rattle.node_model.specs.Ahead.{IsAhead, Stays, next_time};
-ghost use Rattle.node_model.specs.Kept.{IsClosedAt, IsOpenAt, carried_by, sends_from};
+ghost use Rattle.node_model.specs.Kept.{IsClosedAt, IsOpenAt};
 ghost use Rattle.node_model.specs.Own.{HasRequest, counting};
 
 use crate::ahead::{Ahead, Next};
 use crate::cycle::{self, Open};
-use crate::entries::{self, Content, Remaining};
+use crate::entries::{self, Remaining};
 use async_window::{Mailboxes, Offer, Owner, Request};
 use can_frame::{Frame, TimedFrame};
 use cycle_layout::Layout;
@@ -54,7 +53,7 @@ pub struct Node {
     /// be learnt without memory.
     entries: Vec<Placed>,
     /// Those of them that are not over, from which the node sends.
-    remaining: Remaining,
+    pub(crate) remaining: Remaining,
 }
 
 impl Model for Node {
@@ -634,23 +633,9 @@ impl Node {
         requires synchronous { id < least_asynchronous }
         ensures frame { result ≡ node_frame self.now.state at id }
     {
-        let cycle = at / u64::from(self.layout.cycle());
+        let _ = &self.mailboxes;
         let slot = (id - FIRST_IDENTIFIER) as u8;
-        match self.content(slot, cycle) {
-            Some(content) => Frame::of_number(id, content.length as u8, content.number),
-            None => unreachable!(),
-        }
-    }
-
-    /// What the frame of the instance of a slot carries that may be sent in a cycle, from the open one on.
-    pub(crate) fn content(&self, slot: u8, cycle: u64) -> Option<Content>
-        requires slot { slot < most_slots }
-        requires from { sends_from self.now.state.opened self.now.state.next ≤ cycle }
-        ensures bytes { option_map carried_by result
-            ≡ option_map bytes_of (instance_in self.now.state.entries slot cycle) }
-        ensures few { IfSome result (λ content. content.length ≤ 8) }
-    {
-        self.remaining.content(slot, cycle)
+        self.due_frame(slot)
     }
 
     /// The number of frames that the node heard; it stands still at the greatest u64.

@@ -28,7 +28,7 @@ impl Node {
     {
         let open_cycle = self.opened.as_ref()?;
         if open_cycle.due.has(slot) {
-            Some(self.due_frame(open_cycle, slot))
+            Some(self.due_frame(slot))
         } else {
             None
         }

@@ -8,7 +8,7 @@ in_turn false b c = refl
 
 pub returns : goal.returns
 returns c = record {
-  slots = λ slot _.
+  slots = λ slot.
       c.difference.ensures.slots slot
       ∙ ap (λ has. has && not (contains_slot c.args.heard slot)) (c.common.ensures.slots slot)
       ∙ in_turn (contains_slot c.args.flags slot) (contains_slot c.args.sendable slot) (not (contains_slot c.args.heard slot));

@@ -14,4 +14,4 @@ returns-clause-instances c =
     rw c.keep_not_over.ensures.left (λ slot at from. instance_in-not_over c.args.cycle c.args.entries.now slot at from)
 
 pub returns-clause-ready : goal.returns-clause-ready
-returns-clause-ready c = nothing-ready _ 96 (record { number = 0; length = 0 })
+returns-clause-ready c = nothing-ready _ 96

@@ -2,4 +2,4 @@ use Rattle.node_model.proofs.Ready.{nothing-ready}
 use Rattle.node_model.proofs.entries.Remaining.new.Goals as goal
 
 pub returns-clause-ready : goal.returns-clause-ready
-returns-clause-ready c = nothing-ready _ 96 (record { number = 0; length = 0 })
+returns-clause-ready c = nothing-ready _ 96

@@ -15,4 +15,4 @@ returns-then-self-cycle-clause-instances c =
     rw c.drop_over.ensures.left (λ slot at from. instance_in-not_over c.args.cycle c.args.self.now.entries.items slot at from)
 
 pub returns-then-self-cycle-clause-ready : goal.returns-then-self-cycle-clause-ready
-returns-then-self-cycle-clause-ready c = nothing-ready _ 96 (record { number = 0; length = 0 })
+returns-then-self-cycle-clause-ready c = nothing-ready _ 96

@@ -21,6 +21,7 @@ invariant_of-self-2 c =
       instances = old.instances;
       ready = old.ready;
       due = old.due;
+      instances_due = old.instances_due;
       ahead = tt;
     }
 
