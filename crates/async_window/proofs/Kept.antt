@@ -1,5 +1,5 @@
 -- What holds of kept mailboxes: when they are made, and when a request is taken away.
-use Rattle.std.proofs.Common.{◌≡◌, ◌≢◌, ℕ, suc, ◌+◌, ◌-◌, ◌/◌, ◌^◌, ◌<◌, ◌≤◌, Bool, true, false, cond, eqb, List, [], ◌∷◌, length, get_or, set, drop, map, All, AllPairs, Contains, IsPermutation, ◌⊎◌, ◌↔◌, Some, inl, inr, refl, sym, ap, ◌∙◌, subst, arith}
+use Rattle.std.proofs.Common.{◌≡◌, ◌≢◌, ℕ, suc, ◌-◌, ◌^◌, ◌<◌, ◌≤◌, Bool, true, false, cond, eqb, List, [], ◌∷◌, length, get_or, set, drop, map, All, AllPairs, Contains, IsPermutation, ◌⊎◌, ◌↔◌, Some, inl, inr, refl, sym, ap, ◌∙◌, subst, arith}
 use Rattle.std.specs.List.{slice_get}
 use Rattle.std.specs.Option.{IsSome, is_some}
 use Rattle.std.proofs.lemmas.Bool.{cases_Bool, cases_lt, false≢true}
@@ -10,13 +10,13 @@ use Rattle.std.proofs.lemmas.List.Sorted.{All-permutation, Contains-permutation,
 use Rattle.async_window.specs.declared.request.Request.{Request}
 use Rattle.async_window.specs.Waiting.{requests_of, unsent_after}
 use Rattle.async_window.specs.Mailbox.{Mail, IsMail, mail_after, unsent_of, taken_from, without_first, left}
-use Rattle.async_window.specs.Tournament.{IsTournament, IsTournamentBut}
+use Rattle.async_window.specs.Tournament.{Notes, TellFirsts, arrival_within, first_length}
 use Rattle.async_window.specs.Sorted.{AreKept, AreShort, IsPlaceOf, mail_of, nowhere}
 use Rattle.async_window.proofs.Unsent.{AllPairs-map, Contains-later, IsMail-after, IsMail-without, taken_from-identifier, taken_from-keeps, unsent_of-among, unsent_of-elsewhere, unsent_of-without, without_first-identifiers, without_head}
 use Rattle.async_window.proofs.Order.{distinct-permutation}
 use Rattle.async_window.proofs.Table.{few-rising, no_place, place-identifier, unsent_of-at, unsent_of-nowhere}
 use Rattle.async_window.proofs.Steps.{HasPut, IsMail-put, IsPlaceTable-put, left-without, rising-put, set-without_first, without_first-nothing}
-use Rattle.async_window.proofs.Trees.{IsTournamentBut-leaf}
+use Rattle.async_window.proofs.Telling.{TellFirsts-noted}
 
 contains_or : (ids : List ℕ) (id : ℕ) → Contains ids id ⊎ (Contains ids id → ⊥)
 contains_or [] id = inr (λ (k, within, same). absurd (omega arith))
@@ -77,11 +77,11 @@ module _ (ids sorted : List ℕ) (requests : List Request) (made : IsMade ids so
   mail_of-put i remaining boxes all has =
       ap (λ mail. mail_of ids mail) (has.put ∙ ap (λ xs. mail_after sorted xs []) (take_all i requests all)) ∙ mail_of-made
 
-  pub AreKept-made : (i remaining levels : ℕ) (boxes : List Mail) (table : List ℕ) (nodes : List (List ℕ)) → length requests ≤ i
+  pub AreKept-made : (i remaining : ℕ) (boxes : List Mail) (table arrivals lengths : List ℕ) → length requests ≤ i
       → HasPut sorted requests i boxes remaining → length table ≡ 2048
       → ((id place : ℕ) → id < 2048 → place < nowhere → (slice_get table id ≡ Some place) ↔ (slice_get sorted place ≡ Some id))
-      → IsTournament levels nodes boxes → AreKept ids boxes table levels nodes remaining
-  AreKept-made i remaining levels boxes table nodes all has long places tournament =
+      → TellFirsts (length boxes) boxes arrivals lengths → AreKept ids boxes table arrivals lengths remaining
+  AreKept-made i remaining boxes table arrivals lengths all has long places firsts =
       let whole : boxes ≡ mail_after sorted requests [] = has.put ∙ ap (λ xs. mail_after sorted xs []) (take_all i requests all) in
       let view : mail_of ids boxes ≡ mail_after ids requests [] = ap (λ mail. mail_of ids mail) whole ∙ mail_of-made in
       let short : AreShort requests = subst AreShort (take_all i requests all) has.short in
@@ -99,7 +99,7 @@ module _ (ids sorted : List ℕ) (requests : List Request) (made : IsMade ids so
             (λ (request : Request). length request.frame.bytes ≤ 8) requests short)));
         long = long;
         places = IsPlaceTable-put sorted requests i boxes remaining table has places;
-        tournament = tournament;
+        firsts = firsts;
         counted = has.counted ∙ ap left whole
             ∙ sum_by-IsPermutation (λ (box : Mail). length box.unsent) (mail_after ids requests []) (mail_after sorted requests [])
             (IsPermutation-map (λ id. record { identifier = id; unsent = unsent_after requests [] id }) ids sorted made.moved)
@@ -130,8 +130,8 @@ no-first : (unsent : List Request) → is_some (slice_get unsent 0) ≡ false �
 no-first [] none = refl
 no-first (request ∷ later) none = absurd (false≢true (sym none))
 
-module _ (ids : List ℕ) (boxes : List Mail) (table : List ℕ) (levels : ℕ) (nodes : List (List ℕ)) (remaining : ℕ)
-    (kept : AreKept ids boxes table levels nodes remaining) where
+module _ (ids : List ℕ) (boxes : List Mail) (table arrivals lengths : List ℕ) (remaining : ℕ)
+    (kept : AreKept ids boxes table arrivals lengths remaining) where
   pub few-boxes : length boxes ≤ 2048
   few-boxes = few-rising boxes kept.rising kept.known.greatest
 
@@ -205,12 +205,10 @@ module _ (ids : List ℕ) (boxes : List Mail) (table : List ℕ) (levels : ℕ) 
     pub mail-taken : mail_of ids (set boxes place new) ≡ without_first id (mail_of ids boxes)
     mail-taken = ap (λ mail. mail_of ids mail) set-taken ∙ mail_of-without id boxes ids
 
-    pub tournament-taken : IsTournamentBut ((2 ^ levels + place) / 2) levels nodes (set boxes place new)
-    tournament-taken = IsTournamentBut-leaf levels place nodes boxes new (place-within id place is some) kept.tournament
-
-    pub AreKept-taken : (levels-now : ℕ) (nodes-now : List (List ℕ)) → IsTournament levels-now nodes-now (set boxes place new)
-        → AreKept ids (set boxes place new) table levels-now nodes-now (remaining - 1)
-    AreKept-taken levels-now nodes-now tournament = record {
+    pub AreKept-taken : (arrivals-now lengths-now : List ℕ) → Notes (arrival_within 8) (set boxes place new) place arrivals arrivals-now
+        → Notes first_length (set boxes place new) place lengths lengths-now
+        → AreKept ids (set boxes place new) table arrivals-now lengths-now (remaining - 1)
+    AreKept-taken arrivals-now lengths-now arrive_now long_now = record {
       mail = subst IsMail (sym mail-taken) (IsMail-without id (mail_of ids boxes) kept.mail);
       same = λ other.
           ap (λ mail. unsent_of mail other) mail-taken
@@ -234,7 +232,8 @@ module _ (ids : List ℕ) (boxes : List Mail) (table : List ℕ) (levels : ℕ) 
       places = λ n at below under.
           subst (λ xs. (slice_get table n ≡ Some at) ↔ (slice_get xs at ≡ Some n))
           (sym (ap (λ (mail : List Mail). map (λ x. x.identifier) mail) set-taken ∙ without_first-identifiers id boxes)) (kept.places n at below under);
-      tournament = tournament;
+      firsts = TellFirsts-noted place new boxes arrivals lengths arrivals-now lengths-now arrive_now long_now (place-within id place is some)
+          kept.firsts;
       counted =
           let fewer = left-without id (mail_of ids boxes) kept.mail.distinct some in
           let count : left (mail_of ids (set boxes place new)) ≡ left (without_first id (mail_of ids boxes)) = ap left mail-taken in

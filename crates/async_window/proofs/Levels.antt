@@ -30,12 +30,6 @@ is_inner levels rest node above =
 pub levels-low : (levels : ℕ) → levels ≤ 11 → 2 ^ levels ≤ 2048
 levels-low levels low = pow-le-pow_right (omega arith) low
 
-pub IsAbove-low : (levels rest node : ℕ) → IsAbove levels rest node → levels ≤ 11 → node < 4096
-IsAbove-low levels rest node above low =
-    let some : 1 ≤ 2 ^ rest = one-le-pow rest 2 (omega arith) in
-    let more : node + 1 ≤ (node + 1) * 2 ^ rest = grind arith in
-    omega (arith, above.ends, levels-low levels low)
-
 pub IsAbove-left : (levels rest node : ℕ) → IsAbove levels (suc rest) node → IsAbove levels rest (2 * node)
 IsAbove-left levels rest node above =
     let twice : 2 ^ suc rest ≡ 2 ^ rest * 2 = pow-suc 2 rest in

@@ -6,5 +6,6 @@ pub mod Shared
 mod Soonest
 mod Steps
 mod Table
+mod Telling
 mod Trees
 mod Unsent

@@ -11,11 +11,10 @@ use Rattle.stuff_bound.specs.Stuffing.{worst}
 use Rattle.cycle_layout.specs.Layout.{CycleLayout, IsLayout, async_open, sync_start}
 use Rattle.async_window.specs.declared.request.Request.{Request}
 use Rattle.async_window.specs.Mailbox.{Mail, Offers, SomeWaits, IsLeastWith, IsNextInCycle, StaysUntil, least_of, mail_offer, unsent_of}
-use Rattle.async_window.specs.Tournament.{IsSoonest, IsTournament, never, arrival_within, first_bytes, node_value}
+use Rattle.async_window.specs.Tournament.{CanStart, IsSoonest, never, nobody, arrival_within, first_bytes, first_length}
 use Rattle.async_window.specs.Sorted.{AreKept, AreShort, mail_of}
 use Rattle.async_window.proofs.Offered.{IsLeastWith-either, IsLeastWith-one, IsLeastWith-same, IsLeastWith-some, Offers-least}
 use Rattle.async_window.proofs.Table.{unsent_of-at}
-use Rattle.async_window.proofs.Trees.{top-all, top-some}
 use Rattle.async_window.proofs.Unsent.{first-among}
 
 -- a first request that has arrived and is short enough
@@ -42,8 +41,80 @@ first_bytes-is : (unsent : List Request) (request : Request) → slice_get unsen
 first_bytes-is [] request first = let none : ⊥ = cc (first) in absurd none
 first_bytes-is (r ∷ later) request first = let same : r ≡ request = cc (first) in ap (λ (x : Request). length x.frame.bytes) same
 
-module _ (ids : List ℕ) (boxes : List Mail) (table : List ℕ) (levels : ℕ) (nodes : List (List ℕ)) (remaining : ℕ)
-    (kept : AreKept ids boxes table levels nodes remaining) where
+first_length-is : (unsent : List Request) (request : Request) → slice_get unsent 0 ≡ Some request
+    → first_length unsent ≡ length request.frame.bytes
+first_length-is [] request first = let none : ⊥ = cc (first) in absurd none
+first_length-is (r ∷ later) request first = let same : r ≡ request = cc (first) in ap (λ (x : Request). length x.frame.bytes) same
+
+-- a first request that has arrived, with its own number of data bytes
+pub arrival-own : (at : ℕ) (unsent : List Request) → at < never → arrival_within 8 unsent ≤ at
+    → (first_bytes unsent ≤ 8) × (first_length unsent ≡ first_bytes unsent) × (arrival_within (first_bytes unsent) unsent ≤ at)
+arrival-own at unsent time low =
+    let found = arrival-from 8 at unsent time low in
+    let bytes : first_bytes unsent ≡ length found.0.frame.bytes = first_bytes-is unsent found.0 found.1 in
+    let long : first_length unsent ≡ length found.0.frame.bytes = first_length-is unsent found.0 found.1 in (
+      omega (arith, bytes, found.3),
+      long ∙ sym bytes,
+      arrival-some (first_bytes unsent) at unsent found.0 found.1 found.2 (omega (arith, bytes)),
+    )
+
+-- of longer frames too some first request has arrived, where one has of shorter ones
+arrival-longer : (few many at : ℕ) (unsent : List Request) → few ≤ many → at < never → arrival_within few unsent ≤ at
+    → arrival_within many unsent ≤ at
+arrival-longer few many at unsent more time low =
+    let found = arrival-from few at unsent time low in
+    arrival-some many at unsent found.0 found.1 found.2 (omega (arith, found.3))
+
+-- a first request that arrives later, or is too long, or both
+pub arrives-later : (bytes at : ℕ) (unsent : List Request) → bytes ≤ 8 → at < never → at < arrival_within 8 unsent → at < arrival_within bytes unsent
+arrives-later bytes at unsent few time far =
+    elim (cases_lt at (arrival_within bytes unsent)) [
+      | inl later ↦ later
+      | inr low ↦ let here : arrival_within 8 unsent ≤ at = arrival-longer bytes 8 at unsent few time low in absurd (omega arith)
+    ]
+
+pub is-longer : (bytes at : ℕ) (unsent : List Request) → at < never → bytes < first_length unsent → at < arrival_within bytes unsent
+is-longer bytes at unsent time long =
+    elim (cases_lt at (arrival_within bytes unsent)) [
+      | inl later ↦ later
+      | inr low ↦
+          let found = arrival-from bytes at unsent time low in
+          let is : first_length unsent ≡ length found.0.frame.bytes = first_length-is unsent found.0 found.1 in
+          absurd (omega (arith, found.3))
+    ]
+
+pub fits-not : (bytes at : ℕ) (unsent : List Request) → at < never → bytes < first_bytes unsent → at < arrival_within bytes unsent
+fits-not bytes at unsent time long =
+    elim (cases_lt at (arrival_within bytes unsent)) [
+      | inl later ↦ later
+      | inr low ↦
+          let found = arrival-from bytes at unsent time low in
+          let is : first_bytes unsent ≡ length found.0.frame.bytes = first_bytes-is unsent found.0 found.1 in
+          absurd (omega (arith, found.3))
+    ]
+
+pub fits-here : (bytes at : ℕ) (unsent : List Request) → at < never → arrival_within 8 unsent ≤ at → first_bytes unsent ≤ bytes
+    → arrival_within bytes unsent ≤ at
+fits-here bytes at unsent time low short =
+    let found = arrival-from 8 at unsent time low in
+    let is : first_bytes unsent ≡ length found.0.frame.bytes = first_bytes-is unsent found.0 found.1 in
+    arrival-some bytes at unsent found.0 found.1 found.2 (omega arith)
+
+-- what no first request arrives before, no shorter one does
+pub sooner-within : (bytes sooner : ℕ) (unsent : List Request) → bytes ≤ 8 → sooner ≤ never → sooner ≤ arrival_within 8 unsent
+    → sooner ≤ arrival_within bytes unsent
+sooner-within bytes sooner [] few most low = most
+sooner-within bytes sooner (r ∷ later) few most low =
+    elim (cases_Bool (leb (length r.frame.bytes) bytes)) [
+      | inl passed ↦
+          let short : length r.frame.bytes ≤ bytes = leb-true (length r.frame.bytes) bytes passed in
+          let here : sooner ≤ r.at = subst (λ b. sooner ≤ cond b r.at never) (le-leb (length r.frame.bytes) 8 (omega arith)) low in
+          subst (λ b. sooner ≤ cond b r.at never) (sym passed) here
+      | inr failed ↦ subst (λ b. sooner ≤ cond b r.at never) (sym failed) most
+    ]
+
+module _ (ids : List ℕ) (boxes : List Mail) (table : List ℕ) (arrivals lengths : List ℕ) (remaining : ℕ)
+    (kept : AreKept ids boxes table arrivals lengths remaining) where
   -- the first unsent request of an identifier is that of a mailbox
   pub record IsFirstOf (id place : ℕ) (request : Request) : Type 0 where
     pub within : place < length boxes
@@ -103,14 +174,14 @@ module _ (ids : List ℕ) (boxes : List Mail) (table : List ℕ) (levels : ℕ) 
       let high : at < arrival_within 8 (get_or boxes found.0 box).unsent = far found.0 box found.1.within in
       absurd (omega arith)
 
-module _ (layout : CycleLayout) (l : ℕ) (ids : List ℕ) (boxes : List Mail) (table : List ℕ) (levels : ℕ) (nodes : List (List ℕ))
-    (remaining : ℕ) (kept : AreKept ids boxes table levels nodes remaining) where
+module _ (layout : CycleLayout) (l : ℕ) (ids : List ℕ) (boxes : List Mail) (table : List ℕ) (arrivals lengths : List ℕ)
+    (remaining : ℕ) (kept : AreKept ids boxes table arrivals lengths remaining) where
   -- a mailbox whose first request has arrived and may start is offered
   pub offers-at : (at bytes place : ℕ) (d : Mail) → at < never → place < length boxes
       → arrival_within bytes (get_or boxes place d).unsent ≤ at → async_open layout (at / layout.cycle) ≤ at
       → at + worst bytes ≤ sync_start layout (at / layout.cycle) l → Offers layout l (mail_of ids boxes) at (get_or boxes place d).identifier
   offers-at at bytes place d time within low opened whole =
-      let unsent = at_box ids boxes table levels nodes remaining kept place d within in
+      let unsent = at_box ids boxes table arrivals lengths remaining kept place d within in
       let first = arrival-from bytes at (get_or boxes place d).unsent time low in (
         first.0,
         record {
@@ -131,7 +202,7 @@ module _ (layout : CycleLayout) (l : ℕ) (ids : List ℕ) (boxes : List Mail) (
 
   pub offered-by : (at id : ℕ) → Offers layout l (mail_of ids boxes) at id → (place : ℕ) × (request : Request) × IsOfferOf at id place request
   offered-by at id may =
-      let found = first-of ids boxes table levels nodes remaining kept id may.0 may.1.waiting.first in (
+      let found = first-of ids boxes table arrivals lengths remaining kept id may.0 may.1.waiting.first in (
         found.0,
         may.0,
         record {
@@ -303,117 +374,136 @@ module _ (layout : CycleLayout) (l : ℕ) (ids : List ℕ) (boxes : List Mail) (
       ])
       found.2
 
--- of longer frames too some first request has arrived, where one has of shorter ones
-arrival-longer : (few many at : ℕ) (unsent : List Request) → few ≤ many → at < never → arrival_within few unsent ≤ at
-    → arrival_within many unsent ≤ at
-arrival-longer few many at unsent more time low =
-    let found = arrival-from few at unsent time low in
-    arrival-some many at unsent found.0 found.1 found.2 (omega (arith, found.3))
+-- when the next first request may start, by the soonest arrival and the least length of all
+module _ (boxes : List Mail) (opened closed at : ℕ) (wide : closed < 2 ^ 64) where
+  starts-soon : (unsent : List Request) (time : ℕ) → CanStart opened closed at unsent time → time < never
+  starts-soon unsent time can = omega (arith, can.whole, wide)
 
-module _ (levels : ℕ) (nodes : List (List ℕ)) (boxes : List Mail) (known : IsTournament levels nodes boxes) where
-  top-longer : (few many at : ℕ) → few ≤ many → many ≤ 8 → at < never → node_value few nodes boxes 1 ≤ at → node_value many nodes boxes 1 ≤ at
-  top-longer few many at more most time low =
-      let found = top-some few levels nodes boxes (omega arith) known at time low in
-      let d : Mail = record { identifier = 0; unsent = [] } in
-      let here : arrival_within many (get_or boxes found.0 d).unsent ≤ at
-      = arrival-longer few many at (get_or boxes found.0 d).unsent more time (found.2 d) in
-      let least : node_value many nodes boxes 1 ≤ arrival_within many (get_or boxes found.0 d).unsent
-      = top-all many levels nodes boxes most known found.0 d found.1 in
-      omega arith
+  module _ (soonest : ℕ) (low : (place : ℕ) (d : Mail) → place < length boxes → soonest ≤ arrival_within 8 (get_or boxes place d).unsent) where
+    -- where the longest frame may start at the soonest arrival, no other one starts sooner
+    pub IsSoonest-any : (found : Option ℕ)
+        → ((bound : ℕ) → bound < never → soonest ≤ bound
+        → (place : ℕ) × (place < length boxes) × ((d : Mail) → arrival_within 8 (get_or boxes place d).unsent ≤ bound))
+        → IsLeastWith (λ later. (at < later) × (soonest ≤ later) × (opened ≤ later) × (later + worst 8 ≤ closed)) found
+        → IfSome found (λ next. IsSoonest boxes opened closed at (length boxes) (Some next))
+    IsSoonest-any None some least = tt
+    IsSoonest-any (Some next) some least =
+        let fits : next + worst 8 ≤ closed = least.0.3 in
+        let soon : next < never = omega (arith, wide) in
+        let first = some next soon least.0.1 in
+        let own = arrival-own next (get_or boxes first.0 nobody).unsent soon (first.2 nobody) in (
+          (
+            first.0,
+            first.1,
+            record { behind = least.0.0; arrived = first.2 nobody; from = least.0.2; whole = omega (arith, own.0) },
+          ),
+          λ later has. elim (cases_lt later next) [
+            | inl sooner ↦
+                let arrived : soonest ≤ later = omega (arith, low has.0 nobody has.1, has.2.arrived) in
+                least.1 later (has.2.behind, arrived, has.2.from, omega arith)
+            | inr later_on ↦ omega arith
+          ],
+        )
 
-  -- where the longest frame may start at the soonest arrival, no other one starts sooner
-  pub IsSoonest-any : (opened closed at arrival : ℕ) (found : Option ℕ) → arrival ≡ node_value 8 nodes boxes 1
-      → IsLeastWith (λ later. (at < later) × (arrival ≤ later) × (opened ≤ later) × (later + worst 8 ≤ closed)) found
-      → IfSome found (λ time. time < 2 ^ 64) → IfSome found (λ next. IsSoonest nodes boxes opened closed at 9 (Some next))
-  IsSoonest-any opened closed at arrival None is least some = tt
-  IsSoonest-any opened closed at arrival (Some next) is least some = (
-    (8, omega arith, least.0.0, subst (λ n. n ≤ next) is least.0.1, least.0.2, least.0.3),
-    λ later has. elim (cases_lt later next) [
-      | inl sooner ↦
-          let arrived : node_value 8 nodes boxes 1 ≤ later = top-longer has.0 8 later (omega (arith, has.1)) (omega arith) (omega arith) has.3 in
-          let fits : next + worst 8 ≤ closed = least.0.3 in
-          least.1 later (has.2, subst (λ n. n ≤ later) (sym is) arrived, has.4, omega arith)
-      | inr later_on ↦ omega arith
-    ],
-  )
+    -- where even the shortest one ends too late, none starts
+    pub IsSoonest-over : (shortest : ℕ)
+        → ((place : ℕ) (d : Mail) → place < length boxes → shortest ≤ first_length (get_or boxes place d).unsent)
+        → IsLeastWith (λ later. (at < later) × (soonest ≤ later) × (opened ≤ later) × (later + worst shortest ≤ closed)) None
+        → IsSoonest boxes opened closed at (length boxes) None
+    IsSoonest-over shortest least none = λ later has.
+        let own = arrival-own later (get_or boxes has.0 nobody).unsent (starts-soon (get_or boxes has.0 nobody).unsent later has.2) has.2.arrived in
+        let long : shortest ≤ first_length (get_or boxes has.0 nobody).unsent = least has.0 nobody has.1 in
+        none later (
+          has.2.behind,
+          omega (arith, low has.0 nobody has.1, has.2.arrived),
+          has.2.from,
+          omega (arith, has.2.whole, own.1),
+        )
 
-  -- where no request arrives in the window that is short enough to start now, none starts later
-  pub IsSoonest-over : (opened closed at room arrival : ℕ) → room ≤ 8 → arrival ≤ never → arrival ≡ node_value room nodes boxes 1
-      → ((bytes : ℕ) → bytes ≤ 8 → at + worst bytes ≤ closed → bytes ≤ room) → closed < arrival
-      → IsSoonest nodes boxes opened closed at 9 None
-  IsSoonest-over opened closed at room arrival few some is fits high = λ later has.
-      let bytes : ℕ = has.0 in
-      let short : bytes < 9 = has.1 in
-      let behind : at < later = has.2 in
-      let whole : later + worst bytes ≤ closed = has.5 in
-      let room_for : bytes ≤ room = fits bytes (omega arith) (omega arith) in
-      let arrived : node_value room nodes boxes 1 ≤ later = top-longer bytes room later room_for few (omega arith) has.3 in
-      let same : arrival ≤ later = subst (λ n. n ≤ later) (sym is) arrived in
-      absurd (omega arith)
+  -- where no first request has at most eight data bytes, there is none
+  pub IsSoonest-empty : (shortest : ℕ)
+      → ((place : ℕ) (d : Mail) → place < length boxes → shortest ≤ first_length (get_or boxes place d).unsent) → 8 < shortest
+      → IsSoonest boxes opened closed at (length boxes) None
+  IsSoonest-empty shortest least long = λ later has.
+      let own = arrival-own later (get_or boxes has.0 nobody).unsent (starts-soon (get_or boxes has.0 nobody).unsent later has.2) has.2.arrived in
+      let high : shortest ≤ first_length (get_or boxes has.0 nobody).unsent = least has.0 nobody has.1 in
+      absurd (omega (arith, own.0, own.1))
 
-pub IsSoonest-none : (nodes : List (List ℕ)) (boxes : List Mail) (opened closed at : ℕ) → IsSoonest nodes boxes opened closed at 0 None
-IsSoonest-none nodes boxes opened closed at = λ later found. let below : found.0 < 0 = found.1 in absurd (omega arith)
+-- the first request of one mailbox, by its arrival
+pub CanStart-same : (opened closed at arrival bytes : ℕ) (unsent : List Request) (least : Option ℕ) → arrival ≡ arrival_within 8 unsent
+    → bytes ≡ first_bytes unsent
+    → IsLeastWith (λ later. (at < later) × (arrival ≤ later) × (opened ≤ later) × (later + worst bytes ≤ closed)) least
+    → IsLeastWith (CanStart opened closed at unsent) least
+CanStart-same opened closed at arrival bytes unsent least is long =
+    IsLeastWith-same (CanStart opened closed at unsent)
+    (λ later. (at < later) × (arrival ≤ later) × (opened ≤ later) × (later + worst bytes ≤ closed)) least
+    (λ later h. record { behind = h.0; arrived = subst (λ n. n ≤ later) is h.1; from = h.2; whole = subst (λ n. later + worst n ≤ closed) long h.3 })
+    (λ later can.
+    (can.behind, subst (λ n. n ≤ later) (sym is) can.arrived, can.from, subst (λ n. later + worst n ≤ closed) (sym long) can.whole))
 
-pub IsSoonest-more : (nodes : List (List ℕ)) (boxes : List Mail) (opened closed at count arrival : ℕ) (one other next : Option ℕ)
-    → IsSoonest nodes boxes opened closed at count one → arrival ≡ node_value count nodes boxes 1
-    → IsLeastWith (λ later. (at < later) × (arrival ≤ later) × (opened ≤ later) × (later + worst count ≤ closed)) other
-    → next ≡ least_of (option_to_list one ++ option_to_list other) → IsSoonest nodes boxes opened closed at (count + 1) next
-IsSoonest-more nodes boxes opened closed at count arrival one other next first is second is_next =
-    subst (λ x. IsSoonest nodes boxes opened closed at (count + 1) x) (sym is_next)
+pub CanStart-late : (opened closed at arrival : ℕ) (unsent : List Request) → arrival ≡ arrival_within 8 unsent → closed < arrival
+    → IsLeastWith (CanStart opened closed at unsent) None
+CanStart-late opened closed at arrival unsent is late = λ later can. absurd (omega (arith, can.arrived, can.whole))
+
+-- one mailbox after the other
+pub IsSoonest-none : (boxes : List Mail) (opened closed at : ℕ) → IsSoonest boxes opened closed at 0 None
+IsSoonest-none boxes opened closed at = λ later found. let below : found.0 < 0 = found.1 in absurd (omega arith)
+
+pub IsSoonest-more : (boxes : List Mail) (opened closed at count : ℕ) (box : Mail) (one other next : Option ℕ) → count < length boxes
+    → box ≡ get_or boxes count box → IsSoonest boxes opened closed at count one → IsLeastWith (CanStart opened closed at box.unsent) other
+    → next ≡ least_of (option_to_list one ++ option_to_list other) → IsSoonest boxes opened closed at (count + 1) next
+IsSoonest-more boxes opened closed at count box one other next within read first second is_next =
+    let here : box ≡ get_or boxes count nobody = read ∙ get_or_default boxes count box nobody within in
+    subst (λ x. IsSoonest boxes opened closed at (count + 1) x) (sym is_next)
     (IsLeastWith-either
-    (λ later. (bytes : ℕ) × (bytes < count) × (at < later) × (node_value bytes nodes boxes 1 ≤ later) × (opened ≤ later)
-    × (later + worst bytes ≤ closed))
-    (λ later. (at < later) × (arrival ≤ later) × (opened ≤ later) × (later + worst count ≤ closed))
-    (λ later. (bytes : ℕ) × (bytes < count + 1) × (at < later) × (node_value bytes nodes boxes 1 ≤ later) × (opened ≤ later)
-    × (later + worst bytes ≤ closed))
+    (λ time. (place : ℕ) × (place < count) × CanStart opened closed at (get_or boxes place nobody).unsent time)
+    (λ time. CanStart opened closed at box.unsent time)
+    (λ time. (place : ℕ) × (place < count + 1) × CanStart opened closed at (get_or boxes place nobody).unsent time)
     one other
-    (λ later h. let below : h.0 < count = h.1 in (h.0, omega arith, h.2, h.3, h.4, h.5))
-    (λ later h. (count, omega arith, h.0, subst (λ n. n ≤ later) is h.1, h.2, h.3))
-    (λ later h.
+    (λ time h. let below : h.0 < count = h.1 in (h.0, omega arith, h.2))
+    (λ time can. (count, omega arith, subst (λ (x : Mail). CanStart opened closed at x.unsent time) here can))
+    (λ time h.
     let below : h.0 < count + 1 = h.1 in
     elim (cases_lt h.0 count) [
-      | inl less ↦ inl (h.0, less, h.2, h.3, h.4, h.5)
+      | inl less ↦ inl (h.0, less, h.2)
       | inr more ↦
           let same : h.0 ≡ count = omega arith in
-          let high : later + worst h.0 ≤ closed = h.5 in
-          inr (
-            h.2,
-            subst (λ n. n ≤ later) (ap (λ n. node_value n nodes boxes 1) same ∙ sym is) h.3,
-            h.4,
-            subst (λ n. later + worst n ≤ closed) same high,
-          )
+          inr (subst (λ (x : Mail). CanStart opened closed at x.unsent time) (sym here)
+          (subst (λ n. CanStart opened closed at (get_or boxes n nobody).unsent time) same h.2))
     ])
     first second)
 
-module _ (layout : CycleLayout) (l at : ℕ) (ids : List ℕ) (boxes : List Mail) (table : List ℕ) (levels : ℕ) (nodes : List (List ℕ))
-    (remaining : ℕ) (kept : AreKept ids boxes table levels nodes remaining) (known : IsLayout layout) (time : at < 2 ^ 60) where
+module _ (layout : CycleLayout) (l at : ℕ) (ids : List ℕ) (boxes : List Mail) (table arrivals lengths : List ℕ)
+    (remaining : ℕ) (kept : AreKept ids boxes table arrivals lengths remaining) (known : IsLayout layout) (time : at < 2 ^ 60) where
   pub next-offer : (opened closed : ℕ) (least : Option ℕ) → opened ≡ async_open layout (at / layout.cycle)
-      → closed ≡ sync_start layout (at / layout.cycle) l → IsSoonest nodes boxes opened closed at 9 least
+      → closed ≡ sync_start layout (at / layout.cycle) l → IsSoonest boxes opened closed at (length boxes) least
       → IsNextInCycle layout.cycle at (λ later. IsSome (mail_offer layout l (mail_of ids boxes) later)) least
   next-offer opened closed least is_opened is_closed is =
       IsLeastWith-same
       (λ later. (at < later) × (later / layout.cycle ≡ at / layout.cycle) × IsSome (mail_offer layout l (mail_of ids boxes) later))
-      (λ later. (bytes : ℕ) × (bytes < 9) × (at < later) × (node_value bytes nodes boxes 1 ≤ later) × (opened ≤ later)
-      × (later + worst bytes ≤ closed))
+      (λ later. (place : ℕ) × (place < length boxes) × CanStart opened closed at (get_or boxes place nobody).unsent later)
       least
       (λ later found.
-      let bytes : ℕ = found.0 in
-      let few : bytes < 9 = found.1 in
+      let place : ℕ = found.0 in
+      let within : place < length boxes = found.1 in
+      let unsent : List Request = (get_or boxes place nobody).unsent in
+      let can : CanStart opened closed at unsent later = found.2 in
+      let bytes : ℕ = first_bytes unsent in
       let start : at / layout.cycle * layout.cycle ≤ at = div-mul-le_self at layout.cycle in
-      let from : opened ≤ later = found.4 in
-      let to : later + worst bytes ≤ closed = found.5 in
+      let from : opened ≤ later = can.from in
+      let to : later + worst bytes ≤ closed = can.whole in
       let cycle : layout.cycle ≤ 100000 = known.cycle_range.below in
+      let behind : at < later = can.behind in
       let end : later < (at / layout.cycle + 1) * layout.cycle = omega arith in
       let same : later / layout.cycle ≡ at / layout.cycle = div-eq_of_lt-le layout.cycle (omega arith) end in
       let high : later < never = omega arith in
-      let place = top-some bytes levels nodes boxes (omega arith) kept.tournament later high found.3 in
-      let box : Mail = record { identifier = 0; unsent = [] } in (
-        found.2,
+      let own = arrival-own later unsent high can.arrived in (
+        behind,
         same,
         (IsLeastWith-some (Offers layout l (mail_of ids boxes) later) (mail_offer layout l (mail_of ids boxes) later)
             (Offers-least layout l later (mail_of ids boxes) kept.mail)).1 (
-              (get_or boxes place.0 box).identifier,
-              offers-at layout l ids boxes table levels nodes remaining kept later bytes place.0 box high place.1 (place.2 box)
+              (get_or boxes place nobody).identifier,
+              offers-at layout l ids boxes table arrivals lengths remaining kept later bytes place nobody high within own.2
                   (subst (λ c. async_open layout c ≤ later) (sym same) (subst (λ n. n ≤ later) is_opened from))
                   (subst (λ c. later + worst bytes ≤ sync_start layout c l) (sym same) (subst (λ n. later + worst bytes ≤ n) is_closed to)),
             ),
@@ -421,19 +511,19 @@ module _ (layout : CycleLayout) (l at : ℕ) (ids : List ℕ) (boxes : List Mail
       (λ later found.
       let offer = (IsLeastWith-some (Offers layout l (mail_of ids boxes) later) (mail_offer layout l (mail_of ids boxes) later)
       (Offers-least layout l later (mail_of ids boxes) kept.mail)).0 found.2 in
-      let by = offered-by layout l ids boxes table levels nodes remaining kept later offer.0 offer.1 in
+      let by = offered-by layout l ids boxes table arrivals lengths remaining kept later offer.0 offer.1 in
       let bytes : ℕ = length by.1.frame.bytes in
-      let few : bytes ≤ 8 = by.2.short in
-      let box : Mail = record { identifier = 0; unsent = [] } in
-      let arrived : arrival_within bytes (get_or boxes by.0 box).unsent ≤ later
-      = arrival-some bytes later (get_or boxes by.0 box).unsent by.1 (by.2.first box) by.2.arrived (omega arith) in
-      let low : node_value bytes nodes boxes 1 ≤ arrival_within bytes (get_or boxes by.0 box).unsent
-      = top-all bytes levels nodes boxes few kept.tournament by.0 box by.2.within in (
-        bytes,
-        omega arith,
-        found.0,
-        omega arith,
-        subst (λ n. n ≤ later) (sym is_opened) (subst (λ c. async_open layout c ≤ later) found.1 by.2.opened),
-        subst (λ n. later + worst bytes ≤ n) (sym is_closed) (subst (λ c. later + worst bytes ≤ sync_start layout c l) found.1 by.2.whole),
+      let unsent : List Request = (get_or boxes by.0 nobody).unsent in
+      let is_bytes : first_bytes unsent ≡ bytes = first_bytes-is unsent by.1 (by.2.first nobody) in
+      let whole : later + worst bytes ≤ closed
+      = subst (λ n. later + worst bytes ≤ n) (sym is_closed) (subst (λ c. later + worst bytes ≤ sync_start layout c l) found.1 by.2.whole) in (
+        by.0,
+        by.2.within,
+        record {
+          behind = found.0;
+          arrived = arrival-some 8 later unsent by.1 (by.2.first nobody) by.2.arrived by.2.short;
+          from = subst (λ n. n ≤ later) (sym is_opened) (subst (λ c. async_open layout c ≤ later) found.1 by.2.opened);
+          whole = subst (λ n. later + worst n ≤ closed) (sym is_bytes) whole;
+        },
       ))
       is

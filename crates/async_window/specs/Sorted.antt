@@ -3,7 +3,7 @@
 use Rattle.std.specs.Prelude.{◌≡◌, ◌↔◌, ℕ, ◌<◌, ◌≤◌, Some, List, length, map, slice_get, All, AllPairs}
 use Rattle.async_window.specs.declared.request.Request.{Request}
 use Rattle.async_window.specs.Mailbox.{Mail, IsMail, unsent_of, left}
-use Rattle.async_window.specs.Tournament.{IsTournament}
+use Rattle.async_window.specs.Tournament.{TellFirsts}
 
 -- the mail of some identifiers, in their order, by mailboxes in any order
 abbrev pub mail_of : List ℕ → List Mail → List Mail
@@ -28,9 +28,9 @@ abbrev pub AreShort : List Request → Type 0
 AreShort requests = All (λ request. length request.frame.bytes ≤ 8) requests
 
 -- what holds of mailboxes that stand for the mail of `ids`: they are in the order of their identifiers, with a table of
--- their places, a tournament of their first arrivals and the number of requests that are left
-pub record AreKept (ids : List ℕ) (boxes : List Mail) (table : List ℕ) (levels : ℕ)
-    (nodes : List (List ℕ)) (remaining : ℕ) : Type 0 where
+-- their places, the arrivals and lengths of their first requests, and the number of requests that are left
+pub record AreKept (ids : List ℕ) (boxes : List Mail) (table arrivals lengths : List ℕ)
+    (remaining : ℕ) : Type 0 where
   pub mail : IsMail (mail_of ids boxes)
   pub same : (id : ℕ) → unsent_of (mail_of ids boxes) id ≡ unsent_of boxes id
   pub known : IsMail boxes
@@ -38,5 +38,5 @@ pub record AreKept (ids : List ℕ) (boxes : List Mail) (table : List ℕ) (leve
   pub short : All (λ box. AreShort box.unsent) boxes
   pub long : length table ≡ 2048
   pub places : IsPlaceTable boxes table
-  pub tournament : IsTournament levels nodes boxes
+  pub firsts : TellFirsts (length boxes) boxes arrivals lengths
   pub counted : remaining ≡ left (mail_of ids boxes)

@@ -3,6 +3,7 @@
 //! All times are bit times from 0, below 2^60.
 #![tactic(auto)]
 
+mod firsts;
 pub mod laws;
 mod mailbox;
 mod mailboxes;

@@ -1,8 +1,7 @@
 //! One mailbox: the requests of one identifier, first in, first out.
 
-ghost use Rattle.std.specs.Prelude.{◌≡◌, ◌≤◌, ℕ, [], ◌∷◌, ◌++◌, IfOk, drop, is_some, option_map, slice_get};
-ghost use Rattle.std.specs.Prelude.{slice_index_or};
-ghost use Rattle.async_window.specs.Tournament.{arrival_within, first_bytes, never};
+ghost use Rattle.std.specs.Prelude.{◌≡◌, ◌≤◌, [], ◌∷◌, ◌++◌, IfOk, drop, is_some, option_map, slice_get};
+ghost use Rattle.async_window.specs.Tournament.{arrival_within, first_bytes, first_length};
 
 use crate::request::Request;
 use can_frame::Frame;
@@ -12,8 +11,8 @@ use std::marker::Model;
 /// An arrival that never comes: it is above all times, which are below 2^60 bit times.
 pub const NEVER: u64 = u64::MAX;
 
-/// How many numbers of data bytes a frame may have: 0 to 8.
-pub const LENGTHS: usize = 9;
+/// The greatest number of data bytes of a frame.
+pub const MOST_BYTES: u8 = 8;
 
 /// The requests of one identifier, in their order, of which the first ones are sent.
 #[derive(Drop)]
@@ -94,14 +93,24 @@ impl Mailbox {
         }
     }
 
+    /// The same; `NEVER` where there is none.
+    pub fn length(&self) -> u64
+        ensures length { result ≡ first_length self.now.unsent }
+    {
+        match self.first() {
+            Some(request) => u64::from(request.frame.dlc()),
+            None => NEVER,
+        }
+    }
+
     /// The arrival of the first request that is not sent, in bit times, where there is one and it has at most so many
     /// data bytes; otherwise `NEVER`.
-    pub fn arrival(&self, bytes: usize) -> u64
+    pub fn arrival(&self, bytes: u8) -> u64
         ensures value { result ≡ arrival_within bytes self.now.unsent }
     {
         match self.first() {
             Some(request) => {
-                if usize::from(request.frame.dlc()) <= bytes {
+                if request.frame.dlc() <= bytes {
                     request.at
                 } else {
                     NEVER
@@ -109,19 +118,6 @@ impl Mailbox {
             }
             None => NEVER,
         }
-    }
-
-    /// The arrivals of the first request that is not sent for each number of data bytes, as `arrival` tells them.
-    #[inline(always)]
-    pub fn arrivals(&self) -> [u64; LENGTHS]
-        ensures values { (bytes : ℕ) → bytes ≤ 8
-            → slice_index_or result bytes never ≡ arrival_within bytes self.now.unsent }
-    {
-        let mut row = [NEVER; LENGTHS];
-        for bytes in 0..LENGTHS {
-            row[bytes] = self.arrival(bytes);
-        }
-        row
     }
 
     /// Takes away the first request that is not sent, where there is one.

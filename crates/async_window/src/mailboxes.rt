@@ -13,10 +13,10 @@ ghost use Rattle.async_window.specs.Sorted.{IsPlaceTable};
 ghost use Rattle.async_window.specs.Tournament.{first_bytes};
 ghost use Rattle.stuff_bound.specs.Stuffing.{worst};
 
+use crate::firsts::Firsts;
 use crate::mailbox::Mailbox;
 use crate::places::{IDENTIFIERS, in_order, place_of, places};
 use crate::request::Request;
-use crate::tournament::Tournament;
 use crate::window::{Window, window_in};
 use can_frame::Frame;
 use cycle_layout::Layout;
@@ -42,8 +42,8 @@ pub struct Mailboxes {
     boxes: Vec<Mailbox>,
     /// The places of the mailboxes by identifier.
     places: Vec<u16>,
-    /// The arrivals of the first requests.
-    firsts: Tournament,
+    /// The first requests.
+    firsts: Firsts,
     /// The number of requests that are not sent.
     remaining: usize,
 }
@@ -57,7 +57,7 @@ impl Model for Mailboxes {
 
     ghost view = { λ m. mail_of m.ids.items m.boxes.items };
 
-    ghost invariant = { λ m. AreKept m.ids.items m.boxes.items m.places.items m.firsts.levels m.firsts.nodes.items m.remaining };
+    ghost invariant = { λ m. AreKept m.ids.items m.boxes.items m.places.items m.firsts.arrivals m.firsts.lengths m.remaining };
 }
 
 impl Mailboxes {
@@ -80,7 +80,7 @@ impl Mailboxes {
         for request in requests {
             remaining += put(&mut boxes, &places, request)?;
         }
-        let firsts = Tournament::new(alloc, boxes.as_slice())?;
+        let firsts = Firsts::new(alloc, boxes.as_slice())?;
         Ok(Mailboxes {
             ids: ids.to_vec(alloc)?,
             boxes,
@@ -129,13 +129,13 @@ impl Mailboxes {
         ensures stays { IfSome result (λ offer. StaysUntil layout.now l self.now at offer.id offer.until) }
         ensures known { IsMail self.now }
     {
-        let boxes = self.boxes.as_slice();
-        if !self.firsts.has_arrived(boxes, at) {
+        if !self.firsts.has_arrived(at) {
             return None;
         }
+        let boxes = self.boxes.as_slice();
         let window = window_in(layout, cycle, at, l);
         match window.room(at) {
-            Some(bytes) => match self.firsts.first(boxes, usize::from(bytes), at) {
+            Some(bytes) => match self.firsts.first(boxes, bytes, at) {
                 Some(first) => Some(offer_of(&boxes[first.place], &window, first.sooner)),
                 None => None,
             },
@@ -150,7 +150,7 @@ impl Mailboxes {
         ensures none { result ≡ false → (layout : CycleLayout) (l later : ℕ) → later ≤ at
             → mail_offer layout l self.now later ≡ None }
     {
-        self.firsts.has_arrived(self.boxes.as_slice(), at)
+        self.firsts.has_arrived(at)
     }
 
     /// The frame of the first unsent request of an identifier, where there is one.
@@ -189,7 +189,7 @@ impl Mailboxes {
             return false;
         }
         self.boxes[place].take_first();
-        self.firsts.mend(self.boxes.as_slice(), place);
+        self.firsts.note(self.boxes.as_slice(), place);
         self.remaining -= 1;
         true
     }
@@ -219,10 +219,10 @@ impl Mailboxes {
         if window.is_over(at) {
             return None;
         }
-        if !self.firsts.has_arrived(boxes, window.closed) {
+        if !self.firsts.has_arrived(window.closed) {
             return None;
         }
-        self.firsts.next(boxes, &window, at)
+        self.firsts.next(boxes, window, at)
     }
 
     /// The number of requests that are not sent.

@@ -1,38 +1,43 @@
-//! The least arrivals of the mailboxes' first requests, as a tournament: which is the first mailbox whose request has
-//! arrived and is short enough is found in as many steps as the tree has levels.
+//! Numbers of which the least, and the first that is at most a bound, are found in as many steps as a tree over them has
+//! levels.
 
-ghost use Rattle.std.specs.Prelude.{◌≡◌, ℕ, ◌+◌, ◌*◌, ◌/◌, ◌^◌, ◌<◌, ◌≤◌, ◌++◌};
-ghost use Rattle.std.specs.Prelude.{IfOk, IfSome, MatchOption, None, Some, false, true, length, min, slice_index_or};
-ghost use Rattle.std.specs.Option.{option_to_list};
-ghost use Rattle.profile.specs.Limits.{times_end};
-ghost use Rattle.async_window.specs.Mailbox.{Mail, least_of};
-ghost use Rattle.async_window.specs.Tournament.{IsSoonest, IsTournament, IsTournamentBut};
-ghost use Rattle.async_window.specs.Tournament.{Renews, arrival_within, never, node_value};
+ghost use Rattle.std.specs.Prelude.{◌≡◌, ◌≢◌, ℕ, ◌+◌, ◌*◌, ◌/◌, ◌^◌, ◌<◌, ◌≤◌};
+ghost use Rattle.std.specs.Prelude.{IfOk, MatchOption, false, length, min, slice_index_or};
+ghost use Rattle.async_window.specs.Tournament.{IsFirstWithin, IsTree, IsTreeBut, Renews, never};
 
-use crate::mailbox::{LENGTHS, Mailbox, NEVER};
-use crate::window::Window;
+use crate::mailbox::NEVER;
 use std::alloc::{AllocError, Global};
+use std::marker::Model;
 
-/// The greatest number of data bytes.
-const MOST_BYTES: u8 = 8;
-
-/// A binary tree whose leaves are mailboxes, in their order. A node's value for a number of data bytes is the least
-/// arrival, in bit times, of a first request below it that has at most so many.
+/// Some numbers, at most 2,048. Contracts see their list.
+///
+/// They are the leaves of a binary tree, in which an inner node has the lesser number of the two below it.
 #[derive(Drop)]
 pub struct Tournament {
-    /// The inner nodes: below node `n` are `2 * n` and `2 * n + 1`, and node 1 is the top. Leaves are numbered behind
-    /// them. Node 0 is not used.
-    nodes: Vec<[u64; LENGTHS]>,
+    /// The nodes: below node `n` are `2 * n` and `2 * n + 1`, and node 1 is the top. The leaves stand in the second half.
+    /// Node 0 is not used.
+    nodes: Vec<u64>,
     /// The number of levels above the leaves.
     levels: u32,
 }
 
-/// A first request that has arrived, and what stands before it.
+impl Model for Tournament {
+    ghost use Rattle.std.specs.Prelude.{ℕ, ◌^◌, List, drop};
+    ghost use Rattle.async_window.specs.Tournament.{IsTree};
+
+    ghost Value = { List ℕ };
+
+    ghost view = { λ t. drop (2 ^ t.levels) t.nodes.items };
+
+    ghost invariant = { λ t. IsTree t.levels t.nodes.items };
+}
+
+/// The first number that is at most a bound, and what stands before it.
 #[derive(Clone, Copy)]
 pub struct First {
-    /// The place of its mailbox.
+    /// Its place.
     pub place: usize,
-    /// The least arrival, in bit times, of a first request in the mailboxes before it, none of which has arrived.
+    /// A number above the bound, below which none of those before it falls.
     pub sooner: u64,
 }
 
@@ -41,220 +46,165 @@ pub struct First {
 struct Step {
     /// The node that is reached.
     node: usize,
-    /// The least value of the nodes that were left aside before it.
+    /// The least number of the nodes that were left aside before it.
     sooner: u64,
 }
 
 impl Tournament {
-    /// The tournament over some mailboxes, of which there are at most 2,048.
-    pub fn new(alloc: Global, boxes: &[Mailbox]) -> Result<Tournament, AllocError>
-        requires few { length boxes.now ≤ 2048 }
-        ensures tournament { IfOk result (λ made. IsTournament made.levels made.nodes.items boxes.now) }
+    /// At least so many numbers, each of them `NEVER`. There are at most 2,048.
+    pub fn new(alloc: Global, count: usize) -> Result<Tournament, AllocError>
+        requires few { count ≤ 2048 }
+        ensures room { IfOk result (λ made. count ≤ length made) }
+        ensures nothing { IfOk result (λ made. (place : ℕ) → place < length made → slice_index_or made place 0 ≡ never) }
     {
-        let levels = levels_for(boxes.len());
-        let inner = leaves_of(levels);
-        let mut made = Tournament {
-            nodes: vec![in alloc; [NEVER; LENGTHS]; inner]?,
-            levels,
-        };
-        for done in 1..inner {
-            made.renew(boxes, inner - done);
-        }
-        Ok(made)
+        let levels = levels_for(count);
+        let nodes = all_never(alloc, 2 * leaves_of(levels))?;
+        Ok(Tournament { nodes, levels })
     }
 
-    /// Brings the tree up to date where the first request of one mailbox changed.
-    pub fn mend(&mut self, boxes: &[Mailbox], place: usize)
-        requires place { place < length boxes.now }
-        requires tournament { IsTournamentBut ((2 ^ self.old.levels + place) / 2)
-            self.old.levels self.old.nodes.items boxes.now }
-        ensures tournament { IsTournament self.new.levels self.new.nodes.items boxes.now }
+    /// Sets the number at a place.
+    pub fn set(&mut self, place: usize, number: u64)
+        requires place { place < length self.old }
+        ensures length { length self.new ≡ length self.old }
+        ensures here { slice_index_or self.new place 0 ≡ number }
+        ensures others { (other : ℕ) → other ≢ place → slice_index_or self.new other 0 ≡ slice_index_or self.old other 0 }
     {
-        let mut node = self.nodes.len() + place;
-        for _ in 0..self.levels {
-            node /= 2;
-            self.renew(boxes, node);
-        }
+        put(&mut self.nodes, self.levels, place, number);
     }
 
-    /// Gives an inner node the lesser values of the two nodes below it.
-    fn renew(&mut self, boxes: &[Mailbox], node: usize)
-        requires node { 1 ≤ node }
-        requires inner { node < length self.old.nodes.items }
-        requires few { length self.old.nodes.items ≤ 2048 }
-        ensures levels { self.new.levels ≡ self.old.levels }
-        ensures renewed { Renews self.old.nodes.items self.new.nodes.items boxes.now node }
+    /// The least number.
+    pub fn least(&self) -> u64
+        ensures least { (place : ℕ) → place < length self.now → result ≤ slice_index_or self.now place 0 }
+        ensures some { (bound : ℕ) → result ≤ bound
+            → (place : ℕ) × (place < length self.now) × (slice_index_or self.now place 0 ≤ bound) }
     {
-        self.nodes[node] = self.lesser(boxes, 2 * node);
+        self.nodes[1]
     }
 
-    /// The lesser values of a node and the next one.
-    fn lesser(&self, boxes: &[Mailbox], node: usize) -> [u64; LENGTHS]
-        requires node { node < 2 ^ 12 }
-        ensures lesser { (bytes : ℕ) → bytes ≤ 8 → slice_index_or result bytes never
-            ≡ min (node_value bytes self.now.nodes.items boxes.now node)
-            (node_value bytes self.now.nodes.items boxes.now (node + 1)) }
-    {
-        let inner = self.nodes.len();
-        if node + 1 < inner {
-            lesser_values(&self.nodes[node], &self.nodes[node + 1])
-        } else {
-            lesser_values(&self.row(boxes, node), &self.row(boxes, node + 1))
-        }
-    }
-
-    /// The values of a node, one for each number of data bytes.
-    #[inline(always)]
-    fn row(&self, boxes: &[Mailbox], node: usize) -> [u64; LENGTHS]
-        ensures row { (bytes : ℕ) → bytes ≤ 8 → slice_index_or result bytes never
-            ≡ node_value bytes self.now.nodes.items boxes.now node }
-    {
-        let inner = self.nodes.len();
-        if node < inner {
-            self.nodes[node]
-        } else {
-            leaf_row(boxes, node - inner)
-        }
-    }
-
-    /// Whether some first request has arrived at `at`. Where none has, all of them come later.
-    pub fn has_arrived(&self, boxes: &[Mailbox], at: u64) -> bool
-        requires tournament { IsTournament self.now.levels self.now.nodes.items boxes.now }
-        ensures none { result ≡ false → (place : ℕ) (d : Mail) → place < length boxes.now
-            → at < arrival_within 8 (slice_index_or boxes.now place d).unsent }
-        ensures some { result ≡ true → at < never → (place : ℕ) × (place < length boxes.now)
-            × ((d : Mail) → arrival_within 8 (slice_index_or boxes.now place d).unsent ≤ at) }
-    {
-        self.soonest(boxes, LENGTHS - 1) <= at
-    }
-
-    /// The value of the top: the least arrival of a first request that has at most so many data bytes, in bit times.
-    fn soonest(&self, boxes: &[Mailbox], bytes: usize) -> u64
-        requires bytes { bytes ≤ 8 }
-        ensures value { result ≡ node_value bytes self.now.nodes.items boxes.now 1 }
-        ensures some { result ≤ never }
-    {
-        self.value(boxes, 1, bytes)
-    }
-
-    /// The value of a node.
-    fn value(&self, boxes: &[Mailbox], node: usize, bytes: usize) -> u64
-        requires bytes { bytes ≤ 8 }
-        ensures value { result ≡ node_value bytes self.now.nodes.items boxes.now node }
-    {
-        let inner = self.nodes.len();
-        if node < inner {
-            self.nodes[node][bytes]
-        } else {
-            leaf_value(boxes, node - inner, bytes)
-        }
-    }
-
-    /// The first mailbox whose first request has arrived at `at` and has at most so many data bytes. Of those before it
-    /// the soonest arrival is told.
-    pub fn first(&self, boxes: &[Mailbox], bytes: usize, at: u64) -> Option<First>
-        requires bytes { bytes ≤ 8 }
-        requires time { at < times_end }
-        requires tournament { IsTournament self.now.levels self.now.nodes.items boxes.now }
+    /// The first number that is at most a bound.
+    pub fn first(&self, bound: u64) -> Option<First>
+        requires bound { bound < never }
         ensures first { MatchOption result
-            ((place : ℕ) (d : Mail) → place < length boxes.now
-            → at < arrival_within bytes (slice_index_or boxes.now place d).unsent)
-            (λ first. (first.place < length boxes.now)
-            × ((d : Mail) → arrival_within bytes (slice_index_or boxes.now first.place d).unsent ≤ at)
-            × (at < first.sooner)
-            × ((place : ℕ) (d : Mail) → place < first.place
-            → first.sooner ≤ arrival_within bytes (slice_index_or boxes.now place d).unsent)) }
+            ((place : ℕ) → place < length self.now → bound < slice_index_or self.now place 0)
+            (λ first. IsFirstWithin bound self.now first.place first.sooner) }
     {
-        if self.value(boxes, 1, bytes) > at {
-            return None;
-        }
-        let mut step = Step {
-            node: 1,
-            sooner: NEVER,
-        };
-        for _ in 0..self.levels {
-            step = self.below(boxes, step, bytes, at);
-        }
-        Some(First {
-            place: step.node - self.nodes.len(),
-            sooner: step.sooner,
-        })
-    }
-
-    /// The least time behind `at` at which a first request has arrived and may start in the window.
-    pub fn next(&self, boxes: &[Mailbox], window: &Window, at: u64) -> Option<u64>
-        requires time { at < times_end }
-        requires tournament { IsTournament self.now.levels self.now.nodes.items boxes.now }
-        ensures next { IsSoonest self.now.nodes.items boxes.now window.now.opened window.now.closed at 9 result }
-    {
-        if self.none_fits(boxes, window, at) {
-            return None;
-        }
-        match self.next_of_any(boxes, window, at) {
-            Some(next) => Some(next),
-            None => self.next_by_length(boxes, window, at),
-        }
-    }
-
-    /// Whether no first request arrives in the window that is short enough to start at `at`. None that is longer starts
-    /// behind that time.
-    fn none_fits(&self, boxes: &[Mailbox], window: &Window, at: u64) -> bool
-        requires time { at < times_end }
-        requires tournament { IsTournament self.now.levels self.now.nodes.items boxes.now }
-        ensures none { result ≡ true
-            → IsSoonest self.now.nodes.items boxes.now window.now.opened window.now.closed at 9 None }
-    {
-        match window.room(at) {
-            Some(bytes) => window.closed < self.soonest(boxes, usize::from(bytes)),
-            None => false,
-        }
-    }
-
-    /// The same time, where the longest frame may start at the soonest arrival: then no other request starts sooner.
-    fn next_of_any(&self, boxes: &[Mailbox], window: &Window, at: u64) -> Option<u64>
-        requires time { at < times_end }
-        requires tournament { IsTournament self.now.levels self.now.nodes.items boxes.now }
-        ensures next { IfSome result (λ next.
-            IsSoonest self.now.nodes.items boxes.now window.now.opened window.now.closed at 9 (Some next)) }
-    {
-        window.earliest(at, self.soonest(boxes, LENGTHS - 1), MOST_BYTES)
-    }
-
-    /// The same time, as the least of those of all numbers of data bytes.
-    fn next_by_length(&self, boxes: &[Mailbox], window: &Window, at: u64) -> Option<u64>
-        requires time { at < times_end }
-        ensures next { IsSoonest self.now.nodes.items boxes.now window.now.opened window.now.closed at 9 result }
-    {
-        let mut least = None;
-        for bytes in 0..LENGTHS as u8 {
-            let arrival = self.soonest(boxes, usize::from(bytes));
-            least = sooner(least, window.earliest(at, arrival, bytes));
-        }
-        least
-    }
-
-    /// The first of the two nodes below one whose value is at most `at`, where one of them is.
-    fn below(&self, boxes: &[Mailbox], step: Step, bytes: usize, at: u64) -> Step
-        requires bytes { bytes ≤ 8 }
-        requires node { step.node < 2 ^ 12 }
-        ensures left { node_value bytes self.now.nodes.items boxes.now (2 * step.node) ≤ at
-            → (result.node ≡ 2 * step.node) × (result.sooner ≡ step.sooner) }
-        ensures right { at < node_value bytes self.now.nodes.items boxes.now (2 * step.node)
-            → (result.node ≡ 2 * step.node + 1)
-            × (result.sooner ≡ min step.sooner (node_value bytes self.now.nodes.items boxes.now (2 * step.node))) }
-    {
-        let left = 2 * step.node;
-        let value = self.value(boxes, left, bytes);
-        if value <= at {
-            Step {
-                node: left,
-                sooner: step.sooner,
-            }
+        if self.nodes[1] <= bound {
+            Some(descend(self.nodes.as_slice(), self.levels, bound))
         } else {
-            Step {
-                node: left + 1,
-                sooner: step.sooner.min(value),
-            }
+            None
+        }
+    }
+
+    /// All numbers.
+    pub fn numbers(&self) -> &[u64]
+        ensures numbers { result.now ≡ self.now }
+    {
+        &self.nodes[self.nodes.len() / 2..]
+    }
+}
+
+/// So many numbers, each of them `NEVER`.
+fn all_never(alloc: Global, count: usize) -> Result<Vec<u64>, AllocError>
+    ensures length { IfOk result (λ nodes. length nodes.items ≡ count) }
+    ensures nothing { IfOk result (λ nodes. (node : ℕ) → node < count → slice_index_or nodes.items node 0 ≡ never) }
+{
+    vec![in alloc; NEVER; count]
+}
+
+/// Sets the number of a leaf, and mends the nodes above it.
+fn put(nodes: &mut Vec<u64>, levels: u32, place: usize, number: u64)
+    requires tree { IsTree levels nodes.old.items }
+    requires place { place < 2 ^ levels }
+    ensures tree { IsTree levels nodes.new.items }
+    ensures here { slice_index_or nodes.new.items (2 ^ levels + place) 0 ≡ number }
+    ensures others { (other : ℕ) → other ≢ place
+        → slice_index_or nodes.new.items (2 ^ levels + other) 0 ≡ slice_index_or nodes.old.items (2 ^ levels + other) 0 }
+{
+    let leaf = nodes.len() / 2 + place;
+    nodes[leaf] = number;
+    mend(nodes, levels, leaf);
+}
+
+/// Brings the nodes above a leaf up to date, from the leaf upwards, until one of them need not change.
+fn mend(nodes: &mut Vec<u64>, levels: u32, leaf: usize)
+    requires leaf { 2 ^ levels ≤ leaf }
+    requires within { leaf < 2 * 2 ^ levels }
+    requires tree { IsTreeBut (leaf / 2) levels nodes.old.items }
+    ensures tree { IsTree levels nodes.new.items }
+    ensures leaves { (node : ℕ) → 2 ^ levels ≤ node → slice_index_or nodes.new.items node 0 ≡ slice_index_or nodes.old.items node 0 }
+{
+    let mut node = leaf;
+    for _ in 0..levels {
+        node /= 2;
+        if !renew(nodes, node) {
+            return;
+        }
+    }
+}
+
+/// Gives an inner node the lesser number of the two below it, and answers whether it had another one.
+#[inline(always)]
+fn renew(nodes: &mut Vec<u64>, node: usize) -> bool
+    requires below { 2 * node + 1 < length nodes.old.items }
+    requires few { length nodes.old.items ≤ 4096 }
+    ensures renewed { Renews nodes.old.items nodes.new.items node }
+    ensures same { result ≡ false → nodes.new.items ≡ nodes.old.items }
+{
+    let lesser = nodes[2 * node].min(nodes[2 * node + 1]);
+    if nodes[node] == lesser {
+        return false;
+    }
+    nodes[node] = lesser;
+    true
+}
+
+/// The first leaf whose number is at most a bound, where the top's number is.
+fn descend(nodes: &[u64], levels: u32, bound: u64) -> First
+    requires tree { IsTree levels nodes.now }
+    requires bound { bound < never }
+    requires top { slice_index_or nodes.now 1 0 ≤ bound }
+    ensures within { result.place < 2 ^ levels }
+    ensures here { slice_index_or nodes.now (2 ^ levels + result.place) 0 ≤ bound }
+    ensures later { bound < result.sooner }
+    ensures most { result.sooner ≤ never }
+    ensures before { (other : ℕ) → other < result.place
+        → result.sooner ≤ slice_index_or nodes.now (2 ^ levels + other) 0 }
+{
+    let mut step = Step {
+        node: 1,
+        sooner: NEVER,
+    };
+    for _ in 0..levels {
+        step = below(nodes, step, bound);
+    }
+    First {
+        place: step.node - nodes.len() / 2,
+        sooner: step.sooner,
+    }
+}
+
+/// The first of the two nodes below one whose number is at most a bound, where one of them is.
+#[inline(always)]
+fn below(nodes: &[u64], step: Step, bound: u64) -> Step
+    requires below { 2 * step.node + 1 < length nodes.now }
+    requires few { length nodes.now ≤ 4096 }
+    ensures left { slice_index_or nodes.now (2 * step.node) 0 ≤ bound
+        → (result.node ≡ 2 * step.node) × (result.sooner ≡ step.sooner) }
+    ensures right { bound < slice_index_or nodes.now (2 * step.node) 0
+        → (result.node ≡ 2 * step.node + 1)
+        × (result.sooner ≡ min step.sooner (slice_index_or nodes.now (2 * step.node) 0)) }
+{
+    let left = 2 * step.node;
+    let number = nodes[left];
+    if number <= bound {
+        Step {
+            node: left,
+            sooner: step.sooner,
+        }
+    } else {
+        Step {
+            node: left + 1,
+            sooner: step.sooner.min(number),
         }
     }
 }
@@ -279,54 +229,4 @@ fn leaves_of(levels: u32) -> usize
     ensures leaves { result ≡ 2 ^ levels }
 {
     1 << levels
-}
-
-/// The arrival of the first request of a mailbox, where there is one and it has at most so many data bytes.
-fn leaf_value(boxes: &[Mailbox], place: usize, bytes: usize) -> u64
-    requires bytes { bytes ≤ 8 }
-    ensures value { (d : Mail) → place < length boxes.now
-        → result ≡ arrival_within bytes (slice_index_or boxes.now place d).unsent }
-    ensures nowhere { length boxes.now ≤ place → result ≡ never }
-{
-    match boxes.get(place) {
-        Some(mailbox) => mailbox.arrival(bytes),
-        None => NEVER,
-    }
-}
-
-/// The lesser of two values for each number of data bytes.
-#[inline(always)]
-fn lesser_values(one: &[u64; LENGTHS], other: &[u64; LENGTHS]) -> [u64; LENGTHS]
-    ensures lesser { (bytes : ℕ) → bytes ≤ 8 → slice_index_or result bytes never
-        ≡ min (slice_index_or one.now bytes never) (slice_index_or other.now bytes never) }
-{
-    let mut least = [NEVER; LENGTHS];
-    for bytes in 0..LENGTHS {
-        least[bytes] = one[bytes].min(other[bytes]);
-    }
-    least
-}
-
-/// The arrivals of the first request of a mailbox, where there is one, for each number of data bytes.
-#[inline(always)]
-fn leaf_row(boxes: &[Mailbox], place: usize) -> [u64; LENGTHS]
-    ensures row { (bytes : ℕ) (d : Mail) → bytes ≤ 8 → place < length boxes.now
-        → slice_index_or result bytes never ≡ arrival_within bytes (slice_index_or boxes.now place d).unsent }
-    ensures nowhere { (bytes : ℕ) → bytes ≤ 8 → length boxes.now ≤ place
-        → slice_index_or result bytes never ≡ never }
-{
-    match boxes.get(place) {
-        Some(mailbox) => mailbox.arrivals(),
-        None => [NEVER; LENGTHS],
-    }
-}
-
-/// The lesser of two times, either of which may be none.
-fn sooner(one: Option<u64>, other: Option<u64>) -> Option<u64>
-    ensures sooner { result ≡ least_of (option_to_list one ++ option_to_list other) }
-{
-    match one {
-        Some(first) => Some(first.min(other.unwrap_or(first))),
-        None => other,
-    }
 }

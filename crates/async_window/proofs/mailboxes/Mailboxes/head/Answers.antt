@@ -18,7 +18,7 @@ returns-then-place-boxes-clause-head c =
     c.frame.ensures.frame
     ∙ ap (λ (x : Mail). option_map (λ (request : Request). request.frame) (slice_get x.unsent 0)) read
     ∙ ap (λ xs. option_map (λ (request : Request). request.frame) (slice_get xs 0))
-    (sym (unsent-placed c.self.inside.ids.items c.self.inside.boxes.items c.self.inside.places.items c.self.inside.firsts.levels c.self.inside.firsts.nodes.items
+    (sym (unsent-placed c.self.inside.ids.items c.self.inside.boxes.items c.self.inside.places.items c.self.inside.firsts.arrivals c.self.inside.firsts.lengths
     c.self.inside.remaining c.self.invariant c.args.id c.place_of-place.result box is within)
     ∙ ap (λ mail. unsent_of mail c.args.id) c.self.view_is)
 
@@ -29,6 +29,6 @@ returns-else-place-boxes-clause-head c =
     let past : length c.self.inside.boxes.items ≤ c.place_of-place.result
     = subst (λ (mail : List Mail). length mail ≤ c.place_of-place.result) c.as_slice-boxes.ensures.value c.if-place-boxes.false in
     ap (λ xs. option_map (λ (request : Request). request.frame) (slice_get xs 0))
-    (sym (unsent-nowhere c.self.inside.ids.items c.self.inside.boxes.items c.self.inside.places.items c.self.inside.firsts.levels c.self.inside.firsts.nodes.items
+    (sym (unsent-nowhere c.self.inside.ids.items c.self.inside.boxes.items c.self.inside.places.items c.self.inside.firsts.arrivals c.self.inside.firsts.lengths
     c.self.inside.remaining c.self.invariant c.args.id c.place_of-place.result is past)
     ∙ ap (λ mail. unsent_of mail c.args.id) c.self.view_is)

@@ -4,7 +4,7 @@ use Rattle.std.proofs.lemmas.List.{take_at, length-map}
 use Rattle.std.proofs.lemmas.List.Elements.{All-weaker}
 use Rattle.async_window.specs.Mailbox.{Mail, left, mail_after}
 use Rattle.async_window.specs.Adding.{with_request}
-use Rattle.async_window.specs.Tournament.{IsTournament}
+use Rattle.async_window.specs.Tournament.{TellFirsts}
 use Rattle.async_window.specs.Sorted.{AreKept, IsPlaceTable, mail_of, nowhere}
 use Rattle.async_window.proofs.Table.{few-rising}
 use Rattle.async_window.proofs.Steps.{HasPut, HasPut-none, HasPut-more, IsPlaceTable-put, rising-put}
@@ -88,15 +88,15 @@ pub invariant_of-result : goal.invariant_of-result
 invariant_of-result c =
     let made = is-made (goal.at.invariant_of-result c).In_ok-sorted in
     let copied : c.in_ok-to_vec.field-0.items ≡ c.args.ids.now = c.in_ok-to_vec.ensures.items_if_clones_equal (search rules) in
-    subst (λ ids. AreKept ids c.loop-request.boxes.items c.in_ok-places.places.items c.in_ok-firsts.firsts.levels
-    c.in_ok-firsts.firsts.nodes.items c.loop-request.remaining) (sym copied)
+    subst (λ ids. AreKept ids c.loop-request.boxes.items c.in_ok-places.places.items c.in_ok-firsts.firsts.arrivals
+    c.in_ok-firsts.firsts.lengths c.loop-request.remaining) (sym copied)
     (AreKept-made c.args.ids.now c.in_ok-sorted.sorted.items c.args.requests.now made c.loop-request.request-index c.loop-request.remaining
-    c.in_ok-firsts.firsts.levels c.loop-request.boxes.items c.in_ok-places.places.items c.in_ok-firsts.firsts.nodes.items
+    c.loop-request.boxes.items c.in_ok-places.places.items c.in_ok-firsts.firsts.arrivals c.in_ok-firsts.firsts.lengths
     c.loop-request-test.false c.loop-request.invariant c.in_ok-places.ensures.length
     (subst (λ ids. (id place : ℕ) → id < 2048 → place < nowhere → (slice_get c.in_ok-places.places.items id ≡ Some place)
     ↔ (slice_get ids place ≡ Some id)) c.as_slice.ensures.value c.in_ok-places.ensures.places)
-    (subst (λ mail. IsTournament c.in_ok-firsts.firsts.levels c.in_ok-firsts.firsts.nodes.items mail) c.as_slice-5.ensures.value
-    c.in_ok-firsts.ensures.tournament))
+    (subst (λ (mail : List Mail). TellFirsts (length mail) mail c.in_ok-firsts.firsts.arrivals c.in_ok-firsts.firsts.lengths)
+    c.as_slice-5.ensures.value c.in_ok-firsts.ensures.firsts))
 
 pub returns : goal.returns
 returns c =

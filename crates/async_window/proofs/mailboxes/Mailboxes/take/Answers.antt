@@ -1,12 +1,12 @@
-use Rattle.std.proofs.Common.{◌≡◌, ◌+◌, ◌/◌, ◌^◌, ◌<◌, false, true, length, set, sym, ap, ◌∙◌, subst, arith, rules}
+use Rattle.std.proofs.Common.{◌≡◌, ◌<◌, false, true, List, length, set, sym, ap, ◌∙◌, subst, arith, rules}
 use Rattle.std.specs.List.{slice_get}
 use Rattle.std.specs.Option.{IsSome, is_some}
 use Rattle.std.proofs.lemmas.List.{length-set}
-use Rattle.async_window.specs.Mailbox.{unsent_of, without_first}
-use Rattle.async_window.specs.Tournament.{IsTournament, IsTournamentBut}
+use Rattle.async_window.specs.Mailbox.{Mail, unsent_of, without_first}
+use Rattle.async_window.specs.Tournament.{Notes, arrival_within, first_length}
 use Rattle.async_window.specs.Sorted.{IsPlaceOf, mail_of}
 use Rattle.async_window.proofs.Unsent.{unsent_of-without}
-use Rattle.async_window.proofs.Kept.{AreKept-taken, mail-taken, nothing-taken, place-within, some-left, some-request, tournament-taken}
+use Rattle.async_window.proofs.Kept.{AreKept-taken, mail-taken, nothing-taken, place-within, some-left, some-request}
 use Rattle.async_window.proofs.mailboxes.Mailboxes.take.Goals as goal
 use Rattle.async_window.proofs.mailboxes.Mailboxes.take.Goals.{After-has_request, After-take_first}
 
@@ -22,8 +22,8 @@ is-found : (c : After-has_request)
     ≡ is_some (slice_get (unsent_of (mail_of c.self.inside.ids.items c.self.inside.boxes.items) c.args.id) 0)
 is-found c =
     some-request c.self.inside.ids.items c.self.inside.boxes.items c.self.inside.places.items
-    c.self.inside.firsts.levels
-    c.self.inside.firsts.nodes.items c.self.inside.remaining c.self.invariant c.args.id c.place_of-place.result c.has_request.result
+    c.self.inside.firsts.arrivals
+    c.self.inside.firsts.lengths c.self.inside.remaining c.self.invariant c.args.id c.place_of-place.result c.has_request.result
     c.as_slice-2.result.now (is-place c) c.as_slice-2.ensures.value c.has_request.ensures.within
     c.has_request.ensures.some
 
@@ -32,8 +32,8 @@ is-within : (c : After-has_request) → c.has_request.result ≡ true
     → c.place_of-place.result < length c.self.inside.boxes.items
 is-within c found =
     place-within c.self.inside.ids.items c.self.inside.boxes.items c.self.inside.places.items
-    c.self.inside.firsts.levels
-    c.self.inside.firsts.nodes.items c.self.inside.remaining c.self.invariant c.args.id c.place_of-place.result
+    c.self.inside.firsts.arrivals
+    c.self.inside.firsts.lengths c.self.inside.remaining c.self.invariant c.args.id c.place_of-place.result
     (is-place c)
     (sym (is-found c) ∙ found)
 
@@ -43,8 +43,8 @@ is-taken : (c : After-take_first) → IsPlaceOf c.self.inside.places.items c.arg
     → mail_of c.self.inside.ids.items (set c.self.inside.boxes.items c.place_of-place.result c.take_first.new.self)
     ≡ without_first c.args.id c.args.self.now
 is-taken c is some =
-    mail-taken c.self.inside.ids.items c.self.inside.boxes.items c.self.inside.places.items c.self.inside.firsts.levels
-    c.self.inside.firsts.nodes.items c.self.inside.remaining c.self.invariant c.args.id c.place_of-place.result
+    mail-taken c.self.inside.ids.items c.self.inside.boxes.items c.self.inside.places.items c.self.inside.firsts.arrivals
+    c.self.inside.firsts.lengths c.self.inside.remaining c.self.invariant c.args.id c.place_of-place.result
     c.index_mut.result.now c.take_first.new.self is some c.index_mut.ensures.value c.take_first.ensures.taken
     ∙ ap (λ mail. without_first c.args.id mail) c.self.view_is
 
@@ -53,41 +53,47 @@ index_mut-requires c =
     let within = is-within (goal.at.index_mut-requires c).After-has_request c.if-not-has_request.false in
     search rules
 
-pub mend-requires-clause-place : goal.mend-requires-clause-place
-mend-requires-clause-place c =
-    let within = is-within (goal.at.mend-requires-clause-place c).After-has_request c.if-not-has_request.false in
-    let long : length c.as_slice-3.result.now ≡ length c.self.inside.boxes.items
-    = ap (λ mail. length mail) c.as_slice-3.ensures.value
-    ∙ length-set c.self.inside.boxes.items c.place_of-place.result c.take_first.new.self in
+-- the mailboxes with the changed one are as many
+is-long : (c : After-take_first) (mail : List Mail)
+    → mail ≡ set c.self.inside.boxes.items c.place_of-place.result c.take_first.new.self
+    → length mail ≡ length c.self.inside.boxes.items
+is-long c mail is =
+    ap (λ (xs : List Mail). length xs) is ∙ length-set c.self.inside.boxes.items c.place_of-place.result c.take_first.new.self
+
+pub note-requires-clause-place : goal.note-requires-clause-place
+note-requires-clause-place c =
+    let within = is-within (goal.at.note-requires-clause-place c).After-has_request c.if-not-has_request.false in
+    let long = is-long (goal.at.note-requires-clause-place c).After-take_first c.as_slice-3.result.now c.as_slice-3.ensures.value in
     omega arith
 
-pub mend-requires-clause-tournament : goal.mend-requires-clause-tournament
-mend-requires-clause-tournament c =
-    let tested = (goal.at.mend-requires-clause-tournament c).After-has_request in
-    subst (λ mail. IsTournamentBut ((2 ^ c.self.inside.firsts.levels + c.place_of-place.result) / 2) c.self.inside.firsts.levels
-    c.self.inside.firsts.nodes.items mail) (sym c.as_slice-3.ensures.value)
-    (tournament-taken c.self.inside.ids.items c.self.inside.boxes.items c.self.inside.places.items
-    c.self.inside.firsts.levels
-    c.self.inside.firsts.nodes.items c.self.inside.remaining c.self.invariant c.args.id c.place_of-place.result
-    c.index_mut.result.now c.take_first.new.self (is-place tested) (sym (is-found tested) ∙ c.if-not-has_request.false)
-    c.index_mut.ensures.value c.take_first.ensures.taken)
+pub note-requires-clause-arrivals : goal.note-requires-clause-arrivals
+note-requires-clause-arrivals c =
+    let long = is-long (goal.at.note-requires-clause-arrivals c).After-take_first c.as_slice-3.result.now c.as_slice-3.ensures.value in
+    omega (arith, c.self.invariant.firsts.arrive.room)
+
+pub note-requires-clause-lengths : goal.note-requires-clause-lengths
+note-requires-clause-lengths c =
+    let long = is-long (goal.at.note-requires-clause-lengths c).After-take_first c.as_slice-3.result.now c.as_slice-3.ensures.value in
+    omega (arith, c.self.invariant.firsts.long.room)
 
 pub overflow_sub-self : goal.overflow_sub-self
 overflow_sub-self c =
-    some-left c.self.inside.ids.items c.self.inside.boxes.items c.self.inside.places.items c.self.inside.firsts.levels
-    c.self.inside.firsts.nodes.items c.self.inside.remaining c.self.invariant c.args.id
+    some-left c.self.inside.ids.items c.self.inside.boxes.items c.self.inside.places.items c.self.inside.firsts.arrivals
+    c.self.inside.firsts.lengths c.self.inside.remaining c.self.invariant c.args.id
     (sym (is-found (goal.at.overflow_sub-self c).After-has_request) ∙ c.if-not-has_request.false)
 
 pub invariant_of-self : goal.invariant_of-self
 invariant_of-self c =
     let tested = (goal.at.invariant_of-self c).After-has_request in
     AreKept-taken c.self.inside.ids.items c.self.inside.boxes.items c.self.inside.places.items
-    c.self.inside.firsts.levels
-    c.self.inside.firsts.nodes.items c.self.inside.remaining c.self.invariant c.args.id c.place_of-place.result
+    c.self.inside.firsts.arrivals
+    c.self.inside.firsts.lengths c.self.inside.remaining c.self.invariant c.args.id c.place_of-place.result
     c.index_mut.result.now c.take_first.new.self (is-place tested) (sym (is-found tested) ∙ c.if-not-has_request.false)
-    c.index_mut.ensures.value c.take_first.ensures.taken c.mend.new.self.levels c.mend.new.self.nodes.items
-    (subst (λ mail. IsTournament c.mend.new.self.levels c.mend.new.self.nodes.items mail) c.as_slice-3.ensures.value
-    c.mend.ensures.tournament)
+    c.index_mut.ensures.value c.take_first.ensures.taken c.note.new.self.arrivals c.note.new.self.lengths
+    (subst (λ mail. Notes (arrival_within 8) mail c.place_of-place.result c.self.inside.firsts.arrivals c.note.new.self.arrivals)
+    c.as_slice-3.ensures.value c.note.ensures.arrivals)
+    (subst (λ mail. Notes first_length mail c.place_of-place.result c.self.inside.firsts.lengths c.note.new.self.lengths)
+    c.as_slice-3.ensures.value c.note.ensures.lengths)
 
 pub returns-clause-taken : goal.returns-clause-taken
 returns-clause-taken c =
@@ -110,8 +116,8 @@ returns-then-not-has_request c =
     = sym c.if-not-has_request.true ∙ is-found (goal.at.returns-then-not-has_request c).After-has_request in
     let nothing : c.args.self.now ≡ without_first c.args.id c.args.self.now
     = subst (λ mail. mail ≡ without_first c.args.id mail) c.self.view_is
-    (nothing-taken c.self.inside.ids.items c.self.inside.boxes.items c.self.inside.places.items c.self.inside.firsts.levels
-    c.self.inside.firsts.nodes.items c.self.inside.remaining c.self.invariant c.args.id none) in
+    (nothing-taken c.self.inside.ids.items c.self.inside.boxes.items c.self.inside.places.items c.self.inside.firsts.arrivals
+    c.self.inside.firsts.lengths c.self.inside.remaining c.self.invariant c.args.id none) in
     record {
       taken = nothing;
       unsent = λ other. ap (λ mail. unsent_of mail other) nothing ∙ unsent_of-without c.args.id c.args.self.now other;

@@ -1,4 +1,4 @@
-use Rattle.std.proofs.Common.{◌≡◌, ℕ, ◌+◌, ◌<◌, ◌≤◌, None, List, length, get_or, refl, subst, IsSome}
+use Rattle.std.proofs.Common.{ℕ, ◌+◌, ◌<◌, ◌≤◌, None, List, length, get_or, refl, subst, IsSome}
 use Rattle.stuff_bound.specs.Stuffing.{worst}
 use Rattle.async_window.specs.Mailbox.{IsNextInCycle, Mail, mail_offer}
 use Rattle.async_window.specs.Tournament.{IsSoonest, arrival_within}
@@ -11,10 +11,10 @@ returns c = record {
       subst (λ mail. IsNextInCycle c.args.layout.now.cycle c.args.at (λ later. IsSome (mail_offer c.args.layout.now c.args.l mail later)) c.next.result)
       c.self.view_is
       (next-offer c.args.layout.now c.args.l c.args.at c.self.inside.ids.items c.self.inside.boxes.items c.self.inside.places.items
-      c.self.inside.firsts.levels c.self.inside.firsts.nodes.items c.self.inside.remaining c.self.invariant c.window_in-window.ensures.known
+      c.self.inside.firsts.arrivals c.self.inside.firsts.lengths c.self.inside.remaining c.self.invariant c.window_in-window.ensures.known
       c.requires.time c.window_in-window.result.opened c.window_in-window.result.closed c.next.result c.window_in-window.ensures.opened
       c.window_in-window.ensures.closed
-      (subst (λ mail. IsSoonest c.self.inside.firsts.nodes.items mail c.window_in-window.result.opened c.window_in-window.result.closed c.args.at 9
+      (subst (λ (mail : List Mail). IsSoonest mail c.window_in-window.result.opened c.window_in-window.result.closed c.args.at (length mail)
       c.next.result) c.as_slice-boxes.ensures.value c.next.ensures.next));
 }
 
@@ -24,23 +24,21 @@ returns-then-is_over c = record {
       subst (λ mail. IsNextInCycle c.args.layout.now.cycle c.args.at (λ later. IsSome (mail_offer c.args.layout.now c.args.l mail later)) None)
       c.self.view_is
       (none-behind c.args.layout.now c.args.l c.self.inside.ids.items c.self.inside.boxes.items c.self.inside.places.items
-      c.self.inside.firsts.levels c.self.inside.firsts.nodes.items c.self.inside.remaining c.self.invariant c.args.at
+      c.self.inside.firsts.arrivals c.self.inside.firsts.lengths c.self.inside.remaining c.self.invariant c.args.at
       (subst (λ n. n ≤ c.args.at + worst 0) c.window_in-window.ensures.closed (c.if-is_over.ensures.over.0 refl)));
 }
 
 pub returns-then-not-has_arrived : goal.returns-then-not-has_arrived
 returns-then-not-has_arrived c =
-    let slice : c.as_slice-boxes.result.now ≡ c.self.inside.boxes.items = c.as_slice-boxes.ensures.value in
-    let far : (k : ℕ) (d : Mail) → k < length c.self.inside.boxes.items
-    → c.window_in-window.result.closed < arrival_within 8 (get_or c.self.inside.boxes.items k d).unsent
-    = subst (λ (mail : List Mail). (k : ℕ) (d : Mail) → k < length mail
-    → c.window_in-window.result.closed < arrival_within 8 (get_or mail k d).unsent) slice (c.if-not-has_arrived.ensures.none refl) in
+    let boxes : List Mail = c.self.inside.boxes.items in
+    let far : (k : ℕ) (d : Mail) → k < length boxes → c.window_in-window.result.closed < arrival_within 8 (get_or boxes k d).unsent
+    = c.if-not-has_arrived.ensures.none boxes c.self.invariant.firsts refl in
     record {
       next =
           subst (λ mail. IsNextInCycle c.args.layout.now.cycle c.args.at (λ later. IsSome (mail_offer c.args.layout.now c.args.l mail later)) None)
           c.self.view_is
           (none-until c.args.layout.now c.args.l c.self.inside.ids.items c.self.inside.boxes.items c.self.inside.places.items
-          c.self.inside.firsts.levels c.self.inside.firsts.nodes.items c.self.inside.remaining c.self.invariant c.args.at
-          (subst (λ n. (k : ℕ) (d : Mail) → k < length c.self.inside.boxes.items
-          → n < arrival_within 8 (get_or c.self.inside.boxes.items k d).unsent) c.window_in-window.ensures.closed far));
+          c.self.inside.firsts.arrivals c.self.inside.firsts.lengths c.self.inside.remaining c.self.invariant c.args.at
+          (subst (λ n. (k : ℕ) (d : Mail) → k < length boxes
+          → n < arrival_within 8 (get_or boxes k d).unsent) c.window_in-window.ensures.closed far));
     }

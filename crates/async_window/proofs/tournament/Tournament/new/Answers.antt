@@ -1,32 +1,25 @@
-use Rattle.std.proofs.Common.{◌≡◌, ◌+◌, ◌-◌, ◌^◌, ◌≤◌, sym, ◌∙◌, subst, arith, rules}
-use Rattle.std.proofs.Math.Nat.{one-le-pow}
-use Rattle.async_window.specs.Tournament.{IsTournament, Renews}
-use Rattle.async_window.proofs.Levels.{levels-low}
-use Rattle.async_window.proofs.Trees.{IsRenewedFrom-more, IsTournament-renewed}
+use Rattle.std.proofs.Common.{◌≡◌, ℕ, ◌*◌, ◌^◌, ◌<◌, length, get_or, arith}
+use Rattle.async_window.specs.Tournament.{never}
+use Rattle.async_window.proofs.Trees.{IsTree-never, numbers-length, numbers-never}
 use Rattle.async_window.proofs.tournament.Tournament.new.Goals as goal
+use Rattle.async_window.proofs.tournament.Tournament.new.Goals.{In_ok-nodes}
 
-pub renew-requires-clause-few : goal.renew-requires-clause-few
-renew-requires-clause-few c =
-    let has = c.loop-done.invariant.renewed (2 ^ c.levels_for-levels.result + 1 - c.loop-done.done) (omega (arith, c.loop-done-test.true, c.leaves_of-inner.ensures)) in
-    subst (λ n. n ≤ 2048) (sym has.size) (levels-low c.levels_for-levels.result c.levels_for-levels.ensures.low)
+is-long : (c : In_ok-nodes) → length c.in_ok-nodes.nodes.items ≡ 2 * 2 ^ c.levels_for-levels.result
+is-long c = omega (arith, c.in_ok-nodes.ensures.length, c.leaves_of.ensures)
 
-pub loop-done-preserved : goal.loop-done-preserved
-loop-done-preserved c = record {
-  levels = c.renew.ensures.levels ∙ c.loop-done.invariant.levels;
-  renewed = λ from is.
-      let at : c.leaves_of-inner.result - c.loop-done.done ≡ from = omega (arith, is, c.loop-done-test.true, c.leaves_of-inner.ensures) in
-      IsRenewedFrom-more c.levels_for-levels.result from c.loop-done.made.nodes.items c.renew.new.self.nodes.items c.args.boxes.now (omega (arith, is, c.loop-done-test.true, c.leaves_of-inner.ensures))
-      (subst (λ n. Renews c.loop-done.made.nodes.items c.renew.new.self.nodes.items c.args.boxes.now n) at c.renew.ensures.renewed)
-      (c.loop-done.invariant.renewed (from + 1) (omega (arith, is)));
-}
+is-never : (c : In_ok-nodes) (node : ℕ) → node < 2 * 2 ^ c.levels_for-levels.result → get_or c.in_ok-nodes.nodes.items node 0 ≡ never
+is-never c node below = c.in_ok-nodes.ensures.nothing node (omega (arith, c.leaves_of.ensures))
+
+pub invariant_of-result : goal.invariant_of-result
+invariant_of-result c =
+    let made = (goal.at.invariant_of-result c).In_ok-nodes in
+    IsTree-never c.levels_for-levels.result c.in_ok-nodes.nodes.items c.levels_for-levels.ensures.low (is-long made) (is-never made)
 
 pub returns : goal.returns
 returns c =
-    let some : 1 ≤ 2 ^ c.levels_for-levels.result = one-le-pow c.levels_for-levels.result 2 (omega arith) in
+    let made = (goal.at.returns c).In_ok-nodes in
+    let tree = IsTree-never c.levels_for-levels.result c.in_ok-nodes.nodes.items c.levels_for-levels.ensures.low (is-long made) (is-never made) in
     record {
-      tournament =
-          subst (λ n. IsTournament n c.loop-done.made.nodes.items c.args.boxes.now) (sym c.loop-done.invariant.levels)
-          (IsTournament-renewed c.levels_for-levels.result c.loop-done.made.nodes.items c.args.boxes.now c.levels_for-levels.ensures.low
-          (search rules)
-          (c.loop-done.invariant.renewed 1 (omega (arith, c.loop-done-test.false, c.loop-done.auto, c.leaves_of-inner.ensures, some))));
+      room = omega (arith, c.levels_for-levels.ensures.room, numbers-length c.levels_for-levels.result c.in_ok-nodes.nodes.items tree);
+      nothing = numbers-never c.levels_for-levels.result c.in_ok-nodes.nodes.items (is-long made) (is-never made);
     }

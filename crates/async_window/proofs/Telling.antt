@@ -1,0 +1,137 @@
+-- Numbers that tell of the first requests of mailboxes: how they are noted.
+use Rattle.std.proofs.Common.{◌≡◌, ℕ, ◌+◌, ◌^◌, ◌<◌, ◌≤◌, Option, None, Some, List, length, get_or, set, inl, inr, sym, ap, ◌∙◌, subst, arith}
+use Rattle.std.proofs.lemmas.Bool.{cases_eq, cases_lt}
+use Rattle.std.proofs.lemmas.List.{get_or-set_other, get_or_default, length-set}
+use Rattle.async_window.specs.declared.request.Request.{Request}
+use Rattle.async_window.specs.Mailbox.{Mail, IsLeastWith}
+use Rattle.async_window.specs.Tournament.{never, nobody, IsFirstWithin, IsSoonest, Tell, Notes, TellFirsts, arrival_within, first_bytes, first_length}
+use Rattle.stuff_bound.specs.Stuffing.{worst}
+use Rattle.std.specs.Prelude.{IfSome}
+use Rattle.async_window.proofs.Soonest.{arrives-later, sooner-within}
+
+-- nothing is told yet
+pub Tell-none : (told : List Request → ℕ) (boxes : List Mail) (numbers : List ℕ) → length boxes ≤ length numbers
+    → ((place : ℕ) → place < length numbers → get_or numbers place 0 ≡ never) → Tell 0 told boxes numbers
+Tell-none told boxes numbers room none = record {
+  room = room;
+  each = λ place d before within. absurd (omega arith);
+  rest = λ place past within. none place within;
+}
+
+-- one mailbox more
+pub Tell-more : (place : ℕ) (told : List Request → ℕ) (boxes : List Mail) (old new : List ℕ) → Notes told boxes place old new
+    → Tell place told boxes old → Tell (place + 1) told boxes new
+Tell-more place told boxes old new notes tell = record {
+  room = omega (arith, tell.room, notes.length);
+  each = λ other d before within. elim (cases_eq other place) [
+    | inl same ↦ subst (λ n. get_or new n 0 ≡ told (get_or boxes n d).unsent) (sym same) (notes.here d)
+    | inr apart ↦ notes.others other apart ∙ tell.each other d (omega arith) within
+  ];
+  rest = λ other past within.
+      notes.others other (λ same. absurd (omega arith)) ∙ tell.rest other (omega arith) (omega (arith, notes.length));
+}
+
+-- the mailbox at a place changed, and is noted
+pub Tell-noted : (place : ℕ) (box : Mail) (told : List Request → ℕ) (boxes : List Mail) (old new : List ℕ)
+    → Notes told (set boxes place box) place old new → place < length boxes → Tell (length boxes) told boxes old
+    → Tell (length (set boxes place box)) told (set boxes place box) new
+Tell-noted place box told boxes old new notes inside tell =
+    let long : length (set boxes place box) ≡ length boxes = length-set boxes place box in
+    record {
+      room = omega (arith, tell.room, notes.length, long);
+      each = λ other d before within. elim (cases_eq other place) [
+        | inl same ↦ subst (λ n. get_or new n 0 ≡ told (get_or (set boxes place box) n d).unsent) (sym same) (notes.here d)
+        | inr apart ↦
+            notes.others other apart
+            ∙ tell.each other d (omega arith) (omega arith)
+            ∙ ap (λ (x : Mail). told x.unsent) (sym (get_or-set_other boxes place other box d apart))
+      ];
+      rest = λ other past within.
+          notes.others other (λ same. absurd (omega arith)) ∙ tell.rest other (omega arith) (omega (arith, notes.length));
+    }
+
+-- a number that comes is that of a mailbox
+pub told-within : (told : List Request → ℕ) (boxes : List Mail) (numbers : List ℕ) → Tell (length boxes) told boxes numbers
+    → (place bound : ℕ) → place < length numbers → get_or numbers place 0 ≤ bound → bound < never → place < length boxes
+told-within told boxes numbers tell place bound within low time =
+    elim (cases_lt place (length boxes)) [
+      | inl inside ↦ inside
+      | inr past ↦ let nothing : get_or numbers place 0 ≡ never = tell.rest place past within in absurd (omega arith)
+    ]
+
+pub told-at : (told : List Request → ℕ) (boxes : List Mail) (numbers : List ℕ) → Tell (length boxes) told boxes numbers
+    → (place : ℕ) (d : Mail) → place < length boxes → get_or numbers place 0 ≡ told (get_or boxes place d).unsent
+told-at told boxes numbers tell place d within = tell.each place d within within
+
+module _ (told : List Request → ℕ) (boxes : List Mail) (numbers : List ℕ) (tell : Tell (length boxes) told boxes numbers) (least : ℕ)
+    (low : (place : ℕ) → place < length numbers → least ≤ get_or numbers place 0)
+    (some : (bound : ℕ) → least ≤ bound → (place : ℕ) × (place < length numbers) × (get_or numbers place 0 ≤ bound)) where
+  -- what the least number says of all mailboxes, and of one
+  pub least-told : (place : ℕ) (d : Mail) → place < length boxes → least ≤ told (get_or boxes place d).unsent
+  least-told place d within =
+      subst (λ n. least ≤ n) (told-at told boxes numbers tell place d within) (low place (omega (arith, tell.room)))
+
+  pub some-told : (bound : ℕ) → bound < never → least ≤ bound
+      → (place : ℕ) × (place < length boxes) × ((d : Mail) → told (get_or boxes place d).unsent ≤ bound)
+  some-told bound time here =
+      let found = some bound here in
+      let within : found.0 < length boxes = told-within told boxes numbers tell found.0 bound found.1 found.2 time in
+      (found.0, within, λ d. subst (λ n. n ≤ bound) (told-at told boxes numbers tell found.0 d within) found.2)
+
+-- both kinds of numbers
+pub TellFirsts-noted : (place : ℕ) (box : Mail) (boxes : List Mail) (arrivals lengths new_arrivals new_lengths : List ℕ)
+    → Notes (arrival_within 8) (set boxes place box) place arrivals new_arrivals
+    → Notes first_length (set boxes place box) place lengths new_lengths → place < length boxes
+    → TellFirsts (length boxes) boxes arrivals lengths
+    → TellFirsts (length (set boxes place box)) (set boxes place box) new_arrivals new_lengths
+TellFirsts-noted place box boxes arrivals lengths new_arrivals new_lengths arrive long inside tell = record {
+  arrive = Tell-noted place box (arrival_within 8) boxes arrivals new_arrivals arrive inside tell.arrive;
+  long = Tell-noted place box first_length boxes lengths new_lengths long inside tell.long;
+}
+
+-- the first mailbox whose first request has arrived, by the numbers
+module _ (bytes at : ℕ) (few : bytes ≤ 8) (time : at < never) (boxes : List Mail) (arrivals : List ℕ)
+    (tell : Tell (length boxes) (arrival_within 8) boxes arrivals) where
+  pub none-first : ((place : ℕ) → place < length arrivals → at < get_or arrivals place 0) → (place : ℕ) (d : Mail) → place < length boxes
+      → at < arrival_within bytes (get_or boxes place d).unsent
+  none-first none place d within =
+      arrives-later bytes at (get_or boxes place d).unsent few time
+      (subst (λ n. at < n) (told-at (arrival_within 8) boxes arrivals tell place d within) (none place (omega (arith, tell.room))))
+
+  pub first-within : (place sooner : ℕ) → IsFirstWithin at arrivals place sooner → place < length boxes
+  first-within place sooner first = told-within (arrival_within 8) boxes arrivals tell place at first.within first.here time
+
+  pub first-before : (place sooner : ℕ) → IsFirstWithin at arrivals place sooner → (other : ℕ) (d : Mail) → other < place
+      → sooner ≤ arrival_within bytes (get_or boxes other d).unsent
+  first-before place sooner first other d less =
+      sooner-within bytes sooner (get_or boxes other d).unsent few first.most
+      (subst (λ n. sooner ≤ n)
+      (told-at (arrival_within 8) boxes arrivals tell other d (omega (arith, first-within place sooner first))) (first.before other less))
+
+-- where the request that arrives soonest may start then, no other one starts sooner
+pub soonest-starts : (boxes : List Mail) (arrivals : List ℕ) (opened closed at soonest place sooner bytes : ℕ) (box : Mail) (found : Option ℕ)
+    → closed < 2 ^ 64 → soonest < closed → Tell (length boxes) (arrival_within 8) boxes arrivals
+    → ((other : ℕ) → other < length arrivals → soonest ≤ get_or arrivals other 0) → IsFirstWithin soonest arrivals place sooner
+    → box ≡ get_or boxes place box → bytes ≡ first_bytes box.unsent
+    → IsLeastWith (λ later. (at < later) × (soonest ≤ later) × (opened ≤ later) × (later + worst bytes ≤ closed)) found
+    → IfSome found (λ next. IsSoonest boxes opened closed at (length boxes) (Some next))
+soonest-starts boxes arrivals opened closed at soonest place sooner bytes box None wide early tell low first read long least = tt
+soonest-starts boxes arrivals opened closed at soonest place sooner bytes box (Some next) wide early tell low first read long least =
+    let within : place < length boxes
+    = told-within (arrival_within 8) boxes arrivals tell place soonest first.within first.here (omega arith) in
+    let here : box ≡ get_or boxes place nobody = read ∙ get_or_default boxes place box nobody within in
+    let soon : arrival_within 8 (get_or boxes place nobody).unsent ≤ soonest
+    = subst (λ n. n ≤ soonest) (told-at (arrival_within 8) boxes arrivals tell place nobody within) first.here in
+    let fits : next + worst bytes ≤ closed = least.0.3 in
+    let whole : next + worst (first_bytes (get_or boxes place nobody).unsent) ≤ closed
+    = subst (λ (x : Mail). next + worst (first_bytes x.unsent) ≤ closed) here (subst (λ n. next + worst n ≤ closed) long fits) in (
+      (place, within, record { behind = least.0.0; arrived = omega (arith, least.0.1); from = least.0.2; whole = whole }),
+      λ later has. elim (cases_lt later next) [
+        | inl before ↦
+            let high : soonest ≤ arrival_within 8 (get_or boxes has.0 nobody).unsent
+            = subst (λ n. soonest ≤ n) (told-at (arrival_within 8) boxes arrivals tell has.0 nobody has.1)
+            (low has.0 (omega (arith, tell.room, has.1))) in
+            least.1 later (has.2.behind, omega (arith, has.2.arrived), has.2.from, omega arith)
+        | inr after ↦ omega arith
+      ],
+    )
