@@ -1,11 +1,18 @@
 -- Places on the walk over a planning: the planning stands at the state, or passes the cycles from there on.
-use Rattle.std.proofs.Common.{◌≡◌, ℕ, ◌+◌, ◌<◌, ◌≤◌, Some, sym, ◌∙◌, subst, arith}
+use Rattle.std.proofs.Common.{◌≡◌, ℕ, ◌+◌, ◌<◌, ◌≤◌, Some, sym, ap, ◌∙◌, subst, arith}
 use Rattle.planner_policies.specs.declared.state.PlanState.{PlanState}
 use Rattle.planner_policies.specs.Plan.{IsValid, Ranking, Standing, planning_of}
-use Rattle.release_wheel.specs.Passed.{IsPassed}
+use Rattle.release_wheel.specs.Passed.{LeavesSame}
 use Rattle.admission.specs.Course.{IsGoodState, state_behind, state_in}
 use Rattle.admission.specs.Walked.{IsOn}
 use Rattle.admission.proofs.Same.{behind-planned, state-same}
+
+-- a planning that stands at a state, field by field
+pub same-standing : (standing : Standing) (state : PlanState) → standing.cycle ≡ state.cycle → standing.pending ≡ state.pending
+    → standing ≡ record { ranking = standing.ranking; cycle = state.cycle; pending = state.pending }
+same-standing standing state cycle pending =
+    ap (λ (n : ℕ). record standing { cycle = n }) cycle
+    ∙ ap (λ (m : ℕ). record { ranking = standing.ranking; cycle = state.cycle; pending = m }) pending
 
 -- the planning stands at the state
 pub on-start : (ranking : Ranking) (window : ℕ) (here : Standing) (state : PlanState) → here.ranking ≡ ranking → here.cycle ≡ state.cycle
@@ -24,7 +31,7 @@ on-start ranking window here state ranking_is cycle_is pending_is valid = record
 pub on-passed : (ranking : Ranking) (window : ℕ) (old new : Standing) (state : PlanState) → old.ranking ≡ ranking → new.ranking ≡ ranking
     → new.pending ≡ old.pending → state.cycle ≡ old.cycle → state.pending ≡ old.pending → old.cycle ≤ new.cycle
     → ((c : ℕ) → old.cycle ≤ c → c ≤ new.cycle → IsValid old.ranking.placed c old.pending)
-    → ((w c : ℕ) → old.cycle ≤ c → c < new.cycle → IsPassed (planning_of old.ranking w c old.pending)) → IsOn ranking window new state
+    → ((c : ℕ) → old.cycle ≤ c → c < new.cycle → LeavesSame (planning_of old.ranking window c old.pending)) → IsOn ranking window new state
 on-passed ranking window old new state was is still cycle_is pending_is onward valid passed = record {
   ranking_is = is;
   pending_is = still ∙ sym pending_is;
@@ -33,8 +40,8 @@ on-passed ranking window old new state was is still cycle_is pending_is onward v
       subst (λ q. IsValid ranking.placed c q) (sym pending_is)
       (subst (λ (r : Ranking). IsValid r.placed c old.pending) was (valid c (omega arith) to));
   passed = λ c from to.
-      subst (λ q. IsPassed (planning_of ranking window c q)) (sym pending_is)
-      (subst (λ r. IsPassed (planning_of r window c old.pending)) was (passed window c (omega arith) to));
+      subst (λ q. LeavesSame (planning_of ranking window c q)) (sym pending_is)
+      (subst (λ r. LeavesSame (planning_of r window c old.pending)) was (passed c (omega arith) to));
 }
 
 module _ (ranking : Ranking) (window : ℕ) (here : Standing) (state : PlanState) (on : IsOn ranking window here state) where
@@ -47,7 +54,7 @@ module _ (ranking : Ranking) (window : ℕ) (here : Standing) (state : PlanState
       pending_is = on.pending_is ∙ sym pending_is;
       onward = omega arith;
       valid = λ c from to. subst (λ q. IsValid ranking.placed c q) (sym pending_is) (on.valid c (omega arith) to);
-      passed = λ c from to. subst (λ q. IsPassed (planning_of ranking window c q)) (sym pending_is) (on.passed c (omega arith) to);
+      passed = λ c from to. subst (λ q. LeavesSame (planning_of ranking window c q)) (sym pending_is) (on.passed c (omega arith) to);
     }
 
     pub behind-passed : Some next ≡ state_behind ranking window state

@@ -113,7 +113,7 @@ module _ (ranking : Ranking) (window from pending : ℕ) where
       = subst (λ c. IsValid ranking.placed c here.pending) on (subst (λ (r : Ranking). IsValid r.placed (here.cycle + k + 1) here.pending) same valid) in
       subst (λ m. IsPlannedUpTo plan m (masks ++ 0 ∷ []) (record { cycle = here.cycle + (k + 1); pending = here.pending })) up
       (planned-next (n + k) 0 masks (record { cycle = here.cycle + k; pending = here.pending })
-      (record { cycle = here.cycle + (k + 1); pending = here.pending }) planned (sym quiet.planned) (sym on) quiet.left held)
+      (record { cycle = here.cycle + (k + 1); pending = here.pending }) planned (sym quiet.planned) (sym on) quiet.same.left held)
 
   -- a state in which nothing is missed
   pub none-more : (n : ℕ) (state : PlanState) → state ≡ state_at plan n

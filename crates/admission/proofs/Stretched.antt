@@ -1,10 +1,10 @@
--- A stretch of states at which nothing is planned. They differ by their cycles alone.
+-- A stretch of states before which the same slots are pending. They differ by their cycles alone.
 use Rattle.std.proofs.Common.{◌≡◌, ℕ, ◌+◌, ◌-◌, ◌≤◌, Option, refl, sym, ◌∙◌, subst, arith}
 use Rattle.planner_policies.specs.declared.state.PlanState.{PlanState}
 use Rattle.planner_policies.specs.Plan.{IsValid, Ranking, Standing, planning_of}
 use Rattle.recurrence_check.specs.Course.{Course}
 use Rattle.recurrence_check.specs.Stretch.{IsStretch, further}
-use Rattle.release_wheel.specs.Passed.{IsPassed}
+use Rattle.release_wheel.specs.Passed.{LeavesSame}
 use Rattle.admission.specs.Course.{IsGoodState, course_of, key_in_period}
 use Rattle.admission.specs.Walked.{IsOn, AreKeys}
 use Rattle.admission.proofs.Same.{behind-planned, state-same}
@@ -32,7 +32,7 @@ module _ (ranking : Ranking) (window : ℕ) (here : Standing) (state next : Plan
     pending_is = on.pending_is ∙ sym pending_is;
     onward = omega (arith, cycle_is, within);
     valid = λ c from to. subst (λ q. IsValid ranking.placed c q) (sym pending_is) (on.valid c (omega (arith, cycle_is)) to);
-    passed = λ c from to. subst (λ q. IsPassed (planning_of ranking window c q)) (sym pending_is) (on.passed c (omega (arith, cycle_is)) to);
+    passed = λ c from to. subst (λ q. LeavesSame (planning_of ranking window c q)) (sym pending_is) (on.passed c (omega (arith, cycle_is)) to);
   }
 
   pub stretch-passed : (first : PlanState) (bound : ℕ) (period : Option ℕ) (key : Option (ℕ × ℕ)) → first.cycle ≤ state.cycle

@@ -6,7 +6,7 @@ use Rattle.requirement_table.specs.Table.{IsWellPlaced, not_over}
 use Rattle.planner_policies.specs.declared.state.PlanState.{PlanState}
 use Rattle.planner_policies.specs.Plan.{IsValid, Ranking, Standing, planning_of}
 use Rattle.recurrence_check.specs.Stretch.{further}
-use Rattle.release_wheel.specs.Passed.{IsPassed}
+use Rattle.release_wheel.specs.Passed.{LeavesSame}
 use Rattle.admission_rules.specs.declared.Rules.{Rules}
 use Rattle.admission.specs.Course.{key_in_period}
 use Rattle.admission.specs.Period.{IsPeriodUpTo}
@@ -33,7 +33,7 @@ pub record IsOn (ranking : Ranking) (window : ℕ) (here : Standing) (state : Pl
   pub pending_is : here.pending ≡ state.pending
   pub onward : state.cycle ≤ here.cycle
   pub valid : (c : ℕ) → state.cycle ≤ c → c ≤ here.cycle → IsValid ranking.placed c state.pending
-  pub passed : (c : ℕ) → state.cycle ≤ c → c < here.cycle → IsPassed (planning_of ranking window c state.pending)
+  pub passed : (c : ℕ) → state.cycle ≤ c → c < here.cycle → LeavesSame (planning_of ranking window c state.pending)
 
 -- the states in so many cycles behind that of this state, with the same slots pending, have keys with one mark. Their
 -- places go up from that of this key; or none of these states has a key

@@ -6,6 +6,7 @@ ghost use Rattle.requirement_table.specs.Slots.{contains_slot};
 ghost use Rattle.requirement_table.specs.Table.{IsWellPlaced, not_over};
 ghost use Rattle.change_protocol.specs.Applied.{applied};
 ghost use Rattle.planner_policies.specs.Plan.{HasNoMiss, HasNoMissIn, IsMissIn, IsValid, going_from, planning_of};
+ghost use Rattle.release_wheel.specs.Demand.{demand_in};
 ghost use Rattle.release_wheel.specs.Passed.{IsPassed};
 ghost use Rattle.admission.specs.Course.{state_in};
 ghost use Rattle.admission.specs.Judged.{IsRankedFrom, decision_in};
@@ -21,8 +22,9 @@ use admission_rules::Rules;
 use change_protocol::{ApplyFault, Change, apply};
 use planner_policies::laws::{loops, valid_states};
 use planner_policies::{Miss, PlanState, cycle_mask, rank_list};
+use profile::CYCLES_END;
 use recurrence_check::{Repeat, WalkEnd, lasso_keyed};
-use release_wheel::{Ahead, Planner};
+use release_wheel::{Ahead, Planner, fits_each};
 use requirement_table::{Mask, Placed, PlacedList, not_over};
 use std::alloc::{AllocError, Global};
 
@@ -214,12 +216,44 @@ pub fn walk_over<'a>(
 {
     state.pending.known();
     let left = start.ranked().placed();
+    let bound = bound(left, state.cycle);
+    let period = period(left, rules.horizon);
+    let end = walk_end(state.cycle, rules.horizon, bound, period);
     PlanWalk {
         start,
         window: rules.window,
         first: *state,
-        bound: bound(left, state.cycle),
-        period: period(left, rules.horizon),
+        bound,
+        period,
+        fits_until: fits_until(left, rules, state.cycle, end),
+    }
+}
+
+/// The cycle by which a walk from the cycle `from` on has ended, where nothing is pending behind its first step: there it
+/// repeats, or the horizon is reached.
+fn walk_end(from: u64, horizon: u64, bound: u64, period: Option<u64>) -> u64
+    ensures within { result ≤ from + horizon }
+{
+    let last = from.saturating_add(horizon);
+    match period {
+        Some(period) => last.min(bound.saturating_add(period).saturating_add(1)),
+        None => last,
+    }
+}
+
+/// The cycle before which, from `from` on, what is released in each cycle fits the window: the end of the walk, where that
+/// is so up to it, and else `from`.
+fn fits_until(left: &[Placed], rules: &Rules, from: u64, end: u64) -> u64
+    requires well_placed { IsWellPlaced left.now }
+    requires from { from ≤ openings_end }
+    ensures fits { (c : ℕ) → from ≤ c → c < result → demand_in left.now c ≤ rules.now.window }
+    ensures near { result ≤ cycles_end }
+{
+    let end = end.min(CYCLES_END);
+    if fits_each(left, rules.window, from, end) {
+        end
+    } else {
+        from
     }
 }
 

@@ -1,12 +1,13 @@
 //! The planning of a list as a walk from state to state.
 
 ghost use Rattle.std.specs.Prelude.{◌≡◌, ◌+◌, ◌^◌, ◌<◌, ◌≤◌, ℕ, IfOk, IfSome, Some, true};
-ghost use Rattle.profile.specs.Limits.{openings_end};
+ghost use Rattle.profile.specs.Limits.{cycles_end, openings_end};
 ghost use Rattle.requirement_table.specs.Slots.{contains_slot};
 ghost use Rattle.admission.specs.Course.{is_held_from};
 ghost use Rattle.admission.specs.WalkLaws.{GoesOn};
 ghost use Rattle.admission.specs.Walked.{AreKeys};
 ghost use Rattle.recurrence_check.specs.Keys.{row_places};
+ghost use Rattle.release_wheel.specs.Demand.{demand_in};
 
 use planner_policies::PlanState;
 use recurrence_check::{Keyed, PLACES, Stretch, Walk};
@@ -26,6 +27,8 @@ pub struct PlanWalk<'a> {
     pub bound: u64,
     /// The least common multiple of the periods of the live entries, where it is at most the horizon.
     pub period: Option<u64>,
+    /// The cycle before which, from the first one on, what is released in each cycle fits the window.
+    pub fits_until: u64,
     ghost cycle: { start.now.cycle ≡ first.cycle },
     ghost pending: { start.now.pending ≡ first.pending },
     ghost near: { first.cycle ≤ openings_end },
@@ -33,10 +36,12 @@ pub struct PlanWalk<'a> {
         → is_held_from start.now.ranking.placed first.cycle slot ≡ true },
     ghost positive: { (length : ℕ) → period ≡ Some length → 0 < length },
     ghost goes_on: { GoesOn start.now.ranking window bound period },
+    ghost fits: { (c : ℕ) → first.cycle ≤ c → c < fits_until → demand_in start.now.ranking.placed c ≤ window },
+    ghost fits_end: { fits_until ≤ cycles_end },
 }
 
 /// A place on the walk over a planning: a state, and a planning that stands there or at a later cycle. Up to that cycle
-/// nothing is planned, so the states until then differ by their cycles alone.
+/// the same slots are pending, so the states until then differ by their cycles alone.
 #[derive(Drop)]
 pub struct PlanPlace<'a> {
     /// The state.
@@ -66,7 +71,8 @@ impl<'a> Walk for PlanWalk<'a> {
     ghost is_on = { λ walk here. IsOn walk.start.now.ranking walk.window here.planner here.state };
 
     fn begin(&self, alloc: Global) -> Result<PlanPlace<'a>, AllocError> {
-        let planner = self.planner(alloc)?;
+        let mut planner = self.walker(alloc)?;
+        planner.pass_fitting(self.window, self.fits_until);
         Ok(PlanPlace {
             state: self.first,
             planner,
@@ -85,7 +91,7 @@ impl<'a> Walk for PlanWalk<'a> {
         match here.planner.step(self.window) {
             Ok(_) => {
                 here.state = here.planner.state();
-                here.planner.pass();
+                here.planner.pass_fitting(self.window, self.fits_until);
                 Some(here.state)
             }
             Err(_) => None,
@@ -123,6 +129,20 @@ impl<'a> PlanWalk<'a> {
         }) }
     {
         self.start.ahead(alloc)
+    }
+
+    /// Does what `planner` does. Where the walk passes all cycles it takes no memory.
+    fn walker(&self, alloc: Global) -> Result<Ahead<'a>, AllocError>
+        ensures standing { IfOk result (λ planner. planner ≡ record {
+          ranking = self.now.start.now.ranking;
+          cycle = self.now.first.cycle;
+          pending = self.now.first.pending;
+        }) }
+    {
+        if self.first.cycle < self.fits_until && self.first.pending.bits() == 0 {
+            return Ok(self.start.ahead_to_pass(alloc));
+        }
+        self.planner(alloc)
     }
 
     /// As many states behind a state as have no key, or keys whose places go up. Before all of them the same slots are

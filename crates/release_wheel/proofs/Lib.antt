@@ -1,4 +1,5 @@
 mod Copied
+mod Demands
 mod NearPlans
 mod Releasing
 mod RowCycles

@@ -101,8 +101,7 @@ module _ (all : Ranking) (placed : List Placed) (window c slots : ℕ)
   passed-here : IsPassed part → IsPassed plan
   passed-here passed = record {
     planned = sym planned-set ∙ passed.planned;
-    none_missed = none-missed passed.none_missed;
-    left = passed.left ∙ left-set;
+    same = record { none_missed = none-missed passed.same.none_missed; left = passed.same.left ∙ left-set };
   }
 
 -- what is known of the planning of one list is known of the other
@@ -136,7 +135,7 @@ pub valid-passed : (all : Ranking) (from slots : ℕ) → IsWellPlaced all.place
 valid-passed all from slots well valid zero passed = subst (λ c. IsValid all.placed c slots) (omega arith) valid
 valid-passed all from slots well valid (suc n) passed =
     let so = valid-passed all from slots well valid n (λ c onward less. passed c onward (omega arith)) in
-    let last = passed (from + n) (omega arith) (omega arith) in
+    let last = (passed (from + n) (omega arith) (omega arith)).same in
     let next = left-valid (planning_of all 0 (from + n) slots) (from + n) slots well so last.none_missed in
     subst (λ c. IsValid all.placed c slots) (omega arith) (subst (λ left. IsValid all.placed (from + n + 1) left) (sym last.left) next)
 

@@ -1,3 +1,4 @@
+pub mod Demand
 pub mod Near
 pub mod Passed
 pub mod Taking

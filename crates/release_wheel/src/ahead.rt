@@ -6,9 +6,11 @@ ghost use Rattle.requirement_table.specs.Slots.{contains_slot, set_of, most_slot
 ghost use Rattle.requirement_table.specs.Table.{IsWellPlaced, width_in};
 ghost use Rattle.planner_policies.specs.Plan.{HasNoMissIn, IsMissIn, IsValid, going_from, left_after, planned_in};
 ghost use Rattle.planner_policies.specs.Plan.{planning_of};
-ghost use Rattle.release_wheel.specs.Passed.{IsPassed};
+ghost use Rattle.release_wheel.specs.Demand.{demand_in};
+ghost use Rattle.release_wheel.specs.Passed.{IsPassed, LeavesSame};
 
-use crate::copying::copy_of;
+use crate::copying::{copy_of, without_rows};
+use crate::demand::pass_fitting;
 use crate::near::{Near, go_to, near_of, pass_near, step_near};
 use crate::planner::{CyclePlan, Planner};
 use crate::wheel::{Wheel, wheel_of};
@@ -53,6 +55,18 @@ impl Planner {
                 near: near_of(alloc, &self.ranked)?,
                 wheel: wheel_of(alloc, &self.ranked, &self.state())?,
             }),
+        }
+    }
+
+    /// Does what `ahead` does, without memory, for a planning that passes its cycles. A cycle that it plans takes time for
+    /// all entries.
+    pub fn ahead_to_pass(&self, alloc: Global) -> Ahead<'_>
+        ensures same { result ≡ self.now }
+    {
+        Ahead {
+            ranked: &self.ranked,
+            near: None,
+            wheel: without_rows(alloc, &self.wheel),
         }
     }
 }
@@ -121,6 +135,28 @@ impl<'a> Ahead<'a> {
             → IsPassed (planning_of self.old.ranking window c self.old.pending) }
     {
         pass_near(&self.near, &mut self.wheel, self.ranked);
+    }
+
+    /// Passes cycles after which the same slots are pending, within a window of `w` bit times, from the one that is planned
+    /// next on: as many of them as are known, which may be none. So many steps would lead there too.
+    ///
+    /// In each cycle before `until` what is released fits the window. Where nothing is pending it is then planned at once,
+    /// so all these cycles are passed. In other states those are passed that `pass` passes.
+    pub fn pass_fitting(&mut self, w: u32, until: u64)
+        requires until { until ≤ cycles_end }
+        requires fits { (c : ℕ) → self.old.cycle ≤ c → c < until → demand_in self.old.ranking.placed c ≤ w }
+        ensures standing { self.new ≡ record self.old { cycle = self.new.cycle } }
+        ensures onward { self.old.cycle ≤ self.new.cycle }
+        ensures valid { (c : ℕ) → self.old.cycle ≤ c → c ≤ self.new.cycle
+            → IsValid self.old.ranking.placed c self.old.pending }
+        ensures passed { (c : ℕ) → self.old.cycle ≤ c → c < self.new.cycle
+            → LeavesSame (planning_of self.old.ranking w c self.old.pending) }
+    {
+        if until <= self.wheel.cycle || self.wheel.slots.bits() != 0 {
+            self.pass();
+            return;
+        }
+        pass_fitting(&mut self.near, &mut self.wheel, self.ranked, w, until);
     }
 
     /// Goes to another valid state of the same entries, without memory.

@@ -1,10 +1,12 @@
-//! A copy of a wheel.
+//! Wheels in the state of another one.
 
-ghost use Rattle.std.specs.Prelude.{◌≡◌, IfOk};
-ghost use Rattle.planner_policies.specs.Plan.{Ranking};
+ghost use Rattle.std.specs.Prelude.{◌≡◌, ◌≤◌, IfOk};
+ghost use Rattle.profile.specs.Limits.{cycles_end};
+ghost use Rattle.planner_policies.specs.Plan.{IsValid, Ranking};
 ghost use Rattle.release_wheel.specs.Wheel.{IsKept};
 
 use crate::wheel::Wheel;
+use requirement_table::Mask;
 use std::alloc::{AllocError, Global};
 
 /// The same wheel, in memory of its own. It stands over all entries over which the first one stands.
@@ -34,4 +36,30 @@ pub fn copy_of(alloc: Global, wheel: &Wheel) -> Result<Wheel, AllocError>
         cost: wheel.cost,
         soonest: wheel.soonest,
     })
+}
+
+/// A wheel in the same state that has no rows, without memory: each cycle is planned plainly.
+pub fn without_rows(alloc: Global, wheel: &Wheel) -> Wheel
+    requires near { wheel.now.cycle ≤ cycles_end }
+    ensures kept { (ranking : Ranking) → IsValid ranking.placed wheel.now.cycle wheel.now.slots → IsKept ranking result }
+    ensures cycle { result.cycle ≡ wheel.now.cycle }
+    ensures slots { result.slots ≡ wheel.now.slots }
+{
+    Wheel {
+        policy: wheel.policy,
+        cycle: wheel.cycle,
+        slots: wheel.slots,
+        turns: false,
+        quiet: 0,
+        entries: Vec::new(alloc),
+        nexts: Vec::new(alloc),
+        lasts: Vec::new(alloc),
+        places: Vec::new(alloc),
+        always: 0,
+        always_slots: Mask::empty(),
+        always_cost: 0,
+        waiting: 0,
+        cost: 0,
+        soonest: u64::MAX,
+    }
 }

@@ -119,7 +119,7 @@ fn empty_places(places: &mut Vec<u128>)
 }
 
 /// The least release of the entry at or after the cycle, as if it had no end.
-fn next_release(placed: &Placed, cycle: u64) -> u64
+pub fn next_release(placed: &Placed, cycle: u64) -> u64
     requires in_range { IsInRange placed.now }
     requires cycle { cycle ≤ cycles_end }
     ensures next { IsNext placed.now cycle result }

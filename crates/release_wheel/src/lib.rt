@@ -7,6 +7,7 @@
 
 mod ahead;
 mod copying;
+mod demand;
 mod filling;
 mod near;
 mod picking;
@@ -17,4 +18,5 @@ mod taking;
 mod wheel;
 
 pub use ahead::Ahead;
+pub use demand::fits_each;
 pub use planner::{CyclePlan, Planner};

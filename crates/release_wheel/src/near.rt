@@ -84,10 +84,17 @@ pub fn go_to(near: &mut Option<Near>, wheel: &mut Wheel, ranked: &Ranked, state:
     ensures cycle { wheel.new.cycle ≡ state.now.cycle }
     ensures slots { wheel.new.slots ≡ state.now.pending }
 {
+    forget(near);
+    fill(wheel, ranked, state);
+}
+
+/// Takes no entries as near.
+pub fn forget(near: &mut Option<Near>)
+    ensures none { IsForgotten near.new }
+{
     if let Some(near) = near {
         near.until = 0;
     }
-    fill(wheel, ranked, state);
 }
 
 /// Plans the cycle of the wheel within a window of `w` bit times, by the entries that are near, and goes on to the next

@@ -127,7 +127,7 @@ fn first_due(wheel: &Wheel, rest: u128) -> usize
 
 /// The row of the least last cycle of a set, and of several the first.
 #[inline(always)]
-fn soonest_row(lasts: &[u64], rows: u128) -> usize
+pub fn soonest_row(lasts: &[u64], rows: u128) -> usize
     requires some { 0 < rows }
     requires within { IsBelow (length lasts.now) rows }
     ensures first { IsFirstRow (goes_by (λ row. get_or lasts.now row 0)) (has_row rows) result }

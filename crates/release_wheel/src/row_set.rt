@@ -57,16 +57,6 @@ pub fn first(set: u128) -> usize
     set.trailing_zeros() as usize
 }
 
-/// The set without its first row.
-pub fn behind_first(set: u128) -> u128
-    requires some { 0 < set }
-    ensures less { result < set }
-    ensures rows { (row : ℕ) → has_row set row ≡ true → ((i : ℕ) → i < row → has_row set i ≡ false)
-        → (i : ℕ) → has_row result i ≡ (not (nat_eq row i) && has_row set i) }
-{
-    set & (set - 1)
-}
-
 /// The rows of either set.
 pub fn both(one: u128, other: u128) -> u128
     ensures rows { (i : ℕ) → has_row result i ≡ (has_row one i || has_row other i) }

@@ -9,17 +9,17 @@ ghost use Rattle.std.specs.Prelude.{◌≡◌, ◌≢◌, ℕ, ◌+◌, ◌%◌,
 ghost use Rattle.profile.specs.Limits.{cycles_end};
 ghost use Rattle.planner_policies.specs.declared.Policy.TheVariants.{Edf};
 ghost use Rattle.planner_policies.specs.Due.{IsPlanned};
-ghost use Rattle.planner_policies.specs.Plan.{IsMissIn, IsValid, planning_of};
+ghost use Rattle.planner_policies.specs.Plan.{IsMissIn, IsValid, Ranking, planning_of};
 ghost use Rattle.requirement_table.specs.Slots.{contains_slot};
 ghost use Rattle.requirement_table.specs.Table.{IsWellPlaced};
 ghost use Rattle.release_wheel.specs.Passed.{IsPassed};
 ghost use Rattle.release_wheel.specs.Wheel.{AreInTime, HasRoom, IsBelow, IsKept, IsPart, IsPlannedOn, IsReady, has_row};
 
 use crate::filling::fill;
-use crate::picking::pick_rows;
+use crate::picking::{pick_rows, soonest_row};
 use crate::planner::CyclePlan;
 use crate::releases::release;
-use crate::row_set::{MOST_ROWS, behind_first, both, common, first};
+use crate::row_set::{MOST_ROWS, both, common};
 use crate::taking::{Took, take_rows};
 use planner_policies::{Miss, PlanState, Policy, Ranked, plan_with_width};
 use profile::CYCLES_END;
@@ -80,7 +80,7 @@ pub fn wheel_of(alloc: Global, ranked: &Ranked, state: &PlanState) -> Result<Whe
         slots: state.pending,
         turns: false,
         quiet: 0,
-        entries: rows[..count].to_vec(alloc)?,
+        entries: Vec::from_slice(alloc, &rows[..count])?,
         nexts: vec![in alloc; 0; count]?,
         lasts: vec![in alloc; 0; count]?,
         places: vec![in alloc; 0; PLACES]?,
@@ -169,6 +169,19 @@ pub fn pass_quiet(wheel: &mut Wheel, ranked: &Ranked, until: u64)
     while wheel.cycle < end {
         pass(wheel, ranked);
     }
+}
+
+/// Goes to another cycle, where nothing is pending. The rows are not kept: the next cycle is planned plainly.
+pub fn set_plain(wheel: &mut Wheel, cycle: u64)
+    requires cycle { cycle ≤ cycles_end }
+    requires empty { wheel.old.slots ≡ 0 }
+    ensures kept { (ranking : Ranking) → IsKept ranking wheel.new }
+    ensures cycle { wheel.new.cycle ≡ cycle }
+    ensures slots { wheel.new.slots ≡ wheel.old.slots }
+{
+    wheel.cycle = cycle;
+    wheel.turns = false;
+    wheel.quiet = 0;
 }
 
 /// Plans the cycle of the wheel, whose releases are made. `None` where an instance is missed.
@@ -349,11 +362,8 @@ fn least_last(lasts: &[u64], rows: u128) -> u64
     requires within { IsBelow (length lasts.now) rows }
     ensures least { (row : ℕ) → has_row rows row ≡ true → result ≤ get_or lasts.now row 0 }
 {
-    let mut rest = rows;
-    let mut least = u64::MAX;
-    while rest != 0 {
-        least = least.min(lasts[first(rest)]);
-        rest = behind_first(rest);
+    if rows == 0 {
+        return u64::MAX;
     }
-    least
+    lasts[soonest_row(lasts, rows)]
 }

@@ -12,8 +12,7 @@ passed-at : (ranking : Ranking) (window c slots mask width next : ℕ)
     → IsPassed (planning_of ranking window c slots)
 passed-at ranking window c slots mask width next planned mask_is next_is = record {
   planned = sym planned.planned ∙ mask_is;
-  none_missed = planned.none_missed;
-  left = sym next_is ∙ planned.left;
+  same = record { none_missed = planned.none_missed; left = sym next_is ∙ planned.left };
 }
 
 pub loop-wheel-init : goal.loop-wheel-init

@@ -1,13 +1,25 @@
-use Rattle.std.proofs.Common.{ap}
-use Rattle.planner_policies.specs.Plan.{Standing}
-use Rattle.admission.proofs.Places.{on-start}
-use Rattle.admission.proofs.Same.{held-from_tests}
+use Rattle.std.proofs.Common.{◌≡◌, ◌≤◌, sym, ap, subst, ◌∙◌, arith}
+use Rattle.planner_policies.specs.Plan.{Ranking, Standing}
+use Rattle.release_wheel.specs.Demand.{demand_in}
+use Rattle.admission.proofs.Places.{on-passed}
 use Rattle.admission.proofs.walk.PlanWalkWalk.begin.Goals as goal
+
+pub pass_fitting-requires-clause-fits : goal.pass_fitting-requires-clause-fits
+pass_fitting-requires-clause-fits c =
+    let walk = c.args.self.now in
+    let standing = c.in_ok-planner.ensures.standing in
+    let cycle = ap (λ (s : Standing). s.cycle) standing in
+    λ at from to.
+    subst (λ (r : Ranking). demand_in r.placed at ≤ walk.window) (sym (ap (λ (s : Standing). s.ranking) standing)) (walk.fits at (omega arith) to)
 
 pub returns-clause-on : goal.returns-clause-on
 returns-clause-on c =
     let walk = c.args.self.now in
     let first = walk.first in
+    let old = c.in_ok-planner.planner in
     let standing = c.in_ok-planner.ensures.standing in
-    on-start walk.start.now.ranking walk.window c.in_ok-planner.planner first (ap (λ (s : Standing). s.ranking) standing) (ap (λ (s : Standing). s.cycle) standing)
-    (ap (λ (s : Standing). s.pending) standing) (held-from_tests walk.start.now.ranking.placed first.cycle first.pending walk.held)
+    let ranking = ap (λ (s : Standing). s.ranking) standing in
+    let made = c.pass_fitting.ensures in
+    on-passed walk.start.now.ranking walk.window old c.pass_fitting.new.self first ranking (ap (λ (s : Standing). s.ranking) made.standing ∙ ranking)
+    (ap (λ (s : Standing). s.pending) made.standing) (sym (ap (λ (s : Standing). s.cycle) standing)) (sym (ap (λ (s : Standing). s.pending) standing))
+    made.onward made.valid made.passed

@@ -1,8 +1,9 @@
-use Rattle.std.proofs.Common.{◌+◌, ◌<◌, ◌≤◌, refl, ap, ◌∙◌, arith}
+use Rattle.std.proofs.Common.{◌+◌, ◌<◌, ◌≤◌, refl, sym, ap, subst, ◌∙◌, arith}
 use Rattle.planner_policies.specs.declared.state.PlanState.{PlanState}
 use Rattle.planner_policies.specs.Plan.{Ranking, Standing}
+use Rattle.release_wheel.specs.Demand.{demand_in}
 use Rattle.admission.specs.Course.{state_behind, state_in}
-use Rattle.admission.proofs.Places.{behind-passed, stands-here}
+use Rattle.admission.proofs.Places.{behind-passed, on-next, on-passed, stands-here}
 use Rattle.admission.proofs.Same.{behind-missed, behind-planned}
 use Rattle.admission.proofs.walk.PlanWalkWalk.step.Goals as goal
 
@@ -39,3 +40,32 @@ returns-in-Err-clause-next c =
     ∙ ap (λ (r : Ranking). state_behind r walk.window (state_in planner)) on.ranking_is
     ∙ ap (λ (s : PlanState). state_behind walk.start.now.ranking walk.window s)
     (stands-here walk.start.now.ranking walk.window planner here.state on not_later)
+
+pub pass_fitting-requires-clause-fits : goal.pass_fitting-requires-clause-fits
+pass_fitting-requires-clause-fits c =
+    let walk = c.args.self.now in
+    let here = c.args.here.now in
+    let on = c.requires.on in
+    let begun = c.requires.good.begun in
+    let onward = on.onward in
+    let next = ap (λ (s : Standing). s.cycle) c.in-Ok.ensures.next in
+    λ at from to.
+    subst (λ (r : Ranking). demand_in r.placed at ≤ walk.window) (sym (ap (λ (s : Standing). s.ranking) c.in-Ok.ensures.next ∙ on.ranking_is))
+    (walk.fits at (omega arith) to)
+
+pub returns-then-here-state-clause-on : goal.returns-then-here-state-clause-on
+returns-then-here-state-clause-on c =
+    let here = c.args.here.now in
+    let walk = c.args.self.now in
+    let less : here.state.cycle < here.planner.cycle = omega (arith, c.if-here-state.true, c.state.ensures.cycle) in
+    on-next walk.start.now.ranking walk.window here.planner here.state c.requires.on (record { cycle = here.state.cycle + 1; pending = here.state.pending })
+    refl refl less
+
+pub returns-in-Ok-clause-on : goal.returns-in-Ok-clause-on
+returns-in-Ok-clause-on c =
+    let walk = c.args.self.now in
+    let ranking = ap (λ (s : Standing). s.ranking) c.in-Ok.ensures.next ∙ c.requires.on.ranking_is in
+    let made = c.pass_fitting.ensures in
+    on-passed walk.start.now.ranking walk.window c.step.new.self c.pass_fitting.new.self c.state-here.result ranking
+    (ap (λ (s : Standing). s.ranking) made.standing ∙ ranking) (ap (λ (s : Standing). s.pending) made.standing) c.state-here.ensures.cycle
+    c.state-here.ensures.pending made.onward made.valid made.passed

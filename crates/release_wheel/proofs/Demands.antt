@@ -1,0 +1,343 @@
+-- Where nothing is pending before a cycle, and what is released in it fits the window, nothing is pending after it.
+use Rattle.std.proofs.Common.{◌≡◌, ◌≢◌, ℕ, zero, suc, ◌+◌, ◌-◌, ◌<◌, ◌≤◌, ◌&&◌, ◌||◌, not, Bool, true, false, nat_eq, nat_lt, if◌then◌else◌, Option, Some, None, is_some, List, [], ◌∷◌, get_or, length, replicate, set, take, refl, sym, ap, subst, ◌∙◌, ⊎_elim, arith}
+use Rattle.std.specs.Prelude.{sum_by}
+use Rattle.std.specs.Option.{option_map_or}
+use Rattle.std.proofs.lemmas.Bool.{and_parts, cases_eq, cases_lt, eqb-true, le-ltb, lt-ltb, ne_eqb}
+use Rattle.std.proofs.lemmas.List.{get_or-replicate, get_or-set_other, get_or-set_same, length-set, take_all}
+use Rattle.std.proofs.lemmas.List.Folds.{Any-from_list_any}
+use Rattle.std.proofs.lemmas.List.Sums.{get_or-le-sum_by, sum_by-cons, sum_by_more}
+use Rattle.requirement_table.specs.declared.entries.Placed.{Placed}
+use Rattle.requirement_table.specs.Instance.{Exists, IsReleasedIn, MaySend, release_of, released_by, worst, worst_of}
+use Rattle.requirement_table.specs.Slots.{contains_slot, most_slots, set_of, sum_where}
+use Rattle.requirement_table.specs.Table.{IsInRange, IsWellPlaced, instance_in, is_last_in, releases_in, width_in, worst_in}
+use Rattle.requirement_table.proofs.Shared.{IsReleasedIn-from_released_by, contains_slot-none, found-of, set_of-contains_slot, set_of-same}
+use Rattle.planner_policies.specs.Plan.{HasNoMissIn, IsValid, Planning, Ranking, left_after, pending_in, planned_in, planning_of}
+use Rattle.planner_policies.proofs.Shared.{taken-all}
+use Rattle.release_wheel.specs.Demand.{cost_in, demand_in}
+use Rattle.release_wheel.specs.Passed.{LeavesSame}
+use Rattle.release_wheel.specs.Wheel.{IsNext}
+use Rattle.release_wheel.proofs.RowDues.{next-after, sends-released}
+
+-- Sums over slots
+
+at-most : (b : Bool) (x most : ℕ) → x ≤ most → (if b then x else 0) ≤ most
+at-most true x most small = small
+at-most false x most small = omega arith
+
+-- an amount for one slot, and nothing for the others
+abbrev for_slot : ℕ → ℕ → ℕ → ℕ
+for_slot k x slot = if nat_eq k slot then x else 0
+
+sum-beyond : (n k x : ℕ) (p : ℕ → Bool) → n ≤ k → sum_where n p (λ slot. for_slot k x slot) ≤ 0
+unfolding sum_where
+sum-beyond zero k x p beyond = omega arith
+sum-beyond (suc n) k x p beyond =
+    let rest = sum-beyond n k x p (omega arith) in
+    let other : for_slot k x n ≡ 0 = ap (λ (b : Bool). if b then x else 0) (ne_eqb k n (λ (e : k ≡ n). omega arith)) in
+    let here = at-most (p n) (for_slot k x n) 0 (omega arith) in
+    omega arith
+
+sum-one : (n k x : ℕ) (p : ℕ → Bool) → sum_where n p (λ slot. for_slot k x slot) ≤ x
+unfolding sum_where
+sum-one zero k x p = omega arith
+sum-one (suc n) k x p =
+    ⊎_elim
+    (λ (same : k ≡ n).
+    let before = sum-beyond n k x p (omega arith) in
+    let here = at-most (p n) (for_slot k x n) x (at-most (nat_eq k n) x x (omega arith)) in
+    omega arith)
+    (λ (apart : k ≢ n).
+    let before = sum-one n k x p in
+    let other : for_slot k x n ≡ 0 = ap (λ (b : Bool). if b then x else 0) (ne_eqb k n apart) in
+    let here = at-most (p n) (for_slot k x n) 0 (omega arith) in
+    omega arith)
+    (cases_eq k n)
+
+sum-parts : (n : ℕ) (p : ℕ → Bool) (f g h : ℕ → ℕ) → ((slot : ℕ) → f slot ≤ g slot + h slot) → sum_where n p f ≤ sum_where n p g + sum_where n p h
+unfolding sum_where
+sum-parts zero p f g h each = omega arith
+sum-parts (suc n) p f g h each =
+    let rest = sum-parts n p f g h each in
+    let here = part (p n) (f n) (g n) (h n) (each n) in
+    omega arith
+  where
+    part : (b : Bool) (x y z : ℕ) → x ≤ y + z → (if b then x else 0) ≤ (if b then y else 0) + (if b then z else 0)
+    part true x y z less = less
+    part false x y z less = omega arith
+
+sum-less : (n : ℕ) (p : ℕ → Bool) (f g : ℕ → ℕ) → ((slot : ℕ) → p slot ≡ true → f slot ≤ g slot) → sum_where n p f ≤ sum_where n p g
+unfolding sum_where
+sum-less zero p f g each = omega arith
+sum-less (suc n) p f g each =
+    let rest = sum-less n p f g each in
+    let here = part (p n) (f n) (g n) (each n) in
+    omega arith
+  where
+    part : (b : Bool) (x y : ℕ) → (b ≡ true → x ≤ y) → (if b then x else 0) ≤ (if b then y else 0)
+    part true x y less = less refl
+    part false x y less = omega arith
+
+sum-nothing : (n : ℕ) (p : ℕ → Bool) → sum_where n p (λ _. 0) ≤ 0
+unfolding sum_where
+sum-nothing zero p = omega arith
+sum-nothing (suc n) p =
+    let rest = sum-nothing n p in
+    let here = at-most (p n) 0 0 (omega arith) in
+    omega arith
+
+-- What slots cost
+
+-- what the entries of a slot release in a cycle
+abbrev share : List Placed → ℕ → ℕ → ℕ
+share placed c slot = sum_by (λ p. for_slot p.entry.slot (cost_in p c) slot) placed
+
+share-cons : (p : Placed) (ps : List Placed) (c slot : ℕ) → share (p ∷ ps) c slot ≤ for_slot p.entry.slot (cost_in p c) slot + share ps c slot
+share-cons p ps c slot =
+    let sum = sum_by-cons (λ (q : Placed). for_slot q.entry.slot (cost_in q c) slot) p ps in
+    omega (arith, sum)
+
+-- the shares of the slots are no more than all that is released
+shares-all : (placed : List Placed) (c : ℕ) (flagged : ℕ → Bool) → sum_where most_slots flagged (λ slot. share placed c slot) ≤ demand_in placed c
+shares-all [] c flagged = sum-nothing most_slots flagged
+shares-all (p ∷ ps) c flagged =
+    let one = sum-one most_slots p.entry.slot (cost_in p c) flagged in
+    let both = sum-parts most_slots flagged (λ slot. share (p ∷ ps) c slot) (λ slot. for_slot p.entry.slot (cost_in p c) slot) (λ slot. share ps c slot)
+    (λ slot. share-cons p ps c slot) in
+    let rest = shares-all ps c flagged in
+    let sum = sum_by-cons (λ (q : Placed). cost_in q c) p ps in
+    omega (arith, one, both, rest, sum)
+
+number-of : (o : Option ℕ) → is_some o ≡ true → (k : ℕ) × (o ≡ Some k)
+number-of (Some k) is = (k, refl)
+number-of None is = absurd (cc)
+
+released-of : (p : Placed) (c : ℕ) → is_some (released_by p c) ≡ true → (k : ℕ) × IsReleasedIn p k c
+released-of p c is = let number = number-of (released_by p c) is in (number.0, IsReleasedIn-from_released_by p number.0 c number.1)
+
+-- a slot with a release costs what it releases
+released-share : (placed : List Placed) (c slot : ℕ) → IsWellPlaced placed → releases_in placed c slot ≡ true → worst_in placed c slot ≤ share placed c slot
+released-share placed c slot well test =
+    let any = Any-from_list_any (λ q. nat_eq q.entry.slot slot && is_some (released_by q c)) placed test in
+    let i = any.0 in
+    let q = any.1 in
+    let parts = and_parts (nat_eq q.entry.slot slot) (is_some (released_by q c)) any.4 in
+    let released = released-of q c parts.1 in
+    let range : IsInRange q = rw any.3 at (well.in_range i q any.2) in
+    let sends : MaySend q released.0 c = sends-released q c released.0 range (sym released.1.release) released.1.exists in
+    let found : instance_in placed slot c ≡ Some (record { placed = q; number = released.0 })
+    = ap (λ s. instance_in placed s c) (sym (eqb-true q.entry.slot slot parts.0)) ∙ found-of placed q released.0 c well (i, any.2, any.3) sends in
+    let cost : worst_in placed c slot ≡ worst q.entry.length = ap (λ o. option_map_or worst_of o 0) found in
+    let own : for_slot q.entry.slot (cost_in q c) slot ≡ worst q.entry.length
+    = ap (λ (b : Bool). if b then cost_in q c else 0) parts.0 ∙ ap (λ (b : Bool). if b then worst q.entry.length else 0) parts.1 in
+    let here : for_slot (get_or placed i q).entry.slot (cost_in (get_or placed i q) c) slot ≡ for_slot q.entry.slot (cost_in q c) slot
+    = ap (λ (p : Placed). for_slot p.entry.slot (cost_in p c) slot) any.3 in
+    subst (λ n. n ≤ share placed c slot) (here ∙ own ∙ sym cost)
+    (get_or-le-sum_by (λ (p : Placed). for_slot p.entry.slot (cost_in p c) slot) placed i q any.2)
+
+-- where nothing is pending before a cycle, what is pending in it is what is released in it
+none-before : (pending slot : ℕ) → pending ≡ 0 → contains_slot pending slot ≡ false
+none-before pending slot none = ap (λ mask. contains_slot mask slot) none ∙ contains_slot-none slot
+
+width-released : (placed : List Placed) (c pending : ℕ) → IsWellPlaced placed → pending ≡ 0
+    → width_in placed c (pending_in placed c (contains_slot pending)) ≤ demand_in placed c
+width-released placed c pending well none =
+    let flagged : ℕ → Bool = pending_in placed c (contains_slot pending) in
+    let less = sum-less most_slots flagged (worst_in placed c) (λ slot. share placed c slot)
+    (λ slot is. released-share placed c slot well (sym (ap (λ b. b || releases_in placed c slot) (none-before pending slot none)) ∙ is)) in
+    let all = shares-all placed c flagged in
+    omega (arith, less, all)
+
+-- all of it is planned, and nothing is left
+module _ (plan : Planning) (c pending : ℕ) (well : IsWellPlaced plan.placed) (none : pending ≡ 0) (fits : demand_in plan.placed c ≤ plan.window) where
+  none-left : (slot : ℕ) → slot < most_slots → left_after plan c (contains_slot pending) slot ≡ false
+  none-left slot known = pick (pending_in plan.placed c (contains_slot pending) slot) refl
+    where
+      pick : (b : Bool) → pending_in plan.placed c (contains_slot pending) slot ≡ b → (b && not (planned_in plan c (contains_slot pending) slot)) ≡ false
+      pick false is = refl
+      pick true is =
+          let all = width-released plan.placed c pending well none in
+          ap not (taken-all plan.policy plan.window plan.placed c (pending_in plan.placed c (contains_slot pending)) plan.fill slot known (omega (arith, all, fits)) is)
+
+  none-missed : HasNoMissIn plan c (contains_slot pending)
+  none-missed slot known = ap (λ b. b && is_last_in plan.placed c slot) (none-left slot known)
+
+  left-none : set_of most_slots (left_after plan c (contains_slot pending)) ≡ 0
+  left-none =
+      set_of-same most_slots (left_after plan c (contains_slot pending)) (contains_slot 0) (λ slot known. none-left slot known ∙ sym (contains_slot-none slot))
+      ∙ sym (set_of-contains_slot most_slots 0 (omega arith))
+
+pub leaves-none : (ranking : Ranking) (window c pending : ℕ) → IsWellPlaced ranking.placed → pending ≡ 0 → demand_in ranking.placed c ≤ window
+    → LeavesSame (planning_of ranking window c pending)
+leaves-none ranking window c pending well none fits = record {
+  none_missed = none-missed (planning_of ranking window c pending) c pending well none fits;
+  left = none ∙ sym (left-none (planning_of ranking window c pending) c pending well none fits);
+}
+
+-- a state in which nothing is pending is valid
+pub none-valid : (placed : List Placed) (c pending : ℕ) → pending ≡ 0 → IsValid placed c pending
+none-valid placed c pending none slot waits =
+    let wrong : false ≡ true = sym (none-before pending slot none) ∙ waits in
+    absurd (cc)
+
+-- What the releases of entries sum to, cycle by cycle
+
+-- what an entry costs in a cycle before `at` in which it releases an instance
+abbrev cost_before : Placed → ℕ → ℕ → ℕ
+cost_before p c at = if is_some (released_by p c) && nat_lt c at then worst p.entry.length else 0
+
+-- the releases before the cycle `at` are added, and the next one comes in `cycle`
+pub record IsAdding (p : Placed) (w from cycle : ℕ) (old new : List ℕ) : Type 0 where
+  pub at : ℕ
+  pub begun : from ≤ at
+  pub reached : at ≤ cycle
+  pub next : IsNext p at cycle
+  pub size : length new ≡ 256
+  pub within : (k : ℕ) → k < 256 → get_or new k 0 ≤ w
+  pub more : (k : ℕ) → k < 256 → get_or old k 0 + cost_before p (from + k) at ≤ get_or new k 0
+
+not-yet : (p : Placed) (c at : ℕ) → at ≤ c → cost_before p c at ≤ 0
+not-yet p c at later =
+    let test = le-ltb c at later in
+    pick (is_some (released_by p c)) (nat_lt c at) test
+  where
+    pick : (b late : Bool) → late ≡ false → (if b && late then worst p.entry.length else 0) ≤ 0
+    pick true true wrong = absurd (cc)
+    pick true false is = omega arith
+    pick false late is = omega arith
+
+pub adding-start : (p : Placed) (w from cycle : ℕ) (old : List ℕ) → IsNext p from cycle → from ≤ cycle → length old ≡ 256
+    → ((k : ℕ) → k < 256 → get_or old k 0 ≤ w) → IsAdding p w from cycle old old
+adding-start p w from cycle old next later size within = record {
+  at = from;
+  begun = omega arith;
+  reached = later;
+  next = next;
+  size = size;
+  within = within;
+  more = λ k below. let none = not-yet p (from + k) from (omega arith) in omega arith;
+}
+
+-- a release at or after `at` is not before the next one
+not-between : (p : Placed) (at cycle c : ℕ) → IsNext p at cycle → is_some (released_by p c) ≡ true → at ≤ c → cycle ≤ c
+not-between p at cycle c next is later =
+    let released = released-of p c is in
+    let release = released.1.release in
+    let least = next.least released.0 (omega arith) in
+    omega arith
+
+-- so in a cycle that isn't the next one's nothing more is before the cycle after it
+before-same : (p : Placed) (at cycle c : ℕ) → IsNext p at cycle → c ≢ cycle → cost_before p c (cycle + 1) ≤ cost_before p c at
+before-same p at cycle c next apart = pick (is_some (released_by p c)) refl
+  where
+    pick : (b : Bool) → is_some (released_by p c) ≡ b
+        → (if b && nat_lt c (cycle + 1) then worst p.entry.length else 0) ≤ (if b && nat_lt c at then worst p.entry.length else 0)
+    pick false is = omega arith
+    pick true is =
+        ⊎_elim
+        (λ (less : c < at). rw (lt-ltb c at less) (at-most (nat_lt c (cycle + 1)) (worst p.entry.length) (worst p.entry.length) (omega arith)))
+        (λ (later : at ≤ c).
+        let beyond = not-between p at cycle c next is later in
+        rw (le-ltb c (cycle + 1) (omega arith)) (omega arith))
+        (cases_lt c at)
+
+module _ (p : Placed) (w from cycle : ℕ) (old new : List ℕ) (adding : IsAdding p w from cycle old new) where
+  -- the next release is added
+  pub adding-next : (place taken cost : ℕ) → IsInRange p → place ≡ cycle - from → place < 256 → taken ≡ get_or new place 0
+      → cost ≡ worst p.entry.length → cost ≤ w - taken → IsAdding p w from (cycle + p.entry.period) old (set new place (taken + cost))
+  adding-next place taken cost range place_is few taken_is cost_is small =
+      let begun = adding.begun in
+      let reached = adding.reached in
+      let some = range.entry.some_time in
+      let deadline = range.entry.deadline in
+      let size = adding.size in
+      let here : IsNext p cycle cycle = record {
+        number = adding.next.number;
+        is = adding.next.is;
+        reached = λ exists. omega arith;
+        least = λ k later. later;
+      } in
+      let full = adding.within place few in
+      let same-at : (k : ℕ) → place ≡ k → get_or (set new place (taken + cost)) k 0 ≡ taken + cost = λ k same.
+      ap (λ j. get_or (set new place (taken + cost)) j 0) (sym same) ∙ get_or-set_same new place (taken + cost) 0 (omega arith) in
+      let other-at : (k : ℕ) → place ≢ k → get_or (set new place (taken + cost)) k 0 ≡ get_or new k 0 = λ k apart.
+      get_or-set_other new place k (taken + cost) 0 (λ (same : k ≡ place). apart (sym same)) in
+      record {
+        at = cycle + 1;
+        begun = omega arith;
+        reached = omega arith;
+        next = next-after p cycle cycle range here refl;
+        size = length-set new place (taken + cost) ∙ size;
+        within = λ k below.
+            ⊎_elim
+            (λ (same : place ≡ k). let read = same-at k same in omega arith)
+            (λ (apart : place ≢ k). let read = other-at k apart in let was = adding.within k below in omega arith)
+            (cases_eq place k);
+        more = λ k below.
+            let was = adding.more k below in
+            ⊎_elim
+            (λ (same : place ≡ k).
+            let read = same-at k same in
+            let held : taken ≡ get_or new k 0 = taken_is ∙ ap (λ j. get_or new j 0) same in
+            let most = at-most (is_some (released_by p (from + k)) && nat_lt (from + k) (cycle + 1)) (worst p.entry.length) (worst p.entry.length) (omega arith) in
+            omega arith)
+            (λ (apart : place ≢ k).
+            let read = other-at k apart in
+            let less = before-same p adding.at cycle (from + k) adding.next (λ (same : from + k ≡ cycle). apart (omega arith)) in
+            omega arith)
+            (cases_eq place k);
+      }
+
+  -- all releases are added
+  pub adding-end : (end until : ℕ) → end ≤ cycle → ((c : ℕ) → c < until → Exists p c → c < end) → (k : ℕ) → k < 256 → from + k < until
+      → get_or old k 0 + cost_in p (from + k) ≤ get_or new k 0
+  adding-end end until over ends k few below =
+      let was = adding.more k few in
+      let all = pick (is_some (released_by p (from + k))) refl in
+      omega arith
+    where
+      pick : (b : Bool) → is_some (released_by p (from + k)) ≡ b
+          → (if b then worst p.entry.length else 0) ≤ (if b && nat_lt (from + k) adding.at then worst p.entry.length else 0)
+      pick false is = omega arith
+      pick true is =
+          ⊎_elim
+          (λ (less : from + k < adding.at). rw (lt-ltb (from + k) adding.at less) (omega arith))
+          (λ (later : adding.at ≤ from + k).
+          let beyond = not-between p adding.at cycle (from + k) adding.next is later in
+          let released = released-of p (from + k) is in
+          let before = ends (from + k) below released.1.exists in
+          absurd (omega arith))
+          (cases_lt (from + k) adding.at)
+
+-- what is released in each cycle of a block is no more than what stands at its place, and that fits the window
+pub record IsSummed (placed : List Placed) (w from until : ℕ) (demand : List ℕ) : Type 0 where
+  pub within : (k : ℕ) → k < 256 → get_or demand k 0 ≤ w
+  pub covers : (k : ℕ) → k < 256 → from + k < until → demand_in placed (from + k) ≤ get_or demand k 0
+
+pub summed-start : (w from until : ℕ) → IsSummed [] w from until (replicate 256 0)
+summed-start w from until = record {
+  within = λ k few. let read : get_or (replicate {A = ℕ} 256 0) k 0 ≡ 0 = get_or-replicate 256 k 0 0 few in omega (arith, read);
+  covers = λ k few below. omega arith;
+}
+
+pub summed-more : (placed : List Placed) (i : ℕ) (d : Placed) (w from until : ℕ) (old new : List ℕ) → i < length placed
+    → IsSummed (take i placed) w from until old → ((k : ℕ) → k < 256 → get_or new k 0 ≤ w)
+    → ((k : ℕ) → k < 256 → from + k < until → get_or old k 0 + cost_in (get_or placed i d) (from + k) ≤ get_or new k 0)
+    → IsSummed (take (i + 1) placed) w from until new
+summed-more placed i d w from until old new there summed within more = record {
+  within = within;
+  covers = λ k few below.
+      let was = summed.covers k few below in
+      let one = more k few below in
+      let sum = sum_by_more (λ (p : Placed). cost_in p (from + k)) placed i d there in
+      omega (arith, was, one, sum);
+}
+
+pub summed-all : (placed : List Placed) (i w from until : ℕ) (demand : List ℕ) → length placed ≤ i → until ≤ from + 256
+    → IsSummed (take i placed) w from until demand → (c : ℕ) → from ≤ c → c < until → demand_in placed c ≤ w
+summed-all placed i w from until demand all few summed c begun below =
+    let k : ℕ = c - from in
+    let there : from + (c - from) ≡ c = omega arith in
+    let covers = summed.covers (c - from) (omega arith) (omega arith) in
+    let within = summed.within (c - from) (omega arith) in
+    let least : demand_in (take i placed) (from + (c - from)) ≤ w = omega (arith, covers, within) in
+    subst (λ n. demand_in placed n ≤ w) there (subst (λ (ps : List Placed). demand_in ps (from + (c - from)) ≤ w) (take_all i placed all) least)
