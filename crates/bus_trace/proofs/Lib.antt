@@ -4,6 +4,7 @@ mod LogTrace
 mod LogHistory
 mod Plans
 mod PutRows
+mod RowCounts
 mod RowEnds
 mod RowLemmas
 mod RowsTold

@@ -107,6 +107,10 @@ rows_in-append (byte ∷ []) second are =
 rows_in-append (byte ∷ next ∷ rest) second are =
     longer byte next rest second (byte == 10) refl (rows_in-append (next ∷ rest) second are)
 
+-- so they are as many as both are
+pub rows-counted : (first second : List ℕ) → AreRows first → length (rows_in (first ++ second)) ≡ length (rows_in first) + length (rows_in second)
+rows-counted first second are = ap length (rows_in-append first second are) ∙ length-append (rows_in first) (rows_in second)
+
 -- a byte before the first row
 begun_text : (byte : ℕ) (rows : List (List ℕ)) → concat (begun_by byte rows) ≡ byte ∷ concat rows
 begun_text byte [] = refl
@@ -150,7 +154,7 @@ row_more byte next rest false is later =
     ap length (row_goes_by byte (next ∷ rest) is ∙ ap (begun_by byte) has) ∙ sym (ap length has) ∙ later ∙ same
 
 -- whole rows are as many as their line feeds
-row_count : (text : List ℕ) → AreRows text → length (rows_in text) ≡ feeds text
+pub row_count : (text : List ℕ) → AreRows text → length (rows_in text) ≡ feeds text
 row_count [] are = ap length no_rows
 row_count (byte ∷ []) are =
     let one = is_feed byte are in
@@ -186,6 +190,12 @@ keep_behind most xs ys many =
     let both = length-append xs ys in
     let place : length (xs ++ ys) - most ≡ length xs + 0 = omega (arith, both, many) in
     ap (λ k. drop k (xs ++ ys)) place ∙ drop-append-add xs ys 0
+
+keep_enough : {A : Type 0} (most : ℕ) (xs ys : List A) → most ≤ length ys → keep_last most (xs ++ ys) ≡ keep_last most ys
+keep_enough most xs ys enough =
+    let both = length-append xs ys in
+    let place : length (xs ++ ys) - most ≡ length xs + (length ys - most) = omega (arith, both, enough) in
+    ap (λ k. drop k (xs ++ ys)) place ∙ drop-append-add xs ys (length ys - most)
 
 -- so many rows from the end
 pub record IsLast (text : List ℕ) (most : ℕ) (last : List ℕ) : Type 0 where
@@ -247,3 +257,12 @@ tail-longer text kept rows most is are =
       kept_whole = rows-append kept rows is.kept_whole are;
       rows = all kept is.kept_whole ∙ ap (λ last. keep_last most (last ++ rows_in rows)) is.rows ∙ sym (all text is.whole);
     }
+
+-- where the rows behind others are enough
+pub tail-shorter : (first second : List ℕ) (most : ℕ) → AreRows first → AreRows second → most ≤ length (rows_in second)
+    → IsTailOf (first ++ second) most second
+tail-shorter first second most are also enough = record {
+  whole = rows-append first second are also;
+  kept_whole = also;
+  rows = sym (ap (keep_last most) (rows_in-append first second are) ∙ keep_enough most (rows_in first) (rows_in second) enough);
+}

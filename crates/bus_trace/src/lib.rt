@@ -14,6 +14,6 @@ mod streaming;
 
 pub use gathering::Gathered;
 pub use log::log_text;
-pub use recent::{Recent, last_from, row_len};
+pub use recent::{Recent, last_from, least_rows, row_len};
 pub use rows::until_of;
 pub use streaming::{event_rows, put_end_row, put_event_rows};

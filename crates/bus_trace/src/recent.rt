@@ -3,10 +3,13 @@
 ghost use Rattle.std.specs.Prelude.{◌≡◌, ◌<◌, ◌≤◌, ◌++◌, ◌∷◌, [], IfOk, OnOk, Some, drop, length, take};
 ghost use Rattle.std.specs.List.{concat, flat_map};
 ghost use Rattle.circular_buffer.specs.Buffer.{keep_last};
+ghost use Rattle.bus_trace.specs.EventRows.{rows_of_event};
 ghost use Rattle.bus_trace.specs.LastRows.{AreRows, IsTailOf, last_rows, rows_in};
 ghost use Rattle.bus_trace.specs.Recent.{bytes_of};
 
+use can_frame::TimedFrame;
 use circular_buffer::HeapCircularBuffer;
+use master_core::Event;
 use std::alloc::{AllocError, Global};
 use std::marker::Model;
 
@@ -86,6 +89,17 @@ pub fn row_len(text: &[u8]) -> usize
         }
     }
     text.len()
+}
+
+/// How many rows those of an event and of its frames are, at least.
+pub fn least_rows(event: &Event, frames: &[TimedFrame]) -> usize
+    ensures rows { result ≤ length (rows_in (rows_of_event event.now frames.now)) }
+{
+    match event {
+        Event::Submit { trail, .. } => 1 + trail.as_slice().len(),
+        Event::Look { .. } => 1,
+        Event::Open { .. } => 1 + frames.len(),
+    }
 }
 
 /// Where the last rows of a text begin, up to `most` of them, where the text is whole rows. It looks at these rows alone,

@@ -1,28 +1,30 @@
 -- One frame more: what it changes of what is counted of an entry, and of all of them.
-use Rattle.std.proofs.Common.{◌≡◌, ℕ, zero, suc, ◌+◌, ◌-◌, ◌<◌, ◌≤◌, ◌||◌, Bool, true, false, cond, eqb, min, max, Option, Some, None, List, [], ◌∷◌, ◌++◌, length, map, get_or, slice_get, slice_set, refl, sym, ap, subst, ◌∙◌, arith, append_assoc, inl, inr}
+use Rattle.std.proofs.Common.{◌≡◌, ℕ, zero, suc, ◌+◌, ◌-◌, ◌<◌, ◌≤◌, ◌^◌, ◌*◌, ◌||◌, Bool, true, false, cond, eqb, min, max, Option, Some, None, IfSome, List, [], ◌∷◌, replicate, ◌++◌, length, map, get_or, slice_get, slice_set, refl, sym, ap, subst, ◌∙◌, arith, append_assoc, inl, inr}
 use Rattle.std.specs.List.{fold, reduce, All}
 use Rattle.std.specs.Option.{option_map_or}
 use Rattle.std.proofs.lemmas.Bool.{cases_eq, cases_Bool, cond-true, cond-false, eqb-true, eq-eqb, ne_eqb}
-use Rattle.std.proofs.lemmas.List.{append-nil, get_or-set_same, get_or-set_other, length-append, map-append, length-set}
+use Rattle.std.proofs.lemmas.List.{append-nil, length-replicate, get_or-set_same, get_or-set_other, length-append, map-append, length-set}
 use Rattle.std.proofs.lemmas.List.Folds.{list_any-append}
 use Rattle.std.proofs.lemmas.List.Sums.{fold-append}
-use Rattle.std.proofs.lemmas.Nat.{le-div}
+use Rattle.std.proofs.lemmas.Nat.{le-div, mul-le}
 use Rattle.std.proofs.Math.Nat.{div-mul-le_self}
 use Rattle.std.proofs.lemmas.Option.{slice_get_within, get_or_from_slice_get, slice_get-get_or}
 use Rattle.profile.specs.Limits.{first_identifier}
 use Rattle.can_frame.specs.declared.data_frame.TimedFrame.{TimedFrame}
 use Rattle.requirement_table.specs.declared.entries.Placed.{Placed}
-use Rattle.requirement_table.specs.Instance.{latest, instance_of, release_of}
+use Rattle.requirement_table.specs.Instance.{Exists, MaySend, exists, latest, instance_of, release_of}
 use Rattle.requirement_table.specs.Slots.{most_slots}
 use Rattle.requirement_table.specs.Table.{IsInRange, IsWellPlaced}
-use Rattle.requirement_table.proofs.Shared.{MaySend-from_instance, latest-of_sent}
+use Rattle.requirement_table.proofs.Shared.{Exists-from_test, MaySend-from_instance, latest-of_sent}
 use Rattle.bus_trace.specs.Log.{triggers_in, triggers_with}
 use Rattle.bus_trace.proofs.Shared.{triggers_with-le}
 use Rattle.plan_report.specs.Report.{Sending, delay_of, first_sendings, greatest_of, is_sent, least_of, sendings, sending_at, sent_by, sent_of}
 use Rattle.plan_report.specs.Current.{IsCurrent, IsTheOne}
 use Rattle.plan_report.specs.declared.current.Current.{Current}
-use Rattle.plan_report.specs.Tally.{AreTallies, IsLast, IsTally, is_last, tally_with}
+use Rattle.plan_report.specs.Tally.{AreReleased, AreTallies, CountsOne, IsCounted, IsLast, IsNext, IsReleased, IsTally, count_with, is_last, tally_of, tally_with}
+use Rattle.plan_report.specs.declared.tally.Count.{Count}
 use Rattle.plan_report.specs.declared.tally.Tally.{Tally}
+use Rattle.plan_report.proofs.OneOfSlot.{the-one}
 
 -- Lists with one element more
 
@@ -211,36 +213,56 @@ module _ (frames : List TimedFrame) (p : Placed) (sent : TimedFrame) (tally : Ta
 -- All entries
 
 -- none of them is sent by the frame
-pub tallies-same : (frames : List TimedFrame) (placed : List Placed) (sent : TimedFrame) (tallies : List Tally)
+pub tallies-same : (frames : List TimedFrame) (placed : List Placed) (sent : TimedFrame) (counts : List (Option Count))
     → ((place : ℕ) (p : Placed) → slice_get placed place ≡ Some p → sent_by p (triggers_with (triggers_in frames) sent) sent ≡ [])
-    → AreTallies frames placed tallies → AreTallies (frames ++ sent ∷ []) placed tallies
-tallies-same frames placed sent tallies nothing are = record {
+    → AreTallies frames placed counts → AreTallies (frames ++ sent ∷ []) placed counts
+tallies-same frames placed sent counts nothing are = record {
   count = are.count;
-  each = λ place p tally here counted. tally-same frames p sent tally (nothing place p here) (are.each place p tally here counted);
+  each = λ place p count here there.
+      let known = are.each place p count here there in
+      record { tally = tally-same frames p sent (tally_of count) (nothing place p here) known.tally; released = known.released };
+}
+
+none-at : (n k : ℕ) (o : Option Count) → slice_get (replicate n None) k ≡ Some o → o ≡ None
+none-at zero k o is = let none : ⊥ = cc in absurd none
+none-at (suc n) zero o is = cc
+none-at (suc n) (suc k) o is = none-at n k o is
+
+-- nothing is counted of no frames
+pub tallies-start : (placed : List Placed) (counts : List (Option Count)) → counts ≡ replicate (length placed) None → AreTallies [] placed counts
+tallies-start placed counts is = record {
+  count = ap length is ∙ length-replicate (length placed) None;
+  each = λ place p count here there.
+      let nothing : IsCounted [] p None = record {
+        tally = record { instances = refl; least = refl; greatest = refl; last = λ number. refl; few = omega arith };
+        released = tt;
+      } in
+      subst (λ o. IsCounted [] p o) (sym (none-at (length placed) place count (ap (λ l. slice_get l place) (sym is) ∙ there))) nothing;
 }
 
 -- that at the place alone is
-pub tallies-next : (frames : List TimedFrame) (placed : List Placed) (sent : TimedFrame) (tallies : List Tally) (at : ℕ) (d tally next : Tally)
-    → at < length tallies → tally ≡ get_or tallies at d
+pub tallies-next : (frames : List TimedFrame) (placed : List Placed) (sent : TimedFrame) (counts : List (Option Count)) (at : ℕ) (d count next : Option Count)
+    → at < length counts → count ≡ get_or counts at d
     → ((place : ℕ) (p : Placed) → slice_get placed place ≡ Some p → (place ≡ at → ⊥) → sent_by p (triggers_with (triggers_in frames) sent) sent ≡ [])
-    → ((p : Placed) → slice_get placed at ≡ Some p → IsTally frames p tally → IsTally (frames ++ sent ∷ []) p next)
-    → AreTallies frames placed tallies → AreTallies (frames ++ sent ∷ []) placed (slice_set tallies at next)
-tallies-next frames placed sent tallies at d tally next within this others step are = record {
-  count = length-set tallies at next ∙ are.count;
+    → ((p : Placed) → slice_get placed at ≡ Some p → IsCounted frames p count → IsCounted (frames ++ sent ∷ []) p next)
+    → AreTallies frames placed counts → AreTallies (frames ++ sent ∷ []) placed (slice_set counts at next)
+tallies-next frames placed sent counts at d count next within this others step are = record {
+  count = length-set counts at next ∙ are.count;
   each = λ place p new here counted.
-      let read : get_or (slice_set tallies at next) place new ≡ new = get_or_from_slice_get (slice_set tallies at next) place new new counted in
-      let short = slice_get_within (slice_set tallies at next) place new counted in
-      let same = length-set tallies at next in
+      let read : get_or (slice_set counts at next) place new ≡ new = get_or_from_slice_get (slice_set counts at next) place new new counted in
+      let short = slice_get_within (slice_set counts at next) place new counted in
+      let same = length-set counts at next in
       elim (cases_eq place at) [
         | inl here_is ↦
             let there : slice_get placed at ≡ Some p = ap (slice_get placed) (sym here_is) ∙ here in
-            let old : slice_get tallies at ≡ Some tally = slice_get-get_or tallies at d within ∙ ap (λ t. Some t) (sym this) in
-            let value : next ≡ new = sym (get_or-set_same tallies at next new within) ∙ ap (λ n. get_or (slice_set tallies at next) n new) (sym here_is) ∙ read in
-            subst (λ t. IsTally (frames ++ sent ∷ []) p t) value (step p there (are.each at p tally there old))
+            let old : slice_get counts at ≡ Some count = slice_get-get_or counts at d within ∙ ap (λ t. Some t) (sym this) in
+            let value : next ≡ new = sym (get_or-set_same counts at next new within) ∙ ap (λ n. get_or (slice_set counts at next) n new) (sym here_is) ∙ read in
+            subst (λ t. IsCounted (frames ++ sent ∷ []) p t) value (step p there (are.each at p count there old))
         | inr elsewhere ↦
-            let value : get_or tallies place new ≡ new = sym (get_or-set_other tallies at place next new elsewhere) ∙ read in
-            let old : slice_get tallies place ≡ Some new = slice_get-get_or tallies place new (omega arith) ∙ ap (λ t. Some t) value in
-            tally-same frames p sent new (others place p here elsewhere) (are.each place p new here old)
+            let value : get_or counts place new ≡ new = sym (get_or-set_other counts at place next new elsewhere) ∙ read in
+            let old : slice_get counts place ≡ Some new = slice_get-get_or counts place new (omega arith) ∙ ap (λ t. Some t) value in
+            let known = are.each place p new here old in
+            record { tally = tally-same frames p sent (tally_of new) (others place p here elsewhere) known.tally; released = known.released }
       ];
 }
 
@@ -269,44 +291,45 @@ slice_get-none (x ∷ xs) zero none = absurd (cc)
 slice_get-none (x ∷ xs) (suc k) none = let past = slice_get-none xs k none in omega arith
 
 -- few are counted
-pub few-counted : (frames : List TimedFrame) (placed : List Placed) (tallies : List Tally) (most : ℕ) → AreTallies frames placed tallies
-    → length frames < most → All (λ tally. tally.instances < most) tallies
-few-counted frames placed tallies most are short = λ k d within.
-    let count = are.count in
+pub few-counted : (frames : List TimedFrame) (placed : List Placed) (counts : List (Option Count)) (most : ℕ) → AreTallies frames placed counts
+    → length frames < most → All (λ count. (tally_of count).instances < most) counts
+few-counted frames placed counts most are short = λ k d within.
+    let same = are.count in
     by k d within (slice_get placed k) refl (omega arith)
   where
-    by : (k : ℕ) (d : Tally) → k < length tallies → (o : Option Placed) → slice_get placed k ≡ o → k < length placed → (get_or tallies k d).instances < most
+    by : (k : ℕ) (d : Option Count) → k < length counts → (o : Option Placed) → slice_get placed k ≡ o → k < length placed
+        → (tally_of (get_or counts k d)).instances < most
     by k d within None none inside = absurd (let past = slice_get-none placed k none in omega arith)
     by k d within (Some p) here inside =
-        let tally = are.each k p (get_or tallies k d) here (slice_get-get_or tallies k d within) in
-        let few = tally.few in
+        let known = are.each k p (get_or counts k d) here (slice_get-get_or counts k d within) in
+        let few = known.tally.few in
         omega arith
 
-in-range : (placed : List Placed) → IsWellPlaced placed → (place : ℕ) (p : Placed) → slice_get placed place ≡ Some p → IsInRange p
+pub in-range : (placed : List Placed) → IsWellPlaced placed → (place : ℕ) (p : Placed) → slice_get placed place ≡ Some p → IsInRange p
 in-range placed well place p here =
     subst IsInRange (get_or_from_slice_get placed place p p here) (well.in_range place p (slice_get_within placed place p here))
 
 -- The frames of the code
 
 -- a frame before the first trigger
-pub tallies-before : (frames : List TimedFrame) (placed : List Placed) (sent : TimedFrame) (tallies : List Tally)
-    → triggers_with (triggers_in frames) sent ≡ 0 → AreTallies frames placed tallies → AreTallies (frames ++ sent ∷ []) placed tallies
-tallies-before frames placed sent tallies none are =
-    tallies-same frames placed sent tallies (λ place p here. ap (λ n. sent_by p n sent) none) are
+pub tallies-before : (frames : List TimedFrame) (placed : List Placed) (sent : TimedFrame) (counts : List (Option Count))
+    → triggers_with (triggers_in frames) sent ≡ 0 → AreTallies frames placed counts → AreTallies (frames ++ sent ∷ []) placed counts
+tallies-before frames placed sent counts none are =
+    tallies-same frames placed sent counts (λ place p here. ap (λ n. sent_by p n sent) none) are
 
 -- a frame that is of no slot
-pub tallies-strange : (frames : List TimedFrame) (placed : List Placed) (sent : TimedFrame) (tallies : List Tally) → IsWellPlaced placed
+pub tallies-strange : (frames : List TimedFrame) (placed : List Placed) (sent : TimedFrame) (counts : List (Option Count)) → IsWellPlaced placed
     → ((slot : ℕ) → slot < most_slots → sent.frame.identifier ≡ first_identifier + slot → ⊥)
-    → AreTallies frames placed tallies → AreTallies (frames ++ sent ∷ []) placed tallies
-tallies-strange frames placed sent tallies well strange are =
-    tallies-same frames placed sent tallies (λ place p here.
+    → AreTallies frames placed counts → AreTallies (frames ++ sent ∷ []) placed counts
+tallies-strange frames placed sent counts well strange are =
+    tallies-same frames placed sent counts (λ place p here.
     let range = in-range placed well place p here in
     other-slot p (triggers_with (triggers_in frames) sent) sent (strange p.entry.slot range.entry.slot)) are
 
 -- a frame of a slot, in a cycle
-module _ (frames : List TimedFrame) (placed : List Placed) (sent : TimedFrame) (tallies : List Tally) (slot cycle : ℕ) (well : IsWellPlaced placed)
+module _ (frames : List TimedFrame) (placed : List Placed) (sent : TimedFrame) (counts : List (Option Count)) (slot cycle : ℕ) (well : IsWellPlaced placed)
     (of_slot : sent.frame.identifier ≡ first_identifier + slot) (now : triggers_with (triggers_in frames) sent ≡ suc cycle)
-    (are : AreTallies frames placed tallies) where
+    (are : AreTallies frames placed counts) where
   nothing : (p : Placed) → (p.entry.slot ≡ slot → instance_of p cycle ≡ None) → sent_by p (triggers_with (triggers_in frames) sent) sent ≡ []
   nothing p none =
       elim (cases_eq p.entry.slot slot) [
@@ -315,34 +338,98 @@ module _ (frames : List TimedFrame) (placed : List Placed) (sent : TimedFrame) (
       ]
 
   -- of which no entry has an instance to send
-  pub tallies-none : IsCurrent placed slot cycle None → AreTallies (frames ++ sent ∷ []) placed tallies
-  tallies-none none = tallies-same frames placed sent tallies (λ place p here. nothing p (none place p here)) are
+  pub tallies-none : IsCurrent placed slot cycle None → AreTallies (frames ++ sent ∷ []) placed counts
+  tallies-none none = tallies-same frames placed sent counts (λ place p here. nothing p (none place p here)) are
 
   -- and one has
-  pub tallies-one : (found : Current) (d next : Tally) (delay : ℕ) → IsTheOne placed slot cycle found
-      → next ≡ tally_with (get_or tallies found.place d) found.number delay → delay ≡ cycle - release_of found.placed found.number
-      → AreTallies (frames ++ sent ∷ []) placed (slice_set tallies found.place next)
-  tallies-one found d next delay one is late =
+  pub tallies-one : (found : Current) (d next : Option Count) → IsTheOne placed slot cycle found
+      → tally_of next ≡ tally_with (tally_of (get_or counts found.place d)) found.number (cycle - release_of found.placed found.number)
+      → IfSome next (IsReleased found.placed)
+      → AreTallies (frames ++ sent ∷ []) placed (slice_set counts found.place next)
+  tallies-one found d next one is released =
       let count = are.count in
       let inside = one.within in
       let range = in-range placed well found.place found.placed one.here in
       let deadline = range.entry.some_time in
       let period = range.entry.deadline in
-      let tally : Tally = get_or tallies found.place d in
+      let known : Option Count = get_or counts found.place d in
       let number : latest found.placed cycle ≡ found.number =
       latest-of_sent found.placed found.number cycle period (MaySend-from_instance found.placed found.number cycle one.instance) in
-      let value : tally_with tally found.number (cycle - release_of found.placed found.number) ≡ next =
-      ap (tally_with tally found.number) (sym late) ∙ sym is in
-      tallies-next frames placed sent tallies found.place d tally next (omega arith) refl
+      tallies-next frames placed sent counts found.place d known next (omega arith) refl
       (λ place p here elsewhere. nothing p (λ same. one.alone place p here same elsewhere))
       (λ p here counted.
       let pair : Some found.placed ≡ Some p = sym one.here ∙ here in
       let same : found.placed ≡ p = cc in
-      subst (λ q. IsTally (frames ++ sent ∷ []) q next) same
-      (subst (λ t. IsTally (frames ++ sent ∷ []) found.placed t) value
-      (subst (λ k. IsTally (frames ++ sent ∷ []) found.placed (tally_with tally k (cycle - release_of found.placed k))) number
-      (tally-next frames found.placed sent tally cycle (omega arith) now
-      (subst (λ k. sent_by found.placed (suc cycle) sent ≡ record { number = k; cycle = cycle } ∷ []) (sym number)
-      (one-instance found.placed cycle found.number sent (of_slot ∙ ap (λ s. first_identifier + s) (sym one.of_slot)) one.instance))
-      (subst (λ q. IsTally frames q tally) (sym same) counted)))))
+      subst (λ q. IsCounted (frames ++ sent ∷ []) q next) same
+      (record {
+        tally = subst (λ t. IsTally (frames ++ sent ∷ []) found.placed t) (sym is)
+            (subst (λ k. IsTally (frames ++ sent ∷ []) found.placed (tally_with (tally_of known) k (cycle - release_of found.placed k))) number
+            (tally-next frames found.placed sent (tally_of known) cycle (omega arith) now
+            (subst (λ k. sent_by found.placed (suc cycle) sent ≡ record { number = k; cycle = cycle } ∷ []) (sym number)
+            (one-instance found.placed cycle found.number sent (of_slot ∙ ap (λ s. first_identifier + s) (sym one.of_slot)) one.instance))
+            (subst (λ q. IsTally frames q (tally_of known)) (sym same) counted.tally)));
+        released = released;
+      }))
       are
+
+-- The counts of the code
+
+-- the releases of what is counted are those of the entries
+pub released-counted : (frames : List TimedFrame) (placed : List Placed) (counts : List (Option Count)) → AreTallies frames placed counts
+    → AreReleased placed counts
+released-counted frames placed counts are = λ place p count here there. (are.each place p count here there).released
+
+-- the instance after the last one: its release, its number, and that it may be sent
+next-release : (p : Placed) (number : ℕ) → release_of p (number + 1) ≡ release_of p number + p.entry.period
+next-release p number =
+    let more : (number + 1) * p.entry.period ≡ number * p.entry.period + p.entry.period = grind arith in
+    omega (arith, more)
+
+-- an instance is not released before the cycle of its number
+late-number : (p : Placed) (number : ℕ) → 1 ≤ p.entry.period → number ≤ release_of p number
+late-number p number some = let least = mul-le number 1 number p.entry.period (omega arith) some in omega (arith, least)
+
+-- what is counted with an instance more that is not the last one
+fresh-tally : (count : Count) (number release delay : ℕ) → (count.number ≡ number → ⊥)
+    → tally_of (Some (count_with count number release delay)) ≡ tally_with (tally_of (Some count)) number delay
+fresh-tally count number release delay other = sym (cond-false (eqb count.number number) _ _ (ne_eqb count.number number other))
+
+pub is-next : (p : Placed) (cycle : ℕ) (count : Count) (release : ℕ) → IsInRange p → IsReleased p count → cycle < 2 ^ 63
+    → release ≡ count.release + p.entry.period → release ≤ cycle → cycle - release < p.entry.deadline → exists p release ≡ true
+    → IsNext p cycle count (count_with count (count.number + 1) release (cycle - release))
+is-next p cycle count release range known near is released in_time exists =
+    let number = count.number + 1 in
+    let same : release ≡ release_of p number = is ∙ ap (λ n. n + p.entry.period) known.release ∙ sym (next-release p count.number) in
+    let some = range.entry.some_time in
+    let period = range.entry.deadline in
+    let least = known.number in
+    record {
+      sends = record {
+        exists = subst (Exists p) same (Exists-from_test p release exists);
+        released = omega (arith, same, released);
+        in_time = omega (arith, same, released, in_time);
+      };
+      tally = fresh-tally count number release (cycle - release) (λ no. omega arith) ∙ ap (λ r. tally_with (tally_of (Some count)) number (cycle - r)) same;
+      released = record { release = same; number = omega (arith, is, least, some, period); early = omega (arith, released, near) };
+    }
+
+-- one counted at once or later
+pub is-released : (p : Placed) (number release cycle : ℕ) → IsInRange p → MaySend p number cycle → cycle < 2 ^ 63 → release ≡ release_of p number
+    → (number ≤ release) × (release < 2 ^ 63)
+is-released p number release cycle range sends near is =
+    let some = range.entry.some_time in
+    let period = range.entry.deadline in
+    let late = late-number p number (omega arith) in
+    let released = sends.released in
+    (omega (arith, late, is), omega (arith, released, is, near))
+
+-- the instance after the last one is counted at its place
+pub counts-next : (placed : List Placed) (slot cycle place : ℕ) (p : Placed) (counts : List (Option Count)) (d : Option Count) (known next : Count)
+    → IsWellPlaced placed → slice_get placed place ≡ Some p → p.entry.slot ≡ slot → get_or counts place d ≡ Some known → IsNext p cycle known next
+    → CountsOne placed slot cycle counts (slice_set counts place (Some next))
+counts-next placed slot cycle place p counts d known next well here of_slot known_is is = λ frames sent are identifier seen.
+    let now : triggers_with (triggers_in frames) sent ≡ suc cycle = omega (arith, seen) in
+    tallies-one frames placed sent counts slot cycle well identifier now are (record { place = place; placed = p; number = next.number }) d (Some next)
+    (the-one placed slot cycle place p next.number well here of_slot is.sends)
+    (is.tally ∙ ap (λ k. tally_with (tally_of k) next.number (cycle - release_of p next.number)) (sym known_is))
+    is.released

@@ -5,9 +5,9 @@ use Rattle.std.proofs.lemmas.Bool.{leb-true, leb-false, cases_lt, cases_eq}
 use Rattle.std.proofs.lemmas.Option.{slice_get_within, get_or_from_slice_get}
 use Rattle.requirement_table.specs.declared.entries.Placed.{Placed}
 use Rattle.requirement_table.specs.Instance.{MaySend, instance_of}
-use Rattle.requirement_table.specs.Table.{IsWellPlaced, GoesBefore, free_from, is_over}
+use Rattle.requirement_table.specs.Table.{IsInRange, IsWellPlaced, GoesBefore, free_from, is_over}
 use Rattle.requirement_table.specs.Slots.{most_slots}
-use Rattle.requirement_table.proofs.Shared.{MaySend-from_instance}
+use Rattle.requirement_table.proofs.Shared.{MaySend-from_instance, instance_of-sent, one_instance}
 use Rattle.plan_report.specs.Current.{ArePassed, IsCurrent, IsTheOne}
 
 pub zeros-at : (n slot : ℕ) → slice_index (replicate n 0) slot ≡ 0
@@ -104,3 +104,20 @@ module _ (placed : List Placed) (slot cycle place : ℕ) (well : IsWellPlaced pl
     instance = sends;
     alone = λ other p there of_slot elsewhere. none-elsewhere q here other p there of_slot elsewhere;
   }
+
+-- an entry of the slot of which an instance may be sent is the only one
+pub the-one : (placed : List Placed) (slot cycle place : ℕ) (p : Placed) (number : ℕ) → IsWellPlaced placed → slice_get placed place ≡ Some p
+    → p.entry.slot ≡ slot → MaySend p number cycle → IsTheOne placed slot cycle (record { place = place; placed = p; number = number })
+the-one placed slot cycle place p number well here of_slot sends =
+    let within = slice_get_within placed place p here in
+    let range : IsInRange p = subst IsInRange (get_or_from_slice_get placed place p p here) (well.in_range place p within) in
+    record {
+      within = within;
+      here = here;
+      of_slot = of_slot;
+      instance = instance_of-sent p number cycle range.entry.deadline sends;
+      alone = λ other q there same elsewhere.
+          no-number (instance_of q cycle) (λ k found.
+          elsewhere (one_instance placed well other place k number cycle q p there here (same ∙ sym of_slot)
+          (MaySend-from_instance q k cycle found) sends).0);
+    }

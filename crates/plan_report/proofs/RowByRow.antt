@@ -1,5 +1,5 @@
 -- The rows of the report, row by row.
-use Rattle.std.proofs.Common.{◌≡◌, ℕ, suc, ◌+◌, ◌-◌, ◌<◌, Bool, true, false, cond, List, [], ◌∷◌, ◌++◌, length, map, take, get_or, slice_get, slice_index, slice_index_or, Some, refl, sym, ap, ◌∙◌, arith, append_assoc}
+use Rattle.std.proofs.Common.{◌≡◌, ℕ, suc, ◌+◌, ◌-◌, ◌<◌, Bool, true, false, cond, List, [], ◌∷◌, ◌++◌, length, map, take, get_or, slice_get, slice_index, slice_index_or, Option, Some, refl, sym, ap, subst, ◌∙◌, arith, append_assoc}
 use Rattle.std.specs.List.{flat_map}
 use Rattle.std.proofs.lemmas.List.{append-nil, get_or_default, length-drop, length-map, take_more}
 use Rattle.std.proofs.lemmas.List.Concat.{flat_map-append}
@@ -15,7 +15,8 @@ use Rattle.master_core.specs.History.{placed_of}
 use Rattle.master_core.specs.Openings.{openings_of}
 use Rattle.plan_report.specs.Opened.{load_of}
 use Rattle.plan_report.specs.Report.{async_row, delay_of, entry_row, identifiers, is_owned, load_row, owned_below, report_text, requests_row, sent_of}
-use Rattle.plan_report.specs.Tally.{AreTallies, IsTally}
+use Rattle.plan_report.specs.Tally.{AreTallies, IsTally, tally_of}
+use Rattle.plan_report.specs.declared.tally.Count.{Count}
 use Rattle.plan_report.specs.declared.tally.Tally.{Tally}
 use Rattle.plan_report.specs.Written.{owned_row, tally_row, widths_row}
 use Rattle.plan_report.specs.declared.load.Load.{Load}
@@ -63,16 +64,17 @@ same-element : {X : Type 0} (xs : List X) (i j : ℕ) (x d : X) → j ≡ i → 
 same-element xs i j x d same within here = here ∙ ap (λ k. get_or xs k x) same ∙ get_or_default xs i x d within
 
 -- the text with the row of one entry more
-pub entries-next : (trace : List TimedFrame) (placed : List Placed) (tallies : List Tally) (i : ℕ) (d : Placed) (tally : Tally) (old now new : List ℕ)
-    → AreTallies trace placed tallies → i < length placed → tally ≡ get_or tallies i tally
+pub entries-next : (trace : List TimedFrame) (placed : List Placed) (counts : List (Option Count)) (i : ℕ) (d : Placed) (count : Option Count) (tally : Tally)
+    (old now new : List ℕ)
+    → AreTallies trace placed counts → i < length placed → count ≡ get_or counts i count → tally ≡ tally_of count
     → now ≡ old ++ flat_map (entry_row trace) (take i placed) → new ≡ now ++ tally_row (get_or placed i d) tally
     → new ≡ old ++ flat_map (entry_row trace) (take (i + 1) placed)
-entries-next trace placed tallies i d tally old now new are within here so_far more =
+entries-next trace placed counts i d count tally old now new are within here told so_far more =
     let row = entry_row trace in
     let p : Placed = get_or placed i d in
-    let count = are.count in
-    let read : slice_get tallies i ≡ Some tally = slice_get-get_or tallies i tally (omega arith) ∙ ap (λ t. Some t) (sym here) in
-    let counted : IsTally trace p tally = are.each i p tally (slice_get-get_or placed i d within) read in
+    let same = are.count in
+    let read : slice_get counts i ≡ Some count = slice_get-get_or counts i count (omega arith) ∙ ap (λ t. Some t) (sym here) in
+    let counted : IsTally trace p tally = subst (IsTally trace p) (sym told) (are.each i p count (slice_get-get_or placed i d within) read).tally in
     more
     ∙ ap (λ r. now ++ r) (entry-row trace p tally counted ∙ sym (append-nil (row p)))
     ∙ ap (λ l. l ++ flat_map row (p ∷ [])) so_far

@@ -1,14 +1,15 @@
 -- The widths of opened cycles, slot by slot and event by event.
-use Rattle.std.proofs.Common.{◌≡◌, ℕ, zero, suc, ◌+◌, ◌<◌, ◌≤◌, ◌==◌, ◌&&◌, not, inl, inr, Bool, true, false, cond, Option, Some, None, IfSome, List, ◌∷◌, ◌++◌, length, drop, get_or, slice_get, nat_le, refl, sym, ap, subst, ◌∙◌, arith, append_assoc, Contains}
+use Rattle.std.proofs.Common.{◌≡◌, ℕ, zero, suc, ◌+◌, ◌-◌, ◌<◌, ◌≤◌, ◌==◌, ◌&&◌, not, inl, inr, Bool, true, false, cond, Option, Some, None, IfSome, List, ◌∷◌, ◌++◌, length, drop, get_or, slice_get, nat_le, refl, sym, ap, subst, ◌∙◌, arith, append_assoc, Contains}
 use Rattle.std.specs.Option.{option_map_or}
 use Rattle.std.proofs.lemmas.Bool.{cases_eq, cond-false, cond-true, eq-eqb, leb-true, le-leb, ne_eqb}
+use Rattle.std.proofs.lemmas.Nat.{mod_below}
 use Rattle.std.proofs.lemmas.Option.{slice_get-get_or}
 use Rattle.std.proofs.Math.Seq.{drop-cons}
 use Rattle.requirement_table.specs.declared.entries.Placed.{Placed}
-use Rattle.requirement_table.specs.Instance.{Instance, MaySend, worst, worst_of}
+use Rattle.requirement_table.specs.Instance.{Instance, MaySend, latest, release_of, worst, worst_of}
 use Rattle.requirement_table.specs.Slots.{contains_slot, most_slots, sum_where}
 use Rattle.requirement_table.specs.Table.{IsInRange, IsWellPlaced, free_from, instance_in, is_over, worst_in}
-use Rattle.requirement_table.proofs.Shared.{MaySend-from_instance, instance_in-found, instance_in-sound, instance_of-sent, sum_where-same}
+use Rattle.requirement_table.proofs.Shared.{instance_in-found, instance_in-sound, instance_of-sent, period-parts, sum_where-same}
 use Rattle.slot_sets.specs.Least.{least_where}
 use Rattle.slot_sets.proofs.Shared.{IsLeastBelow, least_where-least}
 use Rattle.plan_report.specs.Current.{ArePassed, IsCurrent, IsTheOne}
@@ -32,14 +33,35 @@ passed-later placed places c d on passed = λ slot place p known before there of
     over p is = by (free_from p) is
 
 -- what the slot costs is the worst length of the entry that may send
-pub worst-found : (placed : List Placed) (slot cycle : ℕ) (found : Current) → IsWellPlaced placed → IsTheOne placed slot cycle found
-    → worst_in placed cycle slot ≡ worst found.placed.entry.length
-worst-found placed slot cycle found well one =
-    let sends : MaySend found.placed found.number cycle = MaySend-from_instance found.placed found.number cycle one.instance in
-    let is : instance_in placed slot cycle ≡ Some (record { placed = found.placed; number = found.number }) =
-    subst (λ s. instance_in placed s cycle ≡ Some (record { placed = found.placed; number = found.number })) one.of_slot
-    (instance_in-found placed well found.place found.number cycle found.placed one.here sends) in
+pub worst-found : (placed : List Placed) (slot cycle c number : ℕ) (found : Current) → IsWellPlaced placed → IsTheOne placed slot cycle found
+    → MaySend found.placed number c → worst_in placed c slot ≡ worst found.placed.entry.length
+worst-found placed slot cycle c number found well one sends =
+    let is : instance_in placed slot c ≡ Some (record { placed = found.placed; number = number }) =
+    subst (λ s. instance_in placed s c ≡ Some (record { placed = found.placed; number = number })) one.of_slot
+    (instance_in-found placed well found.place number c found.placed one.here sends) in
     ap (λ o. option_map_or worst_of o 0) is
+
+sooner : (end : Option ℕ) (release c : ℕ) → release ≤ c → IfSome end (λ e. c < e) → IfSome end (λ e. release < e)
+sooner None release c before there = tt
+sooner (Some e) release c before there = omega (arith, before, there)
+
+-- an entry whose deadline is its period may send in each cycle from a first one on, up to its end
+pub goes-on : (p : Placed) (number cycle c : ℕ) → p.entry.period ≤ p.entry.deadline → 1 ≤ p.entry.period → MaySend p number cycle → cycle ≤ c
+    → IfSome p.end (λ e. c < e) → (k : ℕ) × MaySend p k c
+goes-on p number cycle c whole some sends on there =
+    let k = latest p c in
+    let since = c - (p.origin + p.entry.phase) in
+    let released = sends.released in
+    let parts = period-parts since p.entry.period k refl in
+    let rest = mod_below since p.entry.period (omega (arith, some)) in
+    let before : release_of p k ≤ c = omega (arith, parts, released, on) in (
+      k,
+      record {
+        exists = sooner p.end (release_of p k) c before there;
+        released = before;
+        in_time = omega (arith, parts, rest, released, on, whole);
+      },
+    )
 
 -- it is nothing where no entry may
 pub worst-none : (placed : List Placed) (slot cycle : ℕ) → IsWellPlaced placed → IsCurrent placed slot cycle None → worst_in placed cycle slot ≡ 0

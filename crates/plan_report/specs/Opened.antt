@@ -1,6 +1,6 @@
 -- The widths of opened cycles by the entries that are placed in the end: words for contracts inside the crate. Widths
 -- are bit times.
-use Rattle.std.specs.Prelude.{ℕ, ◌+◌, if◌then◌else◌, List, [], ◌∷◌, ◌++◌}
+use Rattle.std.specs.Prelude.{◌≡◌, ℕ, ◌+◌, ◌<◌, ◌≤◌, if◌then◌else◌, List, [], ◌∷◌, ◌++◌}
 use Rattle.std.specs.List.{sum}
 use Rattle.requirement_table.specs.declared.entries.Placed.{Placed}
 use Rattle.requirement_table.specs.Slots.{contains_slot}
@@ -10,6 +10,7 @@ use Rattle.master_core.specs.declared.event.Event.TheVariants.{Submit, Look, Ope
 use Rattle.master_core.specs.History.{is_open}
 use Rattle.plan_report.specs.Report.{greatest_of, least_of}
 use Rattle.plan_report.specs.declared.load.Load.{Load}
+use Rattle.plan_report.specs.declared.load.KnownWidth.{KnownWidth}
 
 -- the width of the cycle that an event opens, where it opens cycle `next`
 abbrev pub opened_width : List Placed → ℕ → Event → List ℕ
@@ -26,3 +27,7 @@ opened_widths placed next (event ∷ later) =
 -- the least one, the greatest one and the sum of some widths
 abbrev pub load_of : List ℕ → Load
 load_of widths = record { least = least_of widths; greatest = greatest_of widths; sum = sum widths }
+
+-- from the cycle `next` on, as long as it is known, it is the width of its slots
+abbrev pub IsWidthFrom : List Placed → ℕ → KnownWidth → Type 0
+IsWidthFrom placed next width = (c : ℕ) → next ≤ c → c < width.until → width_in placed c (contains_slot width.mask) ≡ width.bits

@@ -1,12 +1,14 @@
 -- What is counted of the entries while the frames of a trace are walked: words for contracts inside the crate.
-use Rattle.std.specs.Prelude.{◌≡◌, ℕ, ◌+◌, ◌≤◌, ◌==◌, Bool, false, if◌then◌else◌, List}
-use Rattle.std.specs.Prelude.{length, map, min, max, Option, Some, None, slice_get}
+use Rattle.std.specs.Prelude.{◌≡◌, ℕ, ◌+◌, ◌-◌, ◌^◌, ◌<◌, ◌≤◌, ◌==◌, Bool, false, if◌then◌else◌, List, [], ◌∷◌, ◌++◌}
+use Rattle.std.specs.Prelude.{length, map, min, max, Option, Some, None, IfSome, slice_get}
 use Rattle.std.specs.Option.{option_map_or}
+use Rattle.profile.specs.Limits.{first_identifier}
 use Rattle.can_frame.specs.declared.data_frame.TimedFrame.{TimedFrame}
 use Rattle.requirement_table.specs.declared.entries.Placed.{Placed}
-use Rattle.requirement_table.specs.Instance.{latest}
-use Rattle.bus_trace.specs.Log.{triggers_in}
+use Rattle.requirement_table.specs.Instance.{MaySend, latest, release_of}
+use Rattle.bus_trace.specs.Log.{triggers_in, triggers_with}
 use Rattle.plan_report.specs.Report.{Sending, delay_of, greatest_of, is_sent, least_of, sendings, sent_of}
+use Rattle.plan_report.specs.declared.tally.Count.{Count}
 use Rattle.plan_report.specs.declared.tally.Tally.{Tally}
 
 -- whether this is the last one
@@ -40,9 +42,59 @@ pub record IsTally (frames : List TimedFrame) (p : Placed) (tally : Tally) : Typ
   pub last : IsLast p (triggers_in frames) (sendings p 0 frames) tally.last
   pub few : tally.instances ≤ length frames
 
+-- The counts of the code
+
+-- what was sent of an entry, by what was counted of it
+abbrev pub tally_of : Option Count → Tally
+tally_of None = record { instances = 0; last = None; least = None; greatest = None }
+tally_of (Some count) = record {
+  instances = count.instances;
+  last = Some count.number;
+  least = Some count.least;
+  greatest = Some count.greatest;
+}
+
+-- what is counted with one instance more, of this number and this release, with a delay
+abbrev pub count_with : Count → ℕ → ℕ → ℕ → Count
+count_with count number release delay = record {
+  instances = count.instances + 1;
+  number = number;
+  release = release;
+  least = min count.least delay;
+  greatest = max count.greatest delay;
+}
+
+-- the release of the last instance is that of the entry
+pub record IsReleased (p : Placed) (count : Count) : Type 0 where
+  pub release : count.release ≡ release_of p count.number
+  pub number : count.number ≤ count.release
+  pub early : count.release < 2 ^ 63
+
+-- one instance of the entry more is counted, which may be sent in the cycle
+pub record IsNext (p : Placed) (cycle : ℕ) (count next : Count) : Type 0 where
+  pub sends : MaySend p next.number cycle
+  pub tally : tally_of (Some next) ≡ tally_with (tally_of (Some count)) next.number (cycle - release_of p next.number)
+  pub released : IsReleased p next
+
+-- what is counted of an entry is what frames send of it
+pub record IsCounted (frames : List TimedFrame) (p : Placed) (count : Option Count) : Type 0 where
+  pub tally : IsTally frames p (tally_of count)
+  pub released : IfSome count (IsReleased p)
+
 -- what is counted of each of some entries
-pub record AreTallies (frames : List TimedFrame) (placed : List Placed) (tallies : List Tally) : Type 0 where
-  pub count : length tallies ≡ length placed
-  pub each : (place : ℕ) (p : Placed) (tally : Tally)
-      → slice_get placed place ≡ Some p → slice_get tallies place ≡ Some tally
-      → IsTally frames p tally
+pub record AreTallies (frames : List TimedFrame) (placed : List Placed) (counts : List (Option Count)) : Type 0 where
+  pub count : length counts ≡ length placed
+  pub each : (place : ℕ) (p : Placed) (count : Option Count)
+      → slice_get placed place ≡ Some p → slice_get counts place ≡ Some count
+      → IsCounted frames p count
+
+-- the releases are those of the entries
+abbrev pub AreReleased : List Placed → List (Option Count) → Type 0
+AreReleased placed counts = (place : ℕ) (p : Placed) (count : Option Count)
+    → slice_get placed place ≡ Some p → slice_get counts place ≡ Some count → IfSome count (IsReleased p)
+
+-- whatever frames came before, one of the slot was counted, in the cycle
+abbrev pub CountsOne : List Placed → ℕ → ℕ → List (Option Count) → List (Option Count) → Type 0
+CountsOne placed slot cycle old new = (frames : List TimedFrame) (sent : TimedFrame) → AreTallies frames placed old
+    → sent.frame.identifier ≡ first_identifier + slot → triggers_with (triggers_in frames) sent ≡ cycle + 1
+    → AreTallies (frames ++ sent ∷ []) placed new

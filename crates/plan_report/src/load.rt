@@ -2,11 +2,11 @@
 //! bit times.
 
 ghost use Rattle.std.specs.Prelude.{◌≡◌, ℕ, ◌+◌, ◌*◌, ◌^◌, ◌<◌, ◌≤◌, ◌++◌, ◌∷◌, [], List};
-ghost use Rattle.requirement_table.specs.Instance.{worst};
+ghost use Rattle.requirement_table.specs.Instance.{MaySend, worst};
 ghost use Rattle.requirement_table.specs.Slots.{contains_slot, most_slots};
-ghost use Rattle.requirement_table.specs.Table.{IsWellPlaced, width_in, worst_in};
+ghost use Rattle.requirement_table.specs.Table.{IsInRange, IsWellPlaced, width_in, worst_in};
 ghost use Rattle.plan_report.specs.Current.{ArePassed};
-ghost use Rattle.plan_report.specs.Opened.{load_of, opened_width, opened_widths};
+ghost use Rattle.plan_report.specs.Opened.{IsWidthFrom, load_of, opened_width, opened_widths};
 
 use crate::current::Places;
 use crate::tally::{greater, lesser};
@@ -49,6 +49,24 @@ impl Load {
     }
 }
 
+/// The width of a cycle, and up to which cycle it is the same where the same slots are flagged, in bit times.
+#[derive(Clone, Copy, Debug)]
+struct KnownWidth {
+    /// The flagged slots.
+    mask: Mask,
+    /// The width.
+    bits: u32,
+    /// It is known of the cycles below this one alone.
+    until: u64,
+}
+
+/// What a slot costs in a cycle, in bit times, and up to which cycle it costs the same.
+#[derive(Clone, Copy, Debug)]
+struct SlotCost {
+    bits: u32,
+    until: u64,
+}
+
 /// The widths of the cycles that a history opens, where these entries are placed in the end. The cycles are opened
 /// from 0 on.
 pub fn opened_load(placed: &[Placed], history: &[Event]) -> Load
@@ -57,20 +75,42 @@ pub fn opened_load(placed: &[Placed], history: &[Event]) -> Load
 {
     let mut load = Load::none();
     let mut places = Places::new();
+    let mut known = no_width();
     let mut next = 0u64;
     for event in history {
-        load = with_event(&load, &mut places, placed, next, event);
+        load = with_event(&load, &mut places, &mut known, placed, next, event);
         next += u64::from(event.opens_cycle());
     }
     load
 }
 
+/// The width of no cycle.
+fn no_width() -> KnownWidth
+    ensures until { result.until ≡ 0 }
+{
+    KnownWidth {
+        mask: Mask::empty(),
+        bits: 0,
+        until: 0,
+    }
+}
+
 /// The load with the width of the cycle that an event opens, where it opens cycle `next`.
-fn with_event(load: &Load, places: &mut Places, placed: &[Placed], next: u64, event: &Event) -> Load
+fn with_event(
+    load: &Load,
+    places: &mut Places,
+    known: &mut KnownWidth,
+    placed: &[Placed],
+    next: u64,
+    event: &Event,
+) -> Load
     requires well_placed { IsWellPlaced placed.now }
     requires passed { ArePassed placed.now places.old.first next }
+    requires known { IsWidthFrom placed.now next known.old }
+    requires near { next < 2 ^ 63 }
     requires few { load.now.sum < 2 ^ 127 }
     ensures passed { ArePassed placed.now places.new.first next }
+    ensures known { IsWidthFrom placed.now next known.new }
     ensures load { (widths : List ℕ) → load.now ≡ load_of widths
         → result ≡ load_of (widths ++ opened_width placed.now next event.now) }
     ensures sum { result.sum ≤ load.now.sum + most_slots * worst 8 }
@@ -78,39 +118,92 @@ fn with_event(load: &Load, places: &mut Places, placed: &[Placed], next: u64, ev
     match event {
         Event::Submit { .. } => *load,
         Event::Look { .. } => *load,
-        Event::Open { mask, .. } => load.with(width(places, placed, next, *mask)),
+        Event::Open { mask, .. } => {
+            renew(known, places, placed, next, *mask);
+            load.with(known.bits)
+        }
     }
 }
 
-/// The worst lengths of the flagged slots of a cycle together.
-fn width(places: &mut Places, placed: &[Placed], cycle: u64, mask: Mask) -> u32
+/// Makes the width that of a cycle in which these slots are flagged, where it is not.
+fn renew(known: &mut KnownWidth, places: &mut Places, placed: &[Placed], cycle: u64, mask: Mask)
     requires well_placed { IsWellPlaced placed.now }
     requires passed { ArePassed placed.now places.old.first cycle }
+    requires known { IsWidthFrom placed.now cycle known.old }
+    requires near { cycle < 2 ^ 63 }
     ensures passed { ArePassed placed.now places.new.first cycle }
-    ensures width { result ≡ width_in placed.now cycle (contains_slot mask) }
-    ensures range { result ≤ most_slots * worst 8 }
+    ensures known { IsWidthFrom placed.now cycle known.new }
+    ensures width { known.new.bits ≡ width_in placed.now cycle (contains_slot mask) }
+    ensures range { known.new.bits ≤ most_slots * worst 8 }
 {
-    let mut width = 0;
+    if cycle < known.until && known.mask == mask {
+        return;
+    }
+    *known = width(places, placed, cycle, mask);
+}
+
+/// The worst lengths of the flagged slots of a cycle together.
+fn width(places: &mut Places, placed: &[Placed], cycle: u64, mask: Mask) -> KnownWidth
+    requires well_placed { IsWellPlaced placed.now }
+    requires passed { ArePassed placed.now places.old.first cycle }
+    requires near { cycle < 2 ^ 63 }
+    ensures passed { ArePassed placed.now places.new.first cycle }
+    ensures known { IsWidthFrom placed.now cycle result }
+    ensures width { result.bits ≡ width_in placed.now cycle (contains_slot mask) }
+    ensures range { result.bits ≤ most_slots * worst 8 }
+{
+    let mut bits = 0;
+    let mut until = u64::MAX;
     let mut left = mask;
     while let Some(slot) = least_slot(left) {
         left.known();
         left = left.without(slot);
         left.known();
-        width += slot_width(places, placed, slot, cycle);
+        let cost = slot_cost(places, placed, slot, cycle);
+        bits += cost.bits;
+        until = until.min(cost.until);
     }
-    width
+    KnownWidth { mask, bits, until }
 }
 
 /// The worst length of the frame that a slot sends in a cycle.
-fn slot_width(places: &mut Places, placed: &[Placed], slot: u8, cycle: u64) -> u32
+fn slot_cost(places: &mut Places, placed: &[Placed], slot: u8, cycle: u64) -> SlotCost
     requires well_placed { IsWellPlaced placed.now }
     requires slot { slot < most_slots }
     requires passed { ArePassed placed.now places.old.first cycle }
+    requires near { cycle < 2 ^ 63 }
     ensures passed { ArePassed placed.now places.new.first cycle }
-    ensures width { result ≡ worst_in placed.now cycle slot }
+    ensures later { cycle < result.until }
+    ensures cost { (c : ℕ) → cycle ≤ c → c < result.until → worst_in placed.now c slot ≡ result.bits }
 {
     match places.find(placed, slot, cycle) {
-        Some(found) => cost(found.placed.entry.length),
-        None => 0,
+        Some(found) => SlotCost {
+            bits: cost(found.placed.entry.length),
+            until: sends_until(&found.placed, cycle),
+        },
+        None => SlotCost {
+            bits: 0,
+            until: cycle + 1,
+        },
+    }
+}
+
+/// The cycle up to which an instance of an entry may be sent in each cycle, where one may be sent in this one. For an
+/// entry whose deadline is below its period it is the next cycle.
+fn sends_until(p: &Placed, cycle: u64) -> u64
+    requires range { IsInRange p.now }
+    requires near { cycle < 2 ^ 63 }
+    ensures later { cycle < result }
+    ensures sends { (number c : ℕ) → MaySend p.now number cycle → cycle ≤ c → c < result
+        → (k : ℕ) × MaySend p.now k c }
+{
+    let deadline = p.entry.deadline;
+    let period = p.entry.period;
+    if deadline < period {
+        return cycle + 1;
+    }
+    match p.end {
+        None => u64::MAX,
+        Some(end) => { if cycle < end { end } else { cycle + 1 } }
     }
 }

@@ -10,6 +10,7 @@ use crate::counts::{IDENTIFIERS, asked, owned, sent};
 use crate::load::opened_load;
 use crate::rows::{push_entry_row, push_load_row, push_owned_row};
 use crate::sent::tallies;
+use crate::tally::tally_of;
 use async_window::{Owner, Request};
 use can_frame::TimedFrame;
 use master_core::Master;
@@ -61,7 +62,7 @@ fn push_entry_rows(
 {
     let tallies = tallies(alloc, placed, trace)?;
     for (place, p) in placed.iter().enumerate() {
-        push_entry_row(text, p, &tallies[place])?;
+        push_entry_row(text, p, &tally_of(&tallies[place]))?;
     }
     Ok(())
 }

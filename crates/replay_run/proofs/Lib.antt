@@ -8,5 +8,6 @@ mod RowsSoFar
 mod RunNext
 pub mod Shared
 mod Steps
+mod Tails
 mod UnderWay
 mod Whole

@@ -10,10 +10,10 @@ use Rattle.master_core.specs.declared.event.Event.{Event}
 use Rattle.master_core.specs.History.{next_of}
 use Rattle.kept_run.specs.Progress.{IsSetting, IsUnderWay}
 use Rattle.kept_run.proofs.Shared.{Promises}
-use Rattle.bus_trace.specs.LastRows.{AreRows, IsTailOf, last_rows}
+use Rattle.bus_trace.specs.LastRows.{AreRows, last_rows}
 use Rattle.bus_trace.specs.Log.{end_row, events_rows, log_text}
 use Rattle.replay_run.specs.Begun.{IsBegun}
-use Rattle.replay_run.specs.Heard.{Keeps}
+use Rattle.replay_run.specs.Heard.{HoldsLast, Keeps, rows_held}
 use Rattle.replay_run.specs.Progress.{BusSetting, IsBusAt, IsOnBus, setting_of}
 use Rattle.replay_run.specs.Run.{AnswersSteps, IsRun, calls_of}
 use Rattle.replay_run.specs.Runs.{GoesOn, AnswersAll, IsCutAfter, AnswersFirst, IsHeardSoFar, IsLogHeard, Start}
@@ -21,6 +21,7 @@ use Rattle.replay_run.specs.Whole.{IsCutOff, IsHeard}
 use Rattle.replay_run.specs.declared.bus.Bus.{Bus}
 use Rattle.replay_run.specs.declared.cut.Cut.{Cut}
 use Rattle.replay_run.specs.declared.cut.Cut.TheVariants.{Memory, Write}
+use Rattle.replay_run.specs.declared.listener.Tail.{Tail}
 
 -- Whatever runs
 
@@ -142,8 +143,8 @@ module _ (laws : Promises) (system : System) (steps : List Step) (requests : Lis
 -- The last rows
 
 -- what was kept of a log is its last rows
-pub tail-of : (log : List ℕ) (was : ℕ) (old : List ℕ) (is : ℕ) (new text : List ℕ) (count : ℕ) → Keeps was old log is new → IsTailOf [] was old
-    → (AreRows new → text ≡ last_rows (Some is) new) → was ≡ count → text ≡ last_rows (Some count) log
-tail-of log was old is new text count keeps none last most =
-    let tail : IsTailOf log was new = keeps.last [] none in
-    last tail.kept_whole ∙ ap (λ m. last_rows (Some m) new) keeps.most ∙ ap concat tail.rows ∙ ap (λ m. last_rows (Some m) log) most
+pub tail-of : (log : List ℕ) (was is : Tail) (text : List ℕ) (count : ℕ) → Keeps was log is → HoldsLast [] was
+    → (AreRows (rows_held is) → text ≡ last_rows (Some is.most) (rows_held is)) → was.most ≡ count → text ≡ last_rows (Some count) log
+tail-of log was is text count keeps none last most =
+    let tail = (keeps.last [] none).last in
+    last tail.kept_whole ∙ ap concat tail.rows ∙ ap (λ m. last_rows (Some m) log) (keeps.most ∙ most)

@@ -1,10 +1,11 @@
 -- What those who hear the rows of a run have heard.
 use Rattle.std.specs.Prelude.{ℕ, ◌≤◌}
-use Rattle.std.proofs.Common.{◌≡◌, List, [], ◌++◌, Option, refl, sym, ◌∙◌, subst, arith, append-nil, append_assoc}
+use Rattle.std.proofs.Common.{◌≡◌, List, [], ◌++◌, Option, length, refl, sym, ◌∙◌, subst, arith, append-nil, append_assoc}
 use Rattle.ftt_io.specs.Counts.{Rose}
 use Rattle.ftt_io.specs.Puts.{Puts, PutsPrefix}
 use Rattle.ftt_io.proofs.Shared.{Puts-append, Puts-nothing, PutsPrefix-append, Stays-same}
-use Rattle.bus_trace.specs.LastRows.{IsTailOf}
+use Rattle.bus_trace.specs.LastRows.{AreRows, IsTailOf, rows_in}
+use Rattle.replay_run.specs.declared.listener.Tail.{Tail}
 
 -- no row was heard meanwhile: where the first relation held of some rows, whoever heard the first of them, the second
 -- does now
@@ -55,21 +56,27 @@ module _ {O : Type 0} (told_bytes : O → Option (List ℕ)) (faults : O → ℕ
 
 -- The last rows
 
--- what was kept of a text, so many of its last rows, is kept of the text with these rows behind it
-pub record Keeps (was : ℕ) (old rows : List ℕ) (is : ℕ) (new : List ℕ) : Type 0 where
-  pub most : is ≡ was
-  pub last : (past : List ℕ) → IsTailOf past was old → IsTailOf (past ++ rows) was new
+-- the rows that it holds
+abbrev pub rows_held : Tail → List ℕ
+rows_held tail = tail.older.text.items ++ tail.newer.text.items
 
-pub keeps-nothing : (most : ℕ) (one : List ℕ) → Keeps most one [] most one
-keeps-nothing most one = record { most = refl; last = λ past has. subst (λ text. IsTailOf text most one) (sym (append-nil past)) has }
+-- it holds the last rows of this text, so many; the older ones are whole rows, and the newer ones are as many as it counts
+pub record HoldsLast (text : List ℕ) (tail : Tail) : Type 0 where
+  pub last : IsTailOf text tail.most (rows_held tail)
+  pub older : AreRows tail.older.text.items
+  pub newer : AreRows tail.newer.text.items
+  pub count : tail.count ≤ length (rows_in tail.newer.text.items)
 
-pub keeps-more : (was : ℕ) (one : List ℕ) (is : ℕ) (other : List ℕ) (will : ℕ) (third rows later : List ℕ)
-    → Keeps was one rows is other → Keeps is other later will third → Keeps was one (rows ++ later) will third
-keeps-more was one is other will third rows later first second = record {
+-- of whatever text it held the last rows, it holds those of the text with these rows behind it
+pub record Keeps (old : Tail) (rows : List ℕ) (new : Tail) : Type 0 where
+  pub most : new.most ≡ old.most
+  pub last : (past : List ℕ) → HoldsLast past old → HoldsLast (past ++ rows) new
+
+pub keeps-nothing : (one : Tail) → Keeps one [] one
+keeps-nothing one = record { most = refl; last = λ past has. subst (λ text. HoldsLast text one) (sym (append-nil past)) has }
+
+pub keeps-more : (one other third : Tail) (rows later : List ℕ) → Keeps one rows other → Keeps other later third → Keeps one (rows ++ later) third
+keeps-more one other third rows later first second = record {
   most = second.most ∙ first.most;
-  last = λ past has.
-      let now : IsTailOf (past ++ rows) is other = subst (λ most. IsTailOf (past ++ rows) most other) (sym first.most) (first.last past has) in
-      let then : IsTailOf ((past ++ rows) ++ later) was third =
-      subst (λ most. IsTailOf ((past ++ rows) ++ later) most third) first.most (second.last (past ++ rows) now) in
-      subst (λ text. IsTailOf text was third) (append_assoc past rows later) then;
+  last = λ past has. subst (λ text. HoldsLast text third) (append_assoc past rows later) (second.last (past ++ rows) (first.last past has));
 }

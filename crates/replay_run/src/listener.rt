@@ -1,18 +1,19 @@
 //! What hears the rows of a run while it goes on: a sink, the last rows, or nothing.
 
-ghost use Rattle.std.specs.Prelude.{◌≡◌, ◌++◌, [], List, ℕ, IfOk, OnErr, OnOk, Some};
+ghost use Rattle.std.specs.Prelude.{◌≡◌, ◌≤◌, ◌+◌, ◌++◌, [], List, ℕ, IfOk, OnErr, OnOk, Some, length};
 ghost use Rattle.bus_trace.specs.EventRows.{HasItsFrames, rows_of_event};
-ghost use Rattle.bus_trace.specs.LastRows.{AreRows, IsTailOf, last_rows};
+ghost use Rattle.bus_trace.specs.LastRows.{AreRows, last_rows, rows_in};
 ghost use Rattle.bus_trace.specs.Log.{end_row};
 ghost use Rattle.bus_trace.specs.Logged.{IsNear};
-ghost use Rattle.replay_run.specs.Heard.{PassesOn};
+ghost use Rattle.replay_run.specs.Heard.{HoldsLast, PassesOn, rows_held};
 
 use bus_trace::laws::rows_are_whole;
-use bus_trace::{Gathered, last_from, put_end_row, put_event_rows};
+use bus_trace::{Gathered, last_from, least_rows, put_end_row, put_event_rows};
 use can_frame::TimedFrame;
 use ftt_io::{Failed, Sink};
 use master_core::Event;
 use std::alloc::{AllocError, Global};
+use std::mem;
 
 /// What hears the rows of each event, when it was answered and its cycle was run, and then the last row.
 ///
@@ -126,30 +127,33 @@ impl<'a, O: Sink> Listener for ToSink<'a, O> {
     ) };
 }
 
-/// From so many bytes on the rows before the last ones are dropped, beside twice the last ones.
+/// Older rows are dropped once so many bytes were heard after them, and not before.
 const LEAST_TEXT: usize = 65_536;
 
-/// The last rows. It holds no more of the log than twice these, 64 KiB, and the rows of one event.
+/// The last rows. It holds no more of the log than twice these, 128 KiB, and the rows of two events.
 #[derive(Drop)]
 pub struct Tail {
-    /// The last rows, and maybe some before them.
-    rows: Gathered,
+    /// Rows before those of `newer`.
+    older: Gathered,
+    /// The rows that were heard last.
+    newer: Gathered,
+    /// How many rows the newer ones are, at least.
+    count: usize,
     /// How many rows are the last ones.
     most: usize,
-    /// At how many bytes the rows before the last ones are dropped.
-    limit: usize,
 }
 
 impl Tail {
     /// No rows yet; the last `rows` of them are kept.
     pub fn new(alloc: Global, rows: usize) -> Tail
-        ensures none { IsTailOf [] result.most result.rows.text.items }
+        ensures none { HoldsLast [] result }
         ensures most { result.most ≡ rows }
     {
         Tail {
-            rows: Gathered::behind(Vec::new(alloc)),
+            older: Gathered::behind(Vec::new(alloc)),
+            newer: Gathered::behind(Vec::new(alloc)),
+            count: 0,
             most: rows,
-            limit: LEAST_TEXT,
         }
     }
 
@@ -159,43 +163,53 @@ impl Tail {
     ///
     /// Only where memory runs out.
     pub fn text(&self, alloc: Global) -> Result<Vec<u8>, AllocError>
-        ensures last { IfOk result (λ text. AreRows self.now.rows.text.items
-            → text.items ≡ last_rows (Some self.now.most) self.now.rows.text.items) }
-        ensures tail { IfOk result (λ text. AreRows self.now.rows.text.items
-            → IsTailOf self.now.rows.text.items self.now.most text.items) }
+        ensures last { IfOk result (λ text. AreRows (rows_held self.now)
+            → text.items ≡ last_rows (Some self.now.most) (rows_held self.now)) }
     {
-        let text = self.rows.text.as_slice();
-        text[last_from(text, self.most)..].to_vec(alloc)
+        let mut rows = self.older.text.as_slice().to_vec(alloc)?;
+        rows.extend_from_slice(self.newer.text.as_slice())?;
+        let rows = rows.as_slice();
+        rows[last_from(rows, self.most)..].to_vec(alloc)
     }
 
     /// Puts the rows of an event behind the others.
     fn add(&mut self, event: &Event, frames: &[TimedFrame]) -> Result<(), Failed>
         requires near { IsNear event.now }
         requires frames { HasItsFrames event.now frames.now }
+        ensures older { self.new.older.text.items ≡ self.old.older.text.items }
+        ensures newer { OnOk result
+            (self.new.newer.text.items ≡ self.old.newer.text.items ++ rows_of_event event.now frames.now) }
+        ensures count { OnOk result
+            (self.new.count ≤ self.old.count + length (rows_in (rows_of_event event.now frames.now))) }
         ensures most { self.new.most ≡ self.old.most }
-        ensures rows { OnOk result
-            (self.new.rows.text.items ≡ self.old.rows.text.items ++ rows_of_event event.now frames.now) }
     {
-        put_event_rows(&mut self.rows, event, frames)
+        put_event_rows(&mut self.newer, event, frames)?;
+        self.count = self.count.saturating_add(least_rows(event, frames));
+        Ok(())
     }
 
-    /// Drops the rows before the last ones, where the text is long.
-    fn cut(&mut self, alloc: Global) -> Result<(), Failed>
+    /// Puts the last row behind the others.
+    fn add_end(&mut self, next: u64) -> Result<(), Failed>
+        ensures older { self.new.older.text.items ≡ self.old.older.text.items }
+        ensures newer { OnOk result (self.new.newer.text.items ≡ self.old.newer.text.items ++ end_row next) }
+        ensures count { self.new.count ≡ self.old.count }
         ensures most { self.new.most ≡ self.old.most }
-        ensures kept { OnOk result (AreRows self.old.rows.text.items
-            → IsTailOf self.old.rows.text.items self.old.most self.new.rows.text.items) }
     {
-        if self.rows.text.len() < self.limit {
-            return Ok(());
+        put_end_row(&mut self.newer, next)
+    }
+
+    /// Drops the older rows, where the newer ones are enough. It takes no memory.
+    fn drop_older(&mut self)
+        ensures most { self.new.most ≡ self.old.most }
+        ensures kept { (past : List ℕ) → HoldsLast past self.old → HoldsLast past self.new }
+    {
+        rows_are_whole();
+        if self.count < self.most || self.newer.text.len() < LEAST_TEXT {
+            return;
         }
-        match self.text(alloc) {
-            Ok(text) => {
-                self.limit = text.len().saturating_mul(2).saturating_add(LEAST_TEXT);
-                self.rows = Gathered::behind(text);
-                Ok(())
-            }
-            Err(_) => Err(Failed),
-        }
+        mem::swap(&mut self.older, &mut self.newer);
+        self.newer.text.clear();
+        self.count = 0;
     }
 }
 
@@ -203,20 +217,20 @@ impl Listener for Tail {
     ghost use Rattle.std.specs.Prelude.{⊤};
     ghost use Rattle.replay_run.specs.Heard.{Keeps, keeps-more, keeps-nothing};
 
-    ghost heard = { λ old rows new. Keeps old.most old.rows.text.items rows new.most new.rows.text.items };
+    ghost heard = { Keeps };
 
     ghost broke = { λ old rows new. ⊤ };
 
-    fn hear(&mut self, alloc: Global, event: &Event, frames: &[TimedFrame]) -> Result<(), Failed> {
+    fn hear(&mut self, _alloc: Global, event: &Event, frames: &[TimedFrame]) -> Result<(), Failed> {
         rows_are_whole();
         self.add(event, frames)?;
-        self.cut(alloc)
+        self.drop_older();
+        Ok(())
     }
 
-    fn hear_end(&mut self, alloc: Global, next: u64) -> Result<(), Failed> {
+    fn hear_end(&mut self, _alloc: Global, next: u64) -> Result<(), Failed> {
         rows_are_whole();
-        put_end_row(&mut self.rows, next)?;
-        self.cut(alloc)
+        self.add_end(next)
     }
 
     /// The last rows are known at the end alone, so it passes on nothing before.
@@ -224,11 +238,9 @@ impl Listener for Tail {
         Ok(())
     }
 
-    ghost nothing = { λ one. keeps-nothing one.most one.rows.text.items };
+    ghost nothing = { keeps-nothing };
 
-    ghost more = { λ one other third rows later first second.
-        keeps-more one.most one.rows.text.items other.most other.rows.text.items third.most third.rows.text.items
-        rows later first second };
+    ghost more = { keeps-more };
 
     ghost broke_later = { λ one other third rows later first second. tt };
 }

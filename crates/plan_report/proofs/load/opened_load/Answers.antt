@@ -17,4 +17,5 @@ loop-event-preserved c =
       few = omega arith;
       near = omega arith;
       passed = passed-later _ _ c.loop-event.next _ (omega arith) c.with_event-load.ensures.passed;
+      known = λ k from below. c.with_event-load.ensures.known k (omega (arith, from)) below;
     }

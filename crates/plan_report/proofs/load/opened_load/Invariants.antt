@@ -2,6 +2,7 @@ use Rattle.std.proofs.Common.{◌*◌, ◌≤◌, drop}
 use Rattle.requirement_table.specs.Instance.{worst}
 use Rattle.requirement_table.specs.Slots.{most_slots}
 use Rattle.plan_report.specs.Current.{ArePassed}
+use Rattle.plan_report.specs.Opened.{IsWidthFrom}
 use Rattle.plan_report.proofs.Widths.{IsLoaded}
 use Rattle.plan_report.proofs.load.opened_load.Given as goal
 
@@ -11,4 +12,5 @@ invariant-loop-event l = record {
   few : l.load.sum ≤ most_slots * worst 8 * l.event-index;
   near : l.next ≤ l.event-index;
   passed : ArePassed l.placed l.places.first l.next;
+  known : IsWidthFrom l.placed l.next l.known;
 }

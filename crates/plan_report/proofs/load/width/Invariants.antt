@@ -1,4 +1,4 @@
-use Rattle.std.proofs.Common.{◌≡◌, ◌+◌}
+use Rattle.std.proofs.Common.{◌≡◌, ℕ, ◌+◌, ◌<◌, ◌≤◌}
 use Rattle.requirement_table.specs.Slots.{contains_slot, most_slots, sum_where}
 use Rattle.requirement_table.specs.Table.{width_in, worst_in}
 use Rattle.plan_report.specs.Current.{ArePassed}
@@ -7,7 +7,9 @@ use Rattle.plan_report.proofs.load.width.Given as goal
 -- the width so far, with what the slots cost that are left, is the whole width
 abbrev pub invariant-loop-slot : goal.invariant-loop-slot
 invariant-loop-slot l = record {
-  so_far : l.width + sum_where most_slots (contains_slot l.left) (worst_in l.placed l.cycle) ≡ width_in l.placed l.cycle (contains_slot l.fn.mask);
+  later : l.cycle < l.until;
+  so_far : (c : ℕ) → l.cycle ≤ c → c < l.until
+      → l.bits + sum_where most_slots (contains_slot l.left) (worst_in l.placed c) ≡ width_in l.placed c (contains_slot l.fn.mask);
   passed : ArePassed l.placed l.places.first l.cycle;
 }
 

@@ -9,6 +9,6 @@ nowhere = record { entry = record { slot = 0; node = 0; length = 0; phase = 0; p
 
 pub loop-place-preserved : goal.loop-place-preserved
 loop-place-preserved c =
-    entries-next c.args.trace.now c.args.placed.now c.in_ok-tallies.tallies.items c.loop-place.place nowhere c.index.result.now
+    entries-next c.args.trace.now c.args.placed.now c.in_ok-tallies.tallies.items c.loop-place.place nowhere c.index.result.now c.tally_of.result
     (string_bytes c.args.text.now) (string_bytes c.loop-place.text) (string_bytes c.push_entry_row.new.text)
-    c.in_ok-tallies.ensures.tallies c.loop-place-test.true c.index.ensures c.loop-place.invariant c.in_ok-push_entry_row.ensures.ok
+    c.in_ok-tallies.ensures.tallies c.loop-place-test.true c.index.ensures c.tally_of.ensures.tally c.loop-place.invariant c.in_ok-push_entry_row.ensures.ok

@@ -5,12 +5,10 @@ use Rattle.replay_run.proofs.replaying.replay_tail.Goals as goal
 pub returns-in-Ok-clause-tail : goal.returns-in-Ok-clause-tail
 returns-in-Ok-clause-tail c =
     let heard = c.in-Ok.ensures.heard in
-    let tail = c.new-tail.result in
-    let now = c.log_steps.new.listener in
     record {
       trace = heard.trace;
       run = heard.run;
-      last = tail-of (log_text c.in-Ok.field-0.master.history heard.trace) tail.most tail.rows.text.items now.most now.rows.text.items
+      last = tail-of (log_text c.in-Ok.field-0.master.history heard.trace) c.new-tail.result c.log_steps.new.listener
           c.in_ok-text-in-Ok.field-0.items c.args.rows heard.log c.new-tail.ensures.none c.in_ok-text-in-Ok.ensures.last c.new-tail.ensures.most;
       frames = heard.frames;
     }

@@ -1,23 +1,17 @@
-use Rattle.std.proofs.Common.{◌∙◌, ◌++◌, subst, sym}
-use Rattle.std.proofs.lemmas.Result.{on_ok_weaker}
+use Rattle.std.proofs.Common.{◌∙◌, ◌++◌, arith, length}
 use Rattle.bus_trace.specs.EventRows.{rows_of_event}
-use Rattle.bus_trace.specs.LastRows.{AreRows, IsTailOf}
+use Rattle.bus_trace.specs.LastRows.{rows_in}
+use Rattle.replay_run.proofs.Tails.{WholeRows, holds-put}
 use Rattle.replay_run.proofs.listener.TailListener.hear.Goals as goal
 
 pub returns-clause-heard : goal.returns-clause-heard
 returns-clause-heard c =
+    let whole = c.rows_are_whole.ensures in
+    let laws : WholeRows = record { both = whole.both; counted = whole.counted; tails = whole.tails; same = whole.same; enough = whole.enough } in
     let rows = rows_of_event c.args.event.now c.args.frames.now in
-    let old = c.args.self.now.rows.text.items in
-    let most = c.args.self.now.most in
-    let new = c.cut.new.self.rows.text.items in
-    let grown = c.in_ok-add.ensures.rows in
-    on_ok_weaker c.cut.result
-    (λ is. record {
-      most = c.cut.ensures.most ∙ c.add.ensures.most;
-      last = λ past has.
-          let longer = c.rows_are_whole.ensures.tails past old rows most has (c.rows_are_whole.ensures.event c.args.event.now c.args.frames.now) in
-          let kept = subst (λ text. IsTailOf text c.add.new.self.most new) grown (is (subst AreRows (sym grown) longer.kept_whole)) in
-          let cut = subst (λ count. IsTailOf (old ++ rows) count new) c.add.ensures.most kept in
-          c.rows_are_whole.ensures.same (past ++ rows) (old ++ rows) new most longer cut;
-    })
-    c.cut.ensures.kept
+    record {
+      most = c.drop_older.ensures.most ∙ c.add.ensures.most;
+      last = λ past has. c.drop_older.ensures.kept (past ++ rows)
+          (holds-put laws past rows c.args.self.now c.add.new.self (length (rows_in rows)) c.add.ensures.older c.in_ok-add.ensures.newer
+          c.in_ok-add.ensures.count c.add.ensures.most (whole.event c.args.event.now c.args.frames.now) (omega arith) has);
+    }
