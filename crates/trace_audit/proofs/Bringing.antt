@@ -1,6 +1,6 @@
 -- How an event that is done again brings a run on.
 use Rattle.std.proofs.Common.{◌≡◌, ◌++◌, ℕ, false, List, [], ◌∷◌, All, refl, sym, ap, ◌∙◌, subst, append-nil}
-use Rattle.std.specs.Prelude.{Err, IfNone, IfOk, IfSome, None, Ok, Option, Result, Some}
+use Rattle.std.specs.Prelude.{Err, IfOk, IfSome, None, Ok, Option, Result, Some}
 use Rattle.std.proofs.lemmas.List.Elements.{All-cons, All-nil}
 use Rattle.can_frame.specs.declared.data_frame.TimedFrame.{TimedFrame}
 use Rattle.requirement_table.specs.Opening.{width_of}
@@ -20,9 +20,10 @@ use Rattle.steps_file.specs.declared.steps.Step.{Step}
 use Rattle.system_file.specs.declared.system.System.{System}
 use Rattle.replay_run.specs.Progress.{setting_of}
 use Rattle.bus_trace.specs.EventRows.{told_at}
+use Rattle.bus_trace.specs.Logged.{IsNear}
 use Rattle.bus_trace.specs.LogRows.{events_told}
 use Rattle.log_reader.specs.declared.row.LogRow.{LogRow}
-use Rattle.trace_audit.specs.Again.{Asks, IsAgain, IsBroughtOn, IsOpenedWith}
+use Rattle.trace_audit.specs.Again.{Asks, EndsNear, IsAgain, IsBroughtOn, IsOpened}
 use Rattle.trace_audit.specs.Ahead.{IsAhead}
 use Rattle.trace_audit.specs.States.{KeepsStates, state_of}
 use Rattle.trace_audit.specs.declared.rerun.Rerun.{Rerun}
@@ -42,12 +43,12 @@ module _ (system : System) (steps : List Step) (requests : List Request) (trace 
   setting = setting_of system requests
 
   -- a change or a look
-  pub called-on : CallsBetween → (event : Event) → is_open event ≡ false → Asks steps old.master.history line event
+  pub called-on : CallsBetween → (event : Event) → is_open event ≡ false → IsNear event → Asks steps old.master.history line event
       → new.master.rules ≡ old.master.rules → new.nodes ≡ old.nodes
       → new.master.history ≡ old.master.history ++ event ∷ [] → IsLegal new.master.rules new.master.history
       → KeepsStates new.master.rules new.master.history new.states → IsAhead steps (old.master.history ++ event ∷ []) new.ahead
-      → (rows : List LogRow) → rows ≡ told_at 0 event [] → IsBroughtOn system steps requests trace old line new rows
-  called-on laws event closed asks rules nodes history legal states ahead rows rows_are =
+      → IsBroughtOn system steps requests trace old line new
+  called-on laws event closed near asks rules nodes history legal states ahead =
       let same_rules : new.master.rules ≡ system.rules = rules ∙ again.same_rules in
       let whole : IsLegal system.rules (old.master.history ++ event ∷ []) =
       subst (IsLegal system.rules) history (subst (λ r. IsLegal r new.master.history) same_rules legal) in
@@ -63,30 +64,29 @@ module _ (system : System) (steps : List Step) (requests : List Request) (trace 
       record {
         event = event;
         asks = asks;
+        near = near;
         history = history;
         frames = [];
         again = subst (λ t. IsAgain system requests t new) (sym (append-nil trace)) now;
         ahead = subst (λ h. IsAhead steps h new.ahead) (sym history) ahead;
-        width = 0;
-        rows_are = rows_are;
         told = ap (λ t. events_told t [] new.master.history) (append-nil trace) ∙ ap (events_told trace []) history
-            ∙ called-told trace old.master.history event closed ∙ ap (λ l. events_told trace [] old.master.history ++ l) (sym rows_are);
+            ∙ called-told trace old.master.history event new.width new.sent closed;
       }
 
 module _ (system : System) (requests : List Request) (trace : List TimedFrame) (old new : Rerun)
     (again : IsAgain system requests trace old) where
   -- a cycle that was opened and run by the master's order
-  pub opened-with : TraceLaws → CyclesRun → (order : Order) (frames : List TimedFrame) → IsOrder system.rules old.master.history order
-      → RanOrder order old.nodes new.nodes frames → new.master.rules ≡ old.master.rules
+  pub opened-with : TraceLaws → CyclesRun → (order : Order) → IsOrder system.rules old.master.history order
+      → RanOrder order old.nodes new.nodes new.sent → new.width ≡ order.l → new.master.rules ≡ old.master.rules
       → new.master.history ≡ old.master.history ++ Open order.cycle order.mask ∷ []
       → KeepsStates new.master.rules new.master.history new.states
-      → IsOpenedWith system requests trace old new order.l frames
-  opened-with laws runs order frames ordered did rules history states =
+      → IsOpened system requests trace old new
+  opened-with laws runs order ordered did same rules history states =
       let setting : Setting = setting_of system requests in
-      let way = way-run runs setting old.master.history trace frames old.nodes new.nodes order ordered did again.way in
-      let width : width_of (record { cycle = order.cycle; mask = order.mask; placed = placed_of old.master.history }) ≡ order.l =
-      ap (λ c. width_in (placed_of old.master.history) c (contains_slot order.mask)) ordered.cycle ∙ sym ordered.window in
-      let told = opened-told laws setting again.way.known old.master.history trace again.way.under_way order.cycle order.mask frames
+      let way = way-run runs setting old.master.history trace new.sent old.nodes new.nodes order ordered did again.way in
+      let width : width_of (record { cycle = order.cycle; mask = order.mask; placed = placed_of old.master.history }) ≡ new.width =
+      ap (λ c. width_in (placed_of old.master.history) c (contains_slot order.mask)) ordered.cycle ∙ sym ordered.window ∙ sym same in
+      let told = opened-told laws setting again.way.known old.master.history trace again.way.under_way order.cycle order.mask new.sent
       way.under_way ordered.cycle in
       record {
         cycle = order.cycle;
@@ -94,42 +94,44 @@ module _ (system : System) (requests : List Request) (trace : List TimedFrame) (
         history = history;
         again = record {
           same_rules = rules ∙ again.same_rules;
-          way = subst (λ h. IsOnTheWay setting h (trace ++ frames) new.nodes) (sym history) way;
+          way = subst (λ h. IsOnTheWay setting h (trace ++ new.sent) new.nodes) (sym history) way;
           states = states;
         };
-        told = ap (events_told (trace ++ frames) []) history ∙ told
-            ∙ ap (λ w. events_told trace [] old.master.history ++ told_at w (Open order.cycle order.mask) frames) width;
+        told = ap (events_told (trace ++ new.sent) []) history ∙ told
+            ∙ ap (λ w. events_told trace [] old.master.history ++ told_at w (Open order.cycle order.mask) new.sent) width;
       }
 
 module _ (system : System) (steps : List Step) (requests : List Request) (trace : List TimedFrame) (old new : Rerun) (line : LogRow) where
-  pub opened-on : (width : ℕ) (frames : List TimedFrame) (opened : IsOpenedWith system requests trace old new width frames)
+  pub opened-on : (opened : IsOpened system requests trace old new)
       → Asks steps old.master.history line (Open opened.cycle opened.mask)
       → IsAhead steps old.master.history old.ahead → new.ahead ≡ old.ahead
-      → (rows : List LogRow) → rows ≡ told_at width (Open opened.cycle opened.mask) frames
-      → IsBroughtOn system steps requests trace old line new rows
-  opened-on width frames opened asks ahead same rows rows_are = record {
+      → IsBroughtOn system steps requests trace old line new
+  opened-on opened asks ahead same = record {
     event = Open opened.cycle opened.mask;
     asks = asks;
+    near = tt;
     history = opened.history;
-    frames = frames;
+    frames = new.sent;
     again = opened.again;
     ahead = subst (λ a. IsAhead steps new.master.history a) (sym same)
         (subst (λ h. IsAhead steps h old.ahead) (sym opened.history)
         (ahead-opened steps old.master.history old.ahead (Open opened.cycle opened.mask) (λ caller. refl) ahead));
-    width = width;
-    rows_are = rows_are;
-    told = opened.told ∙ ap (λ l. events_told trace [] old.master.history ++ l) (sym rows_are);
+    told = opened.told;
   }
 
--- What is told of rows, where there are some
+-- the rows of the event that was done can be told
+pub ends-near : (system : System) (steps : List Step) (requests : List Request) (trace : List TimedFrame) (old new : Rerun) (line : LogRow)
+    → IsBroughtOn system steps requests trace old line new → EndsNear new.master.history
+ends-near system steps requests trace old new line on =
+    record { event = on.event; ends = record { before = old.master.history; is = on.history }; near = on.near }
 
-pub ok-some : {A E : Type 0} (P Q : A → Type 0) → ((x : A) → P x → Q x) → (r : Result (Option A) E)
-    → IfOk r (λ o. IfSome o P) → IfOk r (λ o. IfSome o Q)
-ok-some P Q f (Ok (Some x)) p = f x p
-ok-some P Q f (Ok None) p = tt
-ok-some P Q f (Err e) p = tt
+-- what holds of what is found
+pub some-by : {X : Type 0} {P Q : X → Type 0} (found : Option X) → IfSome found P → ((x : X) → P x → Q x) → IfSome found Q
+some-by None is by = tt
+some-by (Some x) is by = by x is
 
-pub ok-none : {A E : Type 0} (X Y : Type 0) → (X → Y) → (r : Result (Option A) E) → IfOk r (λ o. IfNone o X) → IfOk r (λ o. IfNone o Y)
-ok-none X Y f (Ok (Some x)) p = tt
-ok-none X Y f (Ok None) p = f p
-ok-none X Y f (Err e) p = tt
+-- what is told in three ways of what was done
+pub ok-three : {A E : Type 0} (P Q R S : A → Type 0) → ((x : A) → P x → Q x → R x → S x) → (r : Result A E)
+    → IfOk r P → IfOk r Q → IfOk r R → IfOk r S
+ok-three P Q R S f (Ok x) p q s = f x p q s
+ok-three P Q R S f (Err e) p q s = tt

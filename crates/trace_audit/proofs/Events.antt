@@ -1,5 +1,5 @@
 -- An event is determined by the row that asks for it, the events before it and the steps.
-use Rattle.std.proofs.Common.{◌≡◌, ◌+◌, ◌≤◌, ◌++◌, ℕ, Bool, true, false, List, [], ◌∷◌, All, Option, None, Some, map, refl, sym, ap, ◌∙◌, subst, arith}
+use Rattle.std.proofs.Common.{◌≡◌, ◌+◌, ◌<◌, ◌≤◌, ◌++◌, ℕ, Bool, true, false, List, [], ◌∷◌, All, Option, None, Some, drop, map, refl, sym, ap, ◌∙◌, subst, arith}
 use Rattle.std.specs.Prelude.{count_by, slice_get, sum_by}
 use Rattle.std.proofs.lemmas.List.Elements.{All-cons, All-nil}
 use Rattle.can_frame.specs.declared.data_frame.TimedFrame.{TimedFrame}
@@ -140,6 +140,59 @@ told-head width (Look caller next) frames =
     record { head = row.Look caller next; rest = []; are = refl; inner = All-nil (λ line. is_inner line ≡ true) }
 told-head width (Open cycle mask) frames =
     record { head = row.Open cycle mask width; rest = map row.Frame frames; are = refl; inner = inner-frames frames }
+
+-- what follows the first row of an event
+pub told-later : (width : ℕ) (event : Event) (frames : List TimedFrame) (line : LogRow) (later : List LogRow)
+    → told_at width event frames ≡ line ∷ later → AreInner later
+told-later width event frames line later are =
+    let head = told-head width event frames in
+    let rest : head.rest ≡ later = ap (drop 1) (sym head.are ∙ are) in
+    subst AreInner rest head.inner
+
+-- The row that asks for a change or a look has its operator, whose next act this is.
+
+asks-next : (steps : List Step) (before : List Event) (line : LogRow) (number : ℕ) (change : Change) (since : ℕ) (verdict : Verdict) (trail : List ℕ)
+    → Asks steps before line (Submit number change since verdict trail) → IsNextAct steps before number (act.Ask change)
+asks-next steps before (row.Submit caller from told) number change since verdict trail asks =
+    subst (λ n. IsNextAct steps before n (act.Ask change)) (sym asks.0) asks.2
+asks-next steps before (row.Plan cycle mask) number change since verdict trail asks = absurd asks
+asks-next steps before (row.Look caller next) number change since verdict trail asks = absurd asks
+asks-next steps before (row.Open cycle mask l) number change since verdict trail asks = absurd asks
+asks-next steps before (row.Frame timed) number change since verdict trail asks = absurd asks
+asks-next steps before (row.End next) number change since verdict trail asks = absurd asks
+
+asks-look : (steps : List Step) (before : List Event) (line : LogRow) (number cycle : ℕ)
+    → Asks steps before line (Look number cycle) → IsNextAct steps before number act.Look
+asks-look steps before (row.Submit caller from told) number cycle asks = absurd asks
+asks-look steps before (row.Plan planned mask) number cycle asks = absurd asks
+asks-look steps before (row.Look caller next) number cycle asks =
+    subst (λ n. IsNextAct steps before n act.Look) (sym asks.0) asks.1
+asks-look steps before (row.Open opened mask l) number cycle asks = absurd asks
+asks-look steps before (row.Frame timed) number cycle asks = absurd asks
+asks-look steps before (row.End next) number cycle asks = absurd asks
+
+asks-opening : (steps : List Step) (before : List Event) (line : LogRow) (cycle mask : ℕ)
+    → Asks steps before line (Open cycle mask) → next_of before < sum_by count_of steps
+asks-opening steps before (row.Submit caller from told) cycle mask asks = absurd asks
+asks-opening steps before (row.Plan planned slots) cycle mask asks = absurd asks
+asks-opening steps before (row.Look caller next) cycle mask asks = absurd asks
+asks-opening steps before (row.Open opened slots l) cycle mask asks = asks
+asks-opening steps before (row.Frame timed) cycle mask asks = absurd asks
+asks-opening steps before (row.End next) cycle mask asks = absurd asks
+
+-- an event that some row asks for is one that its own first row asks for
+pub own-asks : (steps : List Step) (before : List Event) (asked : LogRow) (event : Event) (width : ℕ) (frames : List TimedFrame)
+    (line : LogRow) → Asks steps before asked event → slice_get (told_at width event frames) 0 ≡ Some line → Asks steps before line event
+own-asks steps before asked (Submit caller change from verdict trail) width frames line asks first =
+    let is : line ≡ row.Submit caller from (verdict_told verdict) = cc in
+    subst (λ l. Asks steps before l (Submit caller change from verdict trail)) (sym is)
+    (refl, refl, asks-next steps before asked caller change from verdict trail asks)
+own-asks steps before asked (Look caller next) width frames line asks first =
+    let is : line ≡ row.Look caller next = cc in
+    subst (λ l. Asks steps before l (Look caller next)) (sym is) (refl, asks-look steps before asked caller next asks)
+own-asks steps before asked (Open cycle mask) width frames line asks first =
+    let is : line ≡ row.Open cycle mask width = cc in
+    subst (λ l. Asks steps before l (Open cycle mask)) (sym is) (asks-opening steps before asked cycle mask asks)
 
 -- such a row is not that of an event, nor the last one of a log
 pub inner-no_event : (line : LogRow) → is_inner line ≡ true → is_event_row line ≡ false

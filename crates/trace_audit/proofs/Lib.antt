@@ -1,6 +1,7 @@
 mod Acts
 mod Behind
 mod Bringing
+mod Comparisons
 mod Ending
 mod Events
 mod Fronts
@@ -11,3 +12,4 @@ mod Settling
 mod Standing
 mod Taking
 mod Whole
+mod Written

@@ -1,9 +1,9 @@
 -- The history of rows, with one row more.
-use Rattle.std.proofs.Common.{◌≡◌, ◌+◌, ◌<◌, ◌++◌, ◌∷◌, ℕ, zero, suc, true, false, List, [], Some, drop, filter, length, refl, sym, ap, ◌∙◌, subst, arith, append_assoc, append-nil}
+use Rattle.std.proofs.Common.{◌≡◌, ◌+◌, ◌<◌, ◌++◌, ◌∷◌, ℕ, zero, suc, true, false, List, [], All, Some, drop, filter, length, refl, sym, ap, ◌∙◌, subst, arith, append_assoc, append-nil}
 use Rattle.std.specs.Prelude.{slice_get}
 use Rattle.std.proofs.lemmas.Bool.{cond-false, cond-true}
 use Rattle.std.proofs.lemmas.List.{append_cancel_left}
-use Rattle.std.proofs.lemmas.List.Elements.{filter-append}
+use Rattle.std.proofs.lemmas.List.Elements.{All-head, All-tail, filter-append}
 use Rattle.admission_rules.specs.declared.Rules.{Rules}
 use Rattle.master_core.specs.declared.event.Event.{Event}
 use Rattle.steps_file.specs.declared.steps.Step.{Step}
@@ -69,6 +69,24 @@ other-row-more rows line is =
     filter-append is_event_row rows (line ∷ [])
     ∙ ap (λ l. filter is_event_row rows ++ l) (cond-false (is_event_row line) (line ∷ []) [] is)
     ∙ append-nil (filter is_event_row rows)
+
+-- rows none of which is that of an event
+none-more : (rows later : List LogRow) → All (λ line. is_event_row line ≡ false) later
+    → filter is_event_row (rows ++ later) ≡ filter is_event_row rows
+none-more rows [] none = ap (filter is_event_row) (append-nil rows)
+none-more rows (line ∷ later) none =
+    ap (filter is_event_row) (sym (append_assoc rows (line ∷ []) later))
+    ∙ none-more (rows ++ line ∷ []) later (All-tail (λ l. is_event_row l ≡ false) line later none)
+    ∙ other-row-more rows line (All-head (λ l. is_event_row l ≡ false) line later none)
+
+module _ (rules : Rules) (steps : List Step) (rows later : List LogRow) (none : All (λ line. is_event_row line ≡ false) later)
+    (history : List Event) where
+  -- no event is read from them
+  pub history-behind : IsHistoryOf rules steps rows history → IsHistoryOf rules steps (rows ++ later) history
+  history-behind read = subst (λ l. AreReadFrom rules steps [] l history) (sym (none-more rows later none)) read
+
+  pub history-before : IsHistoryOf rules steps (rows ++ later) history → IsHistoryOf rules steps rows history
+  history-before read = subst (λ l. AreReadFrom rules steps [] l history) (none-more rows later none) read
 
 module _ (rules : Rules) (steps : List Step) (rows : List LogRow) (line : LogRow) where
   pub history-push : (history : List Event) (event : Event) → is_event_row line ≡ true → IsHistoryOf rules steps rows history

@@ -192,8 +192,9 @@ module _ (laws : TraceLaws) (setting : Setting) (known : IsSetting setting) (his
       ++ row.Open cycle mask (width_of (record { cycle = cycle; mask = mask; placed = placed_of history })) ∷ map row.Frame l) started
 
 -- a change or a look adds its own
-pub called-told : (trace : List TimedFrame) (history : List Event) (event : Event) → is_open event ≡ false
-    → events_told trace [] (history ++ event ∷ []) ≡ events_told trace [] history ++ told_at 0 event []
-called-told trace history (Submit caller change from verdict trail) closed = events_told-push trace history (Submit caller change from verdict trail)
-called-told trace history (Look caller next) closed = events_told-push trace history (Look caller next)
-called-told trace history (Open cycle mask) closed = absurd (cc)
+pub called-told : (trace : List TimedFrame) (history : List Event) (event : Event) (width : ℕ) (frames : List TimedFrame) → is_open event ≡ false
+    → events_told trace [] (history ++ event ∷ []) ≡ events_told trace [] history ++ told_at width event frames
+called-told trace history (Submit caller change from verdict trail) width frames closed =
+    events_told-push trace history (Submit caller change from verdict trail)
+called-told trace history (Look caller next) width frames closed = events_told-push trace history (Look caller next)
+called-told trace history (Open cycle mask) width frames closed = absurd (cc)

@@ -4,7 +4,7 @@ use Rattle.std.specs.Prelude.{slice_get, sum_by}
 use Rattle.std.proofs.lemmas.Bool.{cases_Bool}
 use Rattle.std.proofs.Math.Seq.{drop-length}
 use Rattle.std.proofs.lemmas.List.{length-drop}
-use Rattle.std.proofs.lemmas.List.Elements.{All-head, All-tail}
+use Rattle.std.proofs.lemmas.List.Elements.{All-head, All-nil, All-tail, All-weaker}
 use Rattle.std.proofs.lemmas.Option.{slice_get_within}
 use Rattle.can_frame.specs.declared.data_frame.TimedFrame.{TimedFrame}
 use Rattle.async_window.specs.declared.request.Request.{Request}
@@ -19,6 +19,7 @@ use Rattle.steps_file.specs.StepsFile.{count_of}
 use Rattle.steps_file.specs.declared.steps.Step.{Step}
 use Rattle.system_file.specs.declared.system.System.{System}
 use Rattle.replay_run.specs.Progress.{setting_of}
+use Rattle.bus_trace.specs.EventRows.{told_at}
 use Rattle.bus_trace.specs.LogRows.{events_told, log_rows}
 use Rattle.log_reader.specs.declared.row.LogRow.{LogRow}
 use Rattle.log_reader.specs.declared.row.LogRow.TheVariants as row
@@ -30,8 +31,8 @@ use Rattle.trace_audit.specs.Reading.{IsHistoryOf, IsReadFrom, is_event_row}
 use Rattle.trace_audit.specs.declared.auditor.Auditor.{Auditor}
 use Rattle.trace_audit.specs.declared.rerun.Rerun.{Rerun}
 use Rattle.master_core.proofs.Shared.{OneVerdict}
-use Rattle.trace_audit.proofs.Events.{asked-read, inner-no_event, same-event, told-head}
-use Rattle.trace_audit.proofs.Readings.{drop-next, get-drop, history-parts, history-push, history-stays, history-stood, next-row}
+use Rattle.trace_audit.proofs.Events.{AreInner, asked-read, inner-no_event, same-event, told-head, told-later}
+use Rattle.trace_audit.proofs.Readings.{drop-next, get-drop, history-before, history-behind, history-parts, history-push, history-stays, history-stood, next-row}
 use Rattle.trace_audit.proofs.Rows.{TraceLaws, log-goes-on}
 
 -- what legal histories have
@@ -144,11 +145,15 @@ module _ (system : System) (steps : List Step) (requests : List Request) (rows :
   pub all-told : auditor.came ≡ length auditor.rows.items → rows ≡ events_told auditing.trace [] history
   all-told all = sym (append-nil rows) ∙ ap (λ l. rows ++ l) (sym (none-left all)) ∙ auditing.told
 
-  module _ (kept : Promises) (verdicts : OneVerdict) (new : Rerun) (told : List LogRow)
-      (on : IsBroughtOn system steps requests auditing.trace auditor.rerun line new told)
+  module _ (kept : Promises) (verdicts : OneVerdict) (new : Rerun)
+      (on : IsBroughtOn system steps requests auditing.trace auditor.rerun line new)
       (all : auditor.came ≡ length auditor.rows.items) where
     abbrev trace : List TimedFrame
     trace = auditing.trace ++ on.frames
+
+    -- the rows of the event
+    abbrev told : List LogRow
+    told = told_at new.width on.event new.sent
 
     new-legal : IsLegal system.rules (history ++ on.event ∷ [])
     new-legal = subst (IsLegal system.rules) on.history on.again.way.under_way.legal
@@ -175,7 +180,7 @@ module _ (system : System) (steps : List Step) (requests : List Request) (rows :
     all-rows = ap (λ l. l ++ told) (all-told all) ∙ sym on.told
 
     told-some : 0 < length told
-    told-some = let head = told-head on.width on.event on.frames in let count = ap length (on.rows_are ∙ head.are) in omega (arith, count)
+    told-some = let head = told-head new.width on.event new.sent in let count = ap length head.are in omega (arith, count)
 
     -- the row must be the first one of the event
     pub event-breaks : (slice_get told 0 ≡ Some line → ⊥) → CanStand system steps requests (rows ++ line ∷ []) → ⊥
@@ -193,12 +198,10 @@ module _ (system : System) (steps : List Step) (requests : List Request) (rows :
     pub event-stands : (next : Auditor) → next.rerun ≡ new → next.rows.items ≡ told → next.came ≡ 1 → slice_get told 0 ≡ Some line
         → IsAuditing system steps requests (rows ++ line ∷ []) next
     event-stands next same_run same_rows one first =
-        let head = told-head on.width on.event on.frames in
+        let head = told-head new.width on.event new.sent in
         let rest = drop-next 0 told line first in
-        let are : told ≡ head.head ∷ head.rest = on.rows_are ∙ head.are in
         let left : left_of next ≡ drop 1 told = ap (λ n. drop n next.rows.items) one ∙ ap (drop 1) same_rows in
-        let read = asked-read system.rules steps history line on.event on.width on.frames on.asks right
-        (subst (λ l. slice_get l 0 ≡ Some line) on.rows_are first) in
+        let read = asked-read system.rules steps history line on.event new.width new.sent on.asks right first in
         let history_is : next.rerun.master.history ≡ history ++ on.event ∷ [] = ap (λ r. r.master.history) same_run ∙ on.history in
         record {
           trace = trace;
@@ -209,7 +212,36 @@ module _ (system : System) (steps : List Step) (requests : List Request) (rows :
           only = λ other other_read legal. new-only other other_read legal ∙ ap (λ r. r.master.history) (sym same_run);
           opened = subst (λ h. next_of h ≤ sum_by count_of steps) (sym history_is) (still-few steps history line on.event on.asks auditing.opened);
           within = let count = ap length same_rows in let some = told-some in omega (arith, count, some, one);
-          inner = subst (All (λ l. is_inner l ≡ true)) (sym (left ∙ ap (drop 1) are)) head.inner;
+          inner = subst (All (λ l. is_inner l ≡ true)) (sym (left ∙ ap (drop 1) head.are)) head.inner;
           told = append_assoc rows (line ∷ []) (left_of next) ∙ ap (λ l. rows ++ line ∷ l) left ∙ ap (λ l. rows ++ l) (sym rest)
+              ∙ all-rows ∙ ap (λ r. events_told trace [] r.master.history) (sym same_run);
+        }
+
+    -- all rows of the event at once, where the row is the first of them: none of them is left then
+    pub rows-stand : (later : List LogRow) → told ≡ line ∷ later → (next : Auditor) → next.rerun ≡ new → left_of next ≡ []
+        → next.came ≤ length next.rows.items → IsAuditing system steps requests (rows ++ line ∷ later) next
+    rows-stand later are next same_run none within =
+        let inner : AreInner later = told-later new.width on.event new.sent line later are in
+        let quiet = All-weaker (λ l. is_inner l ≡ true) (λ l. is_event_row l ≡ false) inner-no_event later inner in
+        let first : slice_get told 0 ≡ Some line = ap (λ l. slice_get l 0) are in
+        let read = asked-read system.rules steps history line on.event new.width new.sent on.asks right first in
+        let whole : (rows ++ line ∷ []) ++ later ≡ rows ++ line ∷ later = append_assoc rows (line ∷ []) later in
+        let history_is : next.rerun.master.history ≡ history ++ on.event ∷ [] = ap (λ r. r.master.history) same_run ∙ on.history in
+        record {
+          trace = trace;
+          again = subst (IsAgain system requests trace) (sym same_run) on.again;
+          ahead = subst (λ r. IsAhead steps r.master.history r.ahead) (sym same_run) on.ahead;
+          read = subst (λ l. IsHistoryOf system.rules steps l next.rerun.master.history) whole
+              (history-behind system.rules steps (rows ++ line ∷ []) later quiet next.rerun.master.history
+              (subst (IsHistoryOf system.rules steps (rows ++ line ∷ [])) (sym history_is)
+              (history-push system.rules steps rows line history on.event is_event auditing.read read)));
+          only = λ other other_read legal. new-only other
+              (history-before system.rules steps (rows ++ line ∷ []) later quiet other
+              (subst (λ l. IsHistoryOf system.rules steps l other) (sym whole) other_read)) legal
+              ∙ ap (λ r. r.master.history) (sym same_run);
+          opened = subst (λ h. next_of h ≤ sum_by count_of steps) (sym history_is) (still-few steps history line on.event on.asks auditing.opened);
+          within = within;
+          inner = subst (All (λ l. is_inner l ≡ true)) (sym none) (All-nil (λ l. is_inner l ≡ true));
+          told = ap (λ l. (rows ++ line ∷ later) ++ l) none ∙ append-nil (rows ++ line ∷ later) ∙ ap (λ l. rows ++ l) (sym are)
               ∙ all-rows ∙ ap (λ r. events_told trace [] r.master.history) (sym same_run);
         }

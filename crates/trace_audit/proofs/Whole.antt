@@ -21,9 +21,7 @@ use Rattle.trace_audit.specs.declared.audit_fault.AuditFault.{AuditFault}
 use Rattle.trace_audit.specs.declared.audit_fault.AuditFault.TheVariants.{Memory}
 use Rattle.trace_audit.specs.declared.log_audit.LogAudit.{LogAudit}
 use Rattle.trace_audit.proofs.Ending.{answers-operators, behind-breaks, can-stand, end-breaks, end-stands, is-whole, operators-answer, whole-answers}
-use Rattle.trace_audit.proofs.Readings.{drop-next}
 use Rattle.trace_audit.proofs.Rows.{TraceLaws}
-use Rattle.trace_audit.proofs.Standing.{left-stands}
 
 module _ {A : Type 0} where
   -- the item of a loop over places
@@ -127,7 +125,7 @@ not-end_row (row.Frame timed) other = refl
 not-end_row (row.End next) other = absurd (other next refl)
 
 -- a row that follows the row of its event does not end a log
-inner-not_end : (line : LogRow) → is_inner line ≡ true → is_end line ≡ false
+pub inner-not_end : (line : LogRow) → is_inner line ≡ true → is_end line ≡ false
 inner-not_end (row.Submit caller from verdict) inner = refl
 inner-not_end (row.Plan cycle mask) inner = refl
 inner-not_end (row.Look caller next) inner = refl
@@ -151,27 +149,6 @@ module _ (steps : List Step) (old new : LogAudit) where
     break = λ is system requests rows heard can.
         let (auditing, none) = subst (IsUpTo system steps requests rows old.auditor) going heard.up_to in
         takes.break is system requests rows auditing can;
-  }
-
-  -- a row that is left of the last event
-  pub hears-left : (line : LogRow) → old.ended ≡ false → new.ended ≡ false
-      → slice_get old.auditor.rows.items old.auditor.came ≡ Some line
-      → new.auditor ≡ record old.auditor { came = old.auditor.came + 1 } → Hears steps old new line true
-  hears-left line going still there is = record {
-    stand = λ yes system requests rows heard.
-        let (auditing, none) = subst (IsUpTo system steps requests rows old.auditor) going heard.up_to in
-        let now = subst (IsAuditing system steps requests (rows ++ line ∷ [])) (sym is)
-        (left-stands system steps requests rows old.auditor auditing line there) in
-        let left = drop-next old.auditor.came old.auditor.rows.items line there in
-        let inner = All-head (λ l. is_inner l ≡ true) line (drop (old.auditor.came + 1) old.auditor.rows.items)
-        (subst (All (λ l. is_inner l ≡ true)) left auditing.inner) in
-        record {
-          stand = one-more system steps requests rows heard.stand line
-              (can-stand system steps requests (rows ++ line ∷ []) new.auditor now);
-          up_to = subst (IsUpTo system steps requests (rows ++ line ∷ []) new.auditor) (sym still)
-              (now, All-push (λ l. is_end l ≡ false) rows line none (inner-not_end line inner));
-        };
-    break = λ no. absurd (cc);
   }
 
   -- the last row of a log

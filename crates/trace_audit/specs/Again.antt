@@ -3,11 +3,9 @@ use Rattle.std.specs.Prelude.{◌≡◌, ℕ, ◌<◌, List, [], ◌∷◌, ◌+
 use Rattle.can_frame.specs.declared.data_frame.TimedFrame.{TimedFrame}
 use Rattle.async_window.specs.declared.request.Request.{Request}
 use Rattle.change_protocol.specs.declared.operations.Act.TheVariants as act
-use Rattle.change_protocol.specs.declared.operations.Change.{Change}
-use Rattle.admission.specs.declared.verdict.Verdict.{Verdict}
 use Rattle.master_core.specs.declared.event.Event.{Event}
 use Rattle.master_core.specs.declared.event.Event.TheVariants.{Submit, Look, Open}
-use Rattle.master_core.specs.History.{IsLegal, next_of}
+use Rattle.master_core.specs.History.{next_of}
 use Rattle.kept_run.specs.Progress.{IsOnTheWay}
 use Rattle.steps_file.specs.StepsFile.{count_of}
 use Rattle.steps_file.specs.declared.steps.Step.{Step}
@@ -44,27 +42,14 @@ pub record EndsNear (history : List Event) : Type 0 where
   pub ends : EndsIn history event
   pub near : IsNear event
 
--- a cycle was opened and run, with this window in bit times and these frames
-pub record IsOpenedWith (system : System) (requests : List Request) (trace : List TimedFrame) (old new : Rerun)
-    (width : ℕ) (frames : List TimedFrame) : Type 0 where
+-- a cycle was opened and run: its window, in bit times, and its frames are those that the run has of the last cycle
+pub record IsOpened (system : System) (requests : List Request) (trace : List TimedFrame) (old new : Rerun) : Type 0 where
   pub cycle : ℕ
   pub mask : ℕ
   pub history : new.master.history ≡ old.master.history ++ Open cycle mask ∷ []
-  pub again : IsAgain system requests (trace ++ frames) new
-  pub told : events_told (trace ++ frames) [] new.master.history
-      ≡ events_told trace [] old.master.history ++ told_at width (Open cycle mask) frames
-
--- a change of this operator was answered, planned from this cycle, and these are the rows of the answer
-pub record IsAnsweredWith (old new : Rerun) (caller : ℕ) (change : Change) (from : ℕ) (rows : List LogRow) : Type 0 where
-  pub verdict : Verdict
-  pub trail : List ℕ
-  pub rules : new.master.rules ≡ old.master.rules
-  pub nodes : new.nodes ≡ old.nodes
-  pub history : new.master.history ≡ old.master.history ++ Submit caller change from verdict trail ∷ []
-  pub legal : IsLegal new.master.rules new.master.history
-  pub states : KeepsStates new.master.rules new.master.history new.states
-  pub ahead : new.ahead ≡ old.ahead
-  pub rows_are : rows ≡ told_at 0 (Submit caller change from verdict trail) []
+  pub again : IsAgain system requests (trace ++ new.sent) new
+  pub told : events_told (trace ++ new.sent) [] new.master.history
+      ≡ events_told trace [] old.master.history ++ told_at new.width (Open cycle mask) new.sent
 
 -- the row asks for the event, after the events before it: it is of the row's kind and has the row's caller. A change or a
 -- look is the next act of its operator in the steps, a change is planned from the row's `from`, and an opening is one of
@@ -76,16 +61,16 @@ Asks steps before (row.Look caller next) (Look number cycle) = (number ≡ calle
 Asks steps before (row.Open number slots l) (Open cycle mask) = next_of before < sum_by count_of steps
 Asks steps before line event = ⊥
 
--- the run has one event more, which the row asks for and the steps no longer have before it, and these are the rows of the
--- event
+-- the run has one event more, which the row asks for and the steps no longer have before it. The rows of the event can be
+-- told, with the window and the frames of the cycle that was opened last
 pub record IsBroughtOn (system : System) (steps : List Step) (requests : List Request) (trace : List TimedFrame)
-    (old : Rerun) (line : LogRow) (new : Rerun) (rows : List LogRow) : Type 0 where
+    (old : Rerun) (line : LogRow) (new : Rerun) : Type 0 where
   pub event : Event
   pub asks : Asks steps old.master.history line event
+  pub near : IsNear event
   pub history : new.master.history ≡ old.master.history ++ event ∷ []
   pub frames : List TimedFrame
   pub again : IsAgain system requests (trace ++ frames) new
   pub ahead : IsAhead steps new.master.history new.ahead
-  pub width : ℕ
-  pub rows_are : rows ≡ told_at width event frames
-  pub told : events_told (trace ++ frames) [] new.master.history ≡ events_told trace [] old.master.history ++ rows
+  pub told : events_told (trace ++ frames) [] new.master.history
+      ≡ events_told trace [] old.master.history ++ told_at new.width event new.sent

@@ -8,13 +8,14 @@ use Rattle.steps_file.specs.StepsFile.{count_of}
 use Rattle.steps_file.specs.declared.steps.Step.{Step}
 use Rattle.system_file.specs.declared.system.System.{System}
 use Rattle.bus_trace.specs.LogRows.{events_told}
-use Rattle.log_reader.specs.Row.{IsLogRow, row_text, text_of_rows}
+use Rattle.log_reader.specs.Row.{IsLogRow, text_of_rows}
 use Rattle.log_reader.specs.declared.row.LogRow.{LogRow}
 use Rattle.log_reader.specs.declared.row.LogRow.TheVariants as row
 use Rattle.live_master.specs.Callers.{is_called_by}
 use Rattle.live_steps.specs.Live.{acts_of}
 use Rattle.trace_audit.specs.Again.{IsAgain}
 use Rattle.trace_audit.specs.Ahead.{IsAhead}
+use Rattle.trace_audit.specs.Compared.{BeginsWith}
 use Rattle.trace_audit.specs.Audit.{AllStand, CanStand, IsAudited}
 use Rattle.trace_audit.specs.Reading.{IsHistoryOf}
 use Rattle.trace_audit.specs.declared.auditor.Auditor.{Auditor}
@@ -110,12 +111,13 @@ pub record Hears (steps : List Step) (old new : LogAudit) (line : LogRow) (stand
   pub break : stands ≡ false → (system : System) (requests : List Request) (rows : List LogRow)
       → IsHeard system steps requests rows old → CanStand system steps requests (rows ++ line ∷ []) → ⊥
 
--- the text begins with that of a row, and with this row, which is one of a log, the rows can stand too
+-- the text begins with that of some rows of a log, and with these the rows can stand too
 pub record TakesWritten (steps : List Step) (old new : LogAudit) (text rest : List ℕ) : Type 0 where
   pub line : LogRow
-  pub legal : IsLogRow line
-  pub written : text ≡ row_text line ++ rest
-  pub hears : Hears steps old new line true
+  pub later : List LogRow
+  pub begins : BeginsWith text (line ∷ later) rest
+  pub hears : (system : System) (requests : List Request) (rows : List LogRow) → IsHeard system steps requests rows old
+      → IsHeard system steps requests (rows ++ line ∷ later) new
 
 -- the audit has heard rows of a log whose texts, one after the other, are the text up to this rest
 pub record IsHeardUpTo (system : System) (steps : List Step) (requests : List Request) (text rest : List ℕ)

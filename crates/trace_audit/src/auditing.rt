@@ -76,8 +76,8 @@ fn next_row(reader: &mut LogReader<'_>) -> Result<Option<LogRow>, AllocError>
     }
 }
 
-/// Whether a text is the texts of rows that are all rows of a whole run, one after the other. Each row is compared with
-/// the bytes, and none is read by `csv`. Where the answer is no, nothing is said of the text.
+/// Whether a text is the texts of rows that are all rows of a whole run, one after the other. The rows of each event are
+/// made as text and compared with the bytes, and none is read. Where the answer is no, nothing is said of the text.
 ///
 /// # Errors
 ///

@@ -108,15 +108,14 @@ impl Auditor {
         frames_by_cycle();
         one_verdict();
         promise();
-        match self.rerun.follow(alloc, steps, line)? {
-            Some(rows) => {
-                let stands = is_at(rows.as_slice(), 0, line);
-                self.rows = rows;
-                self.came = 1;
-                Ok(stands)
-            }
-            None => Ok(false),
+        if !self.rerun.follow(alloc, steps, line)? {
+            return Ok(false);
         }
+        let rows = self.rerun.rows(alloc)?;
+        let stands = is_at(rows.as_slice(), 0, line);
+        self.rows = rows;
+        self.came = 1;
+        Ok(stands)
     }
 
     /// Takes a row that is not the last one of a log: whether the rows can stand with it.
@@ -136,11 +135,11 @@ impl Auditor {
         self.take_event(alloc, steps, line)
     }
 
-    /// Whether rows of the last event are left.
-    pub fn has_left(&self) -> bool
-        ensures left { result ≡ true → self.now.came < length self.now.rows.items }
+    /// Whether no row of the last event is left.
+    pub fn has_none_left(&self) -> bool
+        ensures none_left { result ≡ true → self.now.came ≡ length self.now.rows.items }
     {
-        self.came < self.rows.len()
+        self.came == self.rows.len()
     }
 
     /// Whether the last row of a log may follow, with this number of cycles: no row of the last event is left, and so

@@ -16,7 +16,7 @@ use requirement_table::Mask;
 use std::alloc::{AllocError, Global};
 
 /// A verdict, as a row tells it.
-fn verdict_told(verdict: &Verdict) -> LogVerdict
+pub fn verdict_told(verdict: &Verdict) -> LogVerdict
     ensures told { result ≡ verdict_told verdict.now }
 {
     match verdict {

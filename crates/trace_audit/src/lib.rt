@@ -5,9 +5,11 @@
 #![tactic(auto)]
 
 mod ahead;
+mod asked;
 mod audit_fault;
 mod auditing;
 mod auditor;
+mod comparing;
 mod event_rows;
 pub mod laws;
 mod log_audit;

@@ -1,6 +1,6 @@
 //! An audit of all rows of a log, one after the other.
 
-ghost use Rattle.std.specs.Prelude.{◌≡◌, ◌<◌, [], IfOk, IfSome, List, MatchResult, false, length, true};
+ghost use Rattle.std.specs.Prelude.{◌≡◌, [], IfOk, IfSome, List, MatchResult, false, length, true};
 ghost use Rattle.async_window.specs.declared.request.Request.{Request};
 ghost use Rattle.requests_file.specs.RequestsFile.{AreLegal};
 ghost use Rattle.steps_file.specs.StepsFile.{AreLegalSteps};
@@ -12,12 +12,15 @@ ghost use Rattle.log_reader.specs.declared.row.LogRow.TheVariants as row;
 ghost use Rattle.trace_audit.specs.Audit.{IsAuditFault, IsAudited};
 ghost use Rattle.trace_audit.specs.Auditing.{CanHear, Hears, IsHeard, TakesWritten};
 
+use crate::asked::{Asked, asked_ahead};
 use crate::audit_fault::AuditFault;
 use crate::auditor::Auditor;
+use crate::comparing::behind_end;
+use admission::laws::one_verdict;
 use async_window::Request;
 use bus_trace::laws::frames_by_cycle;
 use kept_run::laws::{promise, triggers_count_cycles};
-use log_reader::{LogRow, behind_row, next_written};
+use log_reader::LogRow;
 use replay_run::laws::legal_runs;
 use std::alloc::{AllocError, Global};
 use steps_file::Step;
@@ -100,53 +103,48 @@ impl LogAudit {
         }
     }
 
-    /// Takes the first row that is left of the last event, where a text begins with it in the form in which it is
-    /// written: what stands behind it. Nothing of the text has to be read for it.
-    fn take_left_written<'a>(&mut self, text: &'a [u8]) -> Option<&'a [u8]>
-        requires going_on { self.old.ended ≡ false }
-        requires left { self.old.auditor.came < length self.old.auditor.rows.items }
-        ensures on { IfSome result (λ rest. (steps : List Step)
-            → TakesWritten steps self.old self.new text.now rest.now) }
-    {
-        let line = &self.auditor.rows[self.auditor.came];
-        match behind_row(text, line) {
-            Some(rest) => {
-                self.auditor.came += 1;
-                Some(rest)
-            }
-            None => None,
-        }
-    }
-
-    /// Takes the row with which a text begins, where it is in the form in which it is written: what stands behind it.
+    /// Does the event again that a text may ask for: what stands after its rows, where the text begins with them.
     ///
     /// # Errors
     ///
     /// Only where memory runs out.
-    fn take_next_written<'a>(
+    fn take_event_written<'a>(
         &mut self,
         alloc: Global,
         steps: &[Step],
+        asked: Asked,
         text: &'a [u8],
     ) -> Result<Option<&'a [u8]>, AllocError>
         requires steps { AreLegalSteps steps.now }
         requires can { CanHear steps.now self.old }
+        requires going_on { self.old.ended ≡ false }
+        requires none_left { self.old.auditor.came ≡ length self.old.auditor.rows.items }
         ensures on { IfOk result (λ found. IfSome found
             (λ rest. TakesWritten steps.now self.old self.new text.now rest.now)) }
     {
-        match next_written(alloc, text) {
-            Some(next) => {
-                if !self.take(alloc, steps, &next.0)? {
-                    return Ok(None);
-                }
-                Ok(Some(next.1))
-            }
-            None => Ok(None),
+        one_verdict();
+        promise();
+        if !self.auditor.rerun.follow_asked(alloc, steps, asked)? {
+            return Ok(None);
         }
+        Ok(self.auditor.rerun.behind_rows(text))
     }
 
-    /// Takes the row with which a text begins, where it is in the form in which it is written and can stand there: what
-    /// stands behind it.
+    /// Takes the last row of a log, where a text begins with it and it can stand there: what stands after it.
+    fn take_end_written<'a>(&mut self, text: &'a [u8]) -> Option<&'a [u8]>
+        requires going_on { self.old.ended ≡ false }
+        ensures on { IfSome result (λ rest. (steps : List Step)
+            → TakesWritten steps self.old self.new text.now rest.now) }
+    {
+        let next = self.auditor.rerun.master.next();
+        if !self.take_end(next) {
+            return None;
+        }
+        behind_end(text, next)
+    }
+
+    /// Takes the rows of the event, or the last row, with which a text begins, where they are in the form in which they are
+    /// written and can stand there: what stands after them. No row of the text is read.
     ///
     /// # Errors
     ///
@@ -162,10 +160,17 @@ impl LogAudit {
         ensures on { IfOk result (λ found. IfSome found
             (λ rest. TakesWritten steps.now self.old self.new text.now rest.now)) }
     {
-        if !self.ended && self.auditor.has_left() {
-            return Ok(self.take_left_written(text));
+        if self.ended {
+            return Ok(None);
         }
-        self.take_next_written(alloc, steps, text)
+        if !self.auditor.has_none_left() {
+            return Ok(None);
+        }
+        match asked_ahead(text) {
+            Some(Asked::End) => Ok(self.take_end_written(text)),
+            Some(asked) => self.take_event_written(alloc, steps, asked, text),
+            None => Ok(None),
+        }
     }
 
     /// The answer where these are all rows.

@@ -1,6 +1,6 @@
 //! A run that is done again, event by event, as the rows of a log ask for it.
 
-ghost use Rattle.std.specs.Prelude.{◌≡◌, ◌++◌, ◌∷◌, ◌≤◌, ◌<◌, [], IfOk, IfSome, IfNone, List, OnOk, false, true, ℕ};
+ghost use Rattle.std.specs.Prelude.{◌≡◌, ◌++◌, ◌∷◌, ◌≤◌, ◌<◌, [], IfOk, IfSome, List, OnOk, false, true, ℕ};
 ghost use Rattle.std.specs.Prelude.{sum_by};
 ghost use Rattle.profile.specs.Limits.{most_cycles};
 ghost use Rattle.can_frame.specs.declared.data_frame.TimedFrame.{TimedFrame};
@@ -14,20 +14,23 @@ ghost use Rattle.master_core.specs.declared.event.Event.{Event};
 ghost use Rattle.master_core.specs.declared.event.Event.TheVariants.{Submit, Look};
 ghost use Rattle.master_core.specs.History.{IsLegal, IsRight, IsRightAnswer, next_of};
 ghost use Rattle.bus_trace.specs.EventRows.{told_at};
+ghost use Rattle.bus_trace.specs.Logged.{IsNear};
+ghost use Rattle.log_reader.specs.declared.row.LogRow.{LogRow};
 ghost use Rattle.log_reader.specs.declared.row.LogRow.TheVariants as row;
 ghost use Rattle.log_reader.specs.declared.row.LogVerdict.{LogVerdict};
 ghost use Rattle.trace_audit.specs.Ahead.{IsAhead};
-ghost use Rattle.trace_audit.specs.Again.{Asks, CanGoOn, EndsIn, EndsNear, IsAgain, IsAnsweredWith};
-ghost use Rattle.trace_audit.specs.Again.{IsBroughtOn, IsOpenedWith};
+ghost use Rattle.trace_audit.specs.Again.{Asks, CanGoOn, EndsIn, EndsNear, IsAgain, IsBroughtOn, IsOpened};
+ghost use Rattle.trace_audit.specs.Compared.{BeginsWith};
 ghost use Rattle.trace_audit.specs.States.{KeepsStates};
 
 use crate::ahead::Ahead;
+use crate::asked::Asked;
+use crate::comparing::behind_event;
 use crate::event_rows::rows_of;
 use crate::states::{States, keep_answered};
 use crate::step_acts::act_at;
 use async_window::Request;
 use bus_trace::laws::frames_by_cycle;
-use can_frame::TimedFrame;
 use change_protocol::{Act, Change};
 use cycle_engine::{Nodes, Segment, run_cycle};
 use kept_run::laws::{
@@ -36,7 +39,7 @@ use kept_run::laws::{
 };
 use log_reader::LogRow;
 use master_core::laws::legal_histories;
-use master_core::{Master, plan_apart};
+use master_core::{Event, Master, plan_apart};
 use replay_run::fresh_nodes;
 use replay_run::laws::legal_runs;
 use std::alloc::{AllocError, Global};
@@ -54,6 +57,10 @@ pub struct Rerun {
     pub states: States,
     /// What it has before it in the steps.
     pub ahead: Ahead,
+    /// The length of the synchronous window of the cycle that was opened last, in bit times.
+    pub width: u32,
+    /// The frames of that cycle.
+    pub sent: Segment,
 }
 
 impl Rerun {
@@ -81,11 +88,14 @@ impl Rerun {
         let master = Master::new(alloc, system.rules)?;
         let states = States::of(alloc, master.state())?;
         let ahead = Ahead::of(steps);
+        let sent = Segment::new(alloc, &system.layout)?;
         Ok(Rerun {
             master,
             nodes,
             states,
             ahead,
+            width: 0,
+            sent,
         })
     }
 
@@ -151,17 +161,16 @@ impl Rerun {
         Ok(())
     }
 
-    /// Opens the next cycle and runs it on the bus: the length of its synchronous window in bit times, and its frames.
+    /// Opens the next cycle and runs it on the bus.
     ///
     /// # Errors
     ///
     /// Only where memory runs out.
-    fn open(&mut self, alloc: Global) -> Result<(u32, Segment), AllocError>
+    fn open(&mut self, alloc: Global) -> Result<(), AllocError>
         requires going { CanGoOn self.old }
         requires few { next_of self.old.master.history < most_cycles }
-        ensures opened { IfOk result (λ opened. (system : System) (requests : List Request) (trace : List TimedFrame)
-            → IsAgain system requests trace self.old
-            → IsOpenedWith system requests trace self.old self.new opened.0 opened.1) }
+        ensures opened { OnOk result ((system : System) (requests : List Request) (trace : List TimedFrame)
+            → IsAgain system requests trace self.old → IsOpened system requests trace self.old self.new) }
         ensures ahead { self.new.ahead ≡ self.old.ahead }
     {
         legal_runs();
@@ -173,91 +182,82 @@ impl Rerun {
         let order = self.master.open();
         let segment = run_cycle(alloc, &order, &mut self.nodes)?;
         self.states.push(self.master.state())?;
-        Ok((order.l, segment))
+        self.width = order.l;
+        self.sent = segment;
+        Ok(())
     }
 
-    /// The rows of the last event, where its cycle has this window, in bit times, and these frames.
-    fn rows_of_last(
-        &self,
-        alloc: Global,
-        width: u32,
-        frames: &[TimedFrame],
-    ) -> Result<Vec<LogRow>, AllocError>
+    /// The last event.
+    fn last_event(&self) -> &Event
         requires near { EndsNear self.now.master.history }
-        ensures rows { IfOk result (λ rows. (event : Event) → EndsIn self.now.master.history event
-            → rows.items ≡ told_at width event frames.now) }
+        ensures last { (event : Event) → EndsIn self.now.master.history event → result.now ≡ event }
+        ensures near { IsNear result.now }
     {
         let history = self.master.history();
-        rows_of(alloc, &history[history.len() - 1], width, frames)
+        &history[history.len() - 1]
     }
 
-    /// Answers a change as `ask` does, and tells its rows; nothing where it is not answered.
-    fn answer(
-        &mut self,
-        alloc: Global,
-        caller: u8,
-        change: &Change,
-        from: u64,
-    ) -> Result<Option<Vec<LogRow>>, AllocError>
-        requires caller { (1 ≤ caller) × (caller ≤ 8) }
-        requires states { KeepsStates self.old.master.rules self.old.master.history self.old.states }
-        requires few { next_of self.old.master.history ≤ most_cycles }
-        ensures answered { IfOk result (λ rows. IfSome rows (λ rows.
-            IsAnsweredWith self.old self.new caller change.now from rows.items)) }
-        ensures none { IfOk result (λ rows. IfNone rows ((verdict : Verdict) (trail : List ℕ)
-            → IsRightAnswer self.old.master.rules self.old.master.history change.now from verdict trail → ⊥)) }
+    /// The rows of the last event and of the frames of its cycle, where it opens one.
+    ///
+    /// # Errors
+    ///
+    /// Only where memory runs out.
+    pub fn rows(&self, alloc: Global) -> Result<Vec<LogRow>, AllocError>
+        requires near { EndsNear self.now.master.history }
+        ensures rows { IfOk result (λ rows. (event : Event) → EndsIn self.now.master.history event
+            → rows.items ≡ told_at self.now.width event self.now.sent) }
     {
-        if !self.ask(alloc, caller, change, from)? {
-            return Ok(None);
-        }
-        let rows = self.rows_of_last(alloc, 0, &[])?;
-        Ok(Some(rows))
+        rows_of(alloc, self.last_event(), self.width, self.sent.frames())
     }
 
-    /// Answers the change that operator `caller` asks next, where it was planned from the cycle `from`.
+    /// What stands after these rows, where a text begins with them.
+    pub fn behind_rows<'a>(&self, text: &'a [u8]) -> Option<&'a [u8]>
+        requires near { EndsNear self.now.master.history }
+        ensures rows { IfSome result (λ rest. (event : Event) → EndsIn self.now.master.history event
+            → BeginsWith text.now (told_at self.now.width event self.now.sent) rest.now) }
+    {
+        behind_event(text, self.last_event(), self.width, self.sent.frames())
+    }
+
+    /// Answers the change that operator `caller` asks next, where it was planned from the cycle `from`: whether no legal
+    /// history refuses that.
     fn follow_change(
         &mut self,
         alloc: Global,
         steps: &[Step],
         caller: u8,
         from: u64,
-    ) -> Result<Option<Vec<LogRow>>, AllocError>
+    ) -> Result<bool, AllocError>
         requires steps { AreLegalSteps steps.now }
         requires going { CanGoOn self.old }
         requires ahead { IsAhead steps.now self.old.master.history self.old.ahead }
         requires few { next_of self.old.master.history ≤ sum_by count_of steps.now }
         ensures on { (system : System) (requests : List Request) (trace : List TimedFrame) (told : LogVerdict)
-            → IsAgain system requests trace self.old → IfOk result (λ rows. IfSome rows
-            (λ rows. IsBroughtOn system steps.now requests trace self.old (row.Submit caller from told) self.new
-            rows.items)) }
-        ensures none { IfOk result (λ rows. IfNone rows ((told : LogVerdict) (event : Event)
+            → IsAgain system requests trace self.old → IfOk result (λ followed. followed ≡ true
+            → IsBroughtOn system steps.now requests trace self.old (row.Submit caller from told) self.new) }
+        ensures none { IfOk result (λ followed. followed ≡ false → ((told : LogVerdict) (event : Event)
             → IsRight self.old.master.rules self.old.master.history event
             → Asks steps.now self.old.master.history (row.Submit caller from told) event → ⊥)) }
     {
         calls_between();
         let place = self.ahead.take(steps, caller);
         match act_at(steps, caller, place) {
-            Some(Act::Ask { change }) => self.answer(alloc, caller, change, from),
-            Some(Act::Look) => Ok(None),
-            None => Ok(None),
+            Some(Act::Ask { change }) => self.ask(alloc, caller, change, from),
+            Some(Act::Look) => Ok(false),
+            None => Ok(false),
         }
     }
 
     /// Answers the look that operator `caller` makes next.
-    fn follow_look(
-        &mut self,
-        alloc: Global,
-        steps: &[Step],
-        caller: u8,
-    ) -> Result<Option<Vec<LogRow>>, AllocError>
+    fn follow_look(&mut self, alloc: Global, steps: &[Step], caller: u8) -> Result<bool, AllocError>
         requires steps { AreLegalSteps steps.now }
         requires going { CanGoOn self.old }
         requires ahead { IsAhead steps.now self.old.master.history self.old.ahead }
         requires few { next_of self.old.master.history ≤ sum_by count_of steps.now }
         ensures on { (system : System) (requests : List Request) (trace : List TimedFrame) (next : ℕ)
-            → IsAgain system requests trace self.old → IfOk result (λ rows. IfSome rows
-            (λ rows. IsBroughtOn system steps.now requests trace self.old (row.Look caller next) self.new rows.items)) }
-        ensures none { IfOk result (λ rows. IfNone rows ((next : ℕ) (event : Event)
+            → IsAgain system requests trace self.old → IfOk result (λ followed. followed ≡ true
+            → IsBroughtOn system steps.now requests trace self.old (row.Look caller next) self.new) }
+        ensures none { IfOk result (λ followed. followed ≡ false → ((next : ℕ) (event : Event)
             → IsRight self.old.master.rules self.old.master.history event
             → Asks steps.now self.old.master.history (row.Look caller next) event → ⊥)) }
     {
@@ -266,42 +266,35 @@ impl Rerun {
         match act_at(steps, caller, place) {
             Some(Act::Look) => {
                 self.look(alloc, caller)?;
-                let rows = self.rows_of_last(alloc, 0, &[])?;
-                Ok(Some(rows))
+                Ok(true)
             }
-            Some(Act::Ask { .. }) => Ok(None),
-            None => Ok(None),
+            Some(Act::Ask { .. }) => Ok(false),
+            None => Ok(false),
         }
     }
 
     /// Opens the next cycle, where all counts together ask for it.
-    fn follow_opening(
-        &mut self,
-        alloc: Global,
-        steps: &[Step],
-    ) -> Result<Option<Vec<LogRow>>, AllocError>
+    fn follow_opening(&mut self, alloc: Global, steps: &[Step]) -> Result<bool, AllocError>
         requires steps { AreLegalSteps steps.now }
         requires going { CanGoOn self.old }
         requires ahead { IsAhead steps.now self.old.master.history self.old.ahead }
         requires few { next_of self.old.master.history ≤ sum_by count_of steps.now }
         ensures on { (system : System) (requests : List Request) (trace : List TimedFrame) (cycle mask l : ℕ)
-            → IsAgain system requests trace self.old → IfOk result (λ rows. IfSome rows
-            (λ rows. IsBroughtOn system steps.now requests trace self.old (row.Open cycle mask l) self.new
-            rows.items)) }
-        ensures none { IfOk result (λ rows. IfNone rows ((cycle mask l : ℕ) (event : Event)
+            → IsAgain system requests trace self.old → IfOk result (λ followed. followed ≡ true
+            → IsBroughtOn system steps.now requests trace self.old (row.Open cycle mask l) self.new) }
+        ensures none { IfOk result (λ followed. followed ≡ false → ((cycle mask l : ℕ) (event : Event)
             → IsRight self.old.master.rules self.old.master.history event
             → Asks steps.now self.old.master.history (row.Open cycle mask l) event → ⊥)) }
     {
         if self.master.next() >= self.ahead.cycles {
-            return Ok(None);
+            return Ok(false);
         }
-        let (width, segment) = self.open(alloc)?;
-        let rows = self.rows_of_last(alloc, width, segment.frames())?;
-        Ok(Some(rows))
+        self.open(alloc)?;
+        Ok(true)
     }
 
-    /// Does the event again that a row asks for, and answers the rows of it: of these the row must be the first. Where
-    /// no legal history goes on with an event that the row asks for, this is nothing.
+    /// Does the event again that a row asks for: of its rows that row must be the first. Where no legal history goes on with
+    /// an event that the row asks for, the answer is `false`.
     ///
     /// # Errors
     ///
@@ -311,15 +304,15 @@ impl Rerun {
         alloc: Global,
         steps: &[Step],
         line: &LogRow,
-    ) -> Result<Option<Vec<LogRow>>, AllocError>
+    ) -> Result<bool, AllocError>
         requires steps { AreLegalSteps steps.now }
         requires going { CanGoOn self.old }
         requires ahead { IsAhead steps.now self.old.master.history self.old.ahead }
         requires few { next_of self.old.master.history ≤ sum_by count_of steps.now }
         ensures on { (system : System) (requests : List Request) (trace : List TimedFrame)
-            → IsAgain system requests trace self.old → IfOk result (λ rows.
-            IfSome rows (λ rows. IsBroughtOn system steps.now requests trace self.old line.now self.new rows.items)) }
-        ensures none { IfOk result (λ rows. IfNone rows ((event : Event)
+            → IsAgain system requests trace self.old → IfOk result (λ followed. followed ≡ true
+            → IsBroughtOn system steps.now requests trace self.old line.now self.new) }
+        ensures none { IfOk result (λ followed. followed ≡ false → ((event : Event)
             → IsRight self.old.master.rules self.old.master.history event
             → Asks steps.now self.old.master.history line.now event → ⊥)) }
     {
@@ -327,9 +320,37 @@ impl Rerun {
             LogRow::Submit { caller, from, .. } => self.follow_change(alloc, steps, *caller, *from),
             LogRow::Look { caller, .. } => self.follow_look(alloc, steps, *caller),
             LogRow::Open { .. } => self.follow_opening(alloc, steps),
-            LogRow::Plan { .. } => Ok(None),
-            LogRow::Frame { .. } => Ok(None),
-            LogRow::End { .. } => Ok(None),
+            LogRow::Plan { .. } => Ok(false),
+            LogRow::Frame { .. } => Ok(false),
+            LogRow::End { .. } => Ok(false),
+        }
+    }
+
+    /// Does the event again that the next bytes of a log may ask for. Where it is done, nothing is known of the row that
+    /// stands there, and where the answer is `false`, nothing at all.
+    ///
+    /// # Errors
+    ///
+    /// Only where memory runs out.
+    pub fn follow_asked(
+        &mut self,
+        alloc: Global,
+        steps: &[Step],
+        asked: Asked,
+    ) -> Result<bool, AllocError>
+        requires steps { AreLegalSteps steps.now }
+        requires going { CanGoOn self.old }
+        requires ahead { IsAhead steps.now self.old.master.history self.old.ahead }
+        requires few { next_of self.old.master.history ≤ sum_by count_of steps.now }
+        ensures on { (system : System) (requests : List Request) (trace : List TimedFrame)
+            → IsAgain system requests trace self.old → IfOk result (λ followed. followed ≡ true
+            → (line : LogRow) × IsBroughtOn system steps.now requests trace self.old line self.new) }
+    {
+        match asked {
+            Asked::Change { caller, from } => self.follow_change(alloc, steps, caller, from),
+            Asked::Look { caller } => self.follow_look(alloc, steps, caller),
+            Asked::Opening => self.follow_opening(alloc, steps),
+            Asked::End => Ok(false),
         }
     }
 }

@@ -1,7 +1,8 @@
 use Rattle.std.proofs.Common.{◌+◌, ◌≤◌, ◌++◌, drop, length, take, sym, ap, ◌∙◌, subst, arith}
 use Rattle.std.proofs.lemmas.List.{take-append-drop}
+use Rattle.trace_audit.specs.Audit.{IsAuditFault, IsAudited}
 use Rattle.trace_audit.specs.Auditing.{IsHeard}
-use Rattle.trace_audit.proofs.Whole.{first-break, item-at, take-length, take-next, take-whole}
+use Rattle.trace_audit.proofs.Whole.{first-break, item-at, no-memory, take-length, take-next, take-whole}
 use Rattle.trace_audit.proofs.auditing.audit.Goals as goal
 
 pub take-requires-clause-can : goal.take-requires-clause-can
@@ -45,4 +46,15 @@ returns c =
       answer = c.finish.ensures.answer c.args.system.now c.args.requests.now rows
           (subst (λ l. IsHeard c.args.system.now c.args.steps.now c.args.requests.now l c.loop-place.audit) (take-whole place rows all)
           c.loop-place.invariant);
+    }
+
+pub returns-in_err-take : goal.returns-in_err-take
+returns-in_err-take c =
+    let system = c.args.system.now in
+    let steps = c.args.steps.now in
+    let requests = c.args.requests.now in
+    let rows = c.args.rows.now in
+    record {
+      answer = no-memory c.from_residual-in_err-take.result (λ done. IsAudited system steps requests rows)
+          (IsAuditFault system steps requests rows) c.from_residual-in_err-take.ensures.1 tt;
     }

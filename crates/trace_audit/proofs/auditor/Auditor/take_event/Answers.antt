@@ -1,42 +1,49 @@
-use Rattle.std.proofs.Common.{◌≡◌, Some, refl, sym, subst}
-use Rattle.std.specs.Prelude.{IfNone, IfSome, slice_get}
+use Rattle.std.proofs.Common.{◌≡◌, ◌∙◌, Some, refl, sym, subst}
+use Rattle.std.specs.Prelude.{slice_get}
 use Rattle.cycle_engine.specs.Cycle.{cycle_of}
 use Rattle.master_core.specs.History.{IsRight}
-use Rattle.master_core.specs.declared.event.Event.{Event}
-use Rattle.trace_audit.specs.Again.{Asks, IsBroughtOn}
+use Rattle.trace_audit.proofs.Bringing.{ends-near}
 use Rattle.trace_audit.proofs.Ending.{none-breaks}
 use Rattle.trace_audit.proofs.Standing.{event-breaks, event-stands}
 use Rattle.trace_audit.proofs.auditor.Auditor.take_event.Goals as goal
 
-pub returns-in-Some : goal.returns-in-Some
-returns-in-Some c =
+pub rows-requires : goal.rows-requires
+rows-requires c =
+    let (system, requests, rows, auditing) = c.requires.can in
+    record {
+      near = ends-near system c.args.steps.now requests auditing.trace c.args.self.now.rerun c.follow.new.self c.args.line.now
+          (c.in_ok-follow.ensures.on system requests auditing.trace auditing.again c.if-not-branch.false);
+    }
+
+pub returns : goal.returns
+returns c =
     let old = c.args.self.now in
     let new = c.follow.new.self in
     let line = c.args.line.now in
     let steps = c.args.steps.now in
-    let told = c.in-Some.rows.items in
-    let same = c.as_slice.ensures.value in
+    let told = c.in_ok-rows.rows in
     record {
       takes = record {
         stand = λ is system requests rows auditing.
+            let on = c.in_ok-follow.ensures.on system requests auditing.trace auditing.again c.if-not-branch.false in
+            let rows_are = c.in_ok-rows.ensures.rows on.event (record { before = old.rerun.master.history; is = on.history }) in
             event-stands system steps requests rows old auditing line
-            (record { kept = c.promise.ensures.kept }) (record { same = c.one_verdict.ensures.same }) new told
-            (subst (λ o. IfSome o (λ r. IsBroughtOn system steps requests auditing.trace old.rerun line new r.items)) c.in-Some.is
-            (c.in_ok-rows.ensures.on system requests auditing.trace auditing.again))
-            c.requires.none_left (record { rerun = new; rows = c.in-Some.rows; came = 1 }) refl refl refl
-            (subst (λ l. slice_get l 0 ≡ Some line) same (c.is_at-stands.ensures.is is));
+            (record { kept = c.promise.ensures.kept }) (record { same = c.one_verdict.ensures.same }) new on
+            c.requires.none_left (record { rerun = new; rows = told; came = 1 }) refl rows_are refl
+            (subst (λ l. slice_get l 0 ≡ Some line) (c.as_slice.ensures.value ∙ rows_are) (c.is_at-stands.ensures.is is));
         break = λ is system requests rows auditing.
+            let on = c.in_ok-follow.ensures.on system requests auditing.trace auditing.again c.if-not-branch.false in
+            let rows_are = c.in_ok-rows.ensures.rows on.event (record { before = old.rerun.master.history; is = on.history }) in
             event-breaks system steps requests rows old auditing line
-            (record { kept = c.promise.ensures.kept }) (record { same = c.one_verdict.ensures.same }) new told
-            (subst (λ o. IfSome o (λ r. IsBroughtOn system steps requests auditing.trace old.rerun line new r.items)) c.in-Some.is
-            (c.in_ok-rows.ensures.on system requests auditing.trace auditing.again))
+            (record { kept = c.promise.ensures.kept }) (record { same = c.one_verdict.ensures.same }) new on
             c.requires.none_left
-            (λ there. c.is_at-stands.ensures.other is (subst (λ l. slice_get l 0 ≡ Some line) (sym same) there));
+            (λ there. c.is_at-stands.ensures.other is
+            (subst (λ l. slice_get l 0 ≡ Some line) (sym (c.as_slice.ensures.value ∙ rows_are)) there));
       };
     }
 
-pub returns-in-None : goal.returns-in-None
-returns-in-None c =
+pub returns-then-not-branch : goal.returns-then-not-branch
+returns-then-not-branch c =
     let old = c.args.self.now in
     let line = c.args.line.now in
     let steps = c.args.steps.now in
@@ -44,10 +51,6 @@ returns-in-None c =
       takes = record {
         stand = λ is. absurd (cc);
         break = λ is system requests rows auditing.
-            let none : (event : Event) → IsRight old.rerun.master.rules old.rerun.master.history event
-            → Asks steps old.rerun.master.history line event → ⊥ =
-            subst (λ o. IfNone o ((event : Event) → IsRight old.rerun.master.rules old.rerun.master.history event
-            → Asks steps old.rerun.master.history line event → ⊥)) c.in-None.is c.in_ok-rows.ensures.none in
             none-breaks system steps requests rows old auditing (record { kept = c.promise.ensures.kept })
             (record {
               under_way = c.legal_runs.ensures.under_way;
@@ -56,7 +59,7 @@ returns-in-None c =
                   (c.triggers_count_cycles.ensures.counted setting history trace known way) cycle;
             })
             c.requires.none_left line c.requires.not_end
-            (λ event right asks. none event
+            (λ event right asks. c.in_ok-follow.ensures.none c.if-not-branch.true event
             (subst (λ r. IsRight r old.rerun.master.history event) (sym auditing.again.same_rules) right) asks);
       };
     }

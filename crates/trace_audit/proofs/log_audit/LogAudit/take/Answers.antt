@@ -1,8 +1,9 @@
 use Rattle.std.proofs.Common.{subst, sym}
 use Rattle.std.proofs.lemmas.Result.{IfOk-weaker}
-use Rattle.trace_audit.specs.Auditing.{Hears, IsUpTo}
+use Rattle.trace_audit.specs.Auditing.{Hears}
 use Rattle.trace_audit.specs.declared.log_audit.LogAudit.{LogAudit}
 use Rattle.trace_audit.proofs.Whole.{hears-row, not-end_row}
+use Rattle.trace_audit.proofs.Written.{auditing-of}
 use Rattle.trace_audit.proofs.log_audit.LogAudit.take.Goals as goal
 
 pub returns-then-self : goal.returns-then-self
@@ -16,9 +17,7 @@ returns-in-End c = record {
 
 pub take-requires-clause-can : goal.take-requires-clause-can
 take-requires-clause-can c =
-    let (system, requests, rows, heard) = c.requires.can in
-    let (auditing, none) = subst (IsUpTo system c.args.steps.now requests rows c.args.self.now.auditor) c.if-self.false heard.up_to in
-    (system, requests, rows, auditing)
+    auditing-of c.args.steps.now c.args.self.now c.if-self.false c.requires.can
 
 pub take-requires-clause-not_end : goal.take-requires-clause-not_end
 take-requires-clause-not_end c = not-end_row c.args.line.now c.in_default.not-End

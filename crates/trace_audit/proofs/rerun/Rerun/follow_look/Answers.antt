@@ -10,8 +10,8 @@ use Rattle.trace_audit.proofs.Bringing.{called-on}
 use Rattle.trace_audit.proofs.Events.{no-look}
 use Rattle.trace_audit.proofs.rerun.Rerun.follow_look.Goals as goal
 
-pub returns-in_ok-rows-in-Some-Look-clause-on : goal.returns-in_ok-rows-in-Some-Look-clause-on
-returns-in_ok-rows-in-Some-Look-clause-on c = λ system requests trace next again.
+pub returns-in_ok-look-in-Some-Look-clause-on : goal.returns-in_ok-look-in-Some-Look-clause-on
+returns-in_ok-look-in-Some-Look-clause-on c = λ system requests trace next again yes.
     let old = c.args.self.now in
     let new = c.look.new.self in
     let event = Look c.args.caller (next_of old.master.history) in
@@ -20,23 +20,21 @@ returns-in_ok-rows-in-Some-Look-clause-on c = λ system requests trace next agai
     let taken : IsNextAct c.args.steps.now old.master.history c.args.caller act.Look =
     sym (c.take-place.ensures.act old.master.history c.requires.ahead) ∙ found in
     let ahead = c.take-place.ensures.ahead old.master.history event c.requires.ahead (ap is_some found) (λ caller. refl) in
-    let history = c.in_ok-look-in-Some-Look.ensures.event in
     called-on system c.args.steps.now requests trace old new (row.Look c.args.caller next) again
     (record { under_way = c.calls_between.ensures.under_way; ready = c.calls_between.ensures.ready })
-    event refl (refl, taken) c.look.ensures.rules c.look.ensures.nodes history c.look.ensures.legal c.in_ok-look-in-Some-Look.ensures.states
+    event refl tt (refl, taken) c.look.ensures.rules c.look.ensures.nodes c.in_ok-look-in-Some-Look.ensures.event c.look.ensures.legal
+    c.in_ok-look-in-Some-Look.ensures.states
     (subst (IsAhead c.args.steps.now (old.master.history ++ event ∷ [])) (sym c.look.ensures.ahead) ahead)
-    c.in_ok-rows-in-Some-Look.rows.items
-    (c.in_ok-rows-in-Some-Look.ensures.rows event (record { before = old.master.history; is = history }))
 
 pub returns-in-Some-Ask-clause-none : goal.returns-in-Some-Ask-clause-none
-returns-in-Some-Ask-clause-none c =
+returns-in-Some-Ask-clause-none c = λ is.
     let old = c.args.self.now in
     no-look old.master.rules c.args.steps.now old.master.history c.args.caller (Some (act.Ask c.in-Some-Ask.field-0-0))
     (ap Some (sym c.in-Some-Ask.field-0-is) ∙ c.in-Some-Ask.ensures.act ∙ c.take-place.ensures.act old.master.history c.requires.ahead)
     refl
 
 pub returns-in-None-clause-none : goal.returns-in-None-clause-none
-returns-in-None-clause-none c =
+returns-in-None-clause-none c = λ is.
     let old = c.args.self.now in
     no-look old.master.rules c.args.steps.now old.master.history c.args.caller None
     (c.in-None.ensures.act ∙ c.take-place.ensures.act old.master.history c.requires.ahead) refl

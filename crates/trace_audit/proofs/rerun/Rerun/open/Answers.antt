@@ -1,4 +1,4 @@
-use Rattle.std.proofs.Common.{◌≡◌, ◌++◌, ◌∷◌, [], sym, ap, ◌∙◌, subst}
+use Rattle.std.proofs.Common.{◌≡◌, ◌++◌, ◌∷◌, [], refl, sym, ap, ◌∙◌, subst}
 use Rattle.cycle_engine.specs.Cycle.{cycle_of}
 use Rattle.master_core.specs.Orders.{IsOrder}
 use Rattle.master_core.specs.declared.event.Event.TheVariants.{Open}
@@ -34,14 +34,21 @@ returns-clause-opened c = λ system requests trace again.
     let states : KeepsStates master.rules master.history c.push.new.self =
     subst (λ h. KeepsStates master.rules h c.push.new.self) (sym history)
     (subst (λ r. KeepsStates r (old.master.history ++ event ∷ []) c.push.new.self) (sym rules) kept) in
-    opened-with system requests trace old (record { master = master; nodes = c.run_cycle.new.nodes; states = c.push.new.self; ahead = old.ahead }) again
+    opened-with system requests trace old (record {
+      master = master;
+      nodes = c.run_cycle.new.nodes;
+      states = c.push.new.self;
+      ahead = old.ahead;
+      width = order.l;
+      sent = c.in_ok-segment.segment;
+    }) again
     laws
     (record { before = c.orders.ensures.before; under_way = c.cycles_run.ensures.under_way; ready = c.cycles_run.ensures.ready })
-    order c.in_ok-segment.segment ordered
+    order ordered
     (record {
       layout = c.run_cycle.ensures.layout;
       heard = c.in_ok-segment.ensures.heard;
       runs = c.in_ok-segment.ensures.runs;
       stand = c.in_ok-segment.ensures.stand;
     })
-    rules history states
+    refl rules history states
