@@ -3,7 +3,7 @@
 # name _fttcan, where an installation puts it.
 # tools/print-completion has written it from the helps of the tools and the commands of the launcher.
 
-# The words that stand behind a key.
+# The words that stand after a key.
 _fttcan_words() {
     case $1 in
     'fttcan FORM') printf %s 'replay admit check gen live audit handover poll elastic' ;;

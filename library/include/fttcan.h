@@ -292,7 +292,7 @@ uint32_t fttcan_master_planned(fttcan_master *m, fttcan_mask *flags);
 /* The next cycle to be opened. */
 uint32_t fttcan_master_next(fttcan_master *m, uint64_t *cycle);
 
-/* The rules of the master: those with which it was made, or which its saved bytes had. */
+/* The rules of the master: those with which it was made, or the standby that it was, or which its saved bytes had. */
 uint32_t fttcan_master_rules(fttcan_master *m, fttcan_rules *rules);
 
 /* The placed entries that the master keeps, in the order of their placing. Ended ones are among them: when a change is
@@ -455,8 +455,9 @@ uint32_t fttcan_async_bound(const fttcan_layout *layout, const fttcan_stream *st
 
 /* Carries out the words of a call of the program fttcan, between which bytes 0 stand: every command but live. Its files are
  * named 0, 1, 2 and 3. What it writes goes to `out`, what it says of a fault to `err`, each as far as there is room, and
- * the counts are how much. It answers the exit status of the program, 0 to 7: 5 is that `out` is too small. docs/FORMATS.md
- * has the words, the files and the statuses. Words that are no UTF-8 are status 2, and want of memory is status 6. */
+ * the counts are how much. What stands after so many bytes stays as it is. It answers the exit status of the program, 0 to
+ * 7: 5 is that `out` is too small. docs/FORMATS.md has the words, the files and the statuses. Words that are no UTF-8 are
+ * status 2, and want of memory is status 6. */
 uint32_t fttcan_run(const uint8_t *words, size_t words_len, const uint8_t *file0, size_t len0, const uint8_t *file1, size_t len1,
                     const uint8_t *file2, size_t len2, const uint8_t *file3, size_t len3, uint8_t *out, size_t out_len,
                     size_t *out_count, uint8_t *err, size_t err_len, size_t *err_count);

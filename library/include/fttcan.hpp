@@ -2,7 +2,7 @@
 //
 // The header is all: it needs libfttcan and nothing else. fttcan.h says what each call does, and in which units; the rules
 // on threads are those of its handles. An object that was moved from holds nothing, and its calls throw fttcan::closed.
-// Lists are passed as spans: std::span if the compiler has it, else a class that takes what has data() and size().
+// Lists are passed as spans: std::span if the compiler has it, and otherwise a class that takes what has data() and size().
 #ifndef FTTCAN_HPP
 #define FTTCAN_HPP
 

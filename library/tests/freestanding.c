@@ -8,7 +8,7 @@ enum { ARENA = 1 << 16 };
 static _Alignas(16) unsigned char arena[ARENA];
 static size_t used;
 
-/* Blocks are given one behind the other; the last one that was given can be given back, or grow. */
+/* Blocks are given one after the other; the last one that was given can be given back, or grow. */
 static unsigned char *last;
 
 static size_t rounded(size_t size) { return (size + 15) / 16 * 16; }

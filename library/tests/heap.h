@@ -1,5 +1,5 @@
 /* A heap of the test's own in place of that of the library: it counts, and refuses the allocation that is asked for. Each
- * block has a pattern behind it, and what is new or given back has no meaning. */
+ * block has a pattern after it, and what is new or given back has no meaning. */
 #ifndef FTTCAN_TESTS_HEAP_H
 #define FTTCAN_TESTS_HEAP_H
 #include "fttcan_heap.h"

@@ -10,7 +10,7 @@ from .limits import FEW_SLOTS
 
 # What a bound needs of a system: the length of a cycle, the turnaround, the greatest window, and the number of slots.
 Layout = namedtuple("Layout", "cycle turnaround window slots")
-# The requests of one identifier: of so many data bytes at most. A request and the one `burst` places behind it arrive
+# The requests of one identifier: of so many data bytes at most. A request and the one `burst` places after it arrive
 # at least `gap` apart.
 Stream = namedtuple("Stream", "id bytes gap burst")
 # The greatest distance and the greatest burst that a stream may have.

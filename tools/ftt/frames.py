@@ -31,7 +31,7 @@ def number_bits(number, width):
 
 
 def wire_of(identifier, data):
-    """The bits of a data frame, stuffed, and the thirteen behind the stuffed part, the intermission included."""
+    """The bits of a data frame, stuffed, and the thirteen after the stuffed part, the intermission included."""
     plain = [0] + number_bits(identifier, 11) + [0, 0, 0] + number_bits(len(data), 4)
     plain += [bit for byte in data for bit in number_bits(byte, 8)]
     wire = []

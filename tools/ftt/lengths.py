@@ -3,14 +3,14 @@ import functools
 
 from .frames import crc_of, number_bits
 
-# The bits behind the stuffed part: delimiters, acknowledgement, end of frame and intermission.
+# The bits after the stuffed part: delimiters, acknowledgement, end of frame and intermission.
 BEHIND = 13
 # A state of stuffing is the last bit and how often it stood there in a row: 1 to 4, since a fifth brings a stuff bit.
 STATES = [(bit, run) for bit in (0, 1) for run in (1, 2, 3, 4)]
 
 
 def stuffed(state, bits):
-    """The state behind some bits, and how many stuff bits they brought."""
+    """The state after some bits, and how many stuff bits they brought."""
     (last, run), brought = state, 0
     for bit in bits:
         run = run + 1 if bit == last else 1
@@ -21,13 +21,13 @@ def stuffed(state, bits):
 
 
 def step_of(state, value, width):
-    """The number of the state behind a number of so many bits, and the stuff bits."""
+    """The number of the state after a number of so many bits, and the stuff bits."""
     behind, brought = stuffed(STATES[state], number_bits(value, width))
     return STATES.index(behind), brought
 
 
 def steps_of(width):
-    """By a state and a number of so many bits, one behind the other: the state behind it, ready for the next eight
+    """By a state and a number of so many bits, one after the other: the state after it, ready for the next eight
     bits, and the stuff bits."""
     steps = [step_of(state, value, width) for state in range(len(STATES)) for value in range(1 << width)]
     return [state << 8 for state, _ in steps], [brought for _, brought in steps]

@@ -2,7 +2,7 @@
 import re
 from collections import namedtuple
 
-# A field of a row, in quotes or not, and what ends it. What stands behind a closing quote belongs to it.
+# A field of a row, in quotes or not, and what ends it. What stands after a closing quote belongs to it.
 FIELD = re.compile(rb'(?:"([^"]*(?:""[^"]*)*)"?([^,\r\n]*)|([^,\r\n]*))(,|\r\n|\r|\n|\Z)')
 LINE_END = re.compile(rb"\r\n|\r|\n")
 MARK = b"\xef\xbb\xbf"

@@ -2,7 +2,7 @@
 from . import limits
 
 ENTRY = ("SLOT", "NODE", "LENGTH", "PHASE", "PERIOD", "DEADLINE", "PRIORITY")
-# By its first words: the fields of a row behind them.
+# By its first words: the fields of a row after them.
 ROWS = {
     ("cycle",): ("COUNT",),
     ("look",): ("OPERATOR",),
@@ -21,7 +21,7 @@ MOST = {"COUNT": limits.CYCLES, "OPERATOR": 255, "START": (1 << 64) - 1, "SLOT":
 
 
 def key_of(fields):
-    """The words of a row that say what stands behind them; None where they are those of no row."""
+    """The words of a row that say what stands after them; None where they are those of no row."""
     return next((key for key in ROWS if tuple(fields[:len(key)]) == key), None)
 
 

@@ -1,7 +1,7 @@
 """The version of the tools, the commit and a sum of their sources.
 
 In a checkout the number is that of CHANGELOG.md. An installed package has a file VERSION beside this one: the number,
-and behind a blank the commit, where it is known.
+and after a blank the commit, where it is known.
 """
 import hashlib
 import importlib.resources

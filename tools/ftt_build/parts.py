@@ -20,7 +20,7 @@ class Parts:
         print(f"{kind:<8}{name}{f': {why}' if why else ''}", flush=True)
 
     def part(self, name, call):
-        """Runs a part, and prints its line. What the call answers, where it is a text, stands behind the name. It answers
+        """Runs a part, and prints its line. What the call answers, where it is a text, stands after the name. It answers
         whether the part passed."""
         try:
             told = call()

@@ -6,7 +6,7 @@ NAMES = {"system": "system.toml", "steps": "steps.csv", "requests": "requests.cs
 
 
 def command_of(files):
-    """The command that reads these files, and the words behind it."""
+    """The command that reads these files, and the words after it."""
     if "plan" in files:
         return ["check", NAMES["system"], NAMES["steps"], NAMES["plan"]]
     for command, name in (("poll", "streams"), ("elastic", "wishes"), ("audit", "log")):

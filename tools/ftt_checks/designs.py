@@ -71,7 +71,7 @@ def by_hand(desk, environment):
     out, _, _ = asked(desk, environment, "small.csv", "--kbits", "500", "--cycle-us", "2000", *one, "--rounding", "-")
     case("a list: a row of rounding", "500,2000,one,sync,5,4,5,4,1.35\n" in out and "500,2000,three,sync,10,10,10,10,0\n"
          in out, out)
-    # In cycles up to 3 ms 10 / 4 = 2.5 is the longest that divides all; behind it three comes every 3 cycles, one each.
+    # In cycles up to 3 ms 10 / 4 = 2.5 is the longest that divides all; after it three comes every 3 cycles, one each.
     out = said("a list: the cycles that fit", asked(desk, environment, "small.csv", "--kbits", "500", "--cycle-us",
                                                     "2300:3400:fit", *one, "--csv", "-"), 0, [])
     found = {row["cycle_us"] for row in csv.DictReader(io.StringIO(out.partition("\n")[2]))}

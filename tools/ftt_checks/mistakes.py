@@ -184,7 +184,7 @@ FILES = [
           "add,1,0,0,0,8,9,10,10,0"),
     steps("an empty field", "add,1,0,0,0,,0,10,10,0", "LENGTH is '': it is empty. Take 0 to 8.", ADD),
     steps("a sign", "add,1,+0,0,0,8,0,10,10,0", "a sign is not taken. Write 0.", ADD),
-    steps("a comment behind a number", ADD + "cycle,3 # three", "a row has no comment. Write 3.", ADD + "cycle,3"),
+    steps("a comment after a number", ADD + "cycle,3 # three", "a row has no comment. Write 3.", ADD + "cycle,3"),
     steps("a START of 23 digits", "add,1,12345678901234567890123,0,0,8,0,10,10,0", "Take 0, which is the next cycle",
           ADD),
     steps("a START of 2^40", "add,1,1099511627776,0,0,8,0,10,10,0", "Take 0, which is the next cycle, or a little "
@@ -308,7 +308,7 @@ FILES = [
     plan("a count of 0 in front", "0000000001 1", "0000000000 0\n0000000001 1", "COUNT is 0. Take the line away, or "
          "take 1 to 10", "0000000001 1"),
     plan("a count that is too great", " 9\n", " 10\n", "COUNT is 10. Take 1 to 9", " 9\n"),
-    plan("text behind the end", "end\n", "end\n\n", "text stands after end. Take it away.", "end\n"),
+    plan("text after the end", "end\n", "end\n\n", "text stands after end. Take it away.", "end\n"),
 ]
 
 # The log of a run of one cycle, and its files.
@@ -442,7 +442,7 @@ MESSAGES = [
         "there.",
         "500 1000 messages.csv made"),
     # 1000 kbit/s and 1000 us: 2.7 + 13.5 + 54 %. A window of 191 leaves 540 times to start at, and the last message needs
-    # one behind three frames of 135: 134 + 1000 - 540 + 405 + 1 = 1000
+    # one after three frames of 135: 134 + 1000 - 540 + 405 + 1 = 1000
     bus("a bus that is too full", "500 1000 messages.csv made", "the bus is asked for 140.4 % of its time",
         "1000 1000 messages.csv made --window 191", FULL),
 ]

@@ -84,7 +84,7 @@ def check_lists(tools):
 SYSTEM = ("[bus]\ncycle = 500\nwindow = 140\nnodes = 1\n" + "".join(
     f"[[async]]\nid = {it}\nnode = 0\n" for it in ("0x300", "0x310", "0x320")))
 STEPS = "add,1,0,0,0,8,0,1,1,0\ncycle,200\n"
-# By name: the declared streams, the requests, the lines of fttlint behind those of the other cases, and its status.
+# By name: the declared streams, the requests, the lines of fttlint after those of the other cases, and its status.
 LINTED = {
     "nothing": (DECLARED.replace("1,1024", "9000,1"), "0,0x300,\n10000,0x300,0102\n10000,0x310,\n", (), 0),
     "an unknown length": (DECLARED.replace("1,1024", "9000,1"), "0,0x300,010203\n", (

@@ -158,7 +158,7 @@ FAULTS = ("missing", "doubled", "late", "flag", "byte")
 
 
 def places_for(kind, run, frames):
-    """The places where a fault may be: behind the first trigger, and not in the last cycle, where none can tell it."""
+    """The places where a fault may be: after the first trigger, and not in the last cycle, where none can tell it."""
     last = frames[-1].cycle
     for place, frame in enumerate(frames[1:], 1):
         identifier = frame.identifier

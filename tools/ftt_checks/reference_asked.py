@@ -2,7 +2,7 @@
 
     reference_asked.py < CALLS
 
-A call is a list: a word, and what stands behind it below in `WORDS`. It loads the package of tools/reference, and shares
+A call is a list: a word, and what stands after it below in `WORDS`. It loads the package of tools/reference, and shares
 nothing with what is compared to it. Masters have keys. An operation is [word, slot] or [word, slot, node, length,
 phase, period, deadline, priority], and a placed entry [origin, end or null, slot, node, ..].
 """

@@ -10,10 +10,10 @@ __all__ = ["async_bound"]
 
 
 def async_bound(layout: Layout, streams: Iterable[Stream]) -> list[Bound | None]:
-    """How late the frames of each stream are at most, in bit times behind the arrival of their request.
+    """How late the frames of each stream are at most, in bit times after the arrival of their request.
 
     None stands for a stream of which no bound is known: a request might still wait when the next one of its stream arrives.
-    The bounds hold where all requests belong to the streams, on a bus without errors whose synchronous windows are at most
+    The bounds hold if all requests belong to the streams, on a bus without errors whose synchronous windows are at most
     that of the layout. docs/ASYNC.md has the conditions, and how a bound is worked out.
     OutOfRange: the layout or a stream is, or these are more than 2,048.
     """

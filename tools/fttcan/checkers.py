@@ -7,7 +7,7 @@ from . import faults
 from .library import NO, SIZE, TEXT, U8, U64, UNFINISHED, CBreach, calls, must, table_in
 from .values import Answer, Audit, Breach, Placed, whole
 
-# The exit status of the program where its output can't be written: here, where the room is too small.
+# The exit status of the program if its output can't be written: here, if the room is too small.
 UNWRITTEN = 5
 # The first room for the output and for the lines on standard error, in bytes, and the greatest one.
 OUTPUT, ERRORS, MOST = 1 << 18, 1 << 12, 1 << 30
@@ -20,7 +20,7 @@ def _bytes(text: bytes | str) -> bytes:
 
 
 def check(placed: Iterable[Placed], window: int, text: bytes | str) -> Breach | None:
-    """Whether the plan of a text keeps a table: None where it does, and else the first breach.
+    """Whether the plan of a text keeps a table: None if it does, and otherwise the first breach.
 
     window: the longest synchronous window, in bit times. BadText: the text is no plan. Its place is the first line that
     is wrong, counted from 1. BadState: a slot that is said to be pending has no instance then, or a cycle is 2^42 or

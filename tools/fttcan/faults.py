@@ -59,7 +59,7 @@ class Closed(Error, ValueError):
 
 
 class BadText(Error, ValueError):
-    """A text, bytes or frames are none of the form. `place` is that of the first fault, where it is known: a line of a
+    """A text, bytes or frames are none of the form. `place` is that of the first fault, if it is known: a line of a
     plan text counted from 1, a bit of a recorded line counted from 0."""
 
     def __init__(self, said: str, place: int | None = None) -> None:
@@ -71,7 +71,7 @@ class BadText(Error, ValueError):
 
 
 class Refused(Error):
-    """A change is refused. Nothing changed. Two are equal where kind and numbers are."""
+    """A change is refused. Nothing changed. Two are equal if kind and numbers are."""
 
     @property
     def row(self) -> str:
@@ -90,7 +90,7 @@ class Malformed(Refused):
 
     operation: the place of the operation that breaks it, from 0 on.
     rule: the number of the rule, 1 to 11, as docs/FORMATS.md has them. `RULES` has words for them.
-    until: the cycle from which the slot is free, or in which its entry begins. None where there is no such cycle: for
+    until: the cycle from which the slot is free, or in which its entry begins. None if there is no such cycle: for
         another rule, or an entry without an end.
     """
 
@@ -128,7 +128,7 @@ class Miss(Refused):
     """With the change an instance would miss its deadline.
 
     slot: its slot. release: the cycle in which it is released. cycle: the last one in which it may be sent.
-    trail: what would be sent in each cycle up to that one, as sets of slots, where a master answered. Else it is empty.
+    trail: what would be sent in each cycle up to that one, as sets of slots, if a master answered. Otherwise it is empty.
         The last set is that of `cycle`.
     """
 

@@ -42,7 +42,7 @@ def wire_bits(identifier: int, data: bytes = b"") -> bytes:
 def read_wire(bits: bytes) -> Frame:
     """The frame that these bits are, one byte each, 0 or 1.
 
-    BadText: they are none. Its place is that of the first fault, counted from 0; where they end early, or have another CRC
+    BadText: they are none. Its place is that of the first fault, counted from 0; if they end early, or have another CRC
     sequence, it is their number. OutOfRange: a byte above 1. MemoryRanOut.
     """
     frame, place, given = CFrame(), SIZE(), bytes(bits)

@@ -1,4 +1,4 @@
-"""What stands behind a handle of the library: masters, standbys, snapshots and planned changes.
+"""What a handle of the library holds: masters, standbys, snapshots and planned changes.
 
 Each is closed by `close`, at the end of a `with`, or when nobody has it any more. A second close does nothing. Threads
 may share one: its calls take turns. Calls of different ones run side by side, and the library runs without the lock of
@@ -223,8 +223,8 @@ class Master(Handle):
     def settle(self, planned: Planned, caller: int = 1) -> Accepted:
         """Answers a change that was planned apart, which `caller`, 1 to 8, asks for. The plan is closed then.
 
-        Where a change was accepted since the snapshot, it is planned anew. Where its start was opened meanwhile, it is
-        refused as Passed. The errors are those of `submit`. After MemoryRanOut the plan is closed too. After Closed, where
+        If a change was accepted since the snapshot, it is planned anew. If its start was opened meanwhile, it is
+        refused as Passed. The errors are those of `submit`. After MemoryRanOut the plan is closed too. After Closed, if
         this or the plan was closed, and after OutOfRange, both are as before.
         """
         verdict = CVerdict()
@@ -254,7 +254,7 @@ class Standby(Handle):
         takes effect in cycle `start`, which it has not opened yet.
 
         Malformed, Passed, Miss, Horizon: its own table refuses the change, so it has not followed. It is as before. That
-        never comes where it followed all that the master did before. MemoryRanOut, OutOfRange, Closed.
+        never comes if it followed all that the master did before. MemoryRanOut, OutOfRange, Closed.
         """
         change, verdict = change_in(start, operations), CVerdict()
         with self._lock:
@@ -289,7 +289,7 @@ class Standby(Handle):
         return cycle.value
 
     def take_over(self) -> Master:
-        """The master that goes on where the first one is gone. The standby is closed then."""
+        """The master that goes on when the first one is gone. The standby is closed then."""
         master = Master._empty(self._rules)
         with self._lock:
             must(calls.standby_take_over(self._struct, master._struct))

@@ -2,7 +2,7 @@
 
 The library is looked for when it is first needed, in this order:
 
-1. the file that the variable FTTCAN_LIBRARY names, and no other where it is set;
+1. the file that the variable FTTCAN_LIBRARY names, and no other if it is set;
 2. libfttcan.so.1 in the folder of this package, in the folder lib of the prefix below which the package stands, and in
    the folder out/library/lib of a checkout;
 3. where the system looks for libraries.
@@ -37,7 +37,7 @@ U8, U16, U32, U64, SIZE = ctypes.c_uint8, ctypes.c_uint16, ctypes.c_uint32, ctyp
 
 
 class CMask(ctypes.Structure):
-    """fttcan_mask: a set of slots. Bit s of low, and behind it of high, is slot s."""
+    """fttcan_mask: a set of slots. Bit s of low, and after it of high, is slot s."""
 
     low: int
     high: int
@@ -310,7 +310,7 @@ def _number(library: ctypes.CDLL) -> tuple[int, int, int]:
 
 
 def call_of(library: ctypes.CDLL, name: str) -> Callable[..., Any]:
-    """A call of a library, with its types. LibraryUnfit where the library has none of the name."""
+    """A call of a library, with its types. LibraryUnfit if the library has none of the name."""
     try:
         call = library[name]
     except AttributeError as fault:
@@ -320,7 +320,7 @@ def call_of(library: ctypes.CDLL, name: str) -> Callable[..., Any]:
 
 
 def loaded() -> ctypes.CDLL:
-    """The library. LibraryMissing where there is none, LibraryUnfit where it is of another version."""
+    """The library. LibraryMissing if there is none, LibraryUnfit if it is of another version."""
     if not _LOADED:
         with _LOADING:
             if not _LOADED:
@@ -366,7 +366,7 @@ def fault_of(status: int) -> Exception:
 
 
 def must(status: int) -> None:
-    """Raises what a status says, where it is not OK."""
+    """Raises what a status says, if it is not OK."""
     if status:
         raise fault_of(status)
 
@@ -443,7 +443,7 @@ def verdict_out(verdict: CVerdict, trail: tuple[int, ...] = ()) -> Accepted | fa
 
 
 def accepted(verdict: Accepted | faults.Refused) -> Accepted:
-    """The verdict, where it accepts. Else it is raised."""
+    """The verdict, if it accepts. Otherwise it is raised."""
     if isinstance(verdict, faults.Refused):
         raise verdict
     return verdict
@@ -451,7 +451,7 @@ def accepted(verdict: Accepted | faults.Refused) -> Accepted:
 
 def listed(call: Callable[[Any, int, Any], int], kind: Any, guess: int) -> Any:
     """What a call answers that is given a room, its size and a place for a count: an array of that count. The first
-    room is of the guess. Where it is too small the call is made again."""
+    room is of the guess. If it is too small, the call is made again."""
     count = SIZE()
     while True:
         room = (kind * max(1, guess))()

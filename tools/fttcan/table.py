@@ -47,10 +47,10 @@ class Table:
         return Table(self.rules, self.placed, self.next, self.pending)
 
     def submit(self, start: int, *operations: Operation) -> Accepted:
-        """Decides a change from cycle `start` on, and makes it where it is accepted.
+        """Decides a change from cycle `start` on, and makes it if it is accepted.
 
         Malformed, Passed, Miss, Horizon: the change is refused, and nothing changed. BadTable, BadState, OutOfRange,
-        MemoryRanOut. Where it is accepted no deadline is missed in any later cycle.
+        MemoryRanOut. If it is accepted, no deadline is missed in any later cycle.
         """
         verdict, count = CVerdict(), SIZE()
         size = self._count + MOST_ADDED

@@ -1,8 +1,8 @@
 """The values of fttcan: what a caller gives, and what it gets back.
 
 Times of entries are in elementary cycles, counted from cycle 0 of the master. Lengths and times of the bus are in bit
-times, and payloads in bytes. A set of slots is a number: bit s stands for slot s. Where a set is given, a number or the
-slots themselves may stand, as `0b101` or `{0, 2}`. Where one is answered it is a number; `slots_of` has its slots.
+times, and payloads in bytes. A set of slots is a number: bit s stands for slot s. If a set is given, a number or the
+slots themselves may stand, as `0b101` or `{0, 2}`. If one is answered, it is a number; `slots_of` has its slots.
 
 A value that its C type can't hold is refused where it is made, as `OutOfRange`. Everything else is judged by the
 library.
@@ -25,7 +25,7 @@ Slots: TypeAlias = int | Iterable[int]
 
 
 def whole(name: str, value: int, bits: int) -> int:
-    """The value as an integer of so many bits. OutOfRange where it is none, TypeError where it is no integer."""
+    """The value as an integer of so many bits. OutOfRange if it is none, TypeError if it is no integer."""
     number = operator.index(value)
     if not 0 <= number < 1 << bits:
         raise OutOfRange(f"{name} is {number}: it has to be 0 to {(1 << bits) - 1}")
@@ -33,7 +33,7 @@ def whole(name: str, value: int, bits: int) -> int:
 
 
 def mask_of(slots: Slots) -> int:
-    """A set of slots, 0 to 95, as a number whose bit s is slot s. OutOfRange where a slot is none."""
+    """A set of slots, 0 to 95, as a number whose bit s is slot s. OutOfRange if a slot is none."""
     if isinstance(slots, Iterable):
         mask = 0
         for slot in slots:
@@ -50,7 +50,7 @@ def slots_of(mask: int) -> tuple[int, ...]:
 
 
 def mask_text(mask: int) -> str:
-    """A set of slots as files and logs have it: ten hexadecimal digits, and 24 where a slot from 40 on is in it."""
+    """A set of slots as files and logs have it: ten hexadecimal digits, and 24 if a slot from 40 on is in it."""
     return f"{mask:010x}" if mask < 1 << LOW_SLOTS else f"{mask:024x}"
 
 
@@ -62,7 +62,7 @@ class Rules:
     nodes: how many nodes there are, 1 to 30. They are numbered from 0.
     slots: how many slots there are: 40, or 96.
     policy: rm (the least period goes first), dm (the least deadline) or edf (the least release + deadline).
-    fill: at a message that does not fit the window any more, prefix takes none behind it, and skip passes over it.
+    fill: at a message that does not fit the window any more, prefix takes none after it, and skip passes over it.
     horizon: within how many cycles a repeat of the plan has to be found, 1 to 100,000.
     """
 
@@ -91,7 +91,7 @@ class Entry:
     period: cycles from one release to the next, 1 to 65,535.
     deadline: cycles in which an instance may be sent, that of its release included, 1 to period.
     phase: cycles from the entry's origin to its first release, 0 to 65,535.
-    priority: 0 to 255. The lower one goes first where the keys of the policy are equal.
+    priority: 0 to 255. The lower one goes first if the keys of the policy are equal.
     """
 
     slot: int
@@ -140,7 +140,7 @@ class Placed:
     """An entry in the table.
 
     origin: the cycle from which its phase counts.
-    end: the cycle from which it releases nothing more; None where it goes on.
+    end: the cycle from which it releases nothing more; None if it goes on.
     """
 
     entry: Entry
@@ -233,7 +233,7 @@ class Layout:
     """How a cycle is parted. All but slots are in bit times.
 
     cycle: the length of a cycle, 400 to 100,000.
-    turnaround: what nodes have behind the trigger part, 0 to 1,000.
+    turnaround: what nodes have after the trigger part, 0 to 1,000.
     window: the longest synchronous window, 55 to 16,383.
     slots: 40 or 96.
     """
@@ -255,7 +255,7 @@ class Stream:
 
     identifier: 0x200 to 0x7EF.
     length: how many data bytes their frames have at most, 0 to 8.
-    gap: how many bit times a request arrives at least behind the one that stands `burst` places before it, 1 to 2^32 - 1.
+    gap: how many bit times a request arrives at least after the one that stands `burst` places before it, 1 to 2^32 - 1.
     burst: 1 to 1,024. With 1, any two requests are `gap` apart.
     """
 
@@ -270,10 +270,10 @@ class Stream:
 
 
 class Bound(NamedTuple):
-    """How late the frames of a stream are at most, in bit times behind the arrival of their request.
+    """How late the frames of a stream are at most, in bit times after the arrival of their request.
 
-    start: each starts less than so many behind it. The longest wait is one less.
-    end: each ends less than so many behind it, its own worst length and the intermission included.
+    start: each starts less than so many after it. The longest wait is one less.
+    end: each ends less than so many after it, its own worst length and the intermission included.
     """
 
     start: int
@@ -304,9 +304,9 @@ class Breach:
 
 @dataclass(frozen=True)
 class Audit:
-    """What an audit says of a log. It is true where the log is that of a whole run.
+    """What an audit says of a log. It is true if the log is that of a whole run.
 
-    verdict: yes; row, where a row can't stand; or unfinished, where all rows can stand and are not all.
+    verdict: yes; row, if a row can't stand; or unfinished, if all rows can stand and are not all.
     row: the first row that can't stand, counted from 1; else None.
     """
 

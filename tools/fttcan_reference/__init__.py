@@ -10,8 +10,8 @@
     tools/reference elastic SYSTEM STEPS WISHES
     tools/reference --version
 
-Standard output, standard error and the status are what fttcan owes, but for status 5 and 6. Where its readers don't
-tell what a file means (quotes in rows, some forms of TOML), the status is 9.
+Standard output, standard error and the status are those of fttcan, except for status 5 and 6. If its readers can't tell
+what a file means (quotes in rows, some forms of TOML), the status is 9.
 
 It goes cycle by cycle and frame by frame over the definitions, and is slow: a cycle with forty frames takes about a
 millisecond. Expected outputs of examples come from it, or are compared with it: tools/check-reference. It has readers

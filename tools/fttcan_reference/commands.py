@@ -52,13 +52,13 @@ def answered(files):
 
 
 def admit(names):
-    """The plan text of the table behind the steps."""
+    """The plan text of the table after the steps."""
     master, is_refused = answered(files_of(("system", "steps"), names))
     return plan_rows(master.certificate()), int(is_refused)
 
 
 def elastic(names):
-    """The first combination of periods that is accepted behind the steps, or the verdicts on all."""
+    """The first combination of periods that is accepted after the steps, or the verdicts on all."""
     files = files_of(("system", "steps", "wishes"), names)
     (master, _), (start, lists) = answered(files), files["wishes"]
     for place in range(len(lists)):
@@ -134,7 +134,7 @@ def check(names):
 
 
 def follow(run, acts, cycles, row):
-    """Lets a run go on with the event that a row of a log tells of, where it can: its rows are behind those of the
+    """Lets a run go on with the event that a row of a log tells of, where it can: its rows are after those of the
     run then."""
     word, *fields = row.split(",")
     if word == "open":

@@ -307,7 +307,7 @@ class Lines:
         raise Refused(f"plan: line {self.at}")
 
     def take(self, form):
-        """The parts of the next line, which has this form and a line feed behind it."""
+        """The parts of the next line, which has this form and a line feed after it."""
         self.at += 1
         found = re.fullmatch(form, self.lines[self.at - 1]) if self.at < len(self.lines) else None
         return found or self.refuse()

@@ -88,7 +88,7 @@ class Master:
 
     def submit(self, change, start=None):
         """The verdict on a change, which is made where it is accepted. It is planned from the next cycle on, or from an
-        earlier one behind the last acceptance."""
+        earlier one after the last acceptance."""
         broken = broken_rule(self.system, self.table, change)
         if broken:
             return Verdict("malformed", [each for each in broken if each is not None], [], None)

@@ -3,7 +3,7 @@ from .types import Placed
 
 
 def slot_rule(word, start, entries):
-    """The rule of slots that an operation breaks, and what is told behind it; None where it breaks none."""
+    """The rule of slots that an operation breaks, and what is told after it; None where it breaks none."""
     live = next((placed for placed in entries if placed.end is None), None)
     if word == "add":
         if live:
@@ -16,7 +16,7 @@ def slot_rule(word, start, entries):
 
 
 def broken_rule(system, table, change):
-    """The place and the number of the first rule that a change breaks, and what is told behind it; or None."""
+    """The place and the number of the first rule that a change breaks, and what is told after it; or None."""
     if len(change.operations) > 16:
         return 16, 2, None
     if change.start >= 1 << 40:

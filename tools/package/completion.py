@@ -6,7 +6,7 @@ LAUNCHER, LEFT_OUT = ("try", "help", "version", "where"), "live"
 # Names of values that are files.
 FILES = {"FILE", "LOG", "PLAN", "STREAMS", "STEPS"}
 
-# bash and zsh ask one function for the words behind a key: the name of a command, with its form, with an option.
+# bash and zsh ask one function for the words after a key: the name of a command, with its form, with an option.
 BASH = """\
 # Completes words in bash: commands, forms, options, their values, and files. An installation puts it in place. Or call:
 #
@@ -15,7 +15,7 @@ BASH = """\
 # tools/print-completion has written it from the helps of the tools and the commands of the launcher.
 # shellcheck shell=bash
 
-# The words that stand behind a key.
+# The words that stand after a key.
 _fttcan_words() {{
     case $1 in
 {table}
@@ -55,7 +55,7 @@ ZSH = """\
 # name _fttcan, where an installation puts it.
 # tools/print-completion has written it from the helps of the tools and the commands of the launcher.
 
-# The words that stand behind a key.
+# The words that stand after a key.
 _fttcan_words() {{
     case $1 in
 {table}
@@ -128,7 +128,7 @@ def options_of(name, *form):
 
 
 def table(every):
-    """The words behind each key, as the rows of a case of a shell."""
+    """The words after each key, as the rows of a case of a shell."""
     rows = []
     for name, forms in every.items():
         if "" not in forms:
@@ -141,7 +141,7 @@ def table(every):
 
 
 def quoted(text):
-    """A text as fish has it in quotes, cut behind its first part."""
+    """A text as fish has it in quotes, cut after its first part."""
     text = text.split("; ")[0].split(". ")[0].rstrip(".")
     return "'" + text.replace("\\", "\\\\").replace("'", "\\'") + "'"
 

@@ -22,7 +22,7 @@ def row(words, told):
 
 
 def usages(paragraph, name):
-    """The calls that a paragraph shows, each a line. What is told behind one is left out."""
+    """The calls that a paragraph shows, each a line. What is told after one is left out."""
     calls = []
     for line in paragraph.splitlines():
         call = re.split(r"(?<=\S) {2,}", line.strip())[0]
@@ -44,7 +44,7 @@ def call_lines(calls):
 
 
 def status_lines(paragraph):
-    """The rows of a paragraph that tells the statuses, and what stands behind them."""
+    """The rows of a paragraph that tells the statuses, and what stands after them."""
     text = " ".join(paragraph.split()).removeprefix("Status: ")
     parts = re.split(r"; (?=[0-9])", text)
     parts[-1], _, rest = parts[-1].partition(". ")

@@ -7,7 +7,7 @@ from ..log.rows import FIELDS, REPORT, RIDES, ROWS
 from ..rows import MARK, records_of
 from ..telling import close, shown, some, why_no_text
 
-# What stands in a row of each word behind it.
+# What stands in a row of each word after it.
 FORMS = {"plan": ("CYCLE", "MASK"), "look": ("CALLER", "NEXT"), "open": ("CYCLE", "MASK", "WIDTH"),
          "frame": ("START", "LEN", "ID", "DATA"), "end": ("NEXT",)}
 VERDICTS = {"accepted": "FIRST,LENGTH", "malformed": "OP,WHY", "passed": "START,NEXT", "miss": "SLOT,RELEASE,CYCLE",
@@ -100,7 +100,7 @@ class Rows:
         self.found, self.ended, self.opened, self.first = found, None, 0, None
 
     def tell_behind(self, record, word, told):
-        """Tells of rows behind the row `end`, the first of them alone."""
+        """Tells of rows after the row `end`, the first of them alone."""
         rest, remedy = "rows", f"Take them away: {CUT}."
         if word in RIDES:
             rest = "the rows of a log of `poll`, whose frames carry requests"

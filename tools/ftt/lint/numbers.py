@@ -16,7 +16,7 @@ UNITS = {name: "elementary cycles" for name in ("COUNT", "START", "PHASE", "PERI
 class Bounds(namedtuple("Bounds", "name low high cycle deadline", defaults=(0,))):
     """The numbers that a field may have where the rest of the row is right; without a greatest one `low` alone is
     named. `cycle` has the bit times of a cycle, or None where they are not known; `deadline` the DEADLINE that stands
-    behind a PERIOD."""
+    after a PERIOD."""
 
     def has(self, number):
         """Whether the field may have this number."""
@@ -50,7 +50,7 @@ def bounds_of(name, row, system, cycles):
     horizon = limits.USUAL_HORIZON if system is None else system.horizon
     longest = min(horizon, limits.TIMES)
     period, phase, deadline = (whole(row.get(it, b""), longest) for it in ("PERIOD", "PHASE", "DEADLINE"))
-    # The first repeat needs a period behind the first release, before the horizon.
+    # The first repeat needs a period after the first release, before the horizon.
     latest = max(cycles + horizon - phase - period, cycles)
     slots, nodes = (limits.FEW_SLOTS, None) if system is None else (system.slots, system.nodes)
     high = {"COUNT": max(limits.CYCLES - cycles, 0), "OPERATOR": limits.OPERATORS, "START": latest, "SLOT": slots - 1,
@@ -82,7 +82,7 @@ def meant(text, bounds):
 
 
 def why_no_decimal(text, bounds):
-    """What to do about a number with a decimal point, or with a unit behind it."""
+    """What to do about a number with a decimal point, or with a unit after it."""
     number, unit = re.fullmatch(r"([0-9]+(?:[.,][0-9]*)?) *([mu\u00b5]?s)?", text).groups()
     value = Fraction(number.replace(",", ".").rstrip("."))
     millis = value * {"s": 1000, "ms": 1, "us": Fraction(1, 1000), "\u00b5s": Fraction(1, 1000)}[unit or "ms"]

@@ -13,7 +13,7 @@ class Faulty(Exception):
 
 
 class PlanLines:
-    """The lines of a plan text, one behind the other."""
+    """The lines of a plan text, one after the other."""
 
     def __init__(self, data):
         *self.lines, self.rest = data.split(b"\n")

@@ -180,7 +180,7 @@ def broken_value(operation, change, place, system, table):
 
 
 def broken_slot(operation, change, table, system):
-    """The rule of slots that an operation breaks, with what is told behind it, and the words; None for none."""
+    """The rule of slots that an operation breaks, with what is told after it, and the words; None for none."""
     slot, start = operation.fields["SLOT"], change.start
     entries = table.get(slot, [])
     live = live_of(entries)
@@ -266,7 +266,7 @@ def lint_change(change, table, system, cycles, mode, found):
 
 
 def lint_repeat(change, table, after, system, mode, found):
-    """Whether the plan behind a change can repeat within the horizon. What is wrong is told."""
+    """Whether the plan after a change can repeat within the horizon. What is wrong is told."""
     least, repeat, common = tables.least_from(after, system.horizon)
     late = change.start if mode == "live" else change.above
     if least <= late:

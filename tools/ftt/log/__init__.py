@@ -1,18 +1,18 @@
 """Turns a log of fttcan into what other tools and people read.
 
-    tools/fttlog say [LOG]                    sentences on verdicts, cycles and frames
-    tools/fttlog late [LOG]                   how late frames were sent, with --requests, --steps or --streams
-    tools/fttlog svg FIRST LAST [LOG]         a drawing of the cycles FIRST to LAST, as SVG
-    tools/fttlog html [LOG]                   a page that shows the whole run, to pan and to search
-    tools/fttlog json [LOG]                   one JSON object a row
-    tools/fttlog accepted STEPS [LOG]         the steps without the changes that the log refuses
-    tools/fttlog candump KBITS [LOG]          the form of `candump -L`
-    tools/fttlog pcap KBITS [LOG]             a recording for tcpdump and Wireshark
-    tools/fttlog from-candump KBITS [DUMP]    the rows of a recording of candump -L
-    tools/fttlog conform KBITS OWN [DUMP]     whether a recording is that of the run OWN, a log or a plan
-    tools/fttlog bits [LOG]                   the bits of the bus
+    tools/fttlog say [LOG]                        sentences on verdicts, cycles and frames
+    tools/fttlog late [LOG]                       how late frames were sent, with --requests, --steps or --streams
+    tools/fttlog svg FIRST LAST [LOG]             a drawing of the cycles FIRST to LAST, as SVG
+    tools/fttlog html [LOG]                       a page that shows the whole run, to pan and to search
+    tools/fttlog json [LOG]                       one JSON object a row
+    tools/fttlog accepted STEPS [LOG]             the steps without the changes that the log refuses
+    tools/fttlog candump KBITS [LOG]              the form of `candump -L`
+    tools/fttlog pcap KBITS [LOG]                 a recording for tcpdump and Wireshark
+    tools/fttlog from-candump KBITS [RECORDING]   the rows of a recording of candump -L
+    tools/fttlog conform KBITS OWN [RECORDING]    whether a recording is that of the run OWN, a log or a plan
+    tools/fttlog bits [LOG]                       the bits of the bus
 
-With no LOG, or with -, the log is read from standard input. The log is one that `fttcan replay` or `fttcan live` wrote,
+With no LOG or RECORDING, or with -, standard input is read. The log is one that `fttcan replay` or `fttcan live` wrote,
 with or without a report. If it was cut by `--tail`, most forms tell the rows that are there.
 `tools/fttlog FORM --help` says the options of a form. docs/tools.md has examples.
 
@@ -22,8 +22,8 @@ How late each message was sent, in milliseconds at 250 kbit/s, and the run in se
     tools/fttlog say --kbits 250 --names mine/names.csv --steps mine/steps.csv log
 
 Status: 0 done; 1 a file can't be read, or a row of it can't be used: a line on standard error says which; 2 the words
-are wrong. Of conform 1 says too that something was found, and of late with --bounds that a bound is broken. This
-program is a help for readers. Nothing of it is proved, and nothing that is proved rests on it.
+are wrong. For conform, 1 also says that something was found, and for late with --bounds that a bound is broken. This
+program is a help for people. Nothing of it is proved, and nothing that is proved rests on it.
 """
 import argparse
 import fractions
@@ -34,7 +34,7 @@ from . import bus, conform, drawing, recording, rows, steps, times, words as sen
 from .clock import PPM
 
 REPORT = rows.REPORT
-# The forms that tell what stands behind the row `end` too.
+# The forms that tell what stands after the row `end` too.
 WHOLE = ("say", "json", "late", "html")
 # The forms that read recordings.
 RECORDINGS = ("from-candump", "conform")
@@ -77,13 +77,13 @@ def takes_names(made):
 def takes_cycle(made):
     """Gives a form an option for the length of a cycle."""
     made.add_argument("--cycle", type=at_least(400),
-                      help="the length of a cycle in bit times; else by the distance of the triggers")
+                      help="the length of a cycle in bit times; without it, the distance of the triggers")
 
 
 def takes_starts(made):
     """Gives a form a choice of what times are. All forms have the same one where nothing is said."""
     moment = made.add_mutually_exclusive_group()
-    moment.add_argument("--starts", action="store_true", help="times are starts of frames; else ends, as of candump")
+    moment.add_argument("--starts", action="store_true", help="times are starts of frames; without it ends, as of candump")
     moment.add_argument("--ends", dest="starts", action="store_false", help="as without it: times are ends of frames")
 
 
@@ -91,7 +91,7 @@ def takes_times(made):
     """Gives a form that makes recordings a bit rate, and how bit times become seconds."""
     made.add_argument("kbits", type=kbits, help="the bit rate in kbit/s, as 500 or 83.333")
     made.add_argument("--at", type=seconds, default=fractions.Fraction(1), metavar="SECONDS",
-                      help="the time of bit time 0; else 1, since log2asc takes a first second of 0 for none")
+                      help="the time of bit time 0; without it 1, since log2asc takes a first second of 0 for none")
     takes_starts(made)
 
 
@@ -106,7 +106,7 @@ def form(forms, name, told, *options):
 def forms_of(reader):
     """The forms, each with its words."""
     forms = reader.add_subparsers(dest="form", required=True, metavar="FORM")
-    tell = form(forms, "say", "sentences", takes_kbits, takes_names)
+    tell = form(forms, "say", "sentences on verdicts, cycles and frames", takes_kbits, takes_names)
     tell.add_argument("--steps", metavar="FILE", help="the steps file, to say which row of it asked for a change")
     tell.add_argument("--all", action="store_true", help="the whole plan of a missed deadline")
     late = form(forms, "late", "how late frames were sent", takes_kbits, takes_names, takes_cycle)
@@ -128,14 +128,15 @@ def forms_of(reader):
     keep = form(forms, "accepted", "the steps without refused changes")
     keep.add_argument("steps", help="the steps file")
     recordings_of(forms)
-    for made in forms.choices.values():
-        made.add_argument("log", nargs="?", default="-", help="the log; else standard input")
+    for name, made in forms.choices.items():
+        read = "recording" if name in RECORDINGS else "log"
+        made.add_argument("log", nargs="?", default="-", metavar=read, help=f"the {read}; without it, standard input")
 
 
 def recordings_of(forms):
     """The forms of recordings, each with its words."""
     dump = form(forms, "candump", "the form of candump -L", takes_times)
-    dump.add_argument("--interface", default="can0", help="the name of the interface; else can0")
+    dump.add_argument("--interface", default="can0", help="the name of the interface; without it can0")
     form(forms, "pcap", "a recording for tcpdump and Wireshark", takes_times)
     take = form(forms, "from-candump", "the rows of a recording", takes_cycle, takes_starts, takes_recording)
     take.add_argument("--calls", metavar="LOG",
@@ -145,16 +146,17 @@ def recordings_of(forms):
     take.add_argument("--moved", metavar="FILE", help="with --snap: writes by how much each frame was moved, as CSV")
     conforms(forms)
     line = form(forms, "bits", "the bits of the bus, as text of 0 and 1")
-    line.add_argument("--until", type=at_least(0), help="the time before which the bits end; else the last frame's end")
+    line.add_argument("--until", type=at_least(0),
+                      help="the time before which the bits end; without it, the last frame's end")
 
 
 def takes_recording(made):
     """Gives a form that reads recordings a bit rate, and what of a recording it takes."""
     made.add_argument("kbits", type=kbits, help="the bit rate in kbit/s")
-    made.add_argument("--interface", help="the interface whose frames are taken; else that of the first line")
+    made.add_argument("--interface", help="the interface whose frames are taken; without it, that of the first line")
     made.add_argument("--strict", action="store_true",
                       help="refuses frames of other identifiers, of 29 bits and of CAN FD, remote and error frames; "
-                      "else they are left out and counted")
+                      "without it, they are left out and counted")
 
 
 def conforms(forms):
@@ -163,16 +165,16 @@ def conforms(forms):
                 takes_recording)
     made.add_argument("own", help="the run: a log of replay, live, handover or poll, or a plan of admit")
     made.add_argument("--tolerance", type=seconds, default=conform.TOLERANCE, metavar="US",
-                      help=f"what a frame may be off, in microseconds; else {conform.TOLERANCE}")
+                      help=f"what a frame may be off, in microseconds; without it {conform.TOLERANCE}")
     made.add_argument("--ppm", type=seconds, default=PPM,
-                      help=f"what the recorder's clock may run off, in parts per million; else {PPM}")
+                      help=f"what the recorder's clock may run off, in parts per million; without it {PPM}")
     made.add_argument("--requests", choices=("own", "any"), default="own",
-                      help="whether the bus has the run's requests, in any place, or any others; else own")
+                      help="whether the bus has the run's requests, in any place, or any others; without it own")
     made.add_argument("--any-data", action="store_true",
                       help="compares no data of slots, only how many bytes there are")
     made.add_argument("--csv", metavar="FILE", help="writes all findings as CSV; - is standard output")
     made.add_argument("--json", metavar="FILE", help="writes all findings as JSON; - is standard output")
-    made.add_argument("--show", type=at_least(0), default=20, metavar="N", help="says N findings; else 20")
+    made.add_argument("--show", type=at_least(0), default=20, metavar="N", help="says N findings; without it 20")
     made.add_argument("--all", action="store_true", help="says all findings")
 
 
@@ -186,7 +188,7 @@ def parser():
 
 
 def read_words():
-    """The words. A log may stand behind the options too."""
+    """The words. A log may stand after the options too."""
     reader = parser()
     words, more = reader.parse_known_args()
     if len(more) == 1 and words.log == "-" and not more[0].startswith("-"):

@@ -6,7 +6,7 @@ Sent = collections.namedtuple("Sent", "cycle data line")
 
 
 class Pairs:
-    """The requests of one identifier: which of the recording is which of the run. Those of the run before and behind
+    """The requests of one identifier: which of the recording is which of the run. Those of the run before and after
     the recorded cycles are edges: a request that the bus sent earlier or later than the run did is found there."""
 
     def __init__(self, own, seen, first, last):

@@ -62,7 +62,7 @@ def pcap(rows, kbits, at_second, has_ends, put):
 
 def starts_of(frames, kbits, has_starts, note):
     """The start of each frame, in bit times since the start of the first one. A frame that starts a bit time before the
-    one in front of it has ended is put behind that one, since times are rounded. One that starts earlier is refused."""
+    one in front of it has ended is put after that one, since times are rounded. One that starts earlier is refused."""
     starts, moved, free = [], 0, 0
     for frame in frames:
         time = frame.nanos * kbits / MICROS - (0 if has_starts else frame.length - INTERMISSION)

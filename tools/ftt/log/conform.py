@@ -90,7 +90,7 @@ class Comparison:
         return mask, int.from_bytes(data[1:3], "big")
 
     def take_busy(self, found):
-        """When the bus is busy with frames that were left out: by the place of the frame behind them, the end of the
+        """When the bus is busy with frames that were left out: by the place of the frame after them, the end of the
         last one. Where times are starts, that is not known."""
         self.busy = {}
         if not self.words.starts and found.frames:

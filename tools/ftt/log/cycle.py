@@ -67,7 +67,7 @@ class Compared:
         self.window = Window(begins, self.whole.cycle, [width * bit for width in widths or {0}])
 
     def placed(self, place, frame, low, high):
-        """How far a frame starts before or behind where it is due, in microseconds; 0 within the tolerance. The bus is
+        """How far a frame starts before or after where it is due, in microseconds; 0 within the tolerance. The bus is
         busy up to its end then."""
         whole, start, lasts = self.whole, self.whole.times[place], frame.length * self.whole.bit
         if low < whole.chain:

@@ -23,10 +23,10 @@ ROWS = {
     "ride": re.compile(rf"ride,{NUMBER},{NUMBER},{NUMBER},{NUMBER}"),
     "waits": re.compile(rf"waits,{NUMBER},{NUMBER}"),
 }
-# The rows behind the row `end`: those of the report, and those of requests that ride on polled slots.
+# The rows after the row `end`: those of the report, and those of requests that ride on polled slots.
 RIDES = ("ride", "waits")
 REPORT = ("entry", "async", "load", *RIDES)
-# How many fields each verdict has behind its word.
+# How many fields each verdict has after its word.
 FIELDS = {"accepted": (2,), "malformed": (2, 3), "passed": (2,), "miss": (3,), "horizon": (2,)}
 
 
@@ -64,7 +64,7 @@ def named_by(key):
 
 
 def named_rows(path):
-    """The rows of a file of names behind its header row, each with its place. Without a header row they have two fields
+    """The rows of a file of names after its header row, each with its place. Without a header row they have two fields
     and no more, so that no other list with a number in front, such as one of messages, is taken for names."""
     try:
         with open(path, encoding="utf-8-sig", newline="") as file:

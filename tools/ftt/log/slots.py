@@ -16,7 +16,7 @@ Sent = collections.namedtuple("Sent", "slot release cycle end period deadline")
 
 
 def accepted(table, act):
-    """The table behind a change that the log accepts."""
+    """The table after a change that the log accepts."""
     for operation in act.operations:
         slot = operation.fields["SLOT"]
         if operation.word != "add" and live_of(table.get(slot, [])) is None:

@@ -22,8 +22,8 @@ def own_starts(rows, length):
 
 class Snapped:
     """The exact starts of the frames of a recording, in bit times since that of the first trigger. A trigger starts
-    with its cycle, a second one behind it, the frame of a slot with its window or behind the one in front. That of a
-    request starts where a log has it, or behind the one in front, or else where it was recorded."""
+    with its cycle, a second one after it, the frame of a slot with its window or after the one in front. That of a
+    request starts where a log has it, or after the one in front, or else where it was recorded."""
 
     def __init__(self, frames, words, rows):
         self.frames, self.reach = frames, float(words.snap)

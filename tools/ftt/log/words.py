@@ -81,7 +81,7 @@ def verdict_told(origin, verdict, fields, names):
 
 
 def reported_told(word, fields, names):
-    """What a row behind the row `end` says, as a sentence: one of the report, or of requests that ride on slots."""
+    """What a row after the row `end` says, as a sentence: one of the report, or of requests that ride on slots."""
     if word == "entry":
         slot, origin, instances, least, greatest = fields
         late = ""
@@ -105,7 +105,7 @@ def reported_told(word, fields, names):
 
 
 class Teller:
-    """Puts the sentences of a log, wrapped, with what belongs below a sentence behind a margin."""
+    """Puts the sentences of a log, wrapped, with what belongs below a sentence after a margin."""
 
     def __init__(self, names, asked, kbits, is_all, put, length=None):
         self.names, self.asked, self.kbits, self.is_all, self.put = names, asked, kbits, is_all, put
@@ -176,7 +176,7 @@ class Teller:
             self.missed = [int(field) for field in rest]
 
     def reported(self, word, fields):
-        """Tells a row behind the row `end`."""
+        """Tells a row after the row `end`."""
         self.line(reported_told(word, fields, self.names))
 
     def row(self, word, fields, place):

@@ -1,7 +1,7 @@
 """Makes the files of fttcan from a list of messages in milliseconds.
 
     tools/fttmodel KBITS CYCLE_US MESSAGES OUT [options]
-    tools/fttmodel --from-recording DUMP [--interface NAME] > MESSAGES
+    tools/fttmodel --from-recording RECORDING [--interface NAME] > MESSAGES
     tools/fttmodel --from-dbc FILE [--period-attribute NAME] [--strict] > MESSAGES
 
 KBITS is the bit rate in kbit/s and CYCLE_US the elementary cycle in microseconds. MESSAGES is a CSV file with a header
@@ -165,7 +165,7 @@ def parser():
     made.add_argument("messages", metavar="MESSAGES", help="the CSV or DBC file")
     made.add_argument("out", metavar="OUT", help="the folder for the files")
     made.add_argument("--window", type=within(*limits.WINDOW), help="the synchronous window in bit times; without it, "
-                      "all that leaves room for the longest asynchronous frame, or for 8 bytes where there is none")
+                      "all that leaves room for the longest asynchronous frame, or for 8 bytes if there is none")
     made.add_argument("--turnaround", type=within(*limits.TURNAROUND), default=0, help="in bit times; without it 0")
     made.add_argument("--policy", choices=limits.POLICIES, default="rm", help="without it rm")
     made.add_argument("--fill", choices=limits.FILLS, default="prefix", help="what a cycle does at a message "
@@ -198,7 +198,7 @@ def parser():
     made.add_argument("--signals", metavar="FILE", help="write bus.dbc with the signals that this DBC file has of the "
                       "messages with the same identifiers")
     made.add_argument("--from-dbc", metavar="FILE", help="alone, in front: print a list of messages from a DBC file")
-    made.add_argument("--from-recording", metavar="DUMP", help="alone, in front: print a list of messages from a "
+    made.add_argument("--from-recording", metavar="RECORDING", help="alone, in front: print a list of messages from a "
                       "recording")
     takes_version(made)
     return made
@@ -214,7 +214,7 @@ def main():
         reader = parser()
         words = reader.parse_args()
         if words.from_recording is not None or words.from_dbc is not None:
-            reader.error("--from-recording and --from-dbc stand in front: --from-recording DUMP > MESSAGES")
+            reader.error("--from-recording and --from-dbc stand in front: --from-recording RECORDING > MESSAGES")
         return model(words)
     except (Refused, csv.Error) as fault:
         print(fault, file=sys.stderr)

@@ -81,7 +81,7 @@ def whole(name, length, byte=0):
 
 
 def behind_mark(row):
-    """A row SG_ of a signal that stands one byte later, behind the mark."""
+    """A row SG_ of a signal that stands one byte later, after the mark."""
     return re.sub(r"(:\s*)([0-9]+)\|", lambda it: f"{it[1]}{int(it[2]) + 8}|", row, count=1)
 
 

@@ -25,8 +25,8 @@ def put(text, notes):
 def from_recording(words):
     """Prints the list of a recording."""
     reader = Parser(prog=f"fttmodel {RECORDING}", description="Prints a list of messages from a recording.")
-    reader.add_argument("dump", metavar="DUMP", help="the text of candump -L")
-    reader.add_argument("--interface", help="the interface whose frames are taken; else that of the first line")
+    reader.add_argument("dump", metavar="RECORDING", help="the text of candump -L")
+    reader.add_argument("--interface", help="the interface whose frames are taken; without it, that of the first line")
     words = reader.parse_args(words)
     # The readers of recordings are needed here alone.
     from . import recorded  # pylint: disable=import-outside-toplevel

@@ -21,13 +21,13 @@ then those cycles are tried in which some period or deadline is a whole number o
 Without --policy, --fill and --window all policies and fillings are tried, and the windows that may be accepted. For each
 rate it says the best cycle, which leaves the greatest share of each cycle free beside its least window; what is left;
 and what rounding costs. --headroom says at that point which message decides, what may be added, which message frees most
-where it is removed or comes half as often, and how far each deadline may be cut, one at a time.
+if it is removed or comes half as often, and how far each deadline may be cut, one at a time.
 
 Of a system and steps, what is not asked for stays as it stands in the files. Cycles and looks after the last change are
 left out, since no verdict waits for them. It says the least window for each policy and filling, the best of these, and
 which periods of a slot are accepted.
 
-Acceptance need not be monotone: a wider window or a longer period may be refused where a narrower or a shorter one is
+Acceptance need not be monotone: a wider window or a longer period may be refused although a narrower or a shorter one is
 accepted. So each point is tried, and how many were is said. --refine tries fewer: coarse values first, then those between
 an accepted and a refused neighbour. A border between two neighbours of one answer is not found then. The table has each
 point that was tried.
@@ -43,9 +43,9 @@ found.
 
 --scheduler lets the workers of a scheduler of dask.distributed answer: on this machine by tcp://, on others by tls://.
 
-The library libfttcan.so.1 answers in this process, by the package fttcan, where it is found. Else the program does, a
-process for each point: the one that FTTCAN names, or that ./fttcan at the top of the repository builds; or, for an
-installed fttsearch, the fttcan beside it or on the path. Where FTTCAN names a program, it is asked. Both answer the same.
+If FTTCAN names a program, that one answers, a process for each point. Otherwise the library libfttcan.so.1 answers in
+this process, through the package fttcan, if it is found. If not, the program answers that ./fttcan at the top of the
+repository builds; or, for an installed fttsearch, the fttcan beside it or on the path. All answer the same.
 
 The least windows of messages in milliseconds, at two rates, in the cycles that fit their periods:
 
@@ -94,7 +94,7 @@ def takes_offsets(made):
     made.add_argument("--keep", metavar="SLOT,..", type=slots_of, help="leave the phases of these slots as they are")
     made.add_argument("--seconds", metavar="S", type=seconds_of, help="look at most so long at each point; without it, 10")
     made.add_argument("--rounds", metavar="N", type=jobs_of, help="make at most so many rounds at each point. The "
-                      "result is the same on each machine where the time suffices for them")
+                      "result is the same on each machine, if the time is enough for them")
     made.add_argument("--seed", metavar="N", type=int, help="take other chances by another number; without it, 1")
 
 
@@ -128,7 +128,7 @@ def parser():
     made.add_argument("--policy", metavar="P,..", help="some of rm, dm, edf")
     made.add_argument("--fill", metavar="F,..", help="prefix, skip, or both")
     made.add_argument("--deadline", metavar="RANGE", help="each deadline becomes at most so many cycles")
-    made.add_argument("--bounds", metavar="FILE", help="of SYSTEM and STEPS: accept a point only where each stream of "
+    made.add_argument("--bounds", metavar="FILE", help="of SYSTEM and STEPS: accept a point only if each stream of "
                       "asynchronous requests that FILE declares, as async.csv of fttmodel, has a bound, and one of at most "
                       "its deadline. Of a list the asynchronous messages that have a deadline are asked for")
     made.add_argument("--turnaround", metavar="N", type=within(*TURNAROUND), default=None, help="of a list: the "
@@ -136,7 +136,7 @@ def parser():
     made.add_argument("--horizon", metavar="N", type=within(*HORIZON), default=None, help="of a list: within how many "
                       "cycles a plan has to repeat; without it 10000")
     made.add_argument("--refine", action="store_true", help="try an axis of numbers coarsely, and then between an accepted "
-                      "and a refused neighbour, down to the step; windows of a list are always refined, where --window "
+                      "and a refused neighbour, down to the step; windows of a list are always refined if --window "
                       "is left out")
     made.add_argument("--headroom", action="store_true", help="of a list: tell at the best point of each rate which message "
                       "decides, what may be added, and how far each deadline may be cut")
@@ -145,17 +145,17 @@ def parser():
     made.add_argument("--rounding", metavar="FILE", help="of a list: write what rounding costs each message, for each rate "
                       "and cycle")
     made.add_argument("--period", metavar="SLOT=RANGE", action="append", help="periods of a slot in cycles, in the "
-                      "last row that adds or changes it; its deadline goes along where the two are equal, and is "
-                      "else at most the period. For several slots it is written several times")
+                      "last row that adds or changes it; its deadline goes along if the two are equal, and is "
+                      "otherwise at most the period. For several slots it is written several times")
     made.add_argument("--part", metavar="K/N", help="each N-th point alone, from the K-th one on")
     made.add_argument("--join", action="store_true", help="read tables in place of trying points")
     made.add_argument("--csv", metavar="FILE", help="write a row for each point, as the answers come")
     made.add_argument("--resume", metavar="FILE", help="the same, and go on with what an earlier call of the same "
-                      "grid and files has written there; where FILE is not there, it is begun")
+                      "grid and files has written there; if FILE is not there, begin it")
     made.add_argument("--svg", metavar="FILE", help="write a picture")
     made.add_argument("--engine", choices=KINDS, help="what answers: the library in this process, or the program, a "
-                      "process for each point; without it, the program where FTTCAN names one, else the library where "
-                      "it is found, else the program")
+                      "process for each point; without it, the program if FTTCAN names one, otherwise the library if "
+                      "it is found, otherwise the program")
     takes_offsets(made)
     takes_scheduler(made)
     made.add_argument("--jobs", metavar="N", type=jobs_of, default=len(os.sched_getaffinity(0)),

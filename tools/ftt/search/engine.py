@@ -201,7 +201,7 @@ class ModuleEngine(Engine):
         self.decides, self.runs = self.calls.decide, self.calls.run
         self.size = ROOM
         self.out, self.err = (library.U8 * ROOM)(), (library.U8 * ERRORS)()
-        # The rules and the first changes that were accepted last, each with the table behind it: a table that begins with
+        # The rules and the first changes that were accepted last, each with the table after it: a table that begins with
         # the same changes is asked for the others alone.
         self.last, self.accepted, self.rooms = None, [], []
         self.room = (library.CPlaced * MOST_PLACED)()

@@ -46,7 +46,7 @@ def within(messages, span):
 
     A message is released in each span at least so often as its period fits into it. Of messages whose common divisors
     in pairs all divide the span, let r be the first release of each modulo the span. Then the releases less r agree
-    modulo each common divisor. So there is a cycle, r behind which each of them is released: all in one span."""
+    modulo each common divisor. So there is a cycle, r after which each of them is released: all in one span."""
     frames = Counter()
     for it in messages:
         frames[it.cost] += span // it.period

@@ -16,11 +16,11 @@ from ..rows import MARK
 from ..telling import decimal, listed, some
 
 WORDS = {"policy": POLICIES, "fill": FILLS}
-# Axes whose values are decimal numbers, as texts with at most so many places; those of a message have its name behind.
+# Axes whose values are decimal numbers, as texts with at most so many places; those of a message have its name after.
 AMOUNTS, PLACES = ("kbits", "cycle_us", "deadline_ms", "period_ms"), 6
 # What an axis has where its values are all that may be accepted.
 ALL = "all"
-# The first row of a table, and the columns behind those of the axes.
+# The first row of a table, and the columns after those of the axes.
 FRONT, COLUMNS = "#grid", ["accepted", "change", "why"]
 
 # A point of the grid is a tuple of values, one for each axis. What is said of it: whether all is accepted; else the

@@ -1,4 +1,4 @@
-"""A search along lines, over a list or over a system and steps; and what is asked behind it."""
+"""A search along lines, over a list or over a system and steps; and what is asked after it."""
 import sys
 
 from . import headroom

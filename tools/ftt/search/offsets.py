@@ -295,7 +295,7 @@ class Offsets:
         self.table.put(text.getvalue())
 
     def row(self, values, point):
-        """The fields of a point behind its values."""
+        """The fields of a point after its values."""
         found = self.found[values]
         phases = " ".join(f"{slot}={phase}" for slot, phase in (found.phases or point.phases()).items())
         return [*("" if it is None else it for it in (found.before, found.after, found.bound)), found.rounds, phases]

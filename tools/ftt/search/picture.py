@@ -11,7 +11,7 @@ KINDS = {"accepted": ("#8d8", ""), "miss": ("#e99", "M0 6L6 0M-1 1L1 -1M5 7L7 5"
          "refused file": ("#ddd", "M1 1H2M4 4H5"), "malformed": ("#cbe", "M0 0L6 6M-1 5L1 7M5 -1L7 1"),
          "passed": ("#bcd", "M3 0V6")}
 OTHER = ("#cdd", "M0 3H6M3 0V6")
-# A row, the front of the picture, what is left for the words behind a row, and a letter at most, all in pixels.
+# A row, the front of the picture, what is left for the words after a row, and a letter at most, all in pixels.
 HIGH, TOP, BEHIND, LETTER = 15, 44, 110, 6.2
 
 

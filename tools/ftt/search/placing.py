@@ -24,7 +24,7 @@ def fields_of(text):
 
 
 def messages_of(text):
-    """The live entries behind the last change of a steps file that the program takes, by their slots."""
+    """The live entries after the last change of a steps file that the program takes, by their slots."""
     live, start = {}, 0
     for place, row in enumerate(fields_of(text)):
         key = key_of(row)
@@ -83,7 +83,7 @@ class Plan:
         return sum(cost for rank, cost in enumerate(self.costs) if bits >> rank & 1)
 
     def left(self, pending, window):
-        """What is pending behind a cycle whose policy knows one order alone."""
+        """What is pending after a cycle whose policy knows one order alone."""
         rest = pending
         while rest:
             bit = rest & -rest

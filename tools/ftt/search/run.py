@@ -151,7 +151,7 @@ def interrupted(*_):
 
 
 def lost(told):
-    """Python drops what is raised within calls of its own, as those behind a fork. An interrupt comes once more then."""
+    """Python drops what is raised within calls of its own, as those after a fork. An interrupt comes once more then."""
     if told.exc_type is KeyboardInterrupt:
         signal.signal(signal.SIGALRM, interrupted)
         signal.setitimer(signal.ITIMER_REAL, AGAIN)

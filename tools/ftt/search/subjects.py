@@ -29,7 +29,7 @@ class FilesSubject:
         return axes_of(type(self.words)(**asked), self.rows)
 
     def slots(self):
-        """The slots that have an entry behind the last change."""
+        """The slots that have an entry after the last change."""
         return [it.slot for it in messages_of(stepped(self.rows, {}))]
 
     def engine(self):

@@ -33,7 +33,7 @@ from fttcan import (Add, Change, Frame, Layout, Master, NotPlanned, Order, Refus
 KBITS, CYCLE, TURNAROUND, WINDOW, NODES = 125, 2500, 30, 405, 3
 BIT = 0.001 / KBITS
 RULES, LAYOUT = Rules(WINDOW, NODES), Layout(CYCLE, TURNAROUND, WINDOW)
-# When asynchronous frames may begin: behind the trigger part, which is 135 bit times, and the turnaround.
+# When asynchronous frames may begin: after the trigger part, which is 135 bit times, and the turnaround.
 BEGIN = 135 + TURNAROUND
 # Cycles after a trigger in which the standby listens for the next one; then it sends that itself. A master that is more
 # than LATE cycles late is silent for ever: LATE + 1 cycles after its last trigger. So one cycle lies between the two.
@@ -143,7 +143,7 @@ class Opener:
                 self.wire.send(frame)
             self.ask(order.cycle + 1, wishes.get(order.cycle))
             self.spread(order, now)
-            # Nodes count from the trigger that they heard, so a late cycle makes all behind it late.
+            # Nodes count from the trigger that they heard, so a late cycle makes all after it late.
             due = max(due, now) + CYCLE * BIT
         tell(part=self.name, opened=self.master.next)
 
@@ -392,7 +392,7 @@ def report(words, said):
             print(f"asked in cycle {it['since']}, planned in another thread, answered in cycle {it['settled']}: "
                   f"{it['words']}")
         elif "takes_over" in it:
-            print(f"the standby takes over with cycle {it['takes_over']}, {it['after']:.0f} ms behind the last trigger")
+            print(f"the standby takes over with cycle {it['takes_over']}, {it['after']:.0f} ms after the last trigger")
         elif it.keys() & {"silent", "fault"}:
             print(f"{it['part']}: {it}")
     heard = next(it for it in said if "gaps" in it)
