@@ -8,7 +8,9 @@
  * Calls. A call that can fail answers a status, FTTCAN_OK or another one of the list below. After a status other than
  * FTTCAN_OK every out value is as it was before the call, and so is what a handle holds, unless a call says otherwise.
  * If several statuses fit a call, FTTCAN_OPEN comes before FTTCAN_CLOSED, that before FTTCAN_ARGUMENT, and that before
- * all others. Of the others it answers one that fits. fttcan_run alone answers the exit status of a program instead.
+ * all others. Of the others it answers one that fits. fttcan_run alone answers the exit status of a program instead. Of
+ * the elements of a room those after `count` stay as they were. After FTTCAN_OK a `place`, `breach`, `fault` or `row` stays
+ * too.
  * No call ends the program, prints, starts a thread, takes a lock, or reads a clock. All memory is taken by malloc and
  * realloc, and given back by free, or by three functions of the program (fttcan_heap.h). Each call ends.
  *
@@ -164,7 +166,8 @@ typedef struct {
  *
  * FTTCAN_MALFORMED: operation `op`, counted from 0, breaks rule `why`, 1 to 11 (fttcan_why_name). If `known` is 1 the
  *     rule is 10, and the slot is taken until cycle `first`: it is free from there on, or its entry begins then. If rule
- *     10 is broken and `known` is 0 the slot has an entry without an end.
+ *     10 is broken and `known` is 0 the slot has an entry without an end. Rules 1 to 3 are about the whole change, and `op`
+ *     says nothing then.
  * FTTCAN_PASSED: the start `first` is over, since cycle `second` is the next one.
  * FTTCAN_MISSED: the instance of `slot` that is released in cycle `first` would be missed in `second`, its last one.
  * FTTCAN_HORIZON: planned from cycle `first` on, no state came again within `second` cycles.
@@ -204,7 +207,7 @@ typedef struct {
     uint8_t kind, slot;
 } fttcan_breach;
 
-/* Why a standby does not follow a trigger. Numbers that a kind does not name are 0.
+/* Why a standby does not follow a trigger: the first of these that fits. Numbers that a kind does not name are 0.
  * 0: the frames are not the trigger of cycle `first`, which is the next one.
  * 1: in cycle `first` the trigger flags `heard`, and `planned` is what the standby would flag.
  * 2: the trigger says a window of `first` bit times, and the flagged slots need `second`. */
@@ -296,8 +299,9 @@ uint32_t fttcan_master_next(fttcan_master *m, uint64_t *cycle);
 uint32_t fttcan_master_rules(fttcan_master *m, fttcan_rules *rules);
 
 /* The placed entries that the master keeps, in the order of their placing. Ended ones are among them: when a change is
- * accepted those are let go that are over and have a later entry in their slot. FTTCAN_ROOM: `count` is written, and nothing
- * else. FTTCAN_MEMORY. */
+ * accepted those are let go that are over and have a later entry in their slot. Over means by the cycle from which the
+ * change was planned: that of the snapshot, if fttcan_master_settle takes a plan that was made from one. `count` is how
+ * many there are. FTTCAN_ROOM: `count` is written, and nothing else. FTTCAN_MEMORY. */
 uint32_t fttcan_master_table(fttcan_master *m, fttcan_placed *room, size_t room_count, size_t *count);
 
 /* The text of the plan from the next cycle on, up to the end of its first repeat: `len` bytes, without a 0 at the end.
@@ -356,7 +360,7 @@ void fttcan_planned_free(fttcan_planned *p);
 uint32_t fttcan_master_settle(fttcan_master *m, uint8_t caller, fttcan_planned *p, fttcan_verdict *verdict);
 
 /* ---- A standby: it is told the accepted changes and hears the triggers, and takes over from there. Each call but _new and
- *      _free answers FTTCAN_CLOSED if `s` holds nothing. */
+ *      _free answers FTTCAN_CLOSED if `s` holds nothing. _take_over looks first whether `m` holds something already. */
 
 /* Makes a standby of a master with these rules that has answered nothing yet. Statuses as fttcan_master_new. */
 uint32_t fttcan_standby_new(fttcan_standby *s, const fttcan_rules *rules);
@@ -441,7 +445,7 @@ uint32_t fttcan_payload(uint64_t number, uint8_t *room, size_t len);
 
 /* Whether an asynchronous data frame with `dlc` data bytes may start at bit time `at`, which is counted from the start of
  * cycle 0: after the turnaround of its cycle, and so that at its longest it ends before the synchronous window of that
- * cycle, which has `window` bit times. FTTCAN_ARGUMENT: the layout, `dlc` above 8, or a window above that of the layout. */
+ * cycle, which has `window` bit times. `*fits` is 1 if so, else 0. FTTCAN_ARGUMENT: the layout, `dlc` above 8, or a window above that of the layout. */
 uint32_t fttcan_fits(const fttcan_layout *layout, uint64_t at, uint8_t dlc, uint32_t window, uint8_t *fits);
 
 /* How late the frames of the stream at the place `which` (from 0) start at most, if all requests belong to the streams:
@@ -456,13 +460,15 @@ uint32_t fttcan_async_bound(const fttcan_layout *layout, const fttcan_stream *st
 /* Carries out the words of a call of the program fttcan, between which bytes 0 stand: every command but live. Its files are
  * named 0, 1, 2 and 3. What it writes goes to `out`, what it says of a fault to `err`, each as far as there is room, and
  * the counts are how much. What stands after so many bytes stays as it is. It answers the exit status of the program, 0 to
- * 7: 5 is that `out` is too small. docs/FORMATS.md has the words, the files and the statuses. Words that are no UTF-8 are
- * status 2, and want of memory is status 6. */
+ * 7: 5 comes only if `out` is full. After 5 and 6 `out` may have the first bytes of the answer, and after 2, 3 and 4 it has
+ * none. docs/FORMATS.md has the words, the files and their limits, and the statuses. Words that are no UTF-8 are status 2,
+ * and want of memory is status 6. */
 uint32_t fttcan_run(const uint8_t *words, size_t words_len, const uint8_t *file0, size_t len0, const uint8_t *file1, size_t len1,
                     const uint8_t *file2, size_t len2, const uint8_t *file3, size_t len3, uint8_t *out, size_t out_len,
                     size_t *out_count, uint8_t *err, size_t err_len, size_t *err_count);
 
-/* Whether a log, whoever made it, is that of a whole run of the steps. If the requests have no bytes there are none.
+/* Whether a log, whoever made it, is that of a whole run of the steps. If the requests have no bytes there are none. The
+ * limits on the length of files do not hold here.
  * FTTCAN_OK: it is. FTTCAN_NO: `row` is the first row that can't stand, counted from 1. FTTCAN_UNFINISHED: all rows can stand,
  * and they are not all rows of a whole run. FTTCAN_TEXT: a file is refused. FTTCAN_MEMORY. */
 uint32_t fttcan_audit(const uint8_t *system, size_t system_len, const uint8_t *steps, size_t steps_len, const uint8_t *log,

@@ -125,12 +125,12 @@ class Proved:
     def object(self, name, made, target, backend):
         """Makes the object of a crate, which is proved first where that was not done."""
         place = TOP / "crates" / name
+        # This builds the crates below too, which the build for another target needs.
+        run(["rt", "lib"], cwd=place)
         if target == HOST and backend == "llvm":
-            run(["rt", "lib"], cwd=place)
             built = place / "out" / f"lib{name}.a"
         else:
             crate = kit.crate(TOP, name)
-            # The crates below are built by then: an object of this machine was made first.
             built = pathlib.Path(made).with_suffix(".built.a")
             words = [word for word in crate.words(["--jobs", "2"]) if not word.startswith("--target")]
             more = ["--target", target] if target != HOST else []
@@ -188,16 +188,16 @@ def shared(made, folder, target=HOST):
     return whole
 
 
-def beside(prefix, is_proved, libdir="lib"):
-    """Puts the headers and the file for pkg-config below a prefix. That file says whether the library is proved, and has the
-    sum of its sources."""
+def beside(prefix, is_proved, target=HOST, libdir="lib"):
+    """Puts the headers and the file for pkg-config below a prefix. That file says whether the library is proved, has the sum
+    of its sources, and names the processor that it is for."""
     prefix = pathlib.Path(prefix)
     (prefix / "include").mkdir(parents=True, exist_ok=True)
     for name in HEADERS:
         shutil.copyfile(LIBRARY / "include" / name, prefix / "include" / name)
     (prefix / libdir / "pkgconfig").mkdir(parents=True, exist_ok=True)
     text = (LIBRARY / "fttcan.pc.in").read_text(encoding="utf-8")
-    values = {"PREFIX": prefix.resolve(), "LIBDIR": libdir, "VERSION": version(), "SOURCES": sources(),
+    values = {"PREFIX": prefix.resolve(), "LIBDIR": libdir, "VERSION": version(), "SOURCES": sources(), "PROCESSOR": target.partition("-")[0],
               "PROVED": "proved" if is_proved else "NOT PROVED"}
     for name, value in values.items():
         text = text.replace(f"@{name}@", str(value))

@@ -10,6 +10,7 @@ import argparse
 import gzip
 import os
 import pathlib
+import platform
 import re
 import sys
 
@@ -66,6 +67,8 @@ def library(folder, prefix, libdir):
         sys.exit(f"{folder}: this library was built without proofs, and is not installed")
     if f"\nsources={archive.sources()}\n" not in told:
         sys.exit(f"{folder}: this library was built from other sources. `make library` builds it anew, and LIBRARY= leaves it out")
+    if f"\nprocessor={platform.machine()}\n" not in told:
+        sys.exit(f"{folder}: this library is not for this machine, which is {platform.machine()}. LIBRARY= leaves it out")
     told = re.sub(r"^prefix=.*", f"prefix={prefix}", told, flags=re.MULTILINE)
     told = re.sub(r"^libdir=.*", f"libdir=${{prefix}}/{libdir}", told, flags=re.MULTILINE)
     found[f"{libdir}/pkgconfig/fttcan.pc"] = tree.File(told.encode(), False)
