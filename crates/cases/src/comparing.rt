@@ -29,11 +29,20 @@ pub fn show<R: Files + AllocGlobal + Print, T: Table + Drop>(
 ) -> io::Result<bool>
     requires ready { T.IsReady table }
 {
+    let text = text_of(rt, name)?;
+    tell(rt, compared(rt.alloc(), name, text.as_str(), &mut table)?)
+}
+
+/// The text of the table in the file `NAME.txt`.
+fn text_of<R: Files + AllocGlobal>(rt: &R, name: &str) -> io::Result<String> {
     let file = format!(in rt.alloc(); "{name}.txt")?;
-    let text = fs::read_to_string(rt, file.as_str())?;
-    let told = compared(rt.alloc(), name, text.as_str(), &mut table)?;
-    let passed = told.starts_with("ok ");
-    rt.println(told)?;
+    fs::read_to_string(rt, file.as_str())
+}
+
+/// Prints the line of a table, and tells whether it says that all cases have passed.
+fn tell<R: Print>(rt: &R, line: String) -> io::Result<bool> {
+    let passed = line.starts_with("ok ");
+    rt.println(line)?;
     Ok(passed)
 }
 
@@ -53,16 +62,45 @@ pub fn compared<T: Table>(
 {
     let mut reader = Reader::new();
     let mut cases = 0u64;
+    match first_failure(alloc, text, &mut reader, &mut cases, table)? {
+        Some(failure) => Ok(format!(in alloc; "FAILED {name}: {failure}")?),
+        None => Ok(format!(in alloc; "ok {name}: {cases} cases")?),
+    }
+}
+
+/// Why the first case fails that does, where one does. The cases before it are counted, and so is it.
+fn first_failure<T: Table>(
+    alloc: Global,
+    text: &str,
+    reader: &mut Reader,
+    cases: &mut u64,
+    table: &mut T,
+) -> io::Result<Option<String>>
+    requires ready { T.IsReady table.old }
+    ensures ready { T.IsReady table.new }
+{
     for line in text.split_terminator('\n') {
-        let read = reader.next(alloc, line)?;
-        if let Some(failure) = failure(alloc, &read, &mut cases, table)? {
-            return Ok(format!(in alloc; "FAILED {name}: {failure}")?);
+        let failure = next_failure(alloc, line, reader, cases, table)?;
+        if failure.is_some() {
+            return Ok(failure);
         }
     }
-    if let Some(failure) = failure(alloc, &reader.end(), &mut cases, table)? {
-        return Ok(format!(in alloc; "FAILED {name}: {failure}")?);
-    }
-    Ok(format!(in alloc; "ok {name}: {cases} cases")?)
+    failure(alloc, &reader.end(), cases, table)
+}
+
+/// Why what the next line ends fails, where it does.
+fn next_failure<T: Table>(
+    alloc: Global,
+    line: &str,
+    reader: &mut Reader,
+    cases: &mut u64,
+    table: &mut T,
+) -> io::Result<Option<String>>
+    requires ready { T.IsReady table.old }
+    ensures ready { T.IsReady table.new }
+{
+    let read = reader.next(alloc, line)?;
+    failure(alloc, &read, cases, table)
 }
 
 /// Why what was read fails, where it does: what is no case always does. A case that passes is counted.
@@ -89,17 +127,23 @@ fn failure<T: Table>(
 
 /// How what was told differs from what is wanted, where it does.
 fn differs(alloc: Global, case: &Case, told: Result<String, Fault>) -> io::Result<Option<String>> {
-    let line = case.line;
     match told {
-        Ok(told) => {
-            if told == case.wanted {
-                Ok(None)
-            } else {
-                Ok(Some(format!(in alloc; "line {line} tells {told}")?))
-            }
-        }
-        Err(Fault::Unread) => Ok(Some(format!(in alloc; "line {line} is not read")?)),
+        Ok(told) => Ok(difference(alloc, case, told.as_str())?),
+        Err(Fault::Unread) => Ok(Some(unread(alloc, case.line)?)),
         Err(Fault::Memory) => Err(io::Error::from(AllocError)),
         Err(Fault::Stream(fault)) => Err(fault),
     }
+}
+
+/// How a text differs from what is wanted, where it does.
+fn difference(alloc: Global, case: &Case, told: &str) -> Result<Option<String>, AllocError> {
+    if told == case.wanted.as_str() {
+        return Ok(None);
+    }
+    Ok(Some(format!(in alloc; "line {} tells {told}", case.line)?))
+}
+
+/// That a line is not read.
+fn unread(alloc: Global, line: u64) -> Result<String, AllocError> {
+    format!(in alloc; "line {line} is not read")
 }

@@ -104,8 +104,7 @@ pub fn parts(alloc: Global, field: &str) -> Result<Vec<&str>, Fault> {
 pub fn text_of_frame(alloc: Global, frame: &Frame) -> Result<String, Fault> {
     let mut text = format!(in alloc; "{:03x}#", frame.id())?;
     for byte in frame.bytes() {
-        let digits = format!(in alloc; "{byte:02x}")?;
-        text.push_str(digits.as_str())?;
+        write!(text, "{byte:02x}")?;
     }
     Ok(text)
 }
@@ -114,11 +113,17 @@ pub fn text_of_frame(alloc: Global, frame: &Frame) -> Result<String, Fault> {
 pub fn text_of_trace(alloc: Global, trace: &[TimedFrame]) -> Result<String, Fault> {
     let mut text = String::new(alloc);
     for sent in trace {
-        let id = sent.frame.id();
-        let one = format!(in alloc; "{}:{}:{id:03x}", sent.start, sent.len)?;
-        push_behind(&mut text, ' ', one.as_str())?;
+        push_sent(&mut text, sent)?;
     }
     Ok(text)
+}
+
+/// Puts the start, the length and the identifier of a frame behind those before it.
+fn push_sent(text: &mut String, sent: &TimedFrame) -> Result<(), AllocError> {
+    if !text.is_empty() {
+        text.push(' ')?;
+    }
+    write!(text, "{}:{}:{:03x}", sent.start, sent.len, sent.frame.id())
 }
 
 /// Puts a part behind the parts before it, with a mark between two of them.

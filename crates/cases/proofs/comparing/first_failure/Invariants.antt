@@ -1,4 +1,4 @@
-use Rattle.cases.proofs.comparing.compared.Given as goal
+use Rattle.cases.proofs.comparing.first_failure.Given as goal
 
 -- the table is ready for the next case
 abbrev pub invariant-loop-line : goal.invariant-loop-line
