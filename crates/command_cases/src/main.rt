@@ -3,7 +3,8 @@
 //!
 //! A call is a folder with input files, the words of a call, and what it is to write: a file `expected.log` or
 //! `expected.err`. A table is a file of cases, which were worked out by hand: replays over streams, plans that are cut
-//! short, calls by threads, and runs of a shared master. What it tells is the same for every schedule of its threads.
+//! short, calls by threads, runs of a shared master, and logs that are audited row by row. What it tells is the same for
+//! every schedule of its threads.
 //!
 //! With no words the program takes each call two levels below the folder that it runs in, in the order of the names, and
 //! then each table. With words, each of them is the folder of a call, or `tables/NAME`.
@@ -11,6 +12,7 @@
 
 mod answer;
 mod asked;
+mod audits;
 mod calling;
 mod fault;
 mod folder;

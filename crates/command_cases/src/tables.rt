@@ -1,6 +1,6 @@
 //! The tables of whole calls that no folder shows, and what each of them asks.
 
-use crate::{lone, prefixes, replays, runs};
+use crate::{audits, lone, prefixes, replays, runs};
 use cases::{Fault, Table};
 use std::alloc::Global;
 use std::io;
@@ -18,14 +18,17 @@ pub enum Topic {
     Runs,
     /// Runs of a shared master by threads, whose gate holds a cycle or a plan.
     Lone,
+    /// The rows of a log are audited.
+    Audits,
 }
 
 /// The tables, each with the name of its file.
-pub const TABLES: [(&str, Topic); 4] = [
+pub const TABLES: [(&str, Topic); 5] = [
     ("replays", Topic::Replays),
     ("prefixes", Topic::Prefixes),
     ("runs", Topic::Runs),
     ("lone", Topic::Lone),
+    ("audits", Topic::Audits),
 ];
 
 /// What is told of what a case gives.
@@ -40,6 +43,7 @@ fn told<T: Threads + Wait + Sync>(
         Topic::Prefixes => Ok(prefixes::answers(rt.alloc(), given)?),
         Topic::Runs => Ok(runs::told(rt, threads, given)?),
         Topic::Lone => Ok(lone::told(rt.alloc(), threads, given)?),
+        Topic::Audits => Ok(audits::audited(rt.alloc(), given)?),
     }
 }
 

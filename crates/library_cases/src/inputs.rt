@@ -13,11 +13,10 @@ use system_file::{System, read_system};
 /// The identifiers that have owners where requests are read.
 const OWNERS: [Owner; 2] = [Owner { id: 0x7EF, node: 3 }, Owner { id: 0x200, node: 0 }];
 
-/// The lines of a system.
-fn system_lines(alloc: Global, system: &System) -> Result<String, AllocError> {
+/// Puts the lines of a system.
+fn put_system(told: &mut String, system: &System) -> Result<(), AllocError> {
     let layout = system.layout;
     let rules = system.rules;
-    let mut told = String::new(alloc);
     let (cycle, turnaround, window) = (layout.cycle(), layout.turnaround(), layout.window());
     writeln!(
         told,
@@ -27,65 +26,69 @@ fn system_lines(alloc: Global, system: &System) -> Result<String, AllocError> {
     for owner in system.owners.as_slice() {
         writeln!(told, "{owner:?}")?;
     }
-    Ok(told)
+    Ok(())
 }
 
 /// Reads a system file.
-pub fn system(alloc: Global, given: &str) -> Result<String, AllocError> {
+pub fn system(alloc: Global, given: &str, told: &mut String) -> Result<(), AllocError> {
     let text = plain(alloc, given)?;
     match read_system(alloc, text.as_bytes()) {
-        Ok(system) => system_lines(alloc, &system),
-        Err(fault) => fault.message(alloc),
+        Ok(system) => put_system(told, &system),
+        Err(fault) => told.push_str(fault.message(alloc)?.as_str()),
     }
 }
 
-/// The line of a step.
-fn step_line(alloc: Global, step: &Step) -> Result<String, AllocError> {
+/// Puts the line of a step.
+fn put_step(told: &mut String, step: &Step) -> Result<(), AllocError> {
     match step {
-        Step::Cycle { count } => format!(in alloc; "cycle {count}\n"),
+        Step::Cycle { count } => writeln!(told, "cycle {count}"),
         Step::Act {
             caller,
             act: Act::Ask { change },
         } => {
             let (start, ops) = (change.start, change.ops.as_slice());
-            format!(in alloc; "ask by {caller} from {start}: {ops:?}\n")
+            writeln!(told, "ask by {caller} from {start}: {ops:?}")
         }
         Step::Act {
             caller,
             act: Act::Look,
-        } => format!(in alloc; "look by {caller}\n"),
+        } => writeln!(told, "look by {caller}"),
     }
+}
+
+/// Puts the lines of steps.
+fn put_steps(told: &mut String, steps: &[Step]) -> Result<(), AllocError> {
+    for step in steps {
+        put_step(told, step)?;
+    }
+    Ok(())
 }
 
 /// Reads a steps file, of whose last line the line feed is left out.
-pub fn steps(alloc: Global, given: &str) -> Result<String, AllocError> {
+pub fn steps(alloc: Global, given: &str, told: &mut String) -> Result<(), AllocError> {
     let text = plain(alloc, given.trim_end())?;
     match read_steps(alloc, text.as_bytes()) {
-        Ok(steps) => {
-            let mut told = String::new(alloc);
-            for step in steps {
-                told.push_str(step_line(alloc, &step)?.as_str())?;
-            }
-            Ok(told)
-        }
-        Err(fault) => fault.message(alloc),
+        Ok(steps) => put_steps(told, steps.as_slice()),
+        Err(fault) => told.push_str(fault.message(alloc)?.as_str()),
     }
 }
 
+/// Puts the lines of requests.
+fn put_requests(told: &mut String, requests: &[Request]) -> Result<(), AllocError> {
+    for request in requests {
+        let (at, id) = (request.at, request.frame.id());
+        let bytes = request.frame.bytes();
+        writeln!(told, "at {at}, identifier {id:x}, bytes {bytes:?}")?;
+    }
+    Ok(())
+}
+
 /// Reads a requests file, of whose last line the line feed is left out.
-pub fn requests(alloc: Global, given: &str) -> Result<String, AllocError> {
+pub fn requests(alloc: Global, given: &str, told: &mut String) -> Result<(), AllocError> {
     let text = plain(alloc, given.trim_end())?;
     match read_requests(alloc, text.as_bytes(), &OWNERS) {
-        Ok(requests) => {
-            let mut told = String::new(alloc);
-            for request in requests {
-                let (at, id) = (request.at, request.frame.id());
-                let bytes = request.frame.bytes();
-                writeln!(told, "at {at}, identifier {id:x}, bytes {bytes:?}")?;
-            }
-            Ok(told)
-        }
-        Err(fault) => fault.message(alloc),
+        Ok(requests) => put_requests(told, requests.as_slice()),
+        Err(fault) => told.push_str(fault.message(alloc)?.as_str()),
     }
 }
 
@@ -139,20 +142,19 @@ fn with_request(total: u64, request: &Request) -> u64 {
         .fold(total, |total, byte| with(total, u64::from(*byte)))
 }
 
-/// The policy of a generated input, and the sums of its steps and of its requests.
-fn sums(alloc: Global, made: &Generated) -> Result<String, AllocError> {
+/// Puts the policy of a generated input, and the sums of its steps and of its requests.
+fn put_sums(told: &mut String, made: &Generated) -> Result<(), AllocError> {
     let policy = made.system.rules.policy;
     let steps = made.steps.as_slice().iter().fold(0, with_step);
     let requests = made.requests.as_slice().iter().fold(0, with_request);
-    format!(in alloc; "{policy:?}, steps {steps}, requests {requests}\n")
+    writeln!(told, "{policy:?}, steps {steps}, requests {requests}")
 }
 
 /// Generates the inputs of the numbers.
-pub fn generated(alloc: Global, given: &str) -> Result<String, AllocError> {
-    let mut told = String::new(alloc);
+pub fn generated(alloc: Global, given: &str, told: &mut String) -> Result<(), AllocError> {
     for number in given.lines() {
         let made = generate(alloc, number.parse().unwrap_or(0))?;
-        told.push_str(sums(alloc, &made)?.as_str())?;
+        put_sums(told, &made)?;
     }
-    Ok(told)
+    Ok(())
 }

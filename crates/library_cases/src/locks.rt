@@ -204,44 +204,47 @@ fn found_meanwhile(
 
 /// Two passes: their numbers, and what the second one finds while the first one holds the turn, and afterwards. Then
 /// the first one is alone.
-fn two_passes(alloc: Global) -> Result<String, AllocError> {
+fn two_passes(alloc: Global, told: &mut String) -> Result<(), AllocError> {
     let (turn, mut first) = Turn::new(alloc, Desk::empty(alloc, 7))?;
     let mut second = turn.split_pass(&mut first);
-    let mut told = String::new(alloc);
     let (number, made, out) = (first.number(), first.made(), first.out());
-    writeln!(told, "number {number}, made {made}, out {out}")?;
-    let (number, made, out) = (second.number(), second.made(), second.out());
-    writeln!(told, "number {number}, made {made}, out {out}")?;
+    let (other_number, other_made, other_out) = (second.number(), second.made(), second.out());
     let meanwhile = found_meanwhile(&turn, &mut first, &mut second, true);
-    writeln!(told, "meanwhile {meanwhile:?}")?;
     let length = turn.length(&mut second);
     let found = look(&turn, &mut second);
-    writeln!(told, "length {length}, found {found:?}")?;
     turn.join_pass(&mut first, second);
     let free = is_free(&turn, &mut first);
-    writeln!(told, "free: {free}")?;
-    Ok(told)
+    writeln!(told, "number {number}, made {made}, out {out}")?;
+    writeln!(
+        told,
+        "number {other_number}, made {other_made}, out {other_out}"
+    )?;
+    writeln!(told, "meanwhile {meanwhile:?}")?;
+    writeln!(told, "length {length}, found {found:?}\nfree: {free}")
 }
 
 /// A pass that is refused while the first one holds the turn, and one that did not ask then: what each finds once the
 /// first one has noted a call, where that is wanted, or has given the turn back.
-fn asked_again(alloc: Global, wanted: bool) -> Result<String, AllocError> {
+fn asked_again(alloc: Global, wanted: bool, told: &mut String) -> Result<(), AllocError> {
     let (turn, mut first) = Turn::new(alloc, Desk::empty(alloc, 7))?;
     let mut refused = turn.split_pass(&mut first);
     let mut other = turn.split_pass(&mut first);
     let meanwhile = found_meanwhile(&turn, &mut first, &mut refused, wanted);
     let again = look(&turn, &mut refused);
     let never = look(&turn, &mut other);
-    format!(in alloc; "meanwhile {meanwhile:?}, then {again:?}, never refused {never:?}\n")
+    writeln!(
+        told,
+        "meanwhile {meanwhile:?}, then {again:?}, never refused {never:?}"
+    )
 }
 
 /// A lock that is closed after one call.
-fn closed(alloc: Global) -> Result<String, AllocError> {
+fn closed(alloc: Global, told: &mut String) -> Result<(), AllocError> {
     let (turn, mut first) = Turn::new(alloc, Desk::empty(alloc, 7))?;
     let noted = note_once(&turn, &mut first, 5, true);
     let desk = turn.close(first);
     let (name, calls) = (desk.name, desk.calls.as_slice());
-    format!(in alloc; "{noted}, name {name}, calls {calls:?}\n")
+    writeln!(told, "{noted}, name {name}, calls {calls:?}")
 }
 
 /// Eight threads, of which each notes its calls.
@@ -249,7 +252,8 @@ fn shared<T: Threads + Wait + Sync>(
     threads: &T,
     alloc: Global,
     seed: u64,
-) -> Result<String, AllocError> {
+    told: &mut String,
+) -> Result<(), AllocError> {
     let (turn, mut first) = Turn::new(alloc, Desk::empty(alloc, 7))?;
     let mut passes = hire(alloc, &turn, &mut first, 8)?;
     play_all(threads, &turn, passes.as_mut_slice(), ROUNDS, seed);
@@ -257,7 +261,7 @@ fn shared<T: Threads + Wait + Sync>(
     let desk = turn.close(first);
     let count = desk.calls.len();
     let in_order = is_in_order(desk.calls.as_slice());
-    format!(in alloc; "{count} calls, in order: {in_order}\n")
+    writeln!(told, "{count} calls, in order: {in_order}")
 }
 
 /// What is told of the passes that are named.
@@ -265,13 +269,14 @@ pub fn told<T: Threads + Wait + Sync>(
     rt: &HostRuntime,
     threads: &T,
     given: &str,
-) -> Result<String, AllocError> {
+    told: &mut String,
+) -> Result<(), AllocError> {
     match given.trim_end() {
-        "two passes" => two_passes(rt.alloc()),
-        "refused, then committed" => asked_again(rt.alloc(), true),
-        "refused, then given back" => asked_again(rt.alloc(), false),
-        "closed" => closed(rt.alloc()),
-        "threads" => shared(threads, rt.alloc(), seed_of(rt)),
-        _ => Ok(String::new(rt.alloc())),
+        "two passes" => two_passes(rt.alloc(), told),
+        "refused, then committed" => asked_again(rt.alloc(), true, told),
+        "refused, then given back" => asked_again(rt.alloc(), false, told),
+        "closed" => closed(rt.alloc(), told),
+        "threads" => shared(threads, rt.alloc(), seed_of(rt), told),
+        _ => Ok(()),
     }
 }

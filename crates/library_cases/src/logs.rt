@@ -9,46 +9,52 @@ use requirement_table::Mask;
 use std::alloc::{AllocError, Global};
 use trigger_codec::encode;
 
-/// The line of a row that was read.
-fn row_line(alloc: Global, row: &LogRow) -> Result<String, AllocError> {
+/// Puts the line of a row that was read.
+fn put_row(told: &mut String, row: &LogRow) -> Result<(), AllocError> {
     match row {
         LogRow::Submit {
             caller,
             from,
             verdict,
-        } => format!(in alloc; "submit by {caller} from {from}: {verdict:?}\n"),
+        } => writeln!(told, "submit by {caller} from {from}: {verdict:?}"),
         LogRow::Plan { cycle, mask } => {
             let bits = mask.bits();
-            format!(in alloc; "plan of {cycle}: {bits}\n")
+            writeln!(told, "plan of {cycle}: {bits}")
         }
-        LogRow::Look { caller, next } => format!(in alloc; "look by {caller}: {next}\n"),
+        LogRow::Look { caller, next } => writeln!(told, "look by {caller}: {next}"),
         LogRow::Open { cycle, mask, l } => {
             let bits = mask.bits();
-            format!(in alloc; "open {cycle}: {bits}, width {l}\n")
+            writeln!(told, "open {cycle}: {bits}, width {l}")
         }
-        LogRow::Frame { timed } => {
-            let (start, len) = (timed.start, timed.len);
-            let id = timed.frame.id();
-            let bytes = timed.frame.bytes();
-            format!(in alloc;
-                "frame at {start}, length {len}, identifier {id:x}, bytes {bytes:?}\n"
-            )
-        }
-        LogRow::End { next } => format!(in alloc; "end: {next}\n"),
+        LogRow::Frame { timed } => put_frame(told, timed),
+        LogRow::End { next } => writeln!(told, "end: {next}"),
     }
 }
 
+/// Puts the line of a frame that was read.
+fn put_frame(told: &mut String, timed: &TimedFrame) -> Result<(), AllocError> {
+    let (start, len) = (timed.start, timed.len);
+    let id = timed.frame.id();
+    let bytes = timed.frame.bytes();
+    writeln!(
+        told,
+        "frame at {start}, length {len}, identifier {id:x}, bytes {bytes:?}"
+    )
+}
+
+/// Puts the lines of rows that were read.
+fn put_rows(told: &mut String, rows: &[LogRow]) -> Result<(), AllocError> {
+    for row in rows {
+        put_row(told, row)?;
+    }
+    Ok(())
+}
+
 /// Reads a log, and tells its rows.
-pub fn log(alloc: Global, given: &str) -> Result<String, AllocError> {
+pub fn log(alloc: Global, given: &str, told: &mut String) -> Result<(), AllocError> {
     match read_log(alloc, given.as_bytes()) {
-        Ok(rows) => {
-            let mut told = String::new(alloc);
-            for row in rows {
-                told.push_str(row_line(alloc, &row)?.as_str())?;
-            }
-            Ok(told)
-        }
-        Err(LogFault::Row { number }) => format!(in alloc; "row {number} has no form\n"),
+        Ok(rows) => put_rows(told, rows.as_slice()),
+        Err(LogFault::Row { number }) => writeln!(told, "row {number} has no form"),
         Err(LogFault::Memory) => Err(AllocError),
     }
 }
@@ -62,35 +68,51 @@ fn faulty_row(alloc: Global, text: &str) -> Result<u64, AllocError> {
     }
 }
 
+/// The number of the first faulty row of a log that has this line as its second row, after one that has a form.
+fn faulty_second(alloc: Global, line: &str) -> Result<u64, AllocError> {
+    let row = plain(alloc, line)?;
+    let text = format!(in alloc; "end,5\n{row}")?;
+    faulty_row(alloc, text.as_str())
+}
+
 /// Reads each line after a row that has a form. It tells the lines whose log does not have its first faulty row there,
 /// each after the number of that row, or 0.
-pub fn second_rows(alloc: Global, given: &str) -> Result<String, AllocError> {
-    let mut told = String::new(alloc);
+pub fn second_rows(alloc: Global, given: &str, told: &mut String) -> Result<(), AllocError> {
     for line in given.lines() {
-        let row = plain(alloc, line)?;
-        let text = format!(in alloc; "end,5\n{row}")?;
-        let number = faulty_row(alloc, text.as_str())?;
+        let number = faulty_second(alloc, line)?;
         if number != 2 {
             writeln!(told, "{number} {line}")?;
         }
     }
-    Ok(told)
+    Ok(())
 }
 
-/// Keeps the last rows, as many as the first line says, of the lines after it.
-pub fn last_rows(alloc: Global, given: &str) -> Result<String, AllocError> {
-    let (count, rows) = given.split_once('\n').unwrap_or(("", ""));
-    let mut recent = Recent::new(alloc, count.parse().unwrap_or(0))?;
+/// Pushes the lines of a text, each with its line feed.
+fn push_lines(alloc: Global, recent: &mut Recent, rows: &str) -> Result<(), AllocError> {
     for row in rows.split_inclusive('\n') {
         recent.push(row.as_bytes().to_vec(alloc)?);
     }
-    let text = recent.text(alloc)?;
-    let text = str::from_utf8(text.as_slice()).unwrap_or("no text");
-    String::from_str(alloc, text)
+    Ok(())
 }
 
-/// The rows of a look, and behind them those of an opened cycle with its trigger.
-pub fn events(alloc: Global) -> Result<String, AllocError> {
+/// Keeps the last rows, as many as the first line says, of the lines after it.
+pub fn last_rows(alloc: Global, given: &str, told: &mut String) -> Result<(), AllocError> {
+    let (count, rows) = given.split_once('\n').unwrap_or(("", ""));
+    let mut recent = Recent::new(alloc, count.parse().unwrap_or(0))?;
+    push_lines(alloc, &mut recent, rows)?;
+    let text = recent.text(alloc)?;
+    told.push_str(str::from_utf8(text.as_slice()).unwrap_or("no text"))
+}
+
+/// The rows of a look, and after them those of an opened cycle with its trigger.
+pub fn events(alloc: Global, told: &mut String) -> Result<(), AllocError> {
+    let mut text = Vec::new(alloc);
+    put_events(alloc, &mut text)?;
+    told.push_str(str::from_utf8(text.as_slice()).unwrap_or("no text"))
+}
+
+/// Puts the rows of a look, and those of an opened cycle with its trigger.
+fn put_events(alloc: Global, text: &mut Vec<u8>) -> Result<(), AllocError> {
     let mask = Mask::from_bits(1);
     let frame = encode(1, 55, mask);
     let trigger = TimedFrame {
@@ -98,14 +120,6 @@ pub fn events(alloc: Global) -> Result<String, AllocError> {
         len: 126,
         frame,
     };
-    let mut text = Vec::new(alloc);
-    event_rows(alloc, &Event::Look { caller: 2, next: 1 }, &[], &mut text)?;
-    event_rows(
-        alloc,
-        &Event::Open { cycle: 1, mask },
-        &[trigger],
-        &mut text,
-    )?;
-    let text = str::from_utf8(text.as_slice()).unwrap_or("no text");
-    String::from_str(alloc, text)
+    event_rows(alloc, &Event::Look { caller: 2, next: 1 }, &[], text)?;
+    event_rows(alloc, &Event::Open { cycle: 1, mask }, &[trigger], text)
 }

@@ -1,13 +1,12 @@
 //! Runs the cases of the libraries below the commands. They are about files, sinks, streams, values that a reader
-//! makes, rows that are read back or audited, the turn lock, and the shared master. The program prints one line for
-//! each table: `ok NAME:` and how many cases it has, or `FAILED NAME:` and the first case that fails.
+//! makes, rows that are read back, the turn lock, and the shared master. The program prints one line for each table:
+//! `ok NAME:` and how many cases it has, or `FAILED NAME:` and the first case that fails.
 //!
 //! A table is a file of cases, which were worked out by hand; what it tells is the same for every schedule of its
 //! threads. With no words the program takes each table of the folder that it runs in. With words, each of them is the
 //! name of a table.
 #![tactic(auto)]
 
-mod audits;
 mod desk;
 mod inputs;
 mod locks;

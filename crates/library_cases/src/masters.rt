@@ -50,13 +50,14 @@ fn look(
     alloc: Global,
     shared: &LiveMaster,
     operator: &mut OperatorPass,
-) -> Result<String, AllocError>
+    told: &mut String,
+) -> Result<(), AllocError>
     requires of { IsOf shared.now operator.old }
     ensures of { IsOf shared.now operator.new }
 {
     match shared.try_look(alloc, operator) {
-        Ok(next) => format!(in alloc; "next {next}\n"),
-        Err(fault) => format!(in alloc; "{fault:?}\n"),
+        Ok(next) => writeln!(told, "next {next}"),
+        Err(fault) => writeln!(told, "{fault:?}"),
     }
 }
 
@@ -65,14 +66,15 @@ fn submit(
     alloc: Global,
     shared: &LiveMaster,
     operator: &mut OperatorPass,
-) -> Result<String, AllocError>
+    told: &mut String,
+) -> Result<(), AllocError>
     requires of { IsOf shared.now operator.old }
     ensures of { IsOf shared.now operator.new }
 {
     let change = change(alloc, 0)?;
     match shared.try_submit(alloc, operator, &change) {
-        Ok(verdict) => format!(in alloc; "{verdict:?}\n"),
-        Err(fault) => format!(in alloc; "{fault:?}\n"),
+        Ok(verdict) => writeln!(told, "{verdict:?}"),
+        Err(fault) => writeln!(told, "{fault:?}"),
     }
 }
 
@@ -81,32 +83,59 @@ fn open(
     alloc: Global,
     shared: &LiveMaster,
     dispatcher: &mut DispatcherPass,
-) -> Result<String, AllocError>
+    told: &mut String,
+) -> Result<(), AllocError>
     requires of { IsOf shared.now dispatcher.old }
     ensures of { IsOf shared.now dispatcher.new }
     ensures out { dispatcher.new.view.out ≡ dispatcher.old.view.out }
 {
     if dispatcher.cycles() >= OPENINGS_END {
-        return Ok(String::new(alloc));
+        return Ok(());
     }
     match shared.try_open(alloc, dispatcher) {
         Ok(order) => {
             let (cycle, bits) = (order.cycle, order.mask.bits());
-            format!(in alloc; "cycle {cycle}, slots {bits}\n")
+            writeln!(told, "cycle {cycle}, slots {bits}")
         }
-        Err(fault) => format!(in alloc; "{fault:?}\n"),
+        Err(fault) => writeln!(told, "{fault:?}"),
     }
 }
 
-/// The numbers of both passes.
+/// Tells the numbers of both passes.
 fn count(
-    alloc: Global,
     dispatcher: &DispatcherPass,
     operator: &OperatorPass,
-) -> Result<String, AllocError> {
+    told: &mut String,
+) -> Result<(), AllocError> {
     let (made, out) = (dispatcher.made(), dispatcher.out());
     let (cycles, caller) = (dispatcher.cycles(), operator.caller());
-    format!(in alloc; "operator {caller}, made {made}, out {out}, cycles {cycles}\n")
+    writeln!(
+        told,
+        "operator {caller}, made {made}, out {out}, cycles {cycles}"
+    )
+}
+
+/// Makes the call of a word, and tells its answer.
+fn call(
+    alloc: Global,
+    shared: &LiveMaster,
+    dispatcher: &mut DispatcherPass,
+    operator: &mut OperatorPass,
+    word: &str,
+    told: &mut String,
+) -> Result<(), AllocError>
+    requires dispatcher { IsOf shared.now dispatcher.old }
+    requires operator { IsOf shared.now operator.old }
+    ensures dispatcher { IsOf shared.now dispatcher.new }
+    ensures operator { IsOf shared.now operator.new }
+    ensures out { dispatcher.new.view.out ≡ dispatcher.old.view.out }
+{
+    match word {
+        "look" => look(alloc, shared, operator, told),
+        "submit" => submit(alloc, shared, operator, told),
+        "open" => open(alloc, shared, dispatcher, told),
+        _ => count(dispatcher, operator, told),
+    }
 }
 
 /// Makes the calls of the words, and tells the answer of each.
@@ -116,32 +145,26 @@ fn call_all(
     dispatcher: &mut DispatcherPass,
     operator: &mut OperatorPass,
     words: &str,
-) -> Result<String, AllocError>
+    told: &mut String,
+) -> Result<(), AllocError>
     requires dispatcher { IsOf shared.now dispatcher.old }
     requires operator { IsOf shared.now operator.old }
     ensures dispatcher { IsOf shared.now dispatcher.new }
     ensures operator { IsOf shared.now operator.new }
     ensures out { dispatcher.new.view.out ≡ dispatcher.old.view.out }
 {
-    let mut told = String::new(alloc);
     for word in words.split_ascii_whitespace() {
-        let line = match word {
-            "look" => look(alloc, shared, operator)?,
-            "submit" => submit(alloc, shared, operator)?,
-            "open" => open(alloc, shared, dispatcher)?,
-            _ => count(alloc, dispatcher, operator)?,
-        };
-        told.push_str(line.as_str())?;
+        call(alloc, shared, dispatcher, operator, word, told)?;
     }
-    Ok(told)
+    Ok(())
 }
 
-/// The line of an event of the history.
-fn event_line(alloc: Global, event: &Event) -> Result<String, AllocError> {
+/// Puts the line of an event of the history.
+fn put_event(told: &mut String, event: &Event) -> Result<(), AllocError> {
     match event {
         Event::Open { cycle, mask } => {
             let bits = mask.bits();
-            format!(in alloc; "open {cycle}: slots {bits}\n")
+            writeln!(told, "open {cycle}: slots {bits}")
         }
         Event::Submit {
             caller,
@@ -150,22 +173,27 @@ fn event_line(alloc: Global, event: &Event) -> Result<String, AllocError> {
             ..
         } => {
             let start = change.start;
-            format!(in alloc; "submit by {caller}, start {start}: {verdict:?}\n")
+            writeln!(told, "submit by {caller}, start {start}: {verdict:?}")
         }
-        Event::Look { caller, next } => format!(in alloc; "look by {caller}: next {next}\n"),
+        Event::Look { caller, next } => writeln!(told, "look by {caller}: next {next}"),
     }
+}
+
+/// Puts the lines of a history.
+fn put_history(told: &mut String, history: &[Event]) -> Result<(), AllocError> {
+    for event in history {
+        put_event(told, event)?;
+    }
+    Ok(())
 }
 
 /// Makes the calls of the words at a shared master with one operator, and closes it. The answers are told, and then the
 /// history.
-pub fn told(alloc: Global, words: &str) -> Result<String, AllocError> {
+pub fn told(alloc: Global, words: &str, told: &mut String) -> Result<(), AllocError> {
     let (shared, mut dispatcher) = LiveMaster::new(alloc, rules())?;
     let mut operator = shared.operator(&mut dispatcher);
-    let mut told = call_all(alloc, &shared, &mut dispatcher, &mut operator, words)?;
+    call_all(alloc, &shared, &mut dispatcher, &mut operator, words, told)?;
     shared.retire(&mut dispatcher, operator);
     let master = shared.close(dispatcher);
-    for event in master.history() {
-        told.push_str(event_line(alloc, event)?.as_str())?;
-    }
-    Ok(told)
+    put_history(told, master.history())
 }

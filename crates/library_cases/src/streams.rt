@@ -9,66 +9,66 @@ use std::io::{self, BufWriter, PipeReader, Read, Write};
 /// The row that is put.
 const ROW: &[u8] = b"end,1\n";
 
-/// Reads a row from a pipe.
-fn row_of(alloc: Global, reader: &mut PipeReader) -> io::Result<String> {
+/// Reads a row from a pipe, tells it, and closes the pipe's reader.
+fn read_row(mut reader: PipeReader, told: &mut String) -> io::Result<()> {
     let mut read = [0; ROW.len()];
     reader.read_exact(&mut read)?;
     let text = str::from_utf8(&read).unwrap_or("no text");
-    Ok(format!(in alloc; "{text:?}")?)
+    Ok(writeln!(told, "{text:?}")?)
 }
 
 /// Puts to a pipe at once, and again once its reader is closed.
-fn put_to_pipe(rt: &HostRuntime) -> io::Result<String> {
-    let (mut reader, writer) = io::pipe(rt)?;
+fn put_to_pipe(rt: &HostRuntime, told: &mut String) -> io::Result<()> {
+    let (reader, writer) = io::pipe(rt)?;
     let mut sink = StdSink::over(writer);
-    let first = outcome(write_all(&mut sink, ROW));
-    let read = row_of(rt.alloc(), &mut reader)?;
-    drop(reader);
-    let second = outcome(write_all(&mut sink, ROW));
-    Ok(format!(in rt.alloc(); "{first}, {read}\nclosed: {second}\n")?)
+    write!(told, "{}, ", outcome(write_all(&mut sink, ROW)))?;
+    read_row(reader, told)?;
+    Ok(writeln!(told, "closed: {}", outcome(write_all(&mut sink, ROW)))?)
 }
 
 /// Puts a row to three bytes of memory.
-fn put_to_three_bytes(alloc: Global) -> io::Result<String> {
+fn put_to_three_bytes(told: &mut String) -> io::Result<()> {
     let mut room = [0; 3];
     let mut sink = StdSink::over(&mut room[..]);
     let ended = outcome(write_all(&mut sink, ROW));
     drop(sink);
     let taken = str::from_utf8(&room).unwrap_or("no text");
-    Ok(format!(in alloc; "{ended}, {taken:?}\n")?)
+    Ok(writeln!(told, "{ended}, {taken:?}")?)
 }
 
 /// Puts a row to a writer that gathers, and tells how that ended, and how the flush did.
-fn gathered<W: Write + Drop>(alloc: Global, stream: W) -> io::Result<(&'static str, &'static str)> {
+fn gathered<W: Write + Drop>(alloc: Global, stream: W, told: &mut String) -> io::Result<()> {
     let mut sink = StdSink::over(BufWriter::new(alloc, stream)?);
     let put = outcome(write_all(&mut sink, ROW));
-    Ok((put, outcome(sink.flush())))
+    let flush = outcome(sink.flush());
+    Ok(write!(told, "{put}, {flush}")?)
 }
 
 /// Puts to a pipe by a writer that gathers, and again once the pipe's reader is closed.
-fn gathered_to_pipe(rt: &HostRuntime) -> io::Result<String> {
-    let (mut reader, writer) = io::pipe(rt)?;
-    let (put, flush) = gathered(rt.alloc(), &writer)?;
-    let read = row_of(rt.alloc(), &mut reader)?;
-    drop(reader);
-    let (last_put, last_flush) = gathered(rt.alloc(), &writer)?;
-    Ok(format!(in rt.alloc(); "{put}, {flush}, {read}\nclosed: {last_put}, {last_flush}\n")?)
+fn gathered_to_pipe(rt: &HostRuntime, told: &mut String) -> io::Result<()> {
+    let (reader, writer) = io::pipe(rt)?;
+    gathered(rt.alloc(), &writer, told)?;
+    write!(told, ", ")?;
+    read_row(reader, told)?;
+    write!(told, "closed: ")?;
+    gathered(rt.alloc(), &writer, told)?;
+    Ok(writeln!(told)?)
 }
 
 /// Puts to a full device by a writer that gathers.
-fn gathered_to_full(rt: &HostRuntime) -> io::Result<String> {
+fn gathered_to_full(rt: &HostRuntime, told: &mut String) -> io::Result<()> {
     let full = File::options().write(true).open(rt, "/dev/full")?;
-    let (put, flush) = gathered(rt.alloc(), full)?;
-    Ok(format!(in rt.alloc(); "{put}, {flush}\n")?)
+    gathered(rt.alloc(), full, told)?;
+    Ok(writeln!(told)?)
 }
 
-/// Puts to the stream that is named.
-pub fn put(rt: &HostRuntime, given: &str) -> io::Result<String> {
+/// Puts to the stream that is named, and tells how that ended.
+pub fn put(rt: &HostRuntime, given: &str, told: &mut String) -> io::Result<()> {
     match given.trim_end() {
-        "pipe" => put_to_pipe(rt),
-        "three bytes" => put_to_three_bytes(rt.alloc()),
-        "gathered to a pipe" => gathered_to_pipe(rt),
-        "gathered to a full device" => gathered_to_full(rt),
-        _ => Ok(String::new(rt.alloc())),
+        "pipe" => put_to_pipe(rt, told),
+        "three bytes" => put_to_three_bytes(told),
+        "gathered to a pipe" => gathered_to_pipe(rt, told),
+        "gathered to a full device" => gathered_to_full(rt, told),
+        _ => Ok(()),
     }
 }

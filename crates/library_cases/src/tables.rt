@@ -1,6 +1,6 @@
 //! The tables, and what each of them asks.
 
-use crate::{audits, inputs, locks, logs, masters, shelves, sinks, streams};
+use crate::{inputs, locks, logs, masters, shelves, sinks, streams};
 use cases::{Fault, Table, show};
 use std::alloc::{AllocError, Global};
 use std::io;
@@ -36,8 +36,6 @@ enum Topic {
     LastRows,
     /// The rows of one event are written, and then those of another.
     Events,
-    /// The rows of a log are audited.
-    Audits,
     /// Passes try for the turn of a lock.
     Locks,
     /// The calls of a shared master by one thread.
@@ -45,7 +43,7 @@ enum Topic {
 }
 
 /// The tables, each with the name of its file.
-const TABLES: [(&str, Topic); 16] = [
+const TABLES: [(&str, Topic); 15] = [
     ("memory_shelf", Topic::MemoryShelf),
     ("file_shelf", Topic::FileShelf),
     ("memory_sink", Topic::MemorySink),
@@ -59,7 +57,6 @@ const TABLES: [(&str, Topic); 16] = [
     ("rows", Topic::Rows),
     ("last_rows", Topic::LastRows),
     ("events", Topic::Events),
-    ("audits", Topic::Audits),
     ("locks", Topic::Locks),
     ("masters", Topic::Masters),
 ];
@@ -73,31 +70,43 @@ pub fn all_names(alloc: Global) -> Result<Vec<String>, AllocError> {
     Ok(names)
 }
 
-/// What is told of what a case gives.
-fn told<T: Threads + Wait + Sync>(
+/// Tells of what a case gives.
+fn tell<T: Threads + Wait + Sync>(
     rt: &HostRuntime,
     threads: &T,
     topic: Topic,
     given: &str,
-) -> io::Result<String> {
-    let alloc = rt.alloc();
+    told: &mut String,
+) -> io::Result<()> {
     match topic {
-        Topic::MemoryShelf => Ok(shelves::fetched_from_memory(alloc, given)?),
-        Topic::FileShelf => Ok(shelves::fetched_from_files(rt, given)?),
-        Topic::MemorySink => Ok(sinks::put_to_memory(alloc, given)?),
-        Topic::Streams => streams::put(rt, given),
-        Topic::Faults => Ok(sinks::printed(alloc, given)?),
-        Topic::System => Ok(inputs::system(alloc, given)?),
-        Topic::Steps => Ok(inputs::steps(alloc, given)?),
-        Topic::Requests => Ok(inputs::requests(alloc, given)?),
-        Topic::Generated => Ok(inputs::generated(alloc, given)?),
-        Topic::Logs => Ok(logs::log(alloc, given)?),
-        Topic::Rows => Ok(logs::second_rows(alloc, given)?),
-        Topic::LastRows => Ok(logs::last_rows(alloc, given)?),
-        Topic::Events => Ok(logs::events(alloc)?),
-        Topic::Audits => Ok(audits::audited(alloc, given)?),
-        Topic::Locks => Ok(locks::told(rt, threads, given)?),
-        Topic::Masters => Ok(masters::told(alloc, given)?),
+        Topic::FileShelf => Ok(shelves::fetched_from_files(rt, given, told)?),
+        Topic::Streams => streams::put(rt, given, told),
+        Topic::Locks => Ok(locks::told(rt, threads, given, told)?),
+        _ => Ok(tell_of_values(rt.alloc(), topic, given, told)?),
+    }
+}
+
+/// Tells of what a case gives that needs nothing of the system but memory.
+fn tell_of_values(
+    alloc: Global,
+    topic: Topic,
+    given: &str,
+    told: &mut String,
+) -> Result<(), AllocError> {
+    match topic {
+        Topic::MemoryShelf => shelves::fetched_from_memory(alloc, given, told),
+        Topic::MemorySink => sinks::put_to_memory(alloc, given, told),
+        Topic::Faults => sinks::printed(given, told),
+        Topic::System => inputs::system(alloc, given, told),
+        Topic::Steps => inputs::steps(alloc, given, told),
+        Topic::Requests => inputs::requests(alloc, given, told),
+        Topic::Generated => inputs::generated(alloc, given, told),
+        Topic::Logs => logs::log(alloc, given, told),
+        Topic::Rows => logs::second_rows(alloc, given, told),
+        Topic::LastRows => logs::last_rows(alloc, given, told),
+        Topic::Events => logs::events(alloc, told),
+        Topic::Masters => masters::told(alloc, given, told),
+        Topic::FileShelf | Topic::Streams | Topic::Locks => Ok(()),
     }
 }
 
@@ -114,8 +123,10 @@ impl<T: Threads + Wait + Sync> Table for Asked<'_, T> {
 
     ghost IsReady = { λ _. IsSync T.row };
 
-    fn answer(&mut self, _alloc: Global, given: &str) -> Result<String, Fault> {
-        Ok(told(self.rt, self.threads, self.topic, given)?)
+    fn answer(&mut self, alloc: Global, given: &str) -> Result<String, Fault> {
+        let mut told = String::new(alloc);
+        tell(self.rt, self.threads, self.topic, given, &mut told)?;
+        Ok(told)
     }
 }
 

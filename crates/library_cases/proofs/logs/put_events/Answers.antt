@@ -1,5 +1,5 @@
 use Rattle.std.proofs.Common.{[], refl, arith}
-use Rattle.library_cases.proofs.logs.events.Goals as goal
+use Rattle.library_cases.proofs.logs.put_events.Goals as goal
 
 pub event_rows-requires-2-clause-frames : goal.event_rows-requires-2-clause-frames
 event_rows-requires-2-clause-frames c = record {
