@@ -3,7 +3,7 @@
 ghost use Rattle.std.specs.Prelude.{◌<◌, All};
 
 use arbitration::{Contenders, arbitrate};
-use cases::{Fault, Table, fields_of, hexadecimal, push_behind};
+use cases::{Fault, Table, cut, hexadecimal};
 use std::alloc::Global;
 
 /// Senders that begin together. They are the same list for all lines, which is cleared for each.
@@ -27,17 +27,12 @@ impl Table for Senders {
     ghost IsReady = { λ _. ⊤ };
 
     fn answer(&mut self, alloc: Global, given: &str) -> Result<String, Fault> {
-        let fields = fields_of(alloc, given)?;
-        match fields.as_slice() {
-            ["arbitrate", ids @ ..] => {
+        let (word, ids) = cut(given, ' ');
+        match word {
+            "arbitrate" => {
                 self.contenders.clear();
                 contend(&mut self.contenders, ids)?;
-                let mut text = winner(alloc, &self.contenders)?;
-                for id in self.contenders.ids() {
-                    let one = format!(in alloc; "{id:03x}")?;
-                    push_behind(&mut text, ' ', one.as_str())?;
-                }
-                Ok(text)
+                told(alloc, &self.contenders)
             }
             _ => Err(Fault::Unread),
         }
@@ -45,11 +40,14 @@ impl Table for Senders {
 }
 
 /// Adds the senders of these identifiers to none.
-fn contend(contenders: &mut Contenders, ids: &[&str]) -> Result<(), Fault>
+fn contend(contenders: &mut Contenders, ids: &str) -> Result<(), Fault>
     requires eleven_bits { All (λ id. id < 0x800) contenders.old }
     ensures eleven_bits { All (λ id. id < 0x800) contenders.new }
 {
-    for id in ids {
+    if ids.is_empty() {
+        return Ok(());
+    }
+    for id in ids.split(' ') {
         push(contenders, hexadecimal(id)?)?;
     }
     Ok(())
@@ -70,12 +68,16 @@ fn push(contenders: &mut Contenders, id: u16) -> Result<(), Fault>
     }
 }
 
-/// The place of the sender that is left.
-fn winner(alloc: Global, contenders: &Contenders) -> Result<String, Fault>
+/// The place of the sender that is left, and all senders.
+fn told(alloc: Global, contenders: &Contenders) -> Result<String, Fault>
     requires eleven_bits { All (λ id. id < 0x800) contenders.now }
 {
-    match arbitrate(contenders.ids()) {
-        Some(place) => Ok(format!(in alloc; "place {place} of")?),
-        None => Ok(String::from_str(alloc, "none")?),
+    let Some(place) = arbitrate(contenders.ids()) else {
+        return Ok(String::from_str(alloc, "none")?);
+    };
+    let mut text = format!(in alloc; "place {place} of")?;
+    for id in contenders.ids() {
+        write!(text, " {id:03x}")?;
     }
+    Ok(text)
 }

@@ -35,9 +35,9 @@ impl<T: Drop> From<AllocFailed<T>> for Fault {
     }
 }
 
-/// The fields of a line, with a blank between two.
-pub fn fields_of(alloc: Global, line: &str) -> Result<Vec<&str>, Fault> {
-    Ok(line.split(' ').collect(alloc)?)
+/// What stands before the first mark of a text, and what stands after it. Without a mark that is the text, and nothing.
+pub fn cut(text: &str, mark: char) -> (&str, &str) {
+    text.split_once(mark).unwrap_or((text, ""))
 }
 
 /// The decimal number that a field writes.
@@ -93,11 +93,6 @@ pub fn bytes(alloc: Global, field: &str) -> Result<Vec<u8>, Fault> {
         Ok(bytes) => Ok(bytes),
         Err(_) => Err(Fault::Unread),
     }
-}
-
-/// The parts of a field with colons between them.
-pub fn parts(alloc: Global, field: &str) -> Result<Vec<&str>, Fault> {
-    Ok(field.split(':').collect(alloc)?)
 }
 
 /// The text of a frame: its identifier, a hash sign and its bytes.

@@ -11,6 +11,5 @@ mod reading;
 pub use asked::words;
 pub use comparing::{Table, compared, show};
 pub use fields::{
-    Fault, bytes, fields_of, hexadecimal, length, parts, push_behind, small, text_of_frame,
-    text_of_trace, time,
+    Fault, bytes, cut, hexadecimal, length, push_behind, small, text_of_frame, text_of_trace, time,
 };

@@ -1,12 +1,12 @@
 //! Calls of `async_window`.
 
-ghost use Rattle.std.specs.Prelude.{◌<◌, ◌^◌};
+ghost use Rattle.cycle_layout.specs.Layout.{IsSlots};
 
-use crate::layouts::layout;
+use crate::layouts::{after_layout, layout};
 use crate::requests::{are_in_order, requests};
-use crate::values::{text_of_offer, text_of_time};
-use async_window::{Mailboxes, Request};
-use cases::{Fault, Table, fields_of, hexadecimal, length, push_behind, text_of_frame, time};
+use crate::values::{text_of_offer, text_of_stay};
+use async_window::Mailboxes;
+use cases::{Fault, Table, cut, hexadecimal, length, text_of_frame, time};
 use cycle_layout::Layout;
 use std::alloc::Global;
 
@@ -36,16 +36,15 @@ impl Table for Mail {
     ghost IsReady = { λ _. ⊤ };
 
     fn answer(&mut self, alloc: Global, given: &str) -> Result<String, Fault> {
-        let fields = fields_of(alloc, given)?;
-        match fields.as_slice() {
-            ["new", cycle, turnaround, window, given @ ..] => {
-                self.renew(alloc, layout(cycle, turnaround, window, 40)?, given)
-            }
-            ["96", "new", cycle, turnaround, window, given @ ..] => {
-                self.renew(alloc, layout(cycle, turnaround, window, 96)?, given)
-            }
+        let (word, fields) = cut(given, ' ');
+        match word {
+            "new" => self.renew(alloc, fields, 40),
+            "96" => match fields.strip_prefix("new ") {
+                Some(fields) => self.renew(alloc, fields, 96),
+                None => Err(Fault::Unread),
+            },
             _ => match &mut self.waiting {
-                Some(waiting) => waiting.answer(alloc, fields.as_slice()),
+                Some(waiting) => waiting.answer(alloc, word, fields),
                 None => Err(Fault::Unread),
             },
         }
@@ -53,9 +52,12 @@ impl Table for Mail {
 }
 
 impl Mail {
-    /// Requests that wait in a layout. The answer is how many there are.
-    fn renew(&mut self, alloc: Global, layout: Layout, given: &[&str]) -> Result<String, Fault> {
-        let boxes = mailboxes(alloc, requests(alloc, given)?.as_slice())?;
+    /// Requests that wait in a layout with so many slots. The answer is how many there are.
+    fn renew(&mut self, alloc: Global, fields: &str, slots: u8) -> Result<String, Fault>
+        requires slots { IsSlots slots }
+    {
+        let layout = layout(fields, slots)?;
+        let boxes = mailboxes(alloc, after_layout(fields))?;
         let left = boxes.left();
         self.waiting = Some(Waiting { layout, boxes });
         Ok(format!(in alloc; "{left}")?)
@@ -63,33 +65,31 @@ impl Mail {
 }
 
 /// The mailboxes of 0x201 and 0x200 with these requests.
-fn mailboxes(alloc: Global, requests: &[Request]) -> Result<Mailboxes, Fault> {
-    if !are_in_order(requests) {
+fn mailboxes(alloc: Global, fields: &str) -> Result<Mailboxes, Fault> {
+    let requests = requests(alloc, fields)?;
+    if !are_in_order(requests.as_slice()) {
         return Err(Fault::Unread);
     }
-    Ok(Mailboxes::new(alloc, &[0x201, 0x200], requests)?)
+    Ok(Mailboxes::new(alloc, &[0x201, 0x200], requests.as_slice())?)
 }
 
 impl Waiting {
     /// What a call answers.
-    fn answer(&mut self, alloc: Global, fields: &[&str]) -> Result<String, Fault> {
-        match fields {
-            ["at", at, l] => self.offer_and_wake(alloc, time(at)?, length(l)?),
-            ["until", at, l] => self.offer_until(alloc, time(at)?, length(l)?),
-            ["head", id] => self.head(alloc, hexadecimal(id)?),
-            ["sent", id] => self.sent(alloc, hexadecimal(id)?),
-            ["take", id] => {
-                let taken = self.boxes.take(hexadecimal(id)?);
-                Ok(format!(in alloc; "{taken} {}", self.boxes.left())?)
-            }
+    fn answer(&mut self, alloc: Global, word: &str, fields: &str) -> Result<String, Fault> {
+        match word {
+            "at" => self.offer_and_wake(alloc, fields),
+            "until" => self.offer_until(alloc, fields),
+            "head" => self.head(alloc, hexadecimal(fields)?),
+            "sent" => self.sent(alloc, hexadecimal(fields)?),
+            "take" => self.take(alloc, hexadecimal(fields)?),
             _ => Err(Fault::Unread),
         }
     }
 
     /// The identifier that is offered at a time, and when something is offered behind it.
-    fn offer_and_wake(&self, alloc: Global, at: u64, l: u32) -> Result<String, Fault>
-        requires time { at < 2 ^ 40 }
-    {
+    fn offer_and_wake(&self, alloc: Global, fields: &str) -> Result<String, Fault> {
+        let (at, l) = cut(fields, ' ');
+        let (at, l) = (time(at)?, length(l)?);
         if l > self.layout.window() {
             return Err(Fault::Unread);
         }
@@ -98,9 +98,9 @@ impl Waiting {
     }
 
     /// The same by the calls that are told the cycle, and how long it is offered.
-    fn offer_until(&self, alloc: Global, at: u64, l: u32) -> Result<String, Fault>
-        requires time { at < 2 ^ 40 }
-    {
+    fn offer_until(&self, alloc: Global, fields: &str) -> Result<String, Fault> {
+        let (at, l) = cut(fields, ' ');
+        let (at, l) = (time(at)?, length(l)?);
         if l > self.layout.window() {
             return Err(Fault::Unread);
         }
@@ -112,9 +112,7 @@ impl Waiting {
             Some(offer) => Some(offer.until),
             None => None,
         };
-        let mut text = text_of_offer(alloc, offer, wake)?;
-        push_behind(&mut text, ' ', text_of_time(alloc, until)?.as_str())?;
-        Ok(text)
+        text_of_stay(alloc, offer, wake, until)
     }
 
     /// The first frame of an identifier.
@@ -123,6 +121,12 @@ impl Waiting {
             Some(frame) => text_of_frame(alloc, &frame),
             None => Ok(String::from_str(alloc, "-")?),
         }
+    }
+
+    /// Takes the first request of an identifier, where there is one. The answer is whether there was, and how many are left.
+    fn take(&mut self, alloc: Global, id: u16) -> Result<String, Fault> {
+        let taken = self.boxes.take(id);
+        Ok(format!(in alloc; "{taken} {}", self.boxes.left())?)
     }
 
     /// Takes the first request of an identifier away. The answer is how many requests are left.

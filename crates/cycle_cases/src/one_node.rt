@@ -1,22 +1,22 @@
 //! Calls of `node_model`.
 
 ghost use Rattle.std.specs.Prelude.{◌≡◌, ◌<◌, ◌^◌, IfSome, IfOk};
+ghost use Rattle.cycle_layout.specs.Layout.{IsSlots};
 ghost use Rattle.node_model.specs.Node.{opening_identifier};
 ghost use Rattle.cycle_cases.specs.Ready.{CountsCycles};
 
 use crate::entries::entries;
-use crate::layouts::layout;
+use crate::layouts::{after_layout, layout};
 use crate::requests::{are_in_order, requests};
-use crate::triggers::trigger;
-use crate::values::{frame, mask, text_of_mask, text_of_offer, text_of_time};
-use async_window::{Owner, Request};
+use crate::triggers::{second_trigger, trigger};
+use crate::values::{frame, text_of_mask, text_of_offer, text_of_time};
+use async_window::Owner;
 use can_frame::{Frame, TimedFrame, wire_len};
-use cases::{Fault, Table, fields_of, length, small, text_of_frame, time};
+use cases::{Fault, Table, cut, small, text_of_frame, time};
 use cycle_layout::Layout;
 use node_model::Node;
 use requirement_table::{MOST_SLOTS, Mask, Placed, well_placed};
 use std::alloc::Global;
-use trigger_codec::encode_second;
 
 /// A node, the identifier of the frames that open cycles for it, and how many of them it heard.
 #[derive(Drop)]
@@ -48,16 +48,15 @@ impl Table for OneNode {
     ghost IsReady = { λ table. IfSome table.opened CountsCycles };
 
     fn answer(&mut self, alloc: Global, given: &str) -> Result<String, Fault> {
-        let fields = fields_of(alloc, given)?;
-        match fields.as_slice() {
-            ["new", cycle, turnaround, window, given @ ..] => {
-                self.renew(alloc, layout(cycle, turnaround, window, 40)?, given, 0)
-            }
-            ["96", "new", cycle, turnaround, window, given @ ..] => {
-                self.renew(alloc, layout(cycle, turnaround, window, 96)?, given, 1)
-            }
+        let (word, fields) = cut(given, ' ');
+        match word {
+            "new" => self.renew(alloc, fields, 40, 0),
+            "96" => match fields.strip_prefix("new ") {
+                Some(fields) => self.renew(alloc, fields, 96, 1),
+                None => Err(Fault::Unread),
+            },
             _ => match &mut self.opened {
-                Some(opened) => opened.answer(alloc, fields.as_slice()),
+                Some(opened) => opened.answer(alloc, word, fields),
                 None => Err(Fault::Unread),
             },
         }
@@ -65,20 +64,22 @@ impl Table for OneNode {
 }
 
 impl OneNode {
-    /// A node in a layout, with requests; frames of an identifier open its cycles. The answer is how many of the requests
-    /// are its own.
+    /// A node in a layout with so many slots, with requests; frames of an identifier open its cycles. The answer is how
+    /// many of the requests are its own.
     fn renew(
         &mut self,
         alloc: Global,
-        layout: Layout,
-        given: &[&str],
+        fields: &str,
+        slots: u8,
         opening: u16,
     ) -> Result<String, Fault>
-        requires opening { opening ≡ opening_identifier layout.slots }
+        requires slots { IsSlots slots }
+        requires opening { opening ≡ opening_identifier slots }
         requires ready { IfSome self.old.opened CountsCycles }
         ensures ready { IfSome self.new.opened CountsCycles }
     {
-        let node = node(alloc, layout, requests(alloc, given)?.as_slice())?;
+        let layout = layout(fields, slots)?;
+        let node = node(alloc, layout, after_layout(fields))?;
         let left = node.left();
         self.opened = Some(Opened {
             node,
@@ -90,11 +91,12 @@ impl OneNode {
 }
 
 /// Node 1 with these requests.
-fn node(alloc: Global, layout: Layout, requests: &[Request]) -> Result<Node, Fault>
+fn node(alloc: Global, layout: Layout, fields: &str) -> Result<Node, Fault>
     ensures next { IfOk result (λ node. node.state.next ≡ 0) }
     ensures layout { IfOk result (λ node. node.state.layout ≡ layout) }
 {
-    if !are_in_order(requests) {
+    let requests = requests(alloc, fields)?;
+    if !are_in_order(requests.as_slice()) {
         return Err(Fault::Unread);
     }
     let owners = [
@@ -102,33 +104,34 @@ fn node(alloc: Global, layout: Layout, requests: &[Request]) -> Result<Node, Fau
         Owner { id: 0x208, node: 0 },
         Owner { id: 0x205, node: 1 },
     ];
-    Ok(Node::new(alloc, 1, layout, &owners, requests)?)
+    Ok(Node::new(alloc, 1, layout, &owners, requests.as_slice())?)
 }
 
 impl Opened {
     /// What a call answers.
-    fn answer(&mut self, alloc: Global, fields: &[&str]) -> Result<String, Fault>
+    fn answer(&mut self, alloc: Global, word: &str, fields: &str) -> Result<String, Fault>
         requires cycles { CountsCycles self.old }
         ensures cycles { CountsCycles self.new }
     {
-        match fields {
-            ["trigger", cycle, l, slots] => {
-                let sent = trigger(time(cycle)?, length(l)?, mask(slots)?)?;
-                self.hear(alloc, sent)
-            }
-            ["second", cycle, slots] => {
-                self.hear(alloc, encode_second(time(cycle)?, mask(slots)?))
-            }
-            ["hear", sent] => self.hear(alloc, frame(alloc, sent)?),
-            ["take", at, sent] => self.take(alloc, time(at)?, frame(alloc, sent)?),
-            ["count"] => {
-                self.node.count();
-                Ok(format!(in alloc; "{}", self.node.heard())?)
-            }
-            ["learn", list @ ..] => self.learn(alloc, entries(alloc, list)?.as_slice()),
-            ["reserve", list @ ..] => self.learn_in(alloc, entries(alloc, list)?.as_slice()),
-            _ => told(alloc, &self.node, fields),
+        match word {
+            "trigger" => self.hear(alloc, trigger(fields)?),
+            "second" => self.hear(alloc, second_trigger(fields)?),
+            "hear" => self.hear(alloc, frame(alloc, fields)?),
+            "take" => self.take(alloc, fields),
+            "count" if fields.is_empty() => self.count(alloc),
+            "learn" => self.learn(alloc, entries(alloc, fields)?.as_slice()),
+            "reserve" => self.learn_in(alloc, entries(alloc, fields)?.as_slice()),
+            _ => told(alloc, &self.node, word, fields),
         }
+    }
+
+    /// The node counts a frame without hearing it. The answer is how many it heard.
+    fn count(&mut self, alloc: Global) -> Result<String, Fault>
+        requires cycles { CountsCycles self.old }
+        ensures cycles { CountsCycles self.new }
+    {
+        self.node.count();
+        Ok(format!(in alloc; "{}", self.node.heard())?)
     }
 
     /// The node hears a frame. The answer is how many it heard.
@@ -152,10 +155,12 @@ impl Opened {
     }
 
     /// Whether the node takes away a request of its own by a frame, and how many are left.
-    fn take(&mut self, alloc: Global, start: u64, frame: Frame) -> Result<String, Fault>
+    fn take(&mut self, alloc: Global, fields: &str) -> Result<String, Fault>
         requires cycles { CountsCycles self.old }
         ensures cycles { CountsCycles self.new }
     {
+        let (start, sent) = cut(fields, ' ');
+        let (start, frame) = (time(start)?, frame(alloc, sent)?);
         let len = wire_len(&frame);
         let own = self.node.take_own(&TimedFrame { start, len, frame });
         Ok(format!(in alloc; "{own} {}", self.node.left())?)
@@ -188,18 +193,18 @@ impl Opened {
 }
 
 /// What a node tells, which changes nothing.
-fn told(alloc: Global, node: &Node, fields: &[&str]) -> Result<String, Fault> {
-    match fields {
-        ["at", at] => offer_and_wake(alloc, node, time(at)?),
-        ["next", at] => text_of_time(alloc, node.next_offer(time(at)?)),
-        ["frame", at] => offered_frame(alloc, node, time(at)?),
-        ["slots"] => text_of_mask(alloc, node.with_due_slots(Mask::empty())),
-        ["slot", slot] => frame_of_slot(alloc, node, small(slot)?),
+fn told(alloc: Global, node: &Node, word: &str, fields: &str) -> Result<String, Fault> {
+    match word {
+        "at" => offer_and_wake(alloc, node, time(fields)?),
+        "next" => text_of_time(alloc, node.next_offer(time(fields)?)),
+        "frame" => offered_frame(alloc, node, time(fields)?),
+        "slots" if fields.is_empty() => text_of_mask(alloc, node.with_due_slots(Mask::empty())),
+        "slot" => frame_of_slot(alloc, node, small(fields)?),
         _ => Err(Fault::Unread),
     }
 }
 
-/// The identifier that the node offers at a time, and when it wakes behind that time.
+/// The identifier that the node offers at a time, and when it wakes after that time.
 fn offer_and_wake(alloc: Global, node: &Node, at: u64) -> Result<String, Fault>
     requires time { at < 2 ^ 40 }
 {

@@ -5,7 +5,7 @@ ghost use Rattle.requirement_table.specs.Table.{IsWellPlaced};
 ghost use Rattle.sporadic_poll.specs.PolledNodes.{AreNext};
 
 use can_frame::TimedFrame;
-use cases::{Fault, Table, fields_of, small};
+use cases::{Fault, Table, cut, small};
 use cycle_layout::Layout;
 use profile::FIRST_IDENTIFIER;
 use requirement_table::{Entry, Mask, Order, Placed, PlacedList, released_in, well_placed};
@@ -34,26 +34,36 @@ impl Table for Polled {
     ghost IsReady = { λ _. ⊤ };
 
     fn answer(&mut self, alloc: Global, given: &str) -> Result<String, Fault> {
-        let fields = fields_of(alloc, given)?;
-        match fields.as_slice() {
-            ["run", slot, bytes, phase, period, deadline, count, rows] => {
-                let entry = Entry {
-                    slot: small(slot)?,
-                    node: 0,
-                    length: small(bytes)?,
-                    phase: u16::from(small(phase)?),
-                    period: u16::from(small(period)?),
-                    deadline: u16::from(small(deadline)?),
-                    priority: 0,
-                };
-                let text = rows.replace(alloc, ";", "\n")?;
-                match read_streams(alloc, text.as_bytes(), SLOTS) {
-                    Ok(streams) => run(alloc, streams.as_slice(), entry, small(count)?),
-                    Err(_) => Err(Fault::Unread),
-                }
-            }
+        let (word, fields) = cut(given, ' ');
+        match word {
+            "run" => asked(alloc, fields),
             _ => Err(Fault::Unread),
         }
+    }
+}
+
+/// Runs a table of one entry: its slot, bytes, phase, period and deadline, the number of cycles, and the rows.
+fn asked(alloc: Global, fields: &str) -> Result<String, Fault> {
+    let (slot, rest) = cut(fields, ' ');
+    let (bytes, rest) = cut(rest, ' ');
+    let (phase, rest) = cut(rest, ' ');
+    let (period, rest) = cut(rest, ' ');
+    let (deadline, rest) = cut(rest, ' ');
+    let (count, rows) = cut(rest, ' ');
+    let entry = Entry {
+        slot: small(slot)?,
+        node: 0,
+        length: small(bytes)?,
+        phase: u16::from(small(phase)?),
+        period: u16::from(small(period)?),
+        deadline: u16::from(small(deadline)?),
+        priority: 0,
+    };
+    let count = small(count)?;
+    let text = rows.replace(alloc, ";", "\n")?;
+    match read_streams(alloc, text.as_bytes(), SLOTS) {
+        Ok(streams) => run(alloc, streams.as_slice(), entry, count),
+        Err(_) => Err(Fault::Unread),
     }
 }
 
@@ -106,22 +116,41 @@ fn one_cycle(
     Ok(run_polled(alloc, &order, nodes)?)
 }
 
-/// The text, and behind it the cycle and the bytes of each frame of the slot.
-fn told(
-    alloc: Global,
-    text: &str,
-    cycle: u64,
-    slot: u8,
-    frames: &[TimedFrame],
-) -> Result<String, Fault> {
-    let mut told = String::from_str(alloc, text)?;
+/// Puts the cycle and the bytes of each frame of a slot behind a text.
+fn tell(text: &mut String, cycle: u64, slot: u8, frames: &[TimedFrame]) -> Result<(), Fault> {
     for sent in frames {
         if sent.frame.id() == FIRST_IDENTIFIER + u16::from(slot) {
             let bytes = sent.frame.bytes();
-            told = format!(in alloc; "{told} {cycle} {bytes:?}")?;
+            write!(text, " {cycle} {bytes:?}")?;
         }
     }
-    Ok(told)
+    Ok(())
+}
+
+/// Runs the next cycle, in which the one entry is sent where it is released, and tells its frames.
+fn run_next(
+    alloc: Global,
+    nodes: &mut PolledNodes,
+    placed: &[Placed],
+    entry: Entry,
+    cycle: u64,
+    text: &mut String,
+) -> Result<(), Fault>
+    requires well_placed { IsWellPlaced placed.now }
+    requires window { nodes.old.nodes.layout.window ≡ 135 }
+    requires slots { nodes.old.nodes.layout.slots ≡ 40 }
+    requires next { AreNext cycle nodes.old }
+    requires few { cycle < 10 }
+    requires short { entry.length ≤ 8 }
+    ensures layout { nodes.new.nodes.layout ≡ nodes.old.nodes.layout }
+    ensures next { OnOk result (AreNext (cycle + 1) nodes.new) }
+{
+    let mask = released_in(placed, cycle);
+    if !fits(mask) {
+        return Err(Fault::Unread);
+    }
+    let frames = one_cycle(alloc, nodes, placed, mask, cycle, entry.length)?;
+    tell(text, cycle, entry.slot, frames.as_slice())
 }
 
 /// Runs the first cycles of a bus of one node, whose one entry is sent in the cycle of each release. The answer is the
@@ -130,7 +159,6 @@ fn told(
 fn run(alloc: Global, streams: &[Stream], entry: Entry, count: u8) -> Result<String, Fault>
     requires known { All (λ stream. stream.slot < 40) streams.now }
 {
-    let mut text = String::from_str(alloc, "frames")?;
     let placed = [Placed {
         entry,
         origin: 0,
@@ -143,13 +171,10 @@ fn run(alloc: Global, streams: &[Stream], entry: Entry, count: u8) -> Result<Str
         return Err(Fault::Unread);
     }
     let mut nodes = PolledNodes::new(alloc, layout, 1, streams)?;
+    let mut text = String::from_str(alloc, "frames")?;
     for cycle in 0..u64::from(count) {
-        let mask = released_in(&placed, cycle);
-        if !fits(mask) {
-            return Err(Fault::Unread);
-        }
-        let frames = one_cycle(alloc, &mut nodes, &placed, mask, cycle, entry.length)?;
-        text = told(alloc, text.as_str(), cycle, entry.slot, frames.as_slice())?;
+        run_next(alloc, &mut nodes, &placed, entry, cycle, &mut text)?;
     }
-    Ok(format!(in alloc; "{text}, fates {:?}", nodes.rides().fates())?)
+    write!(text, ", fates {:?}", nodes.rides().fates())?;
+    Ok(text)
 }

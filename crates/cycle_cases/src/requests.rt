@@ -8,9 +8,12 @@ use cases::{Fault, time};
 use std::alloc::Global;
 
 /// The requests of fields that each write an arrival, a colon and a frame.
-pub fn requests(alloc: Global, fields: &[&str]) -> Result<Vec<Request>, Fault> {
+pub fn requests(alloc: Global, fields: &str) -> Result<Vec<Request>, Fault> {
     let mut requests = Vec::new(alloc);
-    for field in fields {
+    if fields.is_empty() {
+        return Ok(requests);
+    }
+    for field in fields.split(' ') {
         requests.push(request(alloc, field)?)?;
     }
     Ok(requests)

@@ -2,9 +2,8 @@
 
 use crate::values::{frame, mask, text_of_mask};
 use can_frame::Frame;
-use cases::{Fault, Table, fields_of, length, text_of_frame, time};
+use cases::{Fault, Table, cut, length, text_of_frame, time};
 use profile::LONGEST_WINDOW;
-use requirement_table::Mask;
 use std::alloc::Global;
 use trigger_codec::{decode, decode_second, encode, encode_second, flags_of_both};
 
@@ -18,30 +17,39 @@ impl Table for Triggers {
     ghost IsReady = { λ _. ⊤ };
 
     fn answer(&mut self, alloc: Global, given: &str) -> Result<String, Fault> {
-        let fields = fields_of(alloc, given)?;
-        match fields.as_slice() {
-            ["encode", cycle, l, slots] => {
-                text_of_frame(alloc, &trigger(time(cycle)?, length(l)?, mask(slots)?)?)
-            }
-            ["encode-second", cycle, slots] => {
-                text_of_frame(alloc, &encode_second(time(cycle)?, mask(slots)?))
-            }
-            ["decode", heard] => decoded(alloc, &frame(alloc, heard)?),
-            ["decode-second", heard] => decoded_second(alloc, &frame(alloc, heard)?),
-            ["both", first, second] => {
-                text_of_mask(alloc, flags_of_both(mask(first)?, mask(second)?))
-            }
+        let (word, fields) = cut(given, ' ');
+        match word {
+            "encode" => text_of_frame(alloc, &trigger(fields)?),
+            "encode-second" => text_of_frame(alloc, &second_trigger(fields)?),
+            "decode" => decoded(alloc, &frame(alloc, fields)?),
+            "decode-second" => decoded_second(alloc, &frame(alloc, fields)?),
+            "both" => both(alloc, fields),
             _ => Err(Fault::Unread),
         }
     }
 }
 
-/// The first trigger frame of a cycle.
-pub fn trigger(cycle: u64, l: u32, mask: Mask) -> Result<Frame, Fault> {
+/// The first trigger frame of a cycle, with its window and its flagged slots.
+pub fn trigger(fields: &str) -> Result<Frame, Fault> {
+    let (cycle, rest) = cut(fields, ' ');
+    let (l, slots) = cut(rest, ' ');
+    let l = length(l)?;
     if l > LONGEST_WINDOW {
         return Err(Fault::Unread);
     }
-    Ok(encode(cycle, l, mask))
+    Ok(encode(time(cycle)?, l, mask(slots)?))
+}
+
+/// The second trigger frame of a cycle, with its flagged slots.
+pub fn second_trigger(fields: &str) -> Result<Frame, Fault> {
+    let (cycle, slots) = cut(fields, ' ');
+    Ok(encode_second(time(cycle)?, mask(slots)?))
+}
+
+/// The slots that two trigger frames flag together.
+fn both(alloc: Global, fields: &str) -> Result<String, Fault> {
+    let (first, second) = cut(fields, ' ');
+    text_of_mask(alloc, flags_of_both(mask(first)?, mask(second)?))
 }
 
 /// What a second trigger frame says, or the fault.

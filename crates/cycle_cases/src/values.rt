@@ -1,4 +1,4 @@
-//! Frames, sets of slots and what is offered, as text. Where there is none it is `-`.
+//! Fields of a line; frames, sets of slots and what is offered, as text. Where there is none it is `-`.
 
 use can_frame::Frame;
 use cases::{Fault, bytes, hexadecimal, push_behind, small};
@@ -68,4 +68,16 @@ pub fn text_of_offer(alloc: Global, id: Option<u16>, next: Option<u64>) -> Resul
     let id = text_of_identifier(alloc, id)?;
     let next = text_of_time(alloc, next)?;
     Ok(format!(in alloc; "{id} {next}")?)
+}
+
+/// The text of what is offered, of when something is next, and of how long it is offered.
+pub fn text_of_stay(
+    alloc: Global,
+    id: Option<u16>,
+    next: Option<u64>,
+    until: Option<u64>,
+) -> Result<String, Fault> {
+    let mut text = text_of_offer(alloc, id, next)?;
+    push_behind(&mut text, ' ', text_of_time(alloc, until)?.as_str())?;
+    Ok(text)
 }

@@ -3,7 +3,7 @@
 //! Nothing refuses memory where the program is run by itself. Where a test refuses an allocation, a line `again` goes to
 //! the error sink for the call, and what is printed must be the same: the failed call has changed nothing.
 
-ghost use Rattle.std.specs.Prelude.{◌+◌, ◌≤◌, OnOk};
+ghost use Rattle.std.specs.Prelude.{◌≤◌};
 
 use crate::changes;
 use admission::{Rules, Verdict};
@@ -15,8 +15,8 @@ use profile::OPENINGS_END;
 use std::alloc::{AllocError, Global};
 use std::io;
 
-/// A refused call is made again up to so many times.
-const TRIES: u8 = 3;
+/// A call is made so many times at most.
+const TRIES: u8 = 4;
 
 /// The rules of all changes.
 const RULES: Rules = Rules {
@@ -41,19 +41,26 @@ pub fn asked_words(rt: &HostRuntime) -> io::Result<Vec<String>> {
             Err(_) => again(rt)?,
         }
     }
-    words(rt)
+    Err(io::Error::from(AllocError))
 }
 
-/// Prints what a master answers to each change, and the cycles that it opens behind each.
+/// Prints what a master answers to each change, and the cycles that it opens after each. Then it prints the certificate
+/// of the table.
 pub fn told(rt: &HostRuntime) -> io::Result<()> {
     let mut master = made(rt)?;
-    for number in 0..changes::COUNT {
-        answered(rt, &mut master, number)?;
-        opened(rt, &mut master)?;
-    }
-    settled(rt, &mut master)?;
-    opened(rt, &mut master)?;
+    asked(rt, &mut master)?;
     certified(rt, &master)
+}
+
+/// Prints what a master answers to each change, and the cycles that it opens after each.
+fn asked(rt: &HostRuntime, master: &mut Master) -> io::Result<()> {
+    for number in 0..=changes::LAST {
+        answered(rt, master, number)?;
+        opened(rt, master)?;
+        opened(rt, master)?;
+        opened(rt, master)?;
+    }
+    Ok(())
 }
 
 /// A master of the rules, without an event.
@@ -64,55 +71,51 @@ fn made(rt: &HostRuntime) -> io::Result<Master> {
             Err(_) => again(rt)?,
         }
     }
-    Ok(Master::new(rt.alloc(), RULES)?)
-}
-
-/// The change with this number, from cycle `start` on.
-fn change(rt: &HostRuntime, number: u64, start: u64) -> io::Result<Change> {
-    for _ in 0..TRIES {
-        match changes::change(rt.alloc(), number, start) {
-            Ok(change) => return Ok(change),
-            Err(_) => again(rt)?,
-        }
-    }
-    Ok(changes::change(rt.alloc(), number, start)?)
-}
-
-/// The verdict on a change.
-fn verdict(rt: &HostRuntime, master: &mut Master, change: &Change) -> io::Result<Verdict> {
-    for _ in 0..TRIES {
-        match master.submit(rt.alloc(), 1, change) {
-            Ok(verdict) => return Ok(verdict),
-            Err(_) => again(rt)?,
-        }
-    }
-    Ok(master.submit(rt.alloc(), 1, change)?)
+    Err(io::Error::from(AllocError))
 }
 
 /// Prints the verdict on the change with this number, from the next cycle on.
 fn answered(rt: &HostRuntime, master: &mut Master, number: u64) -> io::Result<()> {
-    let change = change(rt, number, master.next())?;
-    let verdict = verdict(rt, master, &change)?;
-    println!(rt; "{verdict:?}")
-}
-
-/// Makes room for three events.
-fn make_room(rt: &HostRuntime, master: &mut Master) -> io::Result<()>
-    ensures room { OnOk result (3 ≤ master.new.spare) }
-{
     for _ in 0..TRIES {
-        match master.reserve(rt.alloc(), 3) {
-            Ok(()) => return Ok(()),
+        match verdict(rt.alloc(), master, number) {
+            Ok(verdict) => return println!(rt; "{verdict:?}"),
             Err(_) => again(rt)?,
         }
     }
-    Ok(master.reserve(rt.alloc(), 3)?)
+    Err(io::Error::from(AllocError))
+}
+
+/// The verdict on the change with this number. The last one of them is planned apart and then settled.
+fn verdict(alloc: Global, master: &mut Master, number: u64) -> Result<Verdict, AllocError> {
+    let change = changes::change(alloc, number, master.next())?;
+    if number < changes::LAST {
+        master.submit(alloc, 1, &change)
+    } else {
+        apart(alloc, master, &change)
+    }
+}
+
+/// The verdict on a change that is planned apart and then settled.
+fn apart(alloc: Global, master: &mut Master, change: &Change) -> Result<Verdict, AllocError> {
+    let snapshot = master.snapshot(alloc)?;
+    let planned = plan_apart(alloc, &snapshot, change)?;
+    master.settle(alloc, 1, change, planned)
 }
 
 /// Opens the next cycle, where there is one, and prints it.
+fn opened(rt: &HostRuntime, master: &mut Master) -> io::Result<()> {
+    for _ in 0..TRIES {
+        match master.reserve(rt.alloc(), 1) {
+            Ok(()) => return open(rt, master),
+            Err(_) => again(rt)?,
+        }
+    }
+    Err(io::Error::from(AllocError))
+}
+
+/// Opens the next cycle, where there is one and room for the event, and prints it.
 fn open(rt: &HostRuntime, master: &mut Master) -> io::Result<()>
     requires spare { 1 ≤ master.old.spare }
-    ensures spare { master.old.spare ≤ master.new.spare + 1 }
 {
     if master.next() >= OPENINGS_END {
         return Ok(());
@@ -126,39 +129,6 @@ fn open(rt: &HostRuntime, master: &mut Master) -> io::Result<()>
     )
 }
 
-/// Opens three cycles.
-fn opened(rt: &HostRuntime, master: &mut Master) -> io::Result<()> {
-    make_room(rt, master)?;
-    open(rt, master)?;
-    open(rt, master)?;
-    open(rt, master)
-}
-
-/// The verdict on a change that is planned apart and then settled.
-fn apart(alloc: Global, master: &mut Master, change: &Change) -> Result<Verdict, AllocError> {
-    let snapshot = master.snapshot(alloc)?;
-    let planned = plan_apart(alloc, &snapshot, change)?;
-    master.settle(alloc, 1, change, planned)
-}
-
-/// Prints the verdict on the last of the changes, which is planned apart and then settled.
-fn settled(rt: &HostRuntime, master: &mut Master) -> io::Result<()> {
-    let change = change(rt, changes::COUNT, master.next())?;
-    for _ in 0..TRIES {
-        match apart(rt.alloc(), master, &change) {
-            Ok(verdict) => return println!(rt; "{verdict:?}"),
-            Err(_) => again(rt)?,
-        }
-    }
-    Ok(())
-}
-
-/// The text of the certificate of the table.
-fn plan_text(alloc: Global, master: &Master) -> Result<String, AllocError> {
-    let certificate = master.certificate(alloc)?;
-    format!(in alloc; "{certificate:?}\n")
-}
-
 /// Prints the certificate of the table.
 fn certified(rt: &HostRuntime, master: &Master) -> io::Result<()> {
     for _ in 0..TRIES {
@@ -167,5 +137,11 @@ fn certified(rt: &HostRuntime, master: &Master) -> io::Result<()> {
             Err(_) => again(rt)?,
         }
     }
-    Ok(())
+    Err(io::Error::from(AllocError))
+}
+
+/// The text of the certificate of the table.
+fn plan_text(alloc: Global, master: &Master) -> Result<String, AllocError> {
+    let certificate = master.certificate(alloc)?;
+    format!(in alloc; "{certificate:?}\n")
 }

@@ -1,37 +1,43 @@
 //! Words as numbers, and numbers as values.
 
+use cases::cut;
 use requirement_table::{Entry, MOST_SLOTS, Mask, Placed};
 use std::alloc::{AllocError, Global};
 
 /// What stands for a word that is no number, as `-` for no end.
 const NONE: u64 = u64::MAX;
 
-/// The numbers of a text, between single blanks.
-pub fn numbers(alloc: Global, text: &str) -> Result<Vec<u64>, AllocError> {
-    let mut numbers = Vec::new(alloc);
-    for word in text.split(' ') {
-        numbers.push(word.parse::<u64>().unwrap_or(NONE))?;
-    }
-    Ok(numbers)
+/// The number that a text writes.
+pub fn number(text: &str) -> u64 {
+    text.parse::<u64>().unwrap_or(NONE)
+}
+
+/// The number before the first blank of a text, and what stands after that blank.
+pub fn first(text: &str) -> (u64, &str) {
+    let (word, rest) = cut(text, ' ');
+    (number(word), rest)
+}
+
+/// How many numbers a text writes, where it writes one or more.
+pub fn count(text: &str) -> usize {
+    text.split(' ').count()
 }
 
 /// The entry in its place with these numbers: slot, node, length, phase, period, deadline, priority, origin and end.
 /// All but the last two are taken as numbers of 8 or 16 bits.
-pub fn placed(numbers: &[u64]) -> Option<Placed> {
-    let [
-        slot,
-        node,
-        size,
-        phase,
-        period,
-        deadline,
-        priority,
-        origin,
-        end,
-    ] = *numbers
-    else {
+pub fn placed(text: &str) -> Option<Placed> {
+    let (slot, rest) = first(text);
+    let (node, rest) = first(rest);
+    let (size, rest) = first(rest);
+    let (phase, rest) = first(rest);
+    let (period, rest) = first(rest);
+    let (deadline, rest) = first(rest);
+    let (priority, rest) = first(rest);
+    let (origin, rest) = first(rest);
+    let end = number(rest);
+    if end == NONE && rest != "-" {
         return None;
-    };
+    }
     let entry = Entry {
         slot: (slot % 0x100) as u8,
         node: (node % 0x100) as u8,
@@ -45,12 +51,13 @@ pub fn placed(numbers: &[u64]) -> Option<Placed> {
     Some(Placed { entry, origin, end })
 }
 
-/// The set of these slots, of which greater numbers are none.
-pub fn set(slots: &[u64]) -> Mask {
+/// The set of the slots of a text, of which greater numbers are none.
+pub fn set(text: &str) -> Mask {
     let mut set = Mask::empty();
-    for slot in slots {
-        if *slot < u64::from(MOST_SLOTS) {
-            set = set.with(*slot as u8);
+    for word in text.split(' ') {
+        let slot = number(word);
+        if slot < u64::from(MOST_SLOTS) {
+            set = set.with(slot as u8);
         }
     }
     set

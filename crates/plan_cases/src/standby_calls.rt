@@ -3,13 +3,14 @@
 ghost use Rattle.std.specs.Prelude.{IfOk};
 ghost use Rattle.standby.specs.Handover.{HasCaller};
 
-use crate::numbers::{numbers, set};
+use crate::admission_calls::{known, rules_of};
+use crate::numbers::{count, first, number, set};
 use admission::Rules;
 use can_frame::Frame;
-use cases::{Fault, Table};
+use cases::{Fault, Table, cut};
 use change_protocol::{Change, Op, Ops};
-use planner_policies::{Fill, Policy};
-use profile::{GREATEST_HORIZON, LONGEST_WINDOW, OPENINGS_END, SHORTEST_WINDOW};
+use planner_policies::Fill;
+use profile::OPENINGS_END;
 use requirement_table::Entry;
 use standby::{Frames, Standby, Told, follow};
 use std::alloc::{AllocError, Global};
@@ -34,44 +35,35 @@ impl Table for Standbys {
     ghost IsReady = { λ _. ⊤ };
 
     fn answer(&mut self, alloc: Global, given: &str) -> Result<String, Fault> {
-        let (word, rest) = given.split_once(' ').unwrap_or((given, ""));
-        let numbers = numbers(alloc, rest)?;
-        let numbers = numbers.as_slice();
-        match (word, &mut self.standby) {
-            ("fresh", _) => {
-                self.standby = begun(alloc, numbers)?;
+        let (word, rest) = cut(given, ' ');
+        match word {
+            "fresh" => {
+                self.standby = begun(alloc, rest)?;
                 Ok(format!(in alloc; "{}", self.standby.is_some())?)
             }
-            ("over", standby) => match standby.take() {
+            "over" => match self.standby.take() {
                 Some(standby) => Ok(taken_over(alloc, standby)?),
                 None => Err(Fault::Unread),
             },
-            (_, Some(standby)) => Ok(told(alloc, standby, word, numbers)?),
-            (_, None) => Err(Fault::Unread),
+            _ => match &mut self.standby {
+                Some(standby) => Ok(told(alloc, standby, word, rest)?),
+                None => Err(Fault::Unread),
+            },
         }
     }
 }
 
 /// A standby that was told nothing yet, of a bus with so many slots, window and horizon.
-fn begun(alloc: Global, numbers: &[u64]) -> Result<Option<Standby>, AllocError> {
-    let [slots, window, horizon] = *numbers else {
-        return Ok(None);
-    };
-    let windows = u64::from(SHORTEST_WINDOW)..=u64::from(LONGEST_WINDOW);
-    if slots != 40 && slots != 96 || !windows.contains(&window) {
-        return Ok(None);
-    }
-    if !(1..=GREATEST_HORIZON).contains(&horizon) {
-        return Ok(None);
-    }
+fn begun(alloc: Global, numbers: &str) -> Result<Option<Standby>, AllocError> {
+    let (slots, rest) = first(numbers);
+    let (window, horizon) = first(rest);
     let rules = Rules {
         nodes: 2,
-        slots: slots as u8,
-        policy: Policy::Rm,
-        fill: Fill::Prefix,
-        window: window as u32,
-        horizon,
+        ..rules_of(slots, Fill::Prefix, window, number(horizon))
     };
+    if !known(&rules) || rules.slots != 40 && rules.slots != 96 {
+        return Ok(None);
+    }
     Ok(Some(Standby::new(alloc, rules)?))
 }
 
@@ -80,14 +72,13 @@ fn told(
     alloc: Global,
     standby: &mut Standby,
     word: &str,
-    numbers: &[u64],
+    numbers: &str,
 ) -> Result<String, AllocError> {
-    let told = said(alloc, word, numbers)?;
-    let mut list = Vec::new(alloc);
-    list.push(told)?;
-    if standby.next() >= 1 << 40 {
+    if standby.next() >= 1 << 40 || word == "add" && count(numbers) != 6 {
         return Ok(String::new(alloc));
     }
+    let mut list = Vec::new(alloc);
+    list.push(said(alloc, word, numbers)?)?;
     match follow(standby, alloc, list.as_slice()) {
         Ok(()) => format!(in alloc; "followed, next {}", standby.next()),
         Err(fault) => format!(in alloc; "{fault:?}, next {}", standby.next()),
@@ -112,7 +103,7 @@ fn taken_over(alloc: Global, standby: Standby) -> Result<String, AllocError> {
 }
 
 /// What the standby is told by a word: a change, or trigger frames.
-fn said(alloc: Global, word: &str, numbers: &[u64]) -> Result<Told, AllocError>
+fn said(alloc: Global, word: &str, numbers: &str) -> Result<Told, AllocError>
     ensures caller { IfOk result HasCaller }
 {
     match word {
@@ -122,64 +113,54 @@ fn said(alloc: Global, word: &str, numbers: &[u64]) -> Result<Told, AllocError>
 }
 
 /// A change of operator 1 that adds an entry: START SLOT NODE LENGTH PERIOD DEADLINE.
-fn added(alloc: Global, numbers: &[u64]) -> Result<Told, AllocError>
+fn added(alloc: Global, numbers: &str) -> Result<Told, AllocError>
     ensures caller { IfOk result HasCaller }
 {
-    let mut operations = Vec::new(alloc);
-    let mut begins = 0;
-    if let [start, slot, node, size, period, deadline] = *numbers {
-        begins = start;
-        let entry = Entry {
-            slot: (slot % 0x100) as u8,
-            node: (node % 0x100) as u8,
-            length: (size % 0x100) as u8,
-            phase: 0,
-            period: (period % 0x1_0000) as u16,
-            deadline: (deadline % 0x1_0000) as u16,
-            priority: 0,
-        };
-        operations.push(Op::Add { entry })?;
-    }
+    let (start, rest) = first(numbers);
+    let (slot, rest) = first(rest);
+    let (node, rest) = first(rest);
+    let (size, rest) = first(rest);
+    let (period, rest) = first(rest);
+    let deadline = number(rest);
+    let entry = Entry {
+        slot: (slot % 0x100) as u8,
+        node: (node % 0x100) as u8,
+        length: (size % 0x100) as u8,
+        phase: 0,
+        period: (period % 0x1_0000) as u16,
+        deadline: (deadline % 0x1_0000) as u16,
+        priority: 0,
+    };
+    let ops = Ops::of(Vec::from_slice(alloc, &[Op::Add { entry }])?);
     Ok(Told::Change {
         caller: 1,
-        change: Change {
-            start: begins,
-            ops: Ops::of(operations),
-        },
+        change: Change { start, ops },
     })
 }
 
-/// The trigger frames of a word: `one` or `two` frames of CYCLE with L and the slots behind it, the `second` of two
-/// alone, both in the `other` order, or `none`.
-fn heard(alloc: Global, word: &str, numbers: &[u64]) -> Result<Told, AllocError>
+/// The trigger frames of a word: `one` or `two` frames of CYCLE with L and the slots after it, the `second` of two
+/// alone, both in the `turned` order, or `none`. The second frame is that of the cycle OTHER.
+fn heard(alloc: Global, word: &str, numbers: &str) -> Result<Told, AllocError>
     ensures caller { IfOk result HasCaller }
 {
-    let mut frames = Vec::new(alloc);
-    if let [cycle, other, l, slots @ ..] = numbers {
-        let mask = set(slots);
-        let first = encode(*cycle, (*l % 0x4000) as u32, mask);
-        let second = encode_second(*other, mask);
-        put(&mut frames, word, first, second)?;
-    }
+    let (cycle, rest) = first(numbers);
+    let (other, rest) = first(rest);
+    let (l, slots) = first(rest);
+    let mask = set(slots);
+    let one = encode(cycle, (l % 0x4000) as u32, mask);
+    let frames = frames(alloc, word, one, encode_second(other, mask))?;
     Ok(Told::Trigger {
         frames: Frames::of(frames),
     })
 }
 
-/// Appends those of two frames that the word names.
-fn put(frames: &mut Vec<Frame>, word: &str, first: Frame, second: Frame) -> Result<(), AllocError> {
+/// Those of two frames that the word names.
+fn frames(alloc: Global, word: &str, one: Frame, other: Frame) -> Result<Vec<Frame>, AllocError> {
     match word {
-        "one" => frames.push(first)?,
-        "second" => frames.push(second)?,
-        "two" => {
-            frames.push(first)?;
-            frames.push(second)?;
-        }
-        "turned" => {
-            frames.push(second)?;
-            frames.push(first)?;
-        }
-        _ => {}
+        "one" => Vec::from_slice(alloc, &[one]),
+        "second" => Vec::from_slice(alloc, &[other]),
+        "two" => Vec::from_slice(alloc, &[one, other]),
+        "turned" => Vec::from_slice(alloc, &[other, one]),
+        _ => Ok(Vec::new(alloc)),
     }
-    Ok(())
 }

@@ -2,6 +2,7 @@
 
 ghost use Rattle.std.specs.Prelude.{◌≡◌, ◌+◌, ◌<◌, Some, None, nat_lt, nat_eq, if◌then◌else◌};
 
+use crate::numbers::{first, number};
 use profile::GREATEST_HORIZON;
 use recurrence_check::{Keyed, Repeat, Stretch, Walk, WalkEnd, lasso, lasso_keyed};
 use std::alloc::{AllocError, Global};
@@ -131,12 +132,12 @@ impl Keyed for Values {
     ) };
 }
 
-/// The answer to a call with these numbers: back, top and stop of a walk, and a horizon. What is found by comparing
-/// states stands in front of what is found by keys.
-pub fn answer(alloc: Global, numbers: &[u64]) -> Result<String, AllocError> {
-    let [back, top, stop, horizon] = *numbers else {
-        return Ok(String::new(alloc));
-    };
+/// The first repeat of a walk, as it is found by comparing states and as it is found by keys: BACK TOP STOP HORIZON.
+pub fn answer(alloc: Global, numbers: &str) -> Result<String, AllocError> {
+    let (back, rest) = first(numbers);
+    let (top, rest) = first(rest);
+    let (stop, rest) = first(rest);
+    let horizon = number(rest);
     if horizon > GREATEST_HORIZON {
         return Ok(String::new(alloc));
     }
