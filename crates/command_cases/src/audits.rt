@@ -14,24 +14,24 @@ fn parts(text: &str) -> (&str, &str) {
 
 /// Audits the rows of a log against a system, steps and requests, and tells the answer. These are read from their texts,
 /// which stand in the order system, steps, requests, log, with a line `+` between two.
-pub fn audited(alloc: Global, given: &str) -> Result<String, AllocError> {
+pub fn tell(alloc: Global, given: &str, told: &mut String) -> Result<(), AllocError> {
     let (system, rest) = parts(given);
     let (steps, rest) = parts(rest);
     let (requests, log) = parts(rest);
     let Ok(system) = read_system(alloc, system.as_bytes()) else {
-        return String::from_str(alloc, "no system\n");
+        return writeln!(told, "no system");
     };
     let Ok(steps) = read_steps(alloc, steps.as_bytes()) else {
-        return String::from_str(alloc, "no steps\n");
+        return writeln!(told, "no steps");
     };
     let Ok(requests) = read_requests(alloc, requests.as_bytes(), system.owners.as_slice()) else {
-        return String::from_str(alloc, "no requests\n");
+        return writeln!(told, "no requests");
     };
     let Ok(rows) = read_log(alloc, log.as_bytes()) else {
-        return String::from_str(alloc, "no log\n");
+        return writeln!(told, "no log");
     };
     match audit(alloc, &system, &steps, &requests, &rows) {
-        Ok(()) => String::from_str(alloc, "ok\n"),
-        Err(fault) => format!(in alloc; "{fault}\n"),
+        Ok(()) => writeln!(told, "ok"),
+        Err(fault) => writeln!(told, "{fault}"),
     }
 }

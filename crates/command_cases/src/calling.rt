@@ -23,27 +23,70 @@ pub fn failure(rt: &HostRuntime, path: &str) -> Result<Option<String>, AllocErro
 fn first_difference(folder: &Folder<'_>) -> Result<Option<String>, CaseFault> {
     let wanted = folder.wanted()?;
     let calls = folder.calls()?;
+    first_of(folder, &wanted, calls.as_slice())
+}
+
+/// The first difference of calls with these words from what is wanted, in words.
+fn first_of(
+    folder: &Folder<'_>,
+    wanted: &Answer,
+    calls: &[Vec<String>],
+) -> Result<Option<String>, CaseFault> {
     if calls.is_empty() {
         return Err(CaseFault::NoCall);
     }
-    for words in calls.iter() {
-        let given = answer(folder, words.as_slice())?;
-        if let Some(part) = difference(&wanted, &given) {
-            return Ok(Some(described(folder.rt.alloc(), part, &wanted, &given)?));
+    for words in calls {
+        let found = difference_of(folder, wanted, words.as_slice())?;
+        if found.is_some() {
+            return Ok(found);
         }
     }
     Ok(None)
 }
 
+/// How what a call with these words answers differs from what is wanted, in words.
+fn difference_of(
+    folder: &Folder<'_>,
+    wanted: &Answer,
+    words: &[String],
+) -> Result<Option<String>, CaseFault> {
+    let given = answer(folder, words)?;
+    match difference(wanted, &given) {
+        Some(part) => Ok(Some(described(folder.rt.alloc(), part, wanted, &given)?)),
+        None => Ok(None),
+    }
+}
+
 /// What a call with these words answers.
 fn answer(folder: &Folder<'_>, words: &[String]) -> Result<Answer, CaseFault> {
-    let mut shelf = MemShelf::new(folder.inputs(words)?, folder.numbers("failing-fetches")?);
     let alloc = folder.rt.alloc();
-    let room = folder.number("room", ROOM)?;
-    let mut out = MemSink::new(alloc, room as usize, folder.numbers("failing-puts")?)?;
-    let failing = folder.numbers("failing-error-puts")?;
-    let mut err = MemSink::new(alloc, ROOM as usize, failing)?;
+    let mut shelf = shelf(folder, words)?;
+    let mut out = sink(folder, "failing-puts", folder.number("room", ROOM)?)?;
+    let mut err = sink(folder, "failing-error-puts", ROOM)?;
     let status = status_of(alloc, words, &mut shelf, &mut out, &mut err);
+    Ok(answered(alloc, status, &shelf, &out, &err)?)
+}
+
+/// The shelf of a call with these words.
+fn shelf(folder: &Folder<'_>, words: &[String]) -> Result<MemShelf, CaseFault> {
+    let inputs = folder.inputs(words)?;
+    Ok(MemShelf::new(inputs, folder.numbers("failing-fetches")?))
+}
+
+/// A sink with room for so many bytes, whose puts fail that a file names.
+fn sink(folder: &Folder<'_>, failing: &'static str, room: u64) -> Result<MemSink, CaseFault> {
+    let failing = folder.numbers(failing)?;
+    Ok(MemSink::new(folder.rt.alloc(), room as usize, failing)?)
+}
+
+/// The answer of a call that ended so, with what its sinks took.
+fn answered(
+    alloc: Global,
+    status: u64,
+    shelf: &MemShelf,
+    out: &MemSink,
+    err: &MemSink,
+) -> Result<Answer, AllocError> {
     Ok(Answer {
         status,
         output: out.bytes().to_vec(alloc)?,

@@ -49,17 +49,10 @@ impl Folder<'_> {
 
     /// The numbers of a file, one a line; none where there is no such file.
     pub fn numbers(&self, name: &'static str) -> Result<Vec<u64>, CaseFault> {
-        let mut numbers = Vec::new(self.rt.alloc());
-        let Some(text) = self.text(name)? else {
-            return Ok(numbers);
-        };
-        for line in text.lines() {
-            let Ok(number) = line.parse() else {
-                return Err(CaseFault::Number { name });
-            };
-            numbers.push(number)?;
+        match self.text(name)? {
+            Some(text) => numbers_in(self.rt.alloc(), name, text.as_str()),
+            None => Ok(Vec::new(self.rt.alloc())),
         }
-        Ok(numbers)
     }
 
     /// The one number of a file; this one where there is no such file.
@@ -106,30 +99,71 @@ impl Folder<'_> {
 
     /// The input files that these words name, and those that the file `repeat` makes.
     pub fn inputs(&self, words: &[String]) -> Result<Vec<(String, Vec<u8>)>, CaseFault> {
-        let mut files = self.repeated()?;
+        let mut files = Vec::new(self.rt.alloc());
+        self.add_repeated(&mut files)?;
         for word in words {
-            if let Some(bytes) = self.bytes(word.as_str())? {
-                files.push((word.clone()?, bytes))?;
-            }
+            self.add_input(word, &mut files)?;
         }
         Ok(files)
     }
 
-    /// The files that the file `repeat` makes: a line of it has a name, a count and the row that stands so often.
-    fn repeated(&self) -> Result<Vec<(String, Vec<u8>)>, CaseFault> {
-        let alloc = self.rt.alloc();
-        let mut files = Vec::new(alloc);
+    /// Adds the input file of this name, where there is one.
+    fn add_input(
+        &self,
+        name: &String,
+        files: &mut Vec<(String, Vec<u8>)>,
+    ) -> Result<(), CaseFault> {
+        match self.bytes(name.as_str())? {
+            Some(bytes) => Ok(add_file(name.clone()?, bytes, files)?),
+            None => Ok(()),
+        }
+    }
+
+    /// Adds the files that the file `repeat` makes: a line of it has a name, a count and the row that stands so often.
+    fn add_repeated(&self, files: &mut Vec<(String, Vec<u8>)>) -> Result<(), CaseFault> {
         let Some(text) = self.text("repeat")? else {
-            return Ok(files);
+            return Ok(());
         };
         for line in text.lines() {
-            let Some((name, count, row)) = parts(line) else {
-                return Err(CaseFault::Number { name: "repeat" });
-            };
-            files.push((String::from_str(alloc, name)?, rows(alloc, row, count)?))?;
+            add_rows(self.rt.alloc(), line, files)?;
         }
-        Ok(files)
+        Ok(())
     }
+}
+
+/// The numbers of a file's text, one a line.
+fn numbers_in(alloc: Global, name: &'static str, text: &str) -> Result<Vec<u64>, CaseFault> {
+    let mut numbers = Vec::new(alloc);
+    for line in text.lines() {
+        match line.parse::<u64>() {
+            Ok(number) => numbers.push(number)?,
+            Err(_) => return Err(CaseFault::Number { name }),
+        }
+    }
+    Ok(numbers)
+}
+
+/// Adds a file.
+fn add_file(
+    name: String,
+    bytes: Vec<u8>,
+    files: &mut Vec<(String, Vec<u8>)>,
+) -> Result<(), AllocError> {
+    files.push((name, bytes))?;
+    Ok(())
+}
+
+/// Adds the file that a line of the file `repeat` makes.
+fn add_rows(
+    alloc: Global,
+    line: &str,
+    files: &mut Vec<(String, Vec<u8>)>,
+) -> Result<(), CaseFault> {
+    let Some((name, count, row)) = parts(line) else {
+        return Err(CaseFault::Number { name: "repeat" });
+    };
+    let bytes = rows(alloc, row, count)?;
+    Ok(add_file(String::from_str(alloc, name)?, bytes, files)?)
 }
 
 /// Whether a read failed since there is no such file.
@@ -150,7 +184,7 @@ fn lines(alloc: Global, text: &str) -> Result<Vec<String>, AllocError> {
 }
 
 /// The words of a line, split at single blanks.
-fn words(alloc: Global, line: &str) -> Result<Vec<String>, AllocError> {
+pub fn words(alloc: Global, line: &str) -> Result<Vec<String>, AllocError> {
     let mut list = Vec::new(alloc);
     for word in line.split(' ') {
         list.push(String::from_str(alloc, word)?)?;

@@ -92,23 +92,27 @@ fn script(alloc: Global, held: Held) -> Result<Script, AllocError> {
 
 /// The last event of a history, where that is a change: its verdict, and whether it was planned from a cycle that was
 /// opened before it.
-fn last_change(alloc: Global, master: &Master) -> Result<String, AllocError> {
+fn put_last_change(told: &mut String, master: &Master) -> Result<(), AllocError> {
     let next = master.next();
     match master.history().last() {
         Some(Event::Submit { from, verdict, .. }) => {
             let earlier = *from < next;
-            format!(in alloc; "{next} cycles, {verdict:?}, planned earlier: {earlier}\n")
+            writeln!(
+                told,
+                "{next} cycles, {verdict:?}, planned earlier: {earlier}"
+            )
         }
-        _ => String::from_str(alloc, "the last event is no change\n"),
+        _ => writeln!(told, "the last event is no change"),
     }
 }
 
-/// What is told of a run whose gate holds threads in this way.
+/// Tells of a run whose gate holds threads in this way.
 fn held_run<T: Threads + Wait + Sync>(
     alloc: Global,
     threads: &T,
     held: Held,
-) -> Result<String, AllocError> {
+    told: &mut String,
+) -> Result<(), AllocError> {
     let cycles = match held {
         Held::Cycle => 4,
         Held::Plan => 2,
@@ -116,20 +120,21 @@ fn held_run<T: Threads + Wait + Sync>(
     let gate = HoldingGate::new(held);
     let master = run(threads, alloc, cycles, script(alloc, held)?, &gate)?;
     if gate.is_given_up() {
-        return String::from_str(alloc, "given up\n");
+        return writeln!(told, "given up");
     }
-    last_change(alloc, &master)
+    put_last_change(told, &master)
 }
 
-/// What is told of a run. What is given is what its gate holds: a cycle that is open, or a plan.
-pub fn told<T: Threads + Wait + Sync>(
+/// Tells of a run. What is given is what its gate holds: a cycle that is open, or a plan.
+pub fn tell<T: Threads + Wait + Sync>(
     alloc: Global,
     threads: &T,
     given: &str,
-) -> Result<String, AllocError> {
+    told: &mut String,
+) -> Result<(), AllocError> {
     match given.trim_end() {
-        "held" => held_run(alloc, threads, Held::Cycle),
-        "planned" => held_run(alloc, threads, Held::Plan),
-        _ => Ok(String::new(alloc)),
+        "held" => held_run(alloc, threads, Held::Cycle, told),
+        "planned" => held_run(alloc, threads, Held::Plan, told),
+        _ => Ok(()),
     }
 }

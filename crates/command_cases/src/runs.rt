@@ -1,5 +1,6 @@
 //! Whole calls by threads.
 
+use crate::folder;
 use crate::gates::{Held, HoldingGate};
 use ftt_io::{FileShelf, MemSink};
 use fttcan_top::{Gate, OpenGate, Status, live};
@@ -26,10 +27,7 @@ fn call<T: Threads + Wait + Sync, G: Gate>(
     gate: &G,
 ) -> Result<Answer, AllocError> {
     let alloc = rt.alloc();
-    let mut list = Vec::new(alloc);
-    for word in words.split(' ') {
-        list.push(String::from_str(alloc, word)?)?;
-    }
+    let list = folder::words(alloc, words)?;
     let mut shelf = FileShelf::new(rt);
     let mut out = MemSink::new(alloc, ROOM, Vec::new(alloc))?;
     let mut err = MemSink::new(alloc, ROOM, Vec::new(alloc))?;
@@ -46,10 +44,9 @@ fn planned_early(line: &str) -> Option<&str> {
     }
 }
 
-/// The lines of a text but those of looks, whose places follow from the schedule, and behind them the number of those.
-/// Of the cycles 0 and 1 it does not say from which a change was planned, which follows from the schedule too.
-fn without_looks(alloc: Global, bytes: &[u8]) -> Result<String, AllocError> {
-    let mut told = String::new(alloc);
+/// Puts the lines of a text but those of looks, whose places follow from the schedule, and after them the number of
+/// those. Of the cycles 0 and 1 it does not say from which a change was planned, which follows from the schedule too.
+fn put_without_looks(told: &mut String, bytes: &[u8]) -> Result<(), AllocError> {
     let mut looks = 0u64;
     for line in str::from_utf8(bytes).unwrap_or("no text\n").lines() {
         if line.starts_with("look,") {
@@ -60,8 +57,7 @@ fn without_looks(alloc: Global, bytes: &[u8]) -> Result<String, AllocError> {
             writeln!(told, "{line}")?;
         }
     }
-    writeln!(told, "{looks} looks")?;
-    Ok(told)
+    writeln!(told, "{looks} looks")
 }
 
 /// How many lines begin with this word.
@@ -73,12 +69,11 @@ fn count_of(bytes: &[u8], word: &str) -> usize {
         .count()
 }
 
-/// What is told of an answer: how the call ended, its messages, and its output.
-fn answer_lines(alloc: Global, answer: &Answer) -> Result<String, AllocError> {
-    let status = answer.status;
-    let message = str::from_utf8(answer.err.bytes()).unwrap_or("no text\n");
-    let out = without_looks(alloc, answer.out.bytes())?;
-    format!(in alloc; "{status:?}\n{message}{out}")
+/// Tells of an answer: how the call ended, its messages, and its output.
+fn put_answer(told: &mut String, answer: &Answer) -> Result<(), AllocError> {
+    writeln!(told, "{:?}", answer.status)?;
+    told.push_str(str::from_utf8(answer.err.bytes()).unwrap_or("no text\n"))?;
+    put_without_looks(told, answer.out.bytes())
 }
 
 /// A call with a gate that holds nobody.
@@ -86,9 +81,10 @@ fn open_call<T: Threads + Wait + Sync>(
     rt: &HostRuntime,
     threads: &T,
     words: &str,
-) -> Result<String, AllocError> {
+    told: &mut String,
+) -> Result<(), AllocError> {
     let answer = call(rt, threads, words, &OpenGate)?;
-    answer_lines(rt.alloc(), &answer)
+    put_answer(told, &answer)
 }
 
 /// A call in which a change is answered while cycle 3 is open and not run yet, or in which cycle 1 is opened while a
@@ -98,13 +94,14 @@ fn held_call<T: Threads + Wait + Sync>(
     threads: &T,
     words: &str,
     held: Held,
-) -> Result<String, AllocError> {
+    told: &mut String,
+) -> Result<(), AllocError> {
     let gate = HoldingGate::new(held);
     let answer = call(rt, threads, words, &gate)?;
     if gate.is_given_up() {
-        return String::from_str(rt.alloc(), "given up\n");
+        return writeln!(told, "given up");
     }
-    answer_lines(rt.alloc(), &answer)
+    put_answer(told, &answer)
 }
 
 /// A call of which the rows of each kind are counted.
@@ -112,28 +109,31 @@ fn counted_call<T: Threads + Wait + Sync>(
     rt: &HostRuntime,
     threads: &T,
     words: &str,
-) -> Result<String, AllocError> {
+    told: &mut String,
+) -> Result<(), AllocError> {
     let answer = call(rt, threads, words, &OpenGate)?;
     let (status, log) = (answer.status, answer.out.bytes());
     let (opened, frames) = (count_of(log, "open,"), count_of(log, "frame,"));
     let (changes, looks) = (count_of(log, "submit,"), count_of(log, "look,"));
-    format!(in rt.alloc();
-        "{status:?}, {opened} cycles, {frames} frames, {changes} changes, {looks} looks\n"
+    writeln!(
+        told,
+        "{status:?}, {opened} cycles, {frames} frames, {changes} changes, {looks} looks"
     )
 }
 
-/// What is told of a call. What is given is how it is made, and its words.
-pub fn told<T: Threads + Wait + Sync>(
+/// Tells of a call. What is given is how it is made, and its words.
+pub fn tell<T: Threads + Wait + Sync>(
     rt: &HostRuntime,
     threads: &T,
     given: &str,
-) -> Result<String, AllocError> {
+    told: &mut String,
+) -> Result<(), AllocError> {
     let line = given.strip_suffix('\n').unwrap_or(given);
     let (made, words) = line.split_once(' ').unwrap_or((line, ""));
     match made {
-        "held" => held_call(rt, threads, words, Held::Cycle),
-        "planned" => held_call(rt, threads, words, Held::Plan),
-        "counted" => counted_call(rt, threads, words),
-        _ => open_call(rt, threads, words),
+        "held" => held_call(rt, threads, words, Held::Cycle, told),
+        "planned" => held_call(rt, threads, words, Held::Plan, told),
+        "counted" => counted_call(rt, threads, words, told),
+        _ => open_call(rt, threads, words, told),
     }
 }

@@ -31,19 +31,20 @@ pub const TABLES: [(&str, Topic); 5] = [
     ("audits", Topic::Audits),
 ];
 
-/// What is told of what a case gives.
-fn told<T: Threads + Wait + Sync>(
+/// Tells of what a case gives.
+fn tell<T: Threads + Wait + Sync>(
     rt: &HostRuntime,
     threads: &T,
     topic: Topic,
     given: &str,
-) -> io::Result<String> {
+    told: &mut String,
+) -> io::Result<()> {
     match topic {
-        Topic::Replays => replays::told(rt, given),
-        Topic::Prefixes => Ok(prefixes::answers(rt.alloc(), given)?),
-        Topic::Runs => Ok(runs::told(rt, threads, given)?),
-        Topic::Lone => Ok(lone::told(rt.alloc(), threads, given)?),
-        Topic::Audits => Ok(audits::audited(rt.alloc(), given)?),
+        Topic::Replays => replays::tell(rt, given, told),
+        Topic::Prefixes => Ok(prefixes::answers(rt.alloc(), given, told)?),
+        Topic::Runs => Ok(runs::tell(rt, threads, given, told)?),
+        Topic::Lone => Ok(lone::tell(rt.alloc(), threads, given, told)?),
+        Topic::Audits => Ok(audits::tell(rt.alloc(), given, told)?),
     }
 }
 
@@ -60,7 +61,9 @@ impl<T: Threads + Wait + Sync> Table for Asked<'_, T> {
 
     ghost IsReady = { λ _. IsSync T.row };
 
-    fn answer(&mut self, _alloc: Global, given: &str) -> Result<String, Fault> {
-        Ok(told(self.rt, self.threads, self.topic, given)?)
+    fn answer(&mut self, alloc: Global, given: &str) -> Result<String, Fault> {
+        let mut told = String::new(alloc);
+        tell(self.rt, self.threads, self.topic, given, &mut told)?;
+        Ok(told)
     }
 }
