@@ -163,6 +163,8 @@ def fill(words, folder):
     if words.library:
         # The loader is to find the new shared library.
         (folder / "DEBIAN/triggers").write_text("activate-noawait ldconfig\n", encoding="utf-8")
+        # What another package depends on, if its programs load this library.
+        (folder / "DEBIAN/shlibs").write_text(f"libfttcan 1 fttcan (>= {tree.version()})\n", encoding="utf-8")
     (folder / "DEBIAN/control").write_text(control(words, folder / "usr"), encoding="utf-8")
     for path in [*folder.rglob("*"), folder]:
         if not path.is_symlink():
