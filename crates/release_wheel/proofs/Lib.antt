@@ -8,6 +8,7 @@ mod RowFilling
 mod RowLines
 mod RowPicking
 mod RowSets
+mod RowSteps
 mod RowSums
 mod RowTaking
 mod RowWords

@@ -178,75 +178,75 @@ rows-of-all all (Some near) w none kept = λ before. let is = none near refl in 
 
 -- a cycle is planned by the rows that the wheel has, from a wheel that stands where it stood
 module _ (all some : Ranking) (near : Option Near) (window : ℕ) (old mid new : Wheel) (r : Result CyclePlan Miss) (well : IsWellPlaced all.placed)
-    (cycle : mid.cycle ≡ old.cycle) (slots : mid.slots ≡ old.slots) (is : some ≡ at_wheel near all mid.cycle) (rows : HasRows all near mid) where
+    (cycle : mid.cycle ≡ old.cycle) (slots : mid.dues.waiting.slots ≡ old.dues.waiting.slots) (is : some ≡ at_wheel near all mid.cycle) (rows : HasRows all near mid) where
   alike-here : IsAlike all some mid.cycle
   alike-here = subst (λ q. IsAlike all q mid.cycle) (sym is) (alike-at all near mid well rows mid.cycle (omega arith) (λ before. before))
 
-  planned-old : (mask width next : ℕ) → IsPlanned (planning_of some window mid.cycle mid.slots) mid.cycle (contains_slot mid.slots) mask width next
-      → IsPlanned (planning_of all window old.cycle old.slots) old.cycle (contains_slot old.slots) mask width next
+  planned-old : (mask width next : ℕ) → IsPlanned (planning_of some window mid.cycle mid.dues.waiting.slots) mid.cycle (contains_slot mid.dues.waiting.slots) mask width next
+      → IsPlanned (planning_of all window old.cycle old.dues.waiting.slots) old.cycle (contains_slot old.dues.waiting.slots) mask width next
   planned-old mask width next planned =
-      let P : ℕ → Type 0 = λ c. IsPlanned (planning_of all window c mid.slots) c (contains_slot mid.slots) mask width next in
+      let P : ℕ → Type 0 = λ c. IsPlanned (planning_of all window c mid.dues.waiting.slots) c (contains_slot mid.dues.waiting.slots) mask width next in
       let Q : ℕ → Type 0 = λ s. IsPlanned (planning_of all window old.cycle s) old.cycle (contains_slot s) mask width next in
-      subst Q slots (subst P cycle (planned-all all some window mid.cycle mid.slots alike-here mask width next planned))
+      subst Q slots (subst P cycle (planned-all all some window mid.cycle mid.dues.waiting.slots alike-here mask width next planned))
 
-  missed-old : (slot release : ℕ) → IsMissIn (planning_of some window mid.cycle mid.slots) mid.cycle (contains_slot mid.slots) slot release
-      → IsMissIn (planning_of all window old.cycle old.slots) old.cycle (contains_slot old.slots) slot release
+  missed-old : (slot release : ℕ) → IsMissIn (planning_of some window mid.cycle mid.dues.waiting.slots) mid.cycle (contains_slot mid.dues.waiting.slots) slot release
+      → IsMissIn (planning_of all window old.cycle old.dues.waiting.slots) old.cycle (contains_slot old.dues.waiting.slots) slot release
   missed-old slot release miss =
-      let P : ℕ → Type 0 = λ c. IsMissIn (planning_of all window c mid.slots) c (contains_slot mid.slots) slot release in
+      let P : ℕ → Type 0 = λ c. IsMissIn (planning_of all window c mid.dues.waiting.slots) c (contains_slot mid.dues.waiting.slots) slot release in
       let Q : ℕ → Type 0 = λ s. IsMissIn (planning_of all window old.cycle s) old.cycle (contains_slot s) slot release in
-      subst Q slots (subst P cycle (missed-all all some window mid.cycle mid.slots alike-here slot release miss))
+      subst Q slots (subst P cycle (missed-all all some window mid.cycle mid.dues.waiting.slots alike-here slot release miss))
 
-  pub stepped-planned : IfOk r (λ p. IsPlanned (planning_of some window mid.cycle mid.slots) mid.cycle (contains_slot mid.slots) p.mask p.width new.slots)
-      → IfOk r (λ p. IsPlanned (planning_of all window old.cycle old.slots) old.cycle (contains_slot old.slots) p.mask p.width new.slots)
+  pub stepped-planned : IfOk r (λ p. IsPlanned (planning_of some window mid.cycle mid.dues.waiting.slots) mid.cycle (contains_slot mid.dues.waiting.slots) p.mask p.width new.dues.waiting.slots)
+      → IfOk r (λ p. IsPlanned (planning_of all window old.cycle old.dues.waiting.slots) old.cycle (contains_slot old.dues.waiting.slots) p.mask p.width new.dues.waiting.slots)
   stepped-planned = pick r
     where
       pick : (r' : Result CyclePlan Miss)
-          → IfOk r' (λ p. IsPlanned (planning_of some window mid.cycle mid.slots) mid.cycle (contains_slot mid.slots) p.mask p.width new.slots)
-          → IfOk r' (λ p. IsPlanned (planning_of all window old.cycle old.slots) old.cycle (contains_slot old.slots) p.mask p.width new.slots)
-      pick (Ok p) planned = planned-old p.mask p.width new.slots planned
+          → IfOk r' (λ p. IsPlanned (planning_of some window mid.cycle mid.dues.waiting.slots) mid.cycle (contains_slot mid.dues.waiting.slots) p.mask p.width new.dues.waiting.slots)
+          → IfOk r' (λ p. IsPlanned (planning_of all window old.cycle old.dues.waiting.slots) old.cycle (contains_slot old.dues.waiting.slots) p.mask p.width new.dues.waiting.slots)
+      pick (Ok p) planned = planned-old p.mask p.width new.dues.waiting.slots planned
       pick (Err miss) planned = planned
 
-  pub stepped-missed : IfErr r (λ miss. IsMissIn (planning_of some window mid.cycle mid.slots) mid.cycle (contains_slot mid.slots) miss.slot miss.release)
-      → IfErr r (λ miss. IsMissIn (planning_of all window old.cycle old.slots) old.cycle (contains_slot old.slots) miss.slot miss.release)
+  pub stepped-missed : IfErr r (λ miss. IsMissIn (planning_of some window mid.cycle mid.dues.waiting.slots) mid.cycle (contains_slot mid.dues.waiting.slots) miss.slot miss.release)
+      → IfErr r (λ miss. IsMissIn (planning_of all window old.cycle old.dues.waiting.slots) old.cycle (contains_slot old.dues.waiting.slots) miss.slot miss.release)
   stepped-missed = pick r
     where
       pick : (r' : Result CyclePlan Miss)
-          → IfErr r' (λ miss. IsMissIn (planning_of some window mid.cycle mid.slots) mid.cycle (contains_slot mid.slots) miss.slot miss.release)
-          → IfErr r' (λ miss. IsMissIn (planning_of all window old.cycle old.slots) old.cycle (contains_slot old.slots) miss.slot miss.release)
+          → IfErr r' (λ miss. IsMissIn (planning_of some window mid.cycle mid.dues.waiting.slots) mid.cycle (contains_slot mid.dues.waiting.slots) miss.slot miss.release)
+          → IfErr r' (λ miss. IsMissIn (planning_of all window old.cycle old.dues.waiting.slots) old.cycle (contains_slot old.dues.waiting.slots) miss.slot miss.release)
       pick (Ok p) missed = missed
       pick (Err miss) missed = missed-old miss.slot miss.release missed
 
 -- where a planner stands that stood there, when a cycle is planned or missed
-module _ (all : Ranking) (near : Option Near) (window : ℕ) (mid new : Wheel) (well : IsWellPlaced all.placed) (valid : IsValid all.placed mid.cycle mid.slots) where
+module _ (all : Ranking) (near : Option Near) (window : ℕ) (mid new : Wheel) (well : IsWellPlaced all.placed) (valid : IsValid all.placed mid.cycle mid.dues.waiting.slots) where
   pub onward-after : (r : Result CyclePlan Miss) → IfOk r (λ _. new.cycle ≡ mid.cycle + 1) → IfErr r (λ _. new.cycle ≡ mid.cycle) → mid.cycle ≤ new.cycle
   onward-after (Ok p) next same = omega arith
   onward-after (Err miss) next same = omega arith
 
   pub valid-after : (r : Result CyclePlan Miss)
-      → IfOk r (λ p. IsPlanned (planning_of all window mid.cycle mid.slots) mid.cycle (contains_slot mid.slots) p.mask p.width new.slots)
-      → IfOk r (λ _. new.cycle ≡ mid.cycle + 1) → IfErr r (λ _. new.cycle ≡ mid.cycle) → IfErr r (λ _. new.slots ≡ mid.slots)
-      → IsValid all.placed new.cycle new.slots
+      → IfOk r (λ p. IsPlanned (planning_of all window mid.cycle mid.dues.waiting.slots) mid.cycle (contains_slot mid.dues.waiting.slots) p.mask p.width new.dues.waiting.slots)
+      → IfOk r (λ _. new.cycle ≡ mid.cycle + 1) → IfErr r (λ _. new.cycle ≡ mid.cycle) → IfErr r (λ _. new.dues.waiting.slots ≡ mid.dues.waiting.slots)
+      → IsValid all.placed new.cycle new.dues.waiting.slots
   valid-after (Ok p) planned next same_cycle same_slots =
-      let left = left-valid (planning_of all window mid.cycle mid.slots) mid.cycle mid.slots well valid planned.none_missed in
+      let left = left-valid (planning_of all window mid.cycle mid.dues.waiting.slots) mid.cycle mid.dues.waiting.slots well valid planned.none_missed in
       subst (λ s. IsValid all.placed new.cycle s) (sym planned.left)
-      (subst (λ c. IsValid all.placed c (set_of most_slots (left_after (planning_of all window mid.cycle mid.slots) mid.cycle (contains_slot mid.slots)))) (sym next) left)
+      (subst (λ c. IsValid all.placed c (set_of most_slots (left_after (planning_of all window mid.cycle mid.dues.waiting.slots) mid.cycle (contains_slot mid.dues.waiting.slots)))) (sym next) left)
   valid-after (Err miss) planned next same_cycle same_slots =
-      subst (λ s. IsValid all.placed new.cycle s) (sym same_slots) (subst (λ c. IsValid all.placed c mid.slots) (sym same_cycle) valid)
+      subst (λ s. IsValid all.placed new.cycle s) (sym same_slots) (subst (λ c. IsValid all.placed c mid.dues.waiting.slots) (sym same_cycle) valid)
 
 -- cycles are passed by the rows that the wheel has
 module _ (all some : Ranking) (near : Option Near) (old new : Wheel) (well : IsWellPlaced all.placed) (standing : IsStanding all near old)
     (is : some ≡ at_wheel near all old.cycle) (before : old.cycle < until_of near) (onward : old.cycle ≤ new.cycle) (within : new.cycle ≤ until_of near)
-    (slots : new.slots ≡ old.slots) (kept : IsKept some new)
-    (passed : (window c : ℕ) → old.cycle ≤ c → c < new.cycle → IsPassed (planning_of some window c old.slots)) where
-  pub near-passed : (window c : ℕ) → old.cycle ≤ c → c < new.cycle → IsPassed (planning_of all window c old.slots)
+    (slots : new.dues.waiting.slots ≡ old.dues.waiting.slots) (kept : IsKept some new)
+    (passed : (window c : ℕ) → old.cycle ≤ c → c < new.cycle → IsPassed (planning_of some window c old.dues.waiting.slots)) where
+  pub near-passed : (window c : ℕ) → old.cycle ≤ c → c < new.cycle → IsPassed (planning_of all window c old.dues.waiting.slots)
   near-passed window c from less =
       let alike : IsAlike all some c = subst (λ q. IsAlike all q c) (sym is) (alike-at all near old well standing.rows c from (λ _. omega arith)) in
-      passed-all all some window c old.slots alike (passed window c from less)
+      passed-all all some window c old.dues.waiting.slots alike (passed window c from less)
 
-  pub near-valid : (c : ℕ) → old.cycle ≤ c → c ≤ new.cycle → IsValid all.placed c old.slots
+  pub near-valid : (c : ℕ) → old.cycle ≤ c → c ≤ new.cycle → IsValid all.placed c old.dues.waiting.slots
   near-valid c from to =
-      subst (λ at. IsValid all.placed at old.slots) (omega arith)
-      (valid-passed all old.cycle old.slots well standing.valid (c - old.cycle) (λ at onward less. near-passed 0 at onward (omega arith)))
+      subst (λ at. IsValid all.placed at old.dues.waiting.slots) (omega arith)
+      (valid-passed all old.cycle old.dues.waiting.slots well standing.valid (c - old.cycle) (λ at onward less. near-passed 0 at onward (omega arith)))
 
   pub near-standing : IsStanding all near new
   near-standing = record {

@@ -17,14 +17,18 @@ use Rattle.planner_policies.specs.declared.due.Due.{Due}
 use Rattle.planner_policies.specs.Due.{IsAllFitting, IsDueIn, IsDueOf, IsOf, IsPending, IsPlanned, IsSetOf, IsWholeLine, is_due_by, is_held_in, left_of, taken_of}
 use Rattle.planner_policies.specs.Plan.{HasNoMissIn, Planning, Ranking, is_missed_in, left_after, pending_in, planning_of}
 use Rattle.planner_policies.specs.Ranked.{AreRanked}
+use Rattle.release_wheel.specs.declared.dues.Dues.{Dues}
+use Rattle.release_wheel.specs.declared.dues.Sum.{Sum}
+use Rattle.release_wheel.specs.declared.rows.Rows.{Rows}
 use Rattle.release_wheel.specs.declared.wheel.Wheel.{Wheel}
 use Rattle.release_wheel.specs.Taking.{AreDistinct, AreDue, AreOfRows, IsLineOfRows, IsTook, goes_by, last_of}
-use Rattle.release_wheel.specs.Wheel.{AreInTime, HasRoom, IsBelow, IsPart, IsPlannedOn, IsQuiet, IsReady, IsReleased, IsSlotsOf, IsTurned, StandsAt, any_below, cost_at, cost_below, due_of_row, has_row, is_found, no_entry, slot_at}
+use Rattle.release_wheel.specs.Wheel.{AreInTime, HasRoom, IsBelow, IsPart, IsPlannedOn, IsQuiet, IsReady, IsReleased, IsSlotsOf, IsSumOf, IsTurned, StandsAt, any_below, cost_at, cost_below, due_of_row, has_row, is_found, no_entry, slot_at}
 use Rattle.planner_policies.proofs.Shared.{all-planned, planned-set, planned-width, split-of, IsSplit, has_slot, instance-with, last-is, slots-contain, same-test, held-parts, due_in-of, fresh, sends-test, sends_of, stands-in, whole_line-of, cost_of}
-use Rattle.release_wheel.proofs.RowDues.{due-stay, held-is, stands-later}
+use Rattle.release_wheel.proofs.Releasing.{releasing-end, releasing-from}
+use Rattle.release_wheel.proofs.RowDues.{held-is}
 use Rattle.release_wheel.proofs.RowLines.{AreDues, IsLineTo, IsOneOf, by-last, by-rank, line-to, line_of-rows, same-due}
 use Rattle.release_wheel.proofs.RowSets.{has-none}
-use Rattle.release_wheel.proofs.RowSums.{any-found, any-same, any-none, one-below}
+use Rattle.release_wheel.proofs.RowSums.{any-found, any-same, any-none, cost-both, one-below, sum-or}
 use Rattle.release_wheel.proofs.RowTaking.{cost-none}
 
 -- two rows with an instance of one slot in a cycle are one
@@ -72,20 +76,6 @@ any-or (suc n) p q r =
     join true false false = refl
     join false b c = refl
 
-sum-or : (n : ℕ) (p q : ℕ → Bool) (f : ℕ → ℕ) → ((i : ℕ) → p i ≡ true → q i ≡ false) → sum_where n p f + sum_where n q f ≡ sum_where n (λ i. p i || q i) f
-unfolding sum_where
-sum-or zero p q f apart = refl
-sum-or (suc n) p q f apart =
-    let rest = sum-or n p q f apart in
-    let here = step (p n) (q n) (f n) (apart n) in
-    omega arith
-  where
-    step : (a b : Bool) (x : ℕ) → (a ≡ true → b ≡ false) → (if a then x else 0) + (if b then x else 0) ≡ (if a || b then x else 0)
-    step true true x apart = absurd (let wrong = apart refl in cc)
-    step true false x apart = omega arith
-    step false true x apart = omega arith
-    step false false x apart = omega arith
-
 any-and-not : (n : ℕ) (p r : ℕ → Bool) (s : ℕ) (slot : ℕ → ℕ) (b : Bool) → ((i : ℕ) → nat_eq (slot i) s ≡ true → r i ≡ b)
     → any_below n (λ i. (p i && not (r i)) && nat_eq (slot i) s) ≡ (any_below n (λ i. p i && nat_eq (slot i) s) && not b)
 unfolding any_below
@@ -126,144 +116,134 @@ any-and-not (suc n) p r s slot b at =
 no-row : (set' row : ℕ) → set' ≡ 0 → has_row set' row ≡ false
 no-row set' row none = ap (λ m. has_row m row) none ∙ has-none row
 
--- a wheel with other rows that wait, in another cycle
-room-on : (n : ℕ) (w : Wheel) (cycle slots quiet waiting cost soonest : ℕ) → HasRoom n w → IsBelow n waiting → cost ≡ cost_below w.entries.items n waiting
-    → HasRoom n (record w { cycle = cycle; slots = slots; quiet = quiet; waiting = waiting; cost = cost; soonest = soonest })
-room-on n w cycle slots quiet waiting cost soonest room below cost_is = record {
+-- other rows wait
+room-on : (n : ℕ) (rows : Rows) (dues : Dues) (waiting : Sum) (soonest : ℕ) → HasRoom n rows dues → IsSumOf rows.entries.items n waiting
+    → HasRoom n rows (record dues { waiting = waiting; soonest = soonest })
+room-on n rows dues waiting soonest room sum = record {
   within = room.within;
   few = room.few;
   nexts = room.nexts;
   lasts = room.lasts;
   places = room.places;
   in_range = room.in_range;
-  waiting = below;
+  waiting = sum;
   always = room.always;
-  cost = cost_is;
-  always_cost = room.always_cost;
-  always_slots = room.always_slots;
-  at = room.at;
   on_wheel = room.on_wheel;
-  off_always = room.off_always;
-  coming = room.coming;
 }
 
 -- a wheel where nothing waits
-pub nothing-waits : (v : Wheel) → HasRoom (length v.entries.items) v → v.waiting ≡ 0 → v.slots ≡ 0
-    → ((row : ℕ) → row < length v.entries.items → StandsAt v v.cycle row) → (v.cycle < v.quiet → IsQuiet v) → IsTurned v
-nothing-waits v room none_waiting none_slots stands quiet = record {
-  room = room;
-  slots = λ slot.
-      ap (λ m. contains_slot m slot) none_slots ∙ contains_slot-none slot
-      ∙ sym (any-none (length v.entries.items))
-      ∙ any-same (length v.entries.items) (λ _. false) (λ row. has_row v.waiting row && nat_eq (slot_at v.entries.items row) slot)
-      (λ row below. ap (λ b. b && nat_eq (slot_at v.entries.items row) slot) (sym (no-row v.waiting row none_waiting)));
-  stands = stands;
-  waits = λ row below. record {
-    waits_is = no-row v.waiting row none_waiting
-        ∙ ap (λ b. b && is_held_in v.cycle (get_or v.entries.items row no_entry))
-        (sym (ap (λ m. contains_slot m (slot_at v.entries.items row)) none_slots ∙ contains_slot-none (slot_at v.entries.items row)));
-    last_is = λ in'. absurd (both_ways (has_row v.waiting row) (no-row v.waiting row none_waiting) in');
-    soonest_is = λ in'. absurd (both_ways (has_row v.waiting row) (no-row v.waiting row none_waiting) in');
-  };
-  quiet_is = quiet;
+pub nothing-waits : (rows : Rows) (dues : Dues) (waiting : Sum) (soonest c quiet : ℕ) (policy : Policy) (turns : Bool) → HasRoom (length rows.entries.items) rows dues
+    → waiting.rows ≡ 0 → ((slot : ℕ) → contains_slot waiting.slots slot ≡ false) → waiting.cost ≡ 0
+    → ((row : ℕ) → row < length rows.entries.items → StandsAt rows dues c row)
+    → (c < quiet → (dues.always.rows ≡ 0) × ((row : ℕ) → row < length rows.entries.items
+    → Exists (get_or rows.entries.items row no_entry) (get_or rows.nexts.items row 0) → quiet ≤ get_or rows.nexts.items row 0))
+    → IsTurned (record { policy = policy; turns = turns; quiet = quiet; cycle = c; rows = rows; dues = record dues { waiting = waiting; soonest = soonest } })
+nothing-waits rows dues waiting soonest c quiet policy turns room none slots cost stands later = record {
+  room = room-on (length rows.entries.items) rows dues waiting soonest room (record {
+    below = λ row in'. absurd (both_ways (has_row waiting.rows row) (no-row waiting.rows row none) in');
+    slots = λ slot.
+        slots slot
+        ∙ sym (any-none (length rows.entries.items))
+        ∙ any-same (length rows.entries.items) (λ _. false) (λ row. has_row waiting.rows row && nat_eq (slot_at rows.entries.items row) slot)
+        (λ row below. ap (λ b. b && nat_eq (slot_at rows.entries.items row) slot) (sym (no-row waiting.rows row none)));
+    cost = cost ∙ sym (ap (cost_below rows.entries.items (length rows.entries.items)) none ∙ cost-none rows.entries.items (length rows.entries.items));
+  });
+  each = λ row below. (
+    stands row below,
+    record {
+      waits_is = no-row waiting.rows row none
+          ∙ ap (λ b. b && is_held_in c (get_or rows.entries.items row no_entry)) (sym (slots (slot_at rows.entries.items row)));
+      last_is = λ in'. absurd (both_ways (has_row waiting.rows row) (no-row waiting.rows row none) in');
+      soonest_is = λ in'. absurd (both_ways (has_row waiting.rows row) (no-row waiting.rows row none) in');
+    },
+  );
+  quiet_is = λ less. record { none_waiting = none; none_always = (later less).0; none_coming = (later less).1 };
 }
 
 -- a wheel that has nothing to release in its cycle, when nothing is released
-pub quiet-released : (w : Wheel) → IsTurned w → w.cycle < w.quiet → IsReleased (contains_slot w.slots) w
-quiet-released w t less = record {
-  room = t.room;
-  slots = t.slots;
-  stands = λ row below. stands-later w.cycle (get_or w.entries.items row no_entry) (has_row w.always row) (get_or w.nexts.items row 0)
-      (is_found w (get_or w.nexts.items row 0) row) (t.stands row below) (apart row below);
-  dues = λ row below. due-stay w.policy (contains_slot w.slots) w.cycle (get_or w.entries.items row no_entry) (has_row w.waiting row)
-      (has_row w.always row) (get_or w.nexts.items row 0) (get_or w.lasts.items row 0) w.soonest (is_found w (get_or w.nexts.items row 0) row)
-      (t.room.in_range row below) (t.stands row below) (t.waits row below) (apart row below);
-}
-  where
-    apart : (row : ℕ) → row < length w.entries.items → has_row w.always row ≡ false
-        → Exists (get_or w.entries.items row no_entry) (get_or w.nexts.items row 0) → get_or w.nexts.items row 0 ≢ w.cycle
-    apart row below off exists = let later = (t.quiet_is less).none_coming row below exists in λ same. omega arith
+pub quiet-released : (w : Wheel) → IsTurned w → w.cycle < w.quiet → IsReleased (contains_slot w.dues.waiting.slots) w
+quiet-released w t less =
+    releasing-end (contains_slot w.dues.waiting.slots) 0 w
+    (releasing-from 0 w t (λ row in'. absurd (both_ways (has_row 0 row) (has-none row) in'))
+    (λ row below _ off exists same. let later = (t.quiet_is less).none_coming row below exists in omega arith))
+    refl
 
 -- the wheel after a cycle in which all was planned
-pub turned-all : (before : ℕ → Bool) (w : Wheel) (slots quiet soonest : ℕ) → IsReleased before w → slots ≡ 0
-    → (w.cycle + 1 < quiet → w.always ≡ 0) → ((c : ℕ) → w.cycle + 1 ≤ c → c < quiet → get_or w.places.items (c % 64) 0 ≡ 0)
-    → IsTurned (record w { cycle = w.cycle + 1; slots = slots; quiet = quiet; waiting = 0; cost = 0; soonest = soonest })
-turned-all before w slots quiet soonest released none never empty =
-    let room = released.room in
-    nothing-waits (record w { cycle = w.cycle + 1; slots = slots; quiet = quiet; waiting = 0; cost = 0; soonest = soonest })
-    (room-on (length w.entries.items) w (w.cycle + 1) slots quiet 0 0 soonest room (λ row in'. absurd (both_ways (has_row 0 row) (has-none row) in'))
-    (sym (cost-none w.entries.items (length w.entries.items))))
-    refl none released.stands
-    (λ later. record {
-      none_waiting = refl;
-      none_always = never later;
-      none_coming = λ row within exists.
-          let off = no-row w.always row (never later) in
-          let stands = released.stands row within in
+pub turned-all : (before : ℕ → Bool) (w : Wheel) (waiting : Sum) (quiet soonest : ℕ) → IsReleased before w → waiting ≡ record { rows = 0; slots = 0; cost = 0 }
+    → (w.cycle + 1 < quiet → w.dues.always.rows ≡ 0)
+    → ((c : ℕ) → w.cycle + 1 ≤ c → c < quiet → get_or w.rows.places.items (c % 64) 0 ≡ 0)
+    → IsTurned (record w { cycle = w.cycle + 1; quiet = quiet; dues = record w.dues { waiting = waiting; soonest = soonest } })
+turned-all before w waiting quiet soonest released none never empty =
+    nothing-waits w.rows w.dues waiting soonest (w.cycle + 1) quiet w.policy w.turns released.room (ap (λ s. s.rows) none)
+    (λ slot. ap (λ s. contains_slot s.slots slot) none ∙ contains_slot-none slot) (ap (λ s. s.cost) none) (λ row within. (released.each row within).0)
+    (λ later. (
+      never later,
+      λ row within exists.
+          let off = no-row w.dues.always.rows row (never later) in
+          let stands = (released.each row within).0 in
           let reached = (stands.next_is off).reached exists in
           ⊎_elim
-          (λ (sooner : get_or w.nexts.items row 0 < quiet).
-          absurd (both_ways (is_found w (get_or w.nexts.items row 0) row)
-          (no-row (get_or w.places.items (get_or w.nexts.items row 0 % 64) 0) row (empty (get_or w.nexts.items row 0) reached sooner))
+          (λ (sooner : get_or w.rows.nexts.items row 0 < quiet).
+          absurd (both_ways (is_found w.rows (get_or w.rows.nexts.items row 0) row)
+          (no-row (get_or w.rows.places.items (get_or w.rows.nexts.items row 0 % 64) 0) row (empty (get_or w.rows.nexts.items row 0) reached sooner))
           (stands.on off exists)))
-          (λ (after : quiet ≤ get_or w.nexts.items row 0). after)
-          (cases_lt (get_or w.nexts.items row 0) quiet);
-    })
+          (λ (after : quiet ≤ get_or w.rows.nexts.items row 0). after)
+          (cases_lt (get_or w.rows.nexts.items row 0) quiet),
+    ))
 
 -- the wheel after a cycle in which nothing was pending
-pub turned-quiet : (w : Wheel) (slots : ℕ) → IsTurned w → w.cycle < w.quiet → slots ≡ 0 → IsTurned (record w { cycle = w.cycle + 1; slots = slots })
+pub turned-quiet : (w : Wheel) (slots : ℕ) → IsTurned w → w.cycle < w.quiet → slots ≡ 0
+    → IsTurned (record w { cycle = w.cycle + 1; dues = record w.dues { waiting = record w.dues.waiting { slots = slots } } })
 turned-quiet w slots t less none =
-    let room = t.room in
     let quiet = t.quiet_is less in
-    nothing-waits (record w { cycle = w.cycle + 1; slots = slots })
-    (room-on (length w.entries.items) w (w.cycle + 1) slots w.quiet w.waiting w.cost w.soonest room room.waiting room.cost)
-    quiet.none_waiting none (quiet-released w t less).stands
-    (λ later. record { none_waiting = quiet.none_waiting; none_always = quiet.none_always; none_coming = quiet.none_coming })
+    let cost = ap (cost_below w.rows.entries.items (length w.rows.entries.items)) quiet.none_waiting ∙ cost-none w.rows.entries.items (length w.rows.entries.items) in
+    nothing-waits w.rows w.dues (record w.dues.waiting { slots = slots }) w.dues.soonest (w.cycle + 1) w.quiet w.policy w.turns t.room quiet.none_waiting
+    (λ slot. ap (λ m. contains_slot m slot) none ∙ contains_slot-none slot) (t.room.waiting.cost ∙ cost)
+    (λ row below. ((quiet-released w t less).each row below).0) (λ later. (quiet.none_always, quiet.none_coming))
 
 -- nothing is pending in it
-pub quiet-slots : (w : Wheel) (slot : ℕ) → IsTurned w → w.cycle < w.quiet → (contains_slot w.slots slot || contains_slot w.always_slots slot) ≡ false
+pub quiet-slots : (w : Wheel) (slot : ℕ) → IsTurned w → w.cycle < w.quiet
+    → (contains_slot w.dues.waiting.slots slot || contains_slot w.dues.always.slots slot) ≡ false
 quiet-slots w slot t less =
+    let n = length w.rows.entries.items in
     let quiet = t.quiet_is less in
-    let none : (set' : ℕ) → set' ≡ 0 → any_below (length w.entries.items) (λ row. has_row set' row && nat_eq (slot_at w.entries.items row) slot) ≡ false
-    = λ set' empty. any-same (length w.entries.items) (λ row. has_row set' row && nat_eq (slot_at w.entries.items row) slot) (λ _. false)
-    (λ row below. ap (λ b. b && nat_eq (slot_at w.entries.items row) slot) (no-row set' row empty)) ∙ any-none (length w.entries.items) in
-    ap (λ b. b || contains_slot w.always_slots slot) (t.slots slot ∙ none w.waiting quiet.none_waiting)
-    ∙ t.room.always_slots slot ∙ none w.always quiet.none_always
+    let none : (set' : ℕ) → set' ≡ 0 → any_below n (λ row. has_row set' row && nat_eq (slot_at w.rows.entries.items row) slot) ≡ false
+    = λ set' empty. any-same n (λ row. has_row set' row && nat_eq (slot_at w.rows.entries.items row) slot) (λ _. false)
+    (λ row below. ap (λ b. b && nat_eq (slot_at w.rows.entries.items row) slot) (no-row set' row empty)) ∙ any-none n in
+    ap (λ b. b || contains_slot w.dues.always.slots slot) (t.room.waiting.slots slot ∙ none w.dues.waiting.rows quiet.none_waiting)
+    ∙ t.room.always.slots slot ∙ none w.dues.always.rows quiet.none_always
 
-pub quiet-cost : (w : Wheel) → IsTurned w → w.cycle < w.quiet → w.cost + w.always_cost ≡ 0
+pub quiet-cost : (w : Wheel) → IsTurned w → w.cycle < w.quiet → w.dues.waiting.cost + w.dues.always.cost ≡ 0
 quiet-cost w t less =
     let quiet = t.quiet_is less in
-    let n = length w.entries.items in
-    let one : cost_below w.entries.items n w.waiting ≡ 0 = ap (cost_below w.entries.items n) quiet.none_waiting ∙ cost-none w.entries.items n in
-    let other : cost_below w.entries.items n w.always ≡ 0 = ap (cost_below w.entries.items n) quiet.none_always ∙ cost-none w.entries.items n in
-    let first = t.room.cost in
-    let second = t.room.always_cost in
+    let n = length w.rows.entries.items in
+    let one : cost_below w.rows.entries.items n w.dues.waiting.rows ≡ 0 = ap (cost_below w.rows.entries.items n) quiet.none_waiting ∙ cost-none w.rows.entries.items n in
+    let other : cost_below w.rows.entries.items n w.dues.always.rows ≡ 0 = ap (cost_below w.rows.entries.items n) quiet.none_always ∙ cost-none w.rows.entries.items n in
+    let first = t.room.waiting.cost in
+    let second = t.room.always.cost in
     omega arith
 
 module _ (ranking : Ranking) (pending window : ℕ) (w : Wheel) (ready : IsReady ranking pending w) where
   abbrev E : List Placed
-  E = w.entries.items
+  E = w.rows.entries.items
 
   abbrev N : ℕ
-  N = length w.entries.items
+  N = length w.rows.entries.items
 
   abbrev plan : Planning
   plan = planning_of ranking window w.cycle pending
 
   abbrev test : ℕ → Bool
-  test row = has_row w.waiting row || has_row w.always row
+  test row = has_row w.dues.waiting.rows row || has_row w.dues.always.rows row
 
   abbrev dues : ℕ → Due
-  dues row = due_of_row ranking.policy (get_or w.entries.items row no_entry) (last_of w row)
+  dues row = due_of_row ranking.policy (get_or w.rows.entries.items row no_entry) (last_of w row)
 
   abbrev before : ℕ → Bool
   before = contains_slot pending
 
-  due-of : (row : ℕ) → row < N → IsDueOf ranking.policy before w.cycle (get_or w.entries.items row no_entry) (if test row then Some (dues row) else None)
-  due-of row within =
-      let P : Policy → Type 0 = λ policy. IsDueOf policy before w.cycle (get_or w.entries.items row no_entry)
-      (if test row then Some (due_of_row policy (get_or w.entries.items row no_entry) (last_of w row)) else None) in
-      subst P ready.of_ranking.policy (ready.released.dues row within).due
+  due-of : (row : ℕ) → row < N → IsDueOf ranking.policy before w.cycle (get_or w.rows.entries.items row no_entry) (if test row then Some (dues row) else None)
+  due-of row within = (ready.released.each row within).1.due ranking.policy
 
   are : AreDues plan w.cycle before E test dues
   are = record { of = due-of; slot = λ row. refl; cost = λ row. refl }
@@ -271,51 +251,50 @@ module _ (ranking : Ranking) (pending window : ℕ) (w : Wheel) (ready : IsReady
   test-within : (row : ℕ) → test row ≡ true → row < N
   test-within row in' =
       ⊎_elim
-      (λ (one : has_row w.waiting row ≡ true). ready.released.room.waiting row one)
-      (λ (other : has_row w.always row ≡ true). ready.released.room.always row other)
-      (or_cases (has_row w.waiting row) (has_row w.always row) in')
+      (λ (one : has_row w.dues.waiting.rows row ≡ true). ready.released.room.waiting.below row one)
+      (λ (other : has_row w.dues.always.rows row ≡ true). ready.released.room.always.below row other)
+      (or_cases (has_row w.dues.waiting.rows row) (has_row w.dues.always.rows row) in')
 
   -- what a row of the set has to send
-  pending-of : (row : ℕ) → test row ≡ true → IsPending ranking.policy before w.cycle (get_or w.entries.items row no_entry) (dues row)
+  pending-of : (row : ℕ) → test row ≡ true → IsPending ranking.policy before w.cycle (get_or w.rows.entries.items row no_entry) (dues row)
   pending-of row in' =
-      let P : Bool → Type 0 = λ b. IsDueOf ranking.policy before w.cycle (get_or w.entries.items row no_entry) (if b then Some (dues row) else None) in
+      let P : Bool → Type 0 = λ b. IsDueOf ranking.policy before w.cycle (get_or w.rows.entries.items row no_entry) (if b then Some (dues row) else None) in
       subst P in' (due-of row (test-within row in'))
 
-  range-of : (row : ℕ) → row < N → IsInRange (get_or w.entries.items row no_entry)
+  range-of : (row : ℕ) → row < N → IsInRange (get_or w.rows.entries.items row no_entry)
   range-of row within = ready.released.room.in_range row within
 
-  sends-in : (row : ℕ) → test row ≡ true → sends_of w.cycle (slot_at E row) (get_or w.entries.items row no_entry) ≡ true
+  sends-in : (row : ℕ) → test row ≡ true → sends_of w.cycle (slot_at E row) (get_or w.rows.entries.items row no_entry) ≡ true
   sends-in row in' =
       let is = pending-of row in' in
-      sends-test w.cycle (slot_at E row) (get_or w.entries.items row no_entry) is.number (range-of row (test-within row in')) refl is.sends
+      sends-test w.cycle (slot_at E row) (get_or w.rows.entries.items row no_entry) is.number (range-of row (test-within row in')) refl is.sends
 
   pub distinct : (due : ℕ) → ((row : ℕ) → has_row due row ≡ test row) → AreDistinct E due
   distinct due rows one other in_one in_other same =
       let first = sym (rows one) ∙ in_one in
       let second = sym (rows other) ∙ in_other in
       one-row ranking.placed E w.cycle (slot_at E other) one other ready.well ready.of_ranking.same (test-within one first) (test-within other second)
-      (ap (λ s. sends_of w.cycle s (get_or w.entries.items one no_entry)) (sym same) ∙ sends-in one first) (sends-in other second)
+      (ap (λ s. sends_of w.cycle s (get_or w.rows.entries.items one no_entry)) (sym same) ∙ sends-in one first) (sends-in other second)
 
   pub below : (due : ℕ) → ((row : ℕ) → has_row due row ≡ test row) → IsBelow N due
   below due rows row in' = test-within row (sym (rows row) ∙ in')
 
-  apart : (row : ℕ) → has_row w.waiting row ≡ true → has_row w.always row ≡ false
-  apart row in' = (ready.released.dues row (ready.released.room.waiting row in')).apart in'
+  apart : (row : ℕ) → has_row w.dues.waiting.rows row ≡ true → has_row w.dues.always.rows row ≡ false
+  apart row in' = (ready.released.each row (ready.released.room.waiting.below row in')).1.apart in'
 
-  pub cost-of : (due : ℕ) → ((row : ℕ) → has_row due row ≡ test row) → w.cost + w.always_cost ≡ cost_below E N due
+  pub cost-of : (due : ℕ) → ((row : ℕ) → has_row due row ≡ test row) → w.dues.waiting.cost + w.dues.always.cost ≡ cost_below E N due
   cost-of due rows =
-      let one = ready.released.room.cost in
-      let other = ready.released.room.always_cost in
-      let both = sum-or N (has_row w.waiting) (has_row w.always) (cost_at E) apart in
-      let same = sum_where-same N (has_row due) test (cost_at E) (λ row below. rows row) in
+      let one = ready.released.room.waiting.cost in
+      let other = ready.released.room.always.cost in
+      let both = cost-both E N w.dues.waiting.rows w.dues.always.rows due apart rows in
       omega arith
 
   -- the slots that have an instance pending
-  pub slots-of : (slot : ℕ) → (contains_slot w.slots slot || contains_slot w.always_slots slot) ≡ any_below N (λ row. test row && nat_eq (slot_at E row) slot)
+  pub slots-of : (slot : ℕ) → (contains_slot w.dues.waiting.slots slot || contains_slot w.dues.always.slots slot) ≡ any_below N (λ row. test row && nat_eq (slot_at E row) slot)
   slots-of slot =
-      ap (λ b. b || contains_slot w.always_slots slot) (ready.released.slots slot)
-      ∙ ap (λ b. any_below N (λ row. has_row w.waiting row && nat_eq (slot_at E row) slot) || b) (ready.released.room.always_slots slot)
-      ∙ any-or N (has_row w.waiting) (has_row w.always) (λ row. nat_eq (slot_at E row) slot)
+      ap (λ b. b || contains_slot w.dues.always.slots slot) (ready.released.room.waiting.slots slot)
+      ∙ ap (λ b. any_below N (λ row. has_row w.dues.waiting.rows row && nat_eq (slot_at E row) slot) || b) (ready.released.room.always.slots slot)
+      ∙ any-or N (has_row w.dues.waiting.rows) (has_row w.dues.always.rows) (λ row. nat_eq (slot_at E row) slot)
 
   -- all of it, in key order
   all-of : IsLineTo plan w.cycle before E test dues ready.well ready.of_ranking.same are N
@@ -326,12 +305,12 @@ module _ (ranking : Ranking) (pending window : ℕ) (w : Wheel) (ready : IsReady
       whole_line-of plan w.cycle pending E all-of.line ready.well ready.of_ranking.same ready.valid
       (rw (take_all N E (omega arith)) at all-of.found)
 
-  all-fitting : (mask : ℕ) → mask < 2 ^ most_slots → ((slot : ℕ) → contains_slot mask slot ≡ (contains_slot w.slots slot || contains_slot w.always_slots slot))
-      → w.cost + w.always_cost ≤ window → IsAllFitting plan w.cycle before mask (w.cost + w.always_cost)
+  all-fitting : (mask : ℕ) → mask < 2 ^ most_slots → ((slot : ℕ) → contains_slot mask slot ≡ (contains_slot w.dues.waiting.slots slot || contains_slot w.dues.always.slots slot))
+      → w.dues.waiting.cost + w.dues.always.cost ≤ window → IsAllFitting plan w.cycle before mask (w.dues.waiting.cost + w.dues.always.cost)
   all-fitting mask small made fits =
-      let one = ready.released.room.cost in
-      let other = ready.released.room.always_cost in
-      let both = sum-or N (has_row w.waiting) (has_row w.always) (cost_at E) apart in
+      let one = ready.released.room.waiting.cost in
+      let other = ready.released.room.always.cost in
+      let both = sum-or N (has_row w.dues.waiting.rows) (has_row w.dues.always.rows) (cost_at E) apart in
       let cost = all-of.cost in
       record {
         line = all-of.line;
@@ -342,10 +321,10 @@ module _ (ranking : Ranking) (pending window : ℕ) (w : Wheel) (ready : IsReady
       }
 
   -- where all fits
-  pub planned-all : (mask : ℕ) → mask < 2 ^ most_slots → ((slot : ℕ) → contains_slot mask slot ≡ (contains_slot w.slots slot || contains_slot w.always_slots slot))
-      → w.cost + w.always_cost ≤ window → (next : ℕ) → next ≡ 0 → IsPlanned plan w.cycle before mask (w.cost + w.always_cost) next
+  pub planned-all : (mask : ℕ) → mask < 2 ^ most_slots → ((slot : ℕ) → contains_slot mask slot ≡ (contains_slot w.dues.waiting.slots slot || contains_slot w.dues.always.slots slot))
+      → w.dues.waiting.cost + w.dues.always.cost ≤ window → (next : ℕ) → next ≡ 0 → IsPlanned plan w.cycle before mask (w.dues.waiting.cost + w.dues.always.cost) next
   planned-all mask small made fits next none =
-      all-planned plan w.cycle before mask (w.cost + w.always_cost) next (all-fitting mask small made fits) none
+      all-planned plan w.cycle before mask (w.dues.waiting.cost + w.dues.always.cost) next (all-fitting mask small made fits) none
 
   -- a slot has a row of the set exactly where it is pending
   whole-pending : (line : List Due) (slot : ℕ) → slot < most_slots → IsWholeLine plan w.cycle before line
@@ -361,15 +340,15 @@ module _ (ranking : Ranking) (pending window : ℕ) (w : Wheel) (ready : IsReady
   -- what is taken of a line of all that is pending, and what is left of the rows
   module _ (line : List Due) (whole : IsWholeLine plan w.cycle before line) (due left mask width next : ℕ)
       (rows : (row : ℕ) → has_row due row ≡ test row)
-      (left_is : (row : ℕ) → has_row left row ≡ (has_row due row && not (contains_slot mask (slot_at w.entries.items row))))
+      (left_is : (row : ℕ) → has_row left row ≡ (has_row due row && not (contains_slot mask (slot_at w.rows.entries.items row))))
       (mask_of : IsSetOf mask (taken_of ranking.fill window line)) (width_of : width ≡ cost_of (taken_of ranking.fill window line))
       (fits : width ≤ window) (small : next < 2 ^ most_slots)
-      (made : (slot : ℕ) → contains_slot next slot ≡ ((contains_slot w.slots slot || contains_slot w.always_slots slot) && not (contains_slot mask slot)))
+      (made : (slot : ℕ) → contains_slot next slot ≡ ((contains_slot w.dues.waiting.slots slot || contains_slot w.dues.always.slots slot) && not (contains_slot mask slot)))
     where
       split : IsSplit plan w.cycle before (taken_of ranking.fill window line) (left_of ranking.fill window line)
       split = split-of plan w.cycle before line ranking.fill refl whole
 
-      slots-left : IsSlotsOf E left next
+      slots-left : IsSlotsOf E N left next
       slots-left slot =
           made slot
           ∙ ap (λ b. b && not (contains_slot mask slot)) (slots-of slot)
@@ -393,17 +372,17 @@ module _ (ranking : Ranking) (pending window : ℕ) (w : Wheel) (ready : IsReady
           ∙ ap (λ b. pending_in plan.placed w.cycle before slot && not b) (mask_of.slots slot ∙ split.planned slot known)
 
       -- none that is left is in its last cycle
-      module _ (soonest cost : ℕ) (time : AreInTime w left soonest) (cost_is : cost ≡ cost_below w.entries.items (length w.entries.items) left)
+      module _ (soonest cost : ℕ) (time : AreInTime w left soonest) (cost_is : cost ≡ cost_below w.rows.entries.items (length w.rows.entries.items) left)
         where
           -- a row that is left may be sent in the next cycle
           record IsHeldOn (row : ℕ) : Type 0 where
             number : ℕ
-            sends : MaySend (get_or w.entries.items row no_entry) number (w.cycle + 1)
-            earlier : release_of (get_or w.entries.items row no_entry) number < w.cycle + 1
-            last : get_or w.lasts.items row 0 + 1 ≡ deadline_of (get_or w.entries.items row no_entry) number
+            sends : MaySend (get_or w.rows.entries.items row no_entry) number (w.cycle + 1)
+            earlier : release_of (get_or w.rows.entries.items row no_entry) number < w.cycle + 1
+            last : get_or w.rows.lasts.items row 0 + 1 ≡ deadline_of (get_or w.rows.entries.items row no_entry) number
 
-          last-of-left : (row : ℕ) → has_row left row ≡ true → last_of w row ≡ get_or w.lasts.items row 0
-          last-of-left row in' = ap (λ b. if b then w.cycle else get_or w.lasts.items row 0) (time.not_always row in')
+          last-of-left : (row : ℕ) → has_row left row ≡ true → last_of w row ≡ get_or w.rows.lasts.items row 0
+          last-of-left row in' = ap (λ b. if b then w.cycle else get_or w.rows.lasts.items row 0) (time.not_always row in')
 
           held-on : (row : ℕ) → has_row left row ≡ true → IsHeldOn row
           held-on row in' =
@@ -411,7 +390,7 @@ module _ (ranking : Ranking) (pending window : ℕ) (w : Wheel) (ready : IsReady
               let sends = is.sends in
               let released = sends.released in
               let later = time.later row in' in
-              let last : get_or w.lasts.items row 0 + 1 ≡ deadline_of (get_or w.entries.items row no_entry) is.number
+              let last : get_or w.rows.lasts.items row 0 + 1 ≡ deadline_of (get_or w.rows.entries.items row no_entry) is.number
               = ap (λ n. n + 1) (sym (last-of-left row in')) ∙ is.is.last in
               record {
                 number = is.number;
@@ -427,7 +406,7 @@ module _ (ranking : Ranking) (pending window : ℕ) (w : Wheel) (ready : IsReady
               let one = one-below N (λ row. has_row left row && nat_eq (slot_at E row) slot) (sym (slots-left slot) ∙ pending-left slot known ∙ parts.0) in
               let row = one.row in
               let both = and_parts (has_row left row) (nat_eq (slot_at E row) slot) one.passes in
-              let in' = due_in-of plan w.cycle before (get_or w.entries.items row no_entry) (dues row) ready.well
+              let in' = due_in-of plan w.cycle before (get_or w.rows.entries.items row no_entry) (dues row) ready.well
               (stands-in ranking.placed E row no_entry ready.of_ranking.same one.within) (pending-of row (left-test row both.0)) in
               let later = time.later row both.0 in
               let last = last-of-left row both.0 in
@@ -446,17 +425,17 @@ module _ (ranking : Ranking) (pending window : ℕ) (w : Wheel) (ready : IsReady
           }
 
           waits-on : (row : ℕ) → row < N → (b : Bool) → has_row left row ≡ b
-              → b ≡ (contains_slot next (slot_at E row) && is_held_in (w.cycle + 1) (get_or w.entries.items row no_entry))
+              → b ≡ (contains_slot next (slot_at E row) && is_held_in (w.cycle + 1) (get_or w.rows.entries.items row no_entry))
           waits-on row within true is =
               let held = held-on row is in
-              let p = get_or w.entries.items row no_entry in
+              let p = get_or w.rows.entries.items row no_entry in
               sym (and_from (contains_slot next (slot_at E row)) (is_held_in (w.cycle + 1) p)
               (slots-left (slot_at E row)
               ∙ any-found N row (λ other. has_row left other && nat_eq (slot_at E other) (slot_at E row)) within
               (and_from (has_row left row) (nat_eq (slot_at E row) (slot_at E row)) is (eq-eqb (slot_at E row) (slot_at E row) refl)))
               (held-is p (w.cycle + 1) held.number (range-of row within) held.sends ∙ lt-ltb (release_of p held.number) (w.cycle + 1) held.earlier))
           waits-on row within false is =
-              let p = get_or w.entries.items row no_entry in
+              let p = get_or w.rows.entries.items row no_entry in
               sym (false_from_ne_true (contains_slot next (slot_at E row) && is_held_in (w.cycle + 1) p) (λ both.
               let parts = and_parts (contains_slot next (slot_at E row)) (is_held_in (w.cycle + 1) p) both in
               let one = one-below N (λ other. has_row left other && nat_eq (slot_at E other) (slot_at E row)) (sym (slots-left (slot_at E row)) ∙ parts.0) in
@@ -466,14 +445,14 @@ module _ (ranking : Ranking) (pending window : ℕ) (w : Wheel) (ready : IsReady
               let same : row ≡ one.row
               = one-row ranking.placed E (w.cycle + 1) (slot_at E row) row one.row ready.well ready.of_ranking.same within one.within
               (sends-test (w.cycle + 1) (slot_at E row) p own.0 (range-of row within) refl (MaySend-from_instance p own.0 (w.cycle + 1) own.1))
-              (sends-test (w.cycle + 1) (slot_at E row) (get_or w.entries.items one.row no_entry) other.number (range-of one.row one.within)
+              (sends-test (w.cycle + 1) (slot_at E row) (get_or w.rows.entries.items one.row no_entry) other.number (range-of one.row one.within)
               (eqb-true (slot_at E one.row) (slot_at E row) in'.1) other.sends) in
               both_ways (has_row left row) is (ap (has_row left) same ∙ in'.0)))
 
-          last-on : (row : ℕ) → row < N → has_row left row ≡ true → (k : ℕ) → MaySend (get_or w.entries.items row no_entry) k (w.cycle + 1)
-              → get_or w.lasts.items row 0 + 1 ≡ deadline_of (get_or w.entries.items row no_entry) k
+          last-on : (row : ℕ) → row < N → has_row left row ≡ true → (k : ℕ) → MaySend (get_or w.rows.entries.items row no_entry) k (w.cycle + 1)
+              → get_or w.rows.lasts.items row 0 + 1 ≡ deadline_of (get_or w.rows.entries.items row no_entry) k
           last-on row within in' k sends =
-              let p = get_or w.entries.items row no_entry in
+              let p = get_or w.rows.entries.items row no_entry in
               let held = held-on row in' in
               let deadline = (range-of row within).entry.deadline in
               let same : held.number ≡ k
@@ -484,31 +463,24 @@ module _ (ranking : Ranking) (pending window : ℕ) (w : Wheel) (ready : IsReady
           -- the wheel after it
           abbrev after : Wheel
           after = record w {
-            cycle = w.cycle + 1;
             quiet = 0;
-            waiting = left;
-            cost = cost;
-            slots = next;
-            soonest = soonest;
+            cycle = w.cycle + 1;
+            dues = record w.dues { waiting = record { rows = left; slots = next; cost = cost }; soonest = soonest };
           }
 
           turned-some : IsTurned after
-          turned-some =
-              let room = ready.released.room in
-              record {
-                room = room-on N w (w.cycle + 1) next 0 left cost soonest room left-within cost_is;
-                slots = slots-left;
-                stands = ready.released.stands;
-                waits = λ row within. record {
-                  waits_is = waits-on row within (has_row left row) refl;
-                  last_is = last-on row within;
-                  soonest_is = time.soonest_is row;
-                };
-                quiet_is = λ wrong. absurd (omega arith);
-              }
+          turned-some = record {
+            room = room-on N w.rows w.dues (record { rows = left; slots = next; cost = cost }) soonest ready.released.room
+                (record { below = left-within; slots = slots-left; cost = cost_is });
+            each = λ row within. (
+              (ready.released.each row within).0,
+              record { waits_is = waits-on row within (has_row left row) refl; last_is = last-on row within; soonest_is = time.soonest_is row },
+            );
+            quiet_is = λ wrong. absurd (omega arith);
+          }
 
           pub some-on : IsPlannedOn ranking window pending w after mask width
-          some-on = record { planned = planned-some; next = refl; turned = turned-some; table = record { entries = refl; policy = refl; turns = refl } }
+          some-on = record { planned = planned-some; next = refl; turned = turned-some; table = record { entries = refl; others = refl } }
 
   -- a row whose instance is the one that is kept
   row-of : (due : Due) → IsDueIn plan w.cycle before due → IsOneOf dues test due
@@ -517,7 +489,7 @@ module _ (ranking : Ranking) (pending window : ℕ) (w : Wheel) (ready : IsReady
       = sym (all-of.slots due.slot) ∙ whole-pending all-of.line due.slot in'.known whole-of ∙ in'.pending in
       let one = one-below N (λ row. test row && nat_eq (slot_at E row) due.slot) found in
       let parts = and_parts (test one.row) (nat_eq (slot_at E one.row) due.slot) one.passes in
-      let own = due_in-of plan w.cycle before (get_or w.entries.items one.row no_entry) (dues one.row) ready.well
+      let own = due_in-of plan w.cycle before (get_or w.rows.entries.items one.row no_entry) (dues one.row) ready.well
       (stands-in ranking.placed E one.row no_entry ready.of_ranking.same one.within) (pending-of one.row parts.0) in
       let same : in'.instance ≡ own.instance
       = same_Some in'.instance own.instance
@@ -545,9 +517,9 @@ module _ (ranking : Ranking) (pending window : ℕ) (w : Wheel) (ready : IsReady
 
   -- what is taken of the rows in an order that is key order
   part-of : (goes : ℕ → ℕ → Bool)
-      → ((one other : ℕ) → one < length w.entries.items → other < length w.entries.items → goes one other ≡ true → is_due_by (dues one) (dues other) ≡ true)
+      → ((one other : ℕ) → one < length w.rows.entries.items → other < length w.rows.entries.items → goes one other ≡ true → is_due_by (dues one) (dues other) ≡ true)
       → (due left mask width : ℕ) → ((row : ℕ) → has_row due row ≡ test row)
-      → IsTook ranking.fill window goes w.entries.items due left mask width → IsPart plan before w left mask width
+      → IsTook ranking.fill window goes w.rows.entries.items due left mask width → IsPart plan before w left mask width
   part-of goes ordered due left mask width rows took =
       let of : AreOfRows E goes dues = record { slot = λ row. refl; cost = λ row. refl; ordered = ordered } in
       record {
@@ -563,33 +535,33 @@ module _ (ranking : Ranking) (pending window : ℕ) (w : Wheel) (ready : IsReady
       }
 
   pub part-by-row : (due left mask width : ℕ) → ((row : ℕ) → has_row due row ≡ test row)
-      → IsTook ranking.fill window nat_le w.entries.items due left mask width → w.policy ≢ Edf → IsPart plan before w left mask width
+      → IsTook ranking.fill window nat_le w.rows.entries.items due left mask width → w.policy ≢ Edf → IsPart plan before w left mask width
   part-by-row due left mask width rows took order =
       let order_of : ranking.policy ≢ Edf = λ same. order (ready.of_ranking.policy ∙ same) in
       part-of nat_le (by-rank ranking.policy E (last_of w) order_of ready.of_ranking.order) due left mask width rows took
 
   pub part-by-last : (due left mask width : ℕ) → ((row : ℕ) → has_row due row ≡ test row)
-      → IsTook ranking.fill window (goes_by (last_of w)) w.entries.items due left mask width → w.policy ≡ Edf → IsPart plan before w left mask width
+      → IsTook ranking.fill window (goes_by (last_of w)) w.rows.entries.items due left mask width → w.policy ≡ Edf → IsPart plan before w left mask width
   part-by-last due left mask width rows took order =
       let policy : Edf ≡ ranking.policy = sym order ∙ ready.of_ranking.policy in
       let P : Policy → Type 0 = λ policy. AreRanked policy E in
       let Q : Policy → Type 0 = λ policy. (one other : ℕ) → one < N → other < N → goes_by (last_of w) one other ≡ true
-      → is_due_by (due_of_row policy (get_or w.entries.items one no_entry) (last_of w one)) (due_of_row policy (get_or w.entries.items other no_entry) (last_of w other)) ≡ true in
+      → is_due_by (due_of_row policy (get_or w.rows.entries.items one no_entry) (last_of w one)) (due_of_row policy (get_or w.rows.entries.items other no_entry) (last_of w other)) ≡ true in
       part-of (goes_by (last_of w)) (subst Q policy (by-last E (last_of w) (subst P (sym policy) ready.of_ranking.order))) due left mask width rows took
 
   -- none of the rows is over
   pub are-due : (due : ℕ) → ((row : ℕ) → has_row due row ≡ test row) → AreDue w due
   are-due due rows = record {
     known = λ row in'. sym (rows row) ∙ in';
-    in_time = λ row in'. in-time row in' (pending-of row (or_left (has_row w.waiting row) (has_row w.always row) in'));
+    in_time = λ row in'. in-time row in' (pending-of row (or_left (has_row w.dues.waiting.rows row) (has_row w.dues.always.rows row) in'));
     apart = apart;
-    soonest_is = λ row in'. (ready.released.dues row (ready.released.room.waiting row in')).soonest_is in';
+    soonest_is = λ row in'. (ready.released.each row (ready.released.room.waiting.below row in')).1.soonest_is in';
   }
     where
-      in-time : (row : ℕ) → has_row w.waiting row ≡ true → IsPending ranking.policy before w.cycle (get_or w.entries.items row no_entry) (dues row)
-          → w.cycle ≤ get_or w.lasts.items row 0
+      in-time : (row : ℕ) → has_row w.dues.waiting.rows row ≡ true → IsPending ranking.policy before w.cycle (get_or w.rows.entries.items row no_entry) (dues row)
+          → w.cycle ≤ get_or w.rows.lasts.items row 0
       in-time row in' is =
-          let own : last_of w row ≡ get_or w.lasts.items row 0 = ap (λ b. if b then w.cycle else get_or w.lasts.items row 0) (apart row in') in
+          let own : last_of w row ≡ get_or w.rows.lasts.items row 0 = ap (λ b. if b then w.cycle else get_or w.rows.lasts.items row 0) (apart row in') in
           let last = is.is.last in
           let sooner = is.sends.in_time in
           omega arith

@@ -127,16 +127,16 @@ and-first : (a b : Bool) → false ≡ (a && b) → b ≡ true → a ≡ false
 and-first true b none is = let no : false ≡ b = none in absurd (cc)
 and-first false b none is = refl
 
-pub due-stay : (policy : Policy) (before : ℕ → Bool) (c : ℕ) (p : Placed) (waits always : Bool) (next last soonest : ℕ) (found : Bool)
+pub due-stay : (before : ℕ → Bool) (c : ℕ) (p : Placed) (waits always : Bool) (next last soonest : ℕ) (found : Bool)
     → IsInRange p → IsPlacedAt c p always next found → IsWaitingAt before c p waits last soonest → (always ≡ false → Exists p next → next ≢ c)
-    → IsDueAt policy before c p waits always last soonest
-due-stay policy before c p true always next last soonest found range at w apart =
+    → IsDueAt before c p waits always last soonest
+due-stay before c p true always next last soonest found range at w apart =
     let parts = and_parts (before p.entry.slot) (is_held_in c p) (sym w.waits_is) in
     let held = held-parts (instance_of p c) p c parts.1 in
     let sends = MaySend-from_instance p held.0 c held.1 in
     let off : always ≡ false = not-always p c held.0 always range at.always_is sends held.2 in
     record {
-      due = rw off (record {
+      due = λ policy. rw off (record {
         number = held.0;
         sends = sends;
         waiting = or_left (before p.entry.slot) (nat_eq (release_of p held.0) c) parts.0;
@@ -145,7 +145,7 @@ due-stay policy before c p true always next last soonest found range at w apart 
       apart = λ _. off;
       soonest_is = w.soonest_is;
     }
-due-stay policy before c p false true next last soonest found range at w apart =
+due-stay before c p false true next last soonest found range at w apart =
     let is = at.always_is refl in
     let number = c - release_of p 0 in
     let same : c ≡ release_of p number = always-sends p c range is in
@@ -153,7 +153,7 @@ due-stay policy before c p false true next last soonest found range at w apart =
     let some = range.entry.some_time in
     let deadline = range.entry.deadline in
     record {
-      due = record {
+      due = λ policy. record {
         number = number;
         sends = sends-released p c number range same (exists-live p c is.live);
         waiting = or_right (before p.entry.slot) (nat_eq (release_of p number) c) (eq-eqb (release_of p number) c (sym same));
@@ -162,8 +162,8 @@ due-stay policy before c p false true next last soonest found range at w apart =
       apart = λ wrong. absurd (cc);
       soonest_is = λ wrong. absurd (cc);
     }
-due-stay policy before c p false false next last soonest found range at w apart = record {
-  due = λ k sends.
+due-stay before c p false false next last soonest found range at w apart = record {
+  due = λ policy k sends.
       let other = not-released p c next (at.next_is refl) (apart refl) k sends.exists in
       let released = sends.released in
       let held = held-is p c k range sends ∙ lt-ltb (release_of p k) c (omega arith) in
@@ -174,12 +174,12 @@ due-stay policy before c p false false next last soonest found range at w apart 
 }
 
 -- what was released just now
-pub due-released : (policy : Policy) (before : ℕ → Bool) (c : ℕ) (p : Placed) (k soonest : ℕ) → IsInRange p → c ≡ release_of p k → Exists p c
-    → soonest ≤ c + p.entry.deadline - 1 → IsDueAt policy before c p true false (c + p.entry.deadline - 1) soonest
-due-released policy before c p k soonest range same exists early =
+pub due-released : (before : ℕ → Bool) (c : ℕ) (p : Placed) (k soonest : ℕ) → IsInRange p → c ≡ release_of p k → Exists p c
+    → soonest ≤ c + p.entry.deadline - 1 → IsDueAt before c p true false (c + p.entry.deadline - 1) soonest
+due-released before c p k soonest range same exists early =
     let some = range.entry.some_time in
     record {
-      due = record {
+      due = λ policy. record {
         number = k;
         sends = sends-released p c k range same exists;
         waiting = or_right (before p.entry.slot) (nat_eq (release_of p k) c) (eq-eqb (release_of p k) c (sym same));

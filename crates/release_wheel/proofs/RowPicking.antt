@@ -75,12 +75,12 @@ looking-end lasts rows rest row last s none = record {
 }
 
 -- rows that are due are rows of the wheel
-pub due-below : (w : Wheel) (due : ℕ) → HasRoom (length w.entries.items) w → AreDue w due → IsBelow (length w.entries.items) due
+pub due-below : (w : Wheel) (due : ℕ) → HasRoom (length w.rows.entries.items) w.rows w.dues → AreDue w due → IsBelow (length w.rows.entries.items) due
 due-below w due room are row in' =
     ⊎_elim
-    (λ (one : has_row w.waiting row ≡ true). room.waiting row one)
-    (λ (other : has_row w.always row ≡ true). room.always row other)
-    (or_cases (has_row w.waiting row) (has_row w.always row) (are.known row in'))
+    (λ (one : has_row w.dues.waiting.rows row ≡ true). room.waiting.below row one)
+    (λ (other : has_row w.dues.always.rows row ≡ true). room.always.below row other)
+    (or_cases (has_row w.dues.waiting.rows row) (has_row w.dues.always.rows row) (are.known row in'))
 
 -- and so are some of them
 pub due-less : (w : Wheel) (due rest : ℕ) → AreDue w due → ((row : ℕ) → has_row rest row ≡ true → has_row due row ≡ true) → AreDue w rest
@@ -92,25 +92,25 @@ due-less w due rest are rest_in = record {
 }
 
 -- among rows with an instance in each cycle and rows that wait
-module _ (w : Wheel) (rest always : ℕ) (due : AreDue w rest) (always_is : (i : ℕ) → has_row always i ≡ (has_row rest i && has_row w.always i)) where
+module _ (w : Wheel) (rest always : ℕ) (due : AreDue w rest) (always_is : (i : ℕ) → has_row always i ≡ (has_row rest i && has_row w.dues.always.rows i)) where
   abbrev lasts : ℕ → ℕ
-  lasts i = get_or w.lasts.items i 0
+  lasts i = get_or w.rows.lasts.items i 0
 
-  last-in : (i : ℕ) → has_row w.always i ≡ true → last_of w i ≡ w.cycle
-  last-in i on = ap (λ b. if b then w.cycle else get_or w.lasts.items i 0) on
+  last-in : (i : ℕ) → has_row w.dues.always.rows i ≡ true → last_of w i ≡ w.cycle
+  last-in i on = ap (λ b. if b then w.cycle else get_or w.rows.lasts.items i 0) on
 
-  last-out : (i : ℕ) → has_row w.always i ≡ false → last_of w i ≡ get_or w.lasts.items i 0
-  last-out i off = ap (λ b. if b then w.cycle else get_or w.lasts.items i 0) off
+  last-out : (i : ℕ) → has_row w.dues.always.rows i ≡ false → last_of w i ≡ get_or w.rows.lasts.items i 0
+  last-out i off = ap (λ b. if b then w.cycle else get_or w.rows.lasts.items i 0) off
 
-  waits : (i : ℕ) → has_row rest i ≡ true → has_row w.always i ≡ false → has_row w.waiting i ≡ true
+  waits : (i : ℕ) → has_row rest i ≡ true → has_row w.dues.always.rows i ≡ false → has_row w.dues.waiting.rows i ≡ true
   waits i in' off =
       ⊎_elim
-      (λ (one : has_row w.waiting i ≡ true). one)
-      (λ (other : has_row w.always i ≡ true). absurd (both_ways (has_row w.always i) off other))
-      (or_cases (has_row w.waiting i) (has_row w.always i) (due.known i in'))
+      (λ (one : has_row w.dues.waiting.rows i ≡ true). one)
+      (λ (other : has_row w.dues.always.rows i ≡ true). absurd (both_ways (has_row w.dues.always.rows i) off other))
+      (or_cases (has_row w.dues.waiting.rows i) (has_row w.dues.always.rows i) (due.known i in'))
 
   -- all wait
-  pub only-waiting : (row : ℕ) → always ≡ 0 → IsFirstRow (goes_by (λ row. get_or w.lasts.items row 0)) (has_row rest) row
+  pub only-waiting : (row : ℕ) → always ≡ 0 → IsFirstRow (goes_by (λ row. get_or w.rows.lasts.items row 0)) (has_row rest) row
       → IsFirstRow (goes_by (last_of w)) (has_row rest) row
   only-waiting row none first = record {
     stands = first.stands;
@@ -124,77 +124,77 @@ module _ (w : Wheel) (rest always : ℕ) (due : AreDue w rest) (always_is : (i :
       out true b is none = none
       out false b is none = absurd (cc)
 
-      off : (i : ℕ) → has_row rest i ≡ true → has_row w.always i ≡ false
-      off i in' = out (has_row rest i) (has_row w.always i) in' (sym (always_is i) ∙ ap (λ m. has_row m i) none ∙ has-none i)
+      off : (i : ℕ) → has_row rest i ≡ true → has_row w.dues.always.rows i ≡ false
+      off i in' = out (has_row rest i) (has_row w.dues.always.rows i) in' (sym (always_is i) ∙ ap (λ m. has_row m i) none ∙ has-none i)
 
   -- the first of those with an instance in each cycle
   module _ (own : ℕ) (stands : has_row always own ≡ true) (none : (i : ℕ) → i < own → has_row always i ≡ false) where
-    parts : has_row rest own ≡ true × has_row w.always own ≡ true
-    parts = and_parts (has_row rest own) (has_row w.always own) (sym (always_is own) ∙ stands)
+    parts : has_row rest own ≡ true × has_row w.dues.always.rows own ≡ true
+    parts = and_parts (has_row rest own) (has_row w.dues.always.rows own) (sym (always_is own) ∙ stands)
 
-    from-own : (i : ℕ) → has_row rest i ≡ true → has_row w.always i ≡ true → own ≤ i
-    from-own i in' on = from-first always own i none (always_is i ∙ and_from (has_row rest i) (has_row w.always i) in' on)
+    from-own : (i : ℕ) → has_row rest i ≡ true → has_row w.dues.always.rows i ≡ true → own ≤ i
+    from-own i in' on = from-first always own i none (always_is i ∙ and_from (has_row rest i) (has_row w.dues.always.rows i) in' on)
 
     -- it goes first where all that wait are later, or as late and behind it
-    pub own-first : ((i : ℕ) → has_row rest i ≡ true → has_row w.waiting i ≡ true → (w.cycle < get_or w.lasts.items i 0) ⊎ (own ≤ i))
+    pub own-first : ((i : ℕ) → has_row rest i ≡ true → has_row w.dues.waiting.rows i ≡ true → (w.cycle < get_or w.rows.lasts.items i 0) ⊎ (own ≤ i))
         → IsFirstRow (goes_by (last_of w)) (has_row rest) own
     own-first later = record {
       stands = parts.0;
       first = λ other in'.
           ⊎_elim
-          (λ (on : has_row w.always other ≡ true).
+          (λ (on : has_row w.dues.always.rows other ≡ true).
           by-le (last_of w own) (last_of w other) own other
           (let one = last-in own parts.1 in let same = last-in other on in omega arith) (from-own other in' on))
-          (λ (off : has_row w.always other ≡ false).
+          (λ (off : has_row w.dues.always.rows other ≡ false).
           let wait = waits other in' off in
           let one = last-in own parts.1 in
           let same = last-out other off in
           let in_time = due.in_time other wait in
           ⊎_elim
-          (λ (less : w.cycle < get_or w.lasts.items other 0). by-less (last_of w own) (last_of w other) own other (omega arith))
+          (λ (less : w.cycle < get_or w.rows.lasts.items other 0). by-less (last_of w own) (last_of w other) own other (omega arith))
           (λ (behind : own ≤ other). by-le (last_of w own) (last_of w other) own other (omega arith) behind)
           (later other in' wait))
-          (cases_Bool (has_row w.always other));
+          (cases_Bool (has_row w.dues.always.rows other));
     }
 
     -- and that of those which wait
-    module _ (waiting row : ℕ) (waiting_is : (i : ℕ) → has_row waiting i ≡ (has_row rest i && has_row w.waiting i))
-        (first : IsFirstRow (goes_by (λ row. get_or w.lasts.items row 0)) (has_row waiting) row) where
-      in-waiting : (i : ℕ) → has_row rest i ≡ true → has_row w.waiting i ≡ true → has_row waiting i ≡ true
-      in-waiting i in' wait = waiting_is i ∙ and_from (has_row rest i) (has_row w.waiting i) in' wait
+    module _ (waiting row : ℕ) (waiting_is : (i : ℕ) → has_row waiting i ≡ (has_row rest i && has_row w.dues.waiting.rows i))
+        (first : IsFirstRow (goes_by (λ row. get_or w.rows.lasts.items row 0)) (has_row waiting) row) where
+      in-waiting : (i : ℕ) → has_row rest i ≡ true → has_row w.dues.waiting.rows i ≡ true → has_row waiting i ≡ true
+      in-waiting i in' wait = waiting_is i ∙ and_from (has_row rest i) (has_row w.dues.waiting.rows i) in' wait
 
-      row-parts : has_row rest row ≡ true × has_row w.waiting row ≡ true
-      row-parts = and_parts (has_row rest row) (has_row w.waiting row) (sym (waiting_is row) ∙ first.stands)
+      row-parts : has_row rest row ≡ true × has_row w.dues.waiting.rows row ≡ true
+      row-parts = and_parts (has_row rest row) (has_row w.dues.waiting.rows row) (sym (waiting_is row) ∙ first.stands)
 
-      row-after : (i : ℕ) → has_row rest i ≡ true → has_row w.waiting i ≡ true → get_or w.lasts.items row 0 ≤ get_or w.lasts.items i 0
+      row-after : (i : ℕ) → has_row rest i ≡ true → has_row w.dues.waiting.rows i ≡ true → get_or w.rows.lasts.items row 0 ≤ get_or w.rows.lasts.items i 0
       row-after i in' wait = by-parts (lasts row) (lasts i) row i (first.first i (in-waiting i in' wait))
 
-      pub own-sooner : w.cycle < get_or w.lasts.items row 0 → IsFirstRow (goes_by (last_of w)) (has_row rest) own
+      pub own-sooner : w.cycle < get_or w.rows.lasts.items row 0 → IsFirstRow (goes_by (last_of w)) (has_row rest) own
       own-sooner sooner = own-first (λ i in' wait. let after = row-after i in' wait in inl (omega arith))
 
-      pub own-before : get_or w.lasts.items row 0 ≤ w.cycle → own < row → IsFirstRow (goes_by (last_of w)) (has_row rest) own
+      pub own-before : get_or w.rows.lasts.items row 0 ≤ w.cycle → own < row → IsFirstRow (goes_by (last_of w)) (has_row rest) own
       own-before last before = own-first (λ i in' wait.
           ⊎_elim
-          (λ (less : w.cycle < get_or w.lasts.items i 0). inl less)
-          (λ (as_late : get_or w.lasts.items i 0 ≤ w.cycle).
+          (λ (less : w.cycle < get_or w.rows.lasts.items i 0). inl less)
+          (λ (as_late : get_or w.rows.lasts.items i 0 ≤ w.cycle).
           let in_time = due.in_time row row-parts.1 in
           let behind = by-place (lasts row) (lasts i) row i (first.first i (in-waiting i in' wait)) (omega arith) in
           inr (omega arith))
-          (cases_lt w.cycle (get_or w.lasts.items i 0)))
+          (cases_lt w.cycle (get_or w.rows.lasts.items i 0)))
 
-      pub row-first : get_or w.lasts.items row 0 ≤ w.cycle → row ≤ own → IsFirstRow (goes_by (last_of w)) (has_row rest) row
+      pub row-first : get_or w.rows.lasts.items row 0 ≤ w.cycle → row ≤ own → IsFirstRow (goes_by (last_of w)) (has_row rest) row
       row-first last before = record {
         stands = row-parts.0;
         first = λ other in'.
             let here = last-out row (due.apart row row-parts.1) in
             ⊎_elim
-            (λ (on : has_row w.always other ≡ true).
+            (λ (on : has_row w.dues.always.rows other ≡ true).
             let from = from-own other in' on in
             let there = last-in other on in
             by-le (last_of w row) (last_of w other) row other (omega arith) (omega arith))
-            (λ (off : has_row w.always other ≡ false).
+            (λ (off : has_row w.dues.always.rows other ≡ false).
             ap (λ n. by_number n (last_of w other) (nat_le row other)) here
             ∙ ap (λ n. by_number (lasts row) n (nat_le row other)) (last-out other off)
             ∙ first.first other (in-waiting other in' (waits other in' off)))
-            (cases_Bool (has_row w.always other));
+            (cases_Bool (has_row w.dues.always.rows other));
       }

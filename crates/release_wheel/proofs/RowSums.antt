@@ -1,16 +1,18 @@
--- What rows of a set cost together, and which slots they have.
-use Rattle.std.proofs.Common.{◌≡◌, ◌≢◌, ℕ, zero, suc, ◌+◌, ◌*◌, ◌^◌, ◌<◌, ◌≤◌, ◌&&◌, ◌||◌, Bool}
-use Rattle.std.proofs.Common.{true, false, nat_eq, if◌then◌else◌, List, get_or}
+-- What the rows of a set cost together, which slots they have, and sums of rows.
+use Rattle.std.proofs.Common.{◌≡◌, ◌≢◌, ℕ, zero, suc, ◌+◌, ◌*◌, ◌^◌, ◌<◌, ◌≤◌, ◌&&◌, ◌||◌, Bool, true, false, nat_eq, if◌then◌else◌, List, get_or}
 use Rattle.std.proofs.Common.{length, refl, sym, ap, ◌∙◌, ⊎_elim, arith}
-use Rattle.std.proofs.lemmas.Bool.{cases_eq, eq-eqb, ne_eqb}
+use Rattle.std.proofs.lemmas.Bool.{and_parts, both_ways, cases_eq, eq-eqb, eqb-true, ne_eqb, or_cases}
 use Rattle.requirement_table.specs.declared.entries.Placed.{Placed}
 use Rattle.requirement_table.specs.Instance.{worst}
-use Rattle.requirement_table.specs.Slots.{sum_where}
+use Rattle.requirement_table.specs.Slots.{contains_slot, sum_where}
 use Rattle.requirement_table.specs.Table.{IsInRange}
 use Rattle.requirement_table.proofs.Shared.{sum_where-same}
-use Rattle.release_wheel.specs.declared.wheel.Wheel.{Wheel}
-use Rattle.release_wheel.specs.Wheel.{HasRoom, any_below, cost_at, cost_below, has_row, no_entry}
-use Rattle.planner_policies.proofs.Shared.{sum_where-with}
+use Rattle.planner_policies.proofs.Shared.{sum_where-costs, sum_where-with, turned-eq}
+use Rattle.release_wheel.specs.declared.dues.Dues.{Dues}
+use Rattle.release_wheel.specs.declared.dues.Sum.{Sum}
+use Rattle.release_wheel.specs.declared.rows.Rows.{Rows}
+use Rattle.release_wheel.specs.Wheel.{HasRoom, IsAdded, IsSumOf, any_below, cost_at, cost_below, has_row, no_entry, slot_at}
+use Rattle.release_wheel.proofs.RowSets.{has-none}
 
 pub cost-bound : (entries : List Placed) (n set : ℕ) → ((row : ℕ) → row < n → IsInRange (get_or entries row no_entry))
     → cost_below entries n set ≤ n * 135
@@ -26,24 +28,13 @@ cost-bound entries (suc n) set range =
     step true x small = small
     step false x small = omega arith
 
--- what waits and what has an instance in each cycle cost little together
-pub costs-bound : (w : Wheel) → HasRoom (length w.entries.items) w → w.cost + w.always_cost ≤ 34560
-costs-bound w room =
-    let one = cost-bound w.entries.items (length w.entries.items) w.waiting room.in_range in
-    let other = cost-bound w.entries.items (length w.entries.items) w.always room.in_range in
-    let first = room.cost in
-    let second = room.always_cost in
-    let few = room.few in
-    omega arith
-
--- and there is room for what one more costs
-pub one-more : (n more : ℕ) (w : Wheel) → HasRoom n w → more ≤ 135
-    → (w.cost + more < 2 ^ 32) × (w.always_cost + more < 2 ^ 32)
-one-more n more w room small =
-    let one = cost-bound w.entries.items n w.waiting room.in_range in
-    let other = cost-bound w.entries.items n w.always room.in_range in
-    let first = room.cost in
-    let second = room.always_cost in
+-- what waits and what has an instance in each cycle cost little
+pub costs-small : (n : ℕ) (rows : Rows) (dues : Dues) → HasRoom n rows dues → (dues.waiting.cost ≤ 17280) × (dues.always.cost ≤ 17280)
+costs-small n rows dues room =
+    let one = cost-bound rows.entries.items n dues.waiting.rows room.in_range in
+    let other = cost-bound rows.entries.items n dues.always.rows room.in_range in
+    let first = room.waiting.cost in
+    let second = room.always.cost in
     let few = room.few in
     let within = room.within in
     (omega arith, omega arith)
@@ -134,6 +125,122 @@ pub none-below : (p : ℕ → Bool) → false ≡ any_below 0 p
 unfolding any_below
 none-below p = refl
 
-pub if-bound : (b : Bool) (n : ℕ) → n ≤ 8 → (if b then worst n else 0) ≤ 135
-if-bound true n small = omega arith
-if-bound false n small = omega arith
+no-cost : (entries : List Placed) (set : ℕ) → 0 ≡ cost_below entries 0 set
+unfolding sum_where
+no-cost entries set = refl
+
+-- the sum of no rows
+pub sum-none : (entries : List Placed) (sum : Sum) → sum.rows ≡ 0 → ((slot : ℕ) → contains_slot sum.slots slot ≡ false) → sum.cost ≡ 0
+    → IsSumOf entries 0 sum
+sum-none entries sum rows slots cost = record {
+  below = λ row in'. absurd (both_ways (has_row sum.rows row) (ap (λ m. has_row m row) rows ∙ has-none row) in');
+  slots = λ slot. slots slot ∙ none-below (λ row. has_row sum.rows row && nat_eq (slot_at entries row) slot);
+  cost = cost ∙ no-cost entries sum.rows;
+}
+
+or-off : (b : Bool) → (b || false) ≡ b
+or-off true = refl
+or-off false = refl
+
+-- a sum with one row more
+module _ (entries : List Placed) (n row : ℕ) (sum more : Sum) (within : row < n) (out : has_row sum.rows row ≡ false)
+    (added : IsAdded (get_or entries row no_entry) row true sum more) (was : IsSumOf entries n sum) where
+  pub sum-with : IsSumOf entries n more
+  sum-with = record {
+    below = λ i in'.
+        ⊎_elim
+        (λ (here : nat_eq row i ≡ true). let same = eqb-true row i here in omega arith)
+        (λ (other : has_row sum.rows i ≡ true). was.below i other)
+        (or_cases (nat_eq row i) (has_row sum.rows i) (sym (added.rows i) ∙ in'));
+    slots = λ slot.
+        added.slots slot
+        ∙ ap (λ b. b || contains_slot sum.slots slot) (turned-eq slot (slot_at entries row))
+        ∙ ap (λ b. nat_eq (slot_at entries row) slot || b) (was.slots slot)
+        ∙ sym (any-with n row (has_row sum.rows) (λ i. nat_eq (slot_at entries i) slot) within)
+        ∙ any-same n (λ i. (nat_eq row i || has_row sum.rows i) && nat_eq (slot_at entries i) slot) (λ i. has_row more.rows i && nat_eq (slot_at entries i) slot)
+        (λ i below. ap (λ b. b && nat_eq (slot_at entries i) slot) (sym (added.rows i)));
+    cost = added.cost ∙ ap (λ c. c + cost_at entries row) was.cost ∙ sym (cost-with entries n sum.rows more.rows row within out added.rows);
+  }
+
+-- a sum of the rows before one, and then that one, where it is wanted
+module _ (old new : List Placed) (n : ℕ) (p : Placed) (flag : Bool) (sum more : Sum) (was : IsSumOf old n sum) (added : IsAdded p n flag sum more)
+    (here : get_or new n no_entry ≡ p) (others : (i : ℕ) → nat_eq n i ≡ false → get_or new i no_entry ≡ get_or old i no_entry) where
+  last-out : has_row sum.rows n ≡ false
+  last-out = pick (has_row sum.rows n) refl
+    where
+      pick : (b : Bool) → has_row sum.rows n ≡ b → b ≡ false
+      pick true in' = absurd (let less = was.below n in' in omega arith)
+      pick false out = refl
+
+  pub added-other : (i : ℕ) → nat_eq n i ≡ false → has_row more.rows i ≡ has_row sum.rows i
+  added-other i other = added.rows i ∙ ap (λ b. (flag && b) || has_row sum.rows i) other ∙ ap (λ b. b || has_row sum.rows i) (and-off flag)
+    where
+      and-off : (b : Bool) → (b && false) ≡ false
+      and-off true = refl
+      and-off false = refl
+
+  pub added-here : has_row more.rows n ≡ flag
+  added-here =
+      added.rows n ∙ ap (λ b. (flag && b) || has_row sum.rows n) (eq-eqb n n refl) ∙ ap (λ b. (flag && true) || b) last-out ∙ or-off (flag && true) ∙ and-on flag
+    where
+      and-on : (b : Bool) → (b && true) ≡ b
+      and-on true = refl
+      and-on false = refl
+
+  apart : (i : ℕ) → i < n → nat_eq n i ≡ false
+  apart i less = ne_eqb n i (λ same. omega arith)
+
+  pub sum-next : IsSumOf new (suc n) more
+  unfolding any_below sum_where
+  sum-next = record {
+    below = λ i in'.
+        ⊎_elim
+        (λ (one : (flag && nat_eq n i) ≡ true). let same = eqb-true n i (and_parts flag (nat_eq n i) one).1 in omega arith)
+        (λ (other : has_row sum.rows i ≡ true). let less = was.below i other in omega arith)
+        (or_cases (flag && nat_eq n i) (has_row sum.rows i) (sym (added.rows i) ∙ in'));
+    slots = λ slot.
+        added.slots slot
+        ∙ ap (λ b. (flag && b) || contains_slot sum.slots slot) (turned-eq slot p.entry.slot)
+        ∙ turn (flag && nat_eq p.entry.slot slot) (contains_slot sum.slots slot)
+        ∙ ap (λ b. b || (flag && nat_eq p.entry.slot slot)) (was.slots slot
+        ∙ any-same n (λ i. has_row sum.rows i && nat_eq (slot_at old i) slot) (λ i. has_row more.rows i && nat_eq (slot_at new i) slot)
+        (λ i less. ap (λ b. b && nat_eq (slot_at old i) slot) (sym (added-other i (apart i less)))
+        ∙ ap (λ q. has_row more.rows i && nat_eq q.entry.slot slot) (sym (others i (apart i less)))))
+        ∙ ap (λ b. any_below n (λ i. has_row more.rows i && nat_eq (slot_at new i) slot) || (b && nat_eq p.entry.slot slot)) (sym added-here)
+        ∙ ap (λ q. any_below n (λ i. has_row more.rows i && nat_eq (slot_at new i) slot) || (has_row more.rows n && nat_eq q.entry.slot slot)) (sym here);
+    cost =
+        let low = sum_where-same n (has_row more.rows) (has_row sum.rows) (cost_at new) (λ i less. added-other i (apart i less)) in
+        let costs = sum_where-costs n (has_row sum.rows) (cost_at new) (cost_at old) (λ i less. ap (λ q. worst q.entry.length) (others i (apart i less))) in
+        let last : (if has_row more.rows n then cost_at new n else 0) ≡ (if flag then worst p.entry.length else 0)
+        = ap (λ b. if b then cost_at new n else 0) added-here ∙ ap (λ q. if flag then worst q.entry.length else 0) here in
+        let first = was.cost in
+        let one = added.cost in
+        omega arith;
+  }
+    where
+      turn : (a b : Bool) → (a || b) ≡ (b || a)
+      turn true true = refl
+      turn true false = refl
+      turn false true = refl
+      turn false false = refl
+
+pub sum-or : (n : ℕ) (p q : ℕ → Bool) (f : ℕ → ℕ) → ((i : ℕ) → p i ≡ true → q i ≡ false) → sum_where n p f + sum_where n q f ≡ sum_where n (λ i. p i || q i) f
+unfolding sum_where
+sum-or zero p q f apart = refl
+sum-or (suc n) p q f apart =
+    let rest = sum-or n p q f apart in
+    let here = step (p n) (q n) (f n) (apart n) in
+    omega arith
+  where
+    step : (a b : Bool) (x : ℕ) → (a ≡ true → b ≡ false) → (if a then x else 0) + (if b then x else 0) ≡ (if a || b then x else 0)
+    step true true x apart = absurd (let wrong = apart refl in cc)
+    step true false x apart = omega arith
+    step false true x apart = omega arith
+    step false false x apart = omega arith
+
+-- the rows of two sets that have none in common
+pub cost-both : (entries : List Placed) (n one other both : ℕ) → ((i : ℕ) → has_row one i ≡ true → has_row other i ≡ false)
+    → ((i : ℕ) → has_row both i ≡ (has_row one i || has_row other i)) → cost_below entries n both ≡ cost_below entries n one + cost_below entries n other
+cost-both entries n one other both apart made =
+    sum_where-same n (has_row both) (λ i. has_row one i || has_row other i) (cost_at entries) (λ i below. made i)
+    ∙ sym (sum-or n (has_row one) (has_row other) (cost_at entries) apart)

@@ -42,5 +42,5 @@ IsForgotten near = (n : Near) → near ≡ Some n → n.until ≡ 0
 -- where a planner stands
 pub record IsStanding (all : Ranking) (near : Option Near) (w : Wheel) : Type 0 where
   pub end : w.cycle ≤ cycles_end
-  pub valid : IsValid all.placed w.cycle w.slots
+  pub valid : IsValid all.placed w.cycle w.dues.waiting.slots
   pub rows : HasRows all near w

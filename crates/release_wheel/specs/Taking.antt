@@ -19,7 +19,7 @@ goes_by number one other = by_number (number one) (number other) (nat_le one oth
 
 -- the last cycle of the instance of a row that has something to send in the cycle of the wheel
 abbrev pub last_of : Wheel → ℕ → ℕ
-last_of w row = if has_row w.always row then w.cycle else get_or w.lasts.items row 0
+last_of w row = if has_row w.dues.always.rows row then w.cycle else get_or w.rows.lasts.items row 0
 
 -- a row of a set goes before all others of it
 pub record IsFirstRow (goes : ℕ → ℕ → Bool) (test : ℕ → Bool) (row : ℕ) : Type 0 where
@@ -83,10 +83,10 @@ pub record IsTaking (fill : Fill) (window : ℕ) (goes : ℕ → ℕ → Bool) (
 
 -- rows with something to send in the cycle of the wheel, none of which is over
 pub record AreDue (w : Wheel) (due : ℕ) : Type 0 where
-  pub known : (row : ℕ) → has_row due row ≡ true → (has_row w.waiting row || has_row w.always row) ≡ true
-  pub in_time : (row : ℕ) → has_row w.waiting row ≡ true → w.cycle ≤ get_or w.lasts.items row 0
-  pub apart : (row : ℕ) → has_row w.waiting row ≡ true → has_row w.always row ≡ false
-  pub soonest_is : (row : ℕ) → has_row w.waiting row ≡ true → w.soonest ≤ get_or w.lasts.items row 0
+  pub known : (row : ℕ) → has_row due row ≡ true → (has_row w.dues.waiting.rows row || has_row w.dues.always.rows row) ≡ true
+  pub in_time : (row : ℕ) → has_row w.dues.waiting.rows row ≡ true → w.cycle ≤ get_or w.rows.lasts.items row 0
+  pub apart : (row : ℕ) → has_row w.dues.waiting.rows row ≡ true → has_row w.dues.always.rows row ≡ false
+  pub soonest_is : (row : ℕ) → has_row w.dues.waiting.rows row ≡ true → w.dues.soonest ≤ get_or w.rows.lasts.items row 0
 
 -- of the rows of a set that are not in `rest` this one goes first by its last cycle, and none of `rest` is before it
 pub record IsSoonest (lasts : List ℕ) (rows rest row last : ℕ) : Type 0 where

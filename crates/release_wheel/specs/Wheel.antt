@@ -13,7 +13,10 @@ use Rattle.requirement_table.specs.Slots.{contains_slot, sum_where}
 use Rattle.requirement_table.specs.Table.{IsInRange, IsWellPlaced}
 use Rattle.planner_policies.specs.declared.Policy.{Policy}
 use Rattle.planner_policies.specs.declared.due.Due.{Due}
+use Rattle.release_wheel.specs.declared.dues.Dues.{Dues}
+use Rattle.release_wheel.specs.declared.dues.Sum.{Sum}
 use Rattle.release_wheel.specs.declared.row_set.Rest.{Rest}
+use Rattle.release_wheel.specs.declared.rows.Rows.{Rows}
 use Rattle.release_wheel.specs.declared.wheel.Wheel.{Wheel}
 use Rattle.planner_policies.specs.Due.{IsDueOf, IsPlanned, IsSetOf, IsWholeLine, is_held_in, key_with, taken_of}
 use Rattle.planner_policies.specs.Ranked.{AreRanked}
@@ -47,11 +50,6 @@ slot_at entries row = (get_or entries row no_entry).entry.slot
 abbrev pub cost_at : List Placed → ℕ → ℕ
 cost_at entries row = worst (get_or entries row no_entry).entry.length
 
--- these are the slots of the rows of the set
-abbrev pub IsSlotsOf : List Placed → ℕ → ℕ → Type 0
-IsSlotsOf entries set mask = (slot : ℕ)
-    → contains_slot mask slot ≡ any_below (length entries) (λ row. has_row set row && nat_eq (slot_at entries row) slot)
-
 -- what the rows below `n` of the set cost together
 abbrev pub cost_below : List Placed → ℕ → ℕ → ℕ
 cost_below entries n set = sum_where n (has_row set) (cost_at entries)
@@ -59,6 +57,24 @@ cost_below entries n set = sum_where n (has_row set) (cost_at entries)
 -- no row of the set stands from `n` on
 abbrev pub IsBelow : ℕ → ℕ → Type 0
 IsBelow n set = (row : ℕ) → has_row set row ≡ true → row < n
+
+-- these are the slots of the rows below `n` of the set
+abbrev pub IsSlotsOf : List Placed → ℕ → ℕ → ℕ → Type 0
+IsSlotsOf entries n set mask = (slot : ℕ)
+    → contains_slot mask slot ≡ any_below n (λ row. has_row set row && nat_eq (slot_at entries row) slot)
+
+-- a sum is one of rows below `n`: it has their slots, and what they cost together
+pub record IsSumOf (entries : List Placed) (n : ℕ) (sum : Sum) : Type 0 where
+  pub below : IsBelow n sum.rows
+  pub slots : IsSlotsOf entries n sum.rows sum.slots
+  pub cost : sum.cost ≡ cost_below entries n sum.rows
+
+-- the row of an entry is added to a sum, where that is wanted
+pub record IsAdded (p : Placed) (row : ℕ) (wanted : Bool) (old new : Sum) : Type 0 where
+  pub rows : (other : ℕ) → has_row new.rows other ≡ ((wanted && nat_eq row other) || has_row old.rows other)
+  pub slots : (slot : ℕ) → contains_slot new.slots slot
+      ≡ ((wanted && nat_eq slot p.entry.slot) || contains_slot old.slots slot)
+  pub cost : new.cost ≡ old.cost + (if wanted then worst p.entry.length else 0)
 
 -- what is kept of the instance of a row, by its last cycle
 abbrev pub due_of_row : Policy → Placed → ℕ → Due
@@ -98,194 +114,177 @@ pub record IsWaitingAt (before : ℕ → Bool) (c : ℕ) (p : Placed) (waits : B
   pub soonest_is : waits ≡ true → soonest ≤ last
 
 -- what a row has to send in cycle `c`, when its releases are made
-pub record IsDueAt (policy : Policy) (before : ℕ → Bool) (c : ℕ) (p : Placed) (waits always : Bool) (last soonest : ℕ)
-    : Type 0 where
-  pub due : IsDueOf policy before c p
+pub record IsDueAt (before : ℕ → Bool) (c : ℕ) (p : Placed) (waits always : Bool) (last soonest : ℕ) : Type 0 where
+  pub due : (policy : Policy) → IsDueOf policy before c p
       (if waits || always then Some (due_of_row policy p (if always then c else last)) else None)
   pub apart : waits ≡ true → always ≡ false
   pub soonest_is : waits ≡ true → soonest ≤ last
 
--- the rows and the places have their sizes, and sets of rows have none but the first `n`
-pub record HasRoom (n : ℕ) (w : Wheel) : Type 0 where
-  pub within : n ≤ length w.entries.items
-  pub few : length w.entries.items ≤ 128
-  pub nexts : length w.nexts.items ≡ length w.entries.items
-  pub lasts : length w.lasts.items ≡ length w.entries.items
-  pub places : length w.places.items ≡ 64
-  pub in_range : (row : ℕ) → row < n → IsInRange (get_or w.entries.items row no_entry)
-  pub waiting : IsBelow n w.waiting
-  pub always : IsBelow n w.always
-  pub cost : w.cost ≡ cost_below w.entries.items n w.waiting
-  pub always_cost : w.always_cost ≡ cost_below w.entries.items n w.always
-  pub always_slots : (slot : ℕ) → contains_slot w.always_slots slot
-      ≡ any_below n (λ row. has_row w.always row && nat_eq (slot_at w.entries.items row) slot)
-  pub at : (place row : ℕ) → place < 64 → has_row (get_or w.places.items place 0) row ≡ true
-      → get_or w.nexts.items row 0 % 64 ≡ place
-  pub on_wheel : (place row : ℕ) → place < 64 → has_row (get_or w.places.items place 0) row ≡ true → row < n
-  pub off_always : (place row : ℕ) → place < 64 → has_row (get_or w.places.items place 0) row ≡ true
-      → has_row w.always row ≡ false
-  pub coming : (place row : ℕ) → place < 64 → has_row (get_or w.places.items place 0) row ≡ true
-      → Exists (get_or w.entries.items row no_entry) (get_or w.nexts.items row 0)
+-- a row that stands at a place of the wheel: its next release comes there, and it has no instance in each cycle yet
+pub record IsOnWheel (n row place next : ℕ) (p : Placed) (always : Bool) : Type 0 where
+  pub within : row < n
+  pub at : next % 64 ≡ place
+  pub coming : Exists p next
+  pub off : always ≡ false
 
--- a row is taken off a place of the wheel, and put on another place where it is wanted there
+-- the rows and the places have their sizes, and sets of rows have none but the first `n`
+pub record HasRoom (n : ℕ) (rows : Rows) (dues : Dues) : Type 0 where
+  pub within : n ≤ length rows.entries.items
+  pub few : length rows.entries.items ≤ 128
+  pub nexts : length rows.nexts.items ≡ length rows.entries.items
+  pub lasts : length rows.lasts.items ≡ length rows.entries.items
+  pub places : length rows.places.items ≡ 64
+  pub in_range : (row : ℕ) → row < n → IsInRange (get_or rows.entries.items row no_entry)
+  pub waiting : IsSumOf rows.entries.items n dues.waiting
+  pub always : IsSumOf rows.entries.items n dues.always
+  pub on_wheel : (place row : ℕ) → place < 64 → has_row (get_or rows.places.items place 0) row ≡ true
+      → IsOnWheel n row place (get_or rows.nexts.items row 0) (get_or rows.entries.items row no_entry)
+      (has_row dues.always.rows row)
+
+-- a row is this one, at this place
 abbrev pub is_there : ℕ → ℕ → ℕ → ℕ → Bool
 is_there place row k other = nat_eq place k && nat_eq row other
 
--- the releases of a row that are made in a cycle: its instance waits, and its next release comes after its period
-pub record IsRowReleased (p : Placed) (row : ℕ) (old new : Wheel) : Type 0 where
+-- a row that is released in cycle `c` stands where its next release comes, and has the last cycle of its instance
+pub record IsMovedOn (p : Placed) (row c last : ℕ) (old new : Rows) : Type 0 where
   pub entries : new.entries.items ≡ old.entries.items
-  pub policy : new.policy ≡ old.policy
-  pub turns : new.turns ≡ old.turns
-  pub cycle : new.cycle ≡ old.cycle
-  pub always : new.always ≡ old.always
-  pub always_slots : new.always_slots ≡ old.always_slots
-  pub always_cost : new.always_cost ≡ old.always_cost
-  pub nexts : new.nexts.items
-      ≡ set old.nexts.items row (old.cycle + p.entry.period)
-  pub lasts : new.lasts.items
-      ≡ set old.lasts.items row (old.cycle + p.entry.deadline - 1)
+  pub nexts : new.nexts.items ≡ set old.nexts.items row (c + p.entry.period)
+  pub lasts : new.lasts.items ≡ set old.lasts.items row last
   pub size : length new.places.items ≡ length old.places.items
   pub places : (k other : ℕ) → k < 64 → has_row (get_or new.places.items k 0) other
-      ≡ ((has_row (get_or old.places.items k 0) other && not (is_there (old.cycle % 64) row k other))
-      || (exists p
-      (old.cycle + p.entry.period)
-      && is_there ((old.cycle + p.entry.period) % 64) row k other))
-  pub waiting : (other : ℕ) → has_row new.waiting other ≡ (nat_eq row other || has_row old.waiting other)
-  pub slots : (slot : ℕ) → contains_slot new.slots slot
-      ≡ (nat_eq slot p.entry.slot || contains_slot old.slots slot)
-  pub cost : new.cost ≡ old.cost + worst p.entry.length
-  pub soonest : new.soonest ≡ min old.soonest (old.cycle + p.entry.deadline - 1)
+      ≡ ((has_row (get_or old.places.items k 0) other && not (is_there (c % 64) row k other))
+      || (exists p (c + p.entry.period) && is_there ((c + p.entry.period) % 64) row k other))
 
--- a row with an instance in each cycle has its first release
-pub record IsRowBegun (p : Placed) (row : ℕ) (old new : Wheel) : Type 0 where
-  pub entries : new.entries.items ≡ old.entries.items
-  pub policy : new.policy ≡ old.policy
-  pub turns : new.turns ≡ old.turns
-  pub cycle : new.cycle ≡ old.cycle
-  pub waiting : new.waiting ≡ old.waiting
-  pub slots : new.slots ≡ old.slots
-  pub cost : new.cost ≡ old.cost
-  pub soonest : new.soonest ≡ old.soonest
-  pub nexts : new.nexts.items ≡ old.nexts.items
-  pub lasts : new.lasts.items ≡ old.lasts.items
+-- a row has its first release, and from then on an instance in each cycle
+pub record IsRowBegun (p : Placed) (row c : ℕ) (old new : Rows) (dues more : Dues) : Type 0 where
+  pub rows : new ≡ record old { places = new.places }
   pub size : length new.places.items ≡ length old.places.items
   pub places : (k other : ℕ) → k < 64 → has_row (get_or new.places.items k 0) other
-      ≡ (has_row (get_or old.places.items k 0) other && not (is_there (old.cycle % 64) row k other))
-  pub always : (other : ℕ) → has_row new.always other ≡ (nat_eq row other || has_row old.always other)
-  pub always_slots : (slot : ℕ) → contains_slot new.always_slots slot
-      ≡ (nat_eq slot p.entry.slot || contains_slot old.always_slots slot)
-  pub always_cost : new.always_cost ≡ old.always_cost + worst p.entry.length
+      ≡ (has_row (get_or old.places.items k 0) other && not (is_there (c % 64) row k other))
+  pub others : more ≡ record dues { always = more.always }
+  pub added : IsAdded p row true dues.always more.always
 
--- a row is filled in: where it stands in the cycle, and whether it waits in it
-pub record IsRowSet (p : Placed) (row : ℕ) (old new : Wheel) : Type 0 where
-  pub begun : Bool
-  pub waits : Bool
-  pub next : ℕ
-  pub last : ℕ
-  pub next_is : IsNext p old.cycle next
-  pub begun_is : begun ≡ true → IsAlways p old.cycle
-  pub waits_is : waits ≡ (contains_slot old.slots p.entry.slot && is_held_in old.cycle p)
-  pub last_is : waits ≡ true → (k : ℕ) → MaySend p k old.cycle → last + 1 ≡ deadline_of p k
-  pub policy : new.policy ≡ old.policy
-  pub turns : new.turns ≡ old.turns
-  pub cycle : new.cycle ≡ old.cycle
-  pub slots : new.slots ≡ old.slots
-  pub quiet : new.quiet ≡ old.quiet
+-- a row is released: its instance waits, and the row stands where its next release comes
+pub record IsRowReleased (p : Placed) (row c : ℕ) (old new : Rows) (dues more : Dues) : Type 0 where
+  pub moved : IsMovedOn p row c (c + p.entry.deadline - 1) old new
+  pub others : more ≡ record dues { waiting = more.waiting; soonest = min dues.soonest (c + p.entry.deadline - 1) }
+  pub added : IsAdded p row true dues.waiting more.waiting
+
+-- a row is filled in, and where its next release is waited for it stands at the place of that
+pub record IsPutDown (p : Placed) (row next last : ℕ) (comes : Bool) (old new : Rows) : Type 0 where
   pub entries : new.entries.items ≡ set old.entries.items row p
   pub nexts : new.nexts.items ≡ set old.nexts.items row next
   pub lasts : new.lasts.items ≡ set old.lasts.items row last
   pub size : length new.places.items ≡ length old.places.items
   pub places : (k other : ℕ) → k < 64 → has_row (get_or new.places.items k 0) other
-      ≡ (has_row (get_or old.places.items k 0) other
-      || ((not begun && exists p next) && is_there (next % 64) row k other))
-  pub always : (other : ℕ) → has_row new.always other ≡ ((begun && nat_eq row other) || has_row old.always other)
-  pub always_slots : (slot : ℕ) → contains_slot new.always_slots slot
-      ≡ ((begun && nat_eq slot p.entry.slot) || contains_slot old.always_slots slot)
-  pub always_cost : new.always_cost ≡ old.always_cost + (if begun then worst p.entry.length else 0)
-  pub waiting : (other : ℕ) → has_row new.waiting other ≡ ((waits && nat_eq row other) || has_row old.waiting other)
-  pub cost : new.cost ≡ old.cost + (if waits then worst p.entry.length else 0)
-  pub soonest : new.soonest ≡ (if waits then min old.soonest last else old.soonest)
+      ≡ (has_row (get_or old.places.items k 0) other || (comes && is_there (next % 64) row k other))
+
+-- a row is filled in at cycle `c`, before which these slots are pending: where it stands, and whether it waits
+pub record IsRowSet (p : Placed) (row c pending : ℕ) (old new : Rows) (dues more : Dues) : Type 0 where
+  pub begun : Bool
+  pub waits : Bool
+  pub next : ℕ
+  pub last : ℕ
+  pub next_is : IsNext p c next
+  pub begun_is : begun ≡ true → IsAlways p c
+  pub waits_is : waits ≡ (contains_slot pending p.entry.slot && is_held_in c p)
+  pub last_is : waits ≡ true → (k : ℕ) → MaySend p k c → last + 1 ≡ deadline_of p k
+  pub down : IsPutDown p row next last (not begun && exists p next) old new
+  pub waiting : IsAdded p row waits dues.waiting more.waiting
+  pub always : IsAdded p row begun dues.always more.always
+  pub soonest : more.soonest ≡ min dues.soonest last
+
+-- all rows but one are as they were
+pub record IsSameBut (row : ℕ) (old new : Rows) (dues more : Dues) : Type 0 where
+  pub entry : (i : ℕ) → nat_eq row i ≡ false → get_or new.entries.items i no_entry ≡ get_or old.entries.items i no_entry
+  pub next : (i : ℕ) → nat_eq row i ≡ false → get_or new.nexts.items i 0 ≡ get_or old.nexts.items i 0
+  pub last : (i : ℕ) → nat_eq row i ≡ false → get_or new.lasts.items i 0 ≡ get_or old.lasts.items i 0
+  pub place : (k i : ℕ) → k < 64 → nat_eq row i ≡ false
+      → has_row (get_or new.places.items k 0) i ≡ has_row (get_or old.places.items k 0) i
+  pub waiting : (i : ℕ) → nat_eq row i ≡ false → has_row more.waiting.rows i ≡ has_row dues.waiting.rows i
+  pub always : (i : ℕ) → nat_eq row i ≡ false → has_row more.always.rows i ≡ has_row dues.always.rows i
+  pub sooner : more.soonest ≤ dues.soonest
 
 -- the place of the wheel for a cycle has the row
-abbrev pub is_found : Wheel → ℕ → ℕ → Bool
-is_found w cycle row = has_row (get_or w.places.items (cycle % 64) 0) row
+abbrev pub is_found : Rows → ℕ → ℕ → Bool
+is_found rows cycle row = has_row (get_or rows.places.items (cycle % 64) 0) row
 
-abbrev pub StandsAt : Wheel → ℕ → ℕ → Type 0
-StandsAt w c row =
-    IsPlacedAt c (get_or w.entries.items row no_entry) (has_row w.always row) (get_or w.nexts.items row 0)
-    (is_found w (get_or w.nexts.items row 0) row)
+abbrev pub StandsAt : Rows → Dues → ℕ → ℕ → Type 0
+StandsAt rows dues c row =
+    IsPlacedAt c (get_or rows.entries.items row no_entry) (has_row dues.always.rows row) (get_or rows.nexts.items row 0)
+    (is_found rows (get_or rows.nexts.items row 0) row)
 
-abbrev pub WaitsAt : Wheel → (ℕ → Bool) → ℕ → ℕ → Type 0
-WaitsAt w before c row =
-    IsWaitingAt before c (get_or w.entries.items row no_entry) (has_row w.waiting row) (get_or w.lasts.items row 0)
-    w.soonest
+-- a row before the releases of a cycle
+abbrev pub TurnedAt : Rows → Dues → (ℕ → Bool) → ℕ → ℕ → Type 0
+TurnedAt rows dues before c row =
+    StandsAt rows dues c row
+    × IsWaitingAt before c (get_or rows.entries.items row no_entry) (has_row dues.waiting.rows row)
+    (get_or rows.lasts.items row 0) dues.soonest
 
-abbrev pub DueAt : Wheel → (ℕ → Bool) → ℕ → ℕ → Type 0
-DueAt w before c row =
-    IsDueAt w.policy before c (get_or w.entries.items row no_entry) (has_row w.waiting row) (has_row w.always row)
-    (get_or w.lasts.items row 0) w.soonest
+-- a row behind them
+abbrev pub ReleasedAt : Rows → Dues → (ℕ → Bool) → ℕ → ℕ → Type 0
+ReleasedAt rows dues before c row =
+    StandsAt rows dues (c + 1) row
+    × IsDueAt before c (get_or rows.entries.items row no_entry) (has_row dues.waiting.rows row)
+    (has_row dues.always.rows row) (get_or rows.lasts.items row 0) dues.soonest
 
 -- nothing is released before the cycle `quiet`, and nothing waits
 pub record IsQuiet (w : Wheel) : Type 0 where
-  pub none_waiting : w.waiting ≡ 0
-  pub none_always : w.always ≡ 0
-  pub none_coming : (row : ℕ) → row < length w.entries.items
-      → Exists (get_or w.entries.items row no_entry) (get_or w.nexts.items row 0) → w.quiet ≤ get_or w.nexts.items row 0
+  pub none_waiting : w.dues.waiting.rows ≡ 0
+  pub none_always : w.dues.always.rows ≡ 0
+  pub none_coming : (row : ℕ) → row < length w.rows.entries.items
+      → Exists (get_or w.rows.entries.items row no_entry) (get_or w.rows.nexts.items row 0)
+      → w.quiet ≤ get_or w.rows.nexts.items row 0
 
 -- a wheel before the releases of its cycle
 pub record IsTurned (w : Wheel) : Type 0 where
-  pub room : HasRoom (length w.entries.items) w
-  pub slots : IsSlotsOf w.entries.items w.waiting w.slots
-  pub stands : (row : ℕ) → row < length w.entries.items → StandsAt w w.cycle row
-  pub waits : (row : ℕ) → row < length w.entries.items → WaitsAt w (contains_slot w.slots) w.cycle row
+  pub room : HasRoom (length w.rows.entries.items) w.rows w.dues
+  pub each : (row : ℕ) → row < length w.rows.entries.items
+      → TurnedAt w.rows w.dues (contains_slot w.dues.waiting.slots) w.cycle row
   pub quiet_is : w.cycle < w.quiet → IsQuiet w
 
--- a wheel when the releases of its cycle are made, before which these slots were pending
-pub record IsReleased (before : ℕ → Bool) (w : Wheel) : Type 0 where
-  pub room : HasRoom (length w.entries.items) w
-  pub slots : IsSlotsOf w.entries.items w.waiting w.slots
-  pub stands : (row : ℕ) → row < length w.entries.items → StandsAt w (w.cycle + 1) row
-  pub dues : (row : ℕ) → row < length w.entries.items → DueAt w before w.cycle row
+-- while the releases of a cycle are made, before which these slots were pending: the rows of the set `rest` are still to
+-- be looked at
+pub record IsReleasing (before : ℕ → Bool) (c rest : ℕ) (rows : Rows) (dues : Dues) : Type 0 where
+  pub room : HasRoom (length rows.entries.items) rows dues
+  pub place : (row : ℕ) → has_row rest row ≡ true → is_found rows c row ≡ true
+  pub later : (row : ℕ) → row < length rows.entries.items → has_row rest row ≡ true → TurnedAt rows dues before c row
+  pub made : (row : ℕ) → row < length rows.entries.items → has_row rest row ≡ false
+      → ReleasedAt rows dues before c row
 
--- the same while they are made: the rows of the set `rest` are still to be looked at
-pub record IsReleasing (before : ℕ → Bool) (rest : ℕ) (w : Wheel) : Type 0 where
-  pub room : HasRoom (length w.entries.items) w
-  pub slots : IsSlotsOf w.entries.items w.waiting w.slots
-  pub place : (row : ℕ) → has_row rest row ≡ true → is_found w w.cycle row ≡ true
-  pub later_stands : (row : ℕ) → row < length w.entries.items → has_row rest row ≡ true → StandsAt w w.cycle row
-  pub later_waits : (row : ℕ) → row < length w.entries.items → has_row rest row ≡ true → WaitsAt w before w.cycle row
-  pub stands : (row : ℕ) → row < length w.entries.items → has_row rest row ≡ false → StandsAt w (w.cycle + 1) row
-  pub dues : (row : ℕ) → row < length w.entries.items → has_row rest row ≡ false → DueAt w before w.cycle row
+-- a wheel when the releases of its cycle are made
+pub record IsReleased (before : ℕ → Bool) (w : Wheel) : Type 0 where
+  pub room : HasRoom (length w.rows.entries.items) w.rows w.dues
+  pub each : (row : ℕ) → row < length w.rows.entries.items → ReleasedAt w.rows w.dues before w.cycle row
 
 -- what the filling of a planning takes of the rows that have something to send, in key order, and what it leaves
 pub record IsPart (plan : Planning) (before : ℕ → Bool) (w : Wheel) (left mask width : ℕ) : Type 0 where
   pub line : List Due
   pub whole : IsWholeLine plan w.cycle before line
   pub due : ℕ
-  pub due_is : (row : ℕ) → has_row due row ≡ (has_row w.waiting row || has_row w.always row)
+  pub due_is : (row : ℕ) → has_row due row ≡ (has_row w.dues.waiting.rows row || has_row w.dues.always.rows row)
   pub left_is : (row : ℕ)
-      → has_row left row ≡ (has_row due row && not (contains_slot mask (slot_at w.entries.items row)))
+      → has_row left row ≡ (has_row due row && not (contains_slot mask (slot_at w.rows.entries.items row)))
   pub mask_is : IsSetOf mask (taken_of plan.fill plan.window line)
   pub width_is : width ≡ sum_by (λ due. due.cost) (taken_of plan.fill plan.window line)
   pub fits : width ≤ plan.window
-  pub cost : cost_below w.entries.items (length w.entries.items) left + width ≡ w.cost + w.always_cost
+  pub cost : cost_below w.rows.entries.items (length w.rows.entries.items) left + width ≡ w.dues.waiting.cost + w.dues.always.cost
 
 -- the rows are the entries of a ranking, in its order
 pub record IsOfRanking (ranking : Ranking) (w : Wheel) : Type 0 where
   pub policy : w.policy ≡ ranking.policy
-  pub same : IsPermutation ranking.placed w.entries.items
-  pub order : AreRanked ranking.policy w.entries.items
+  pub same : IsPermutation ranking.placed w.rows.entries.items
+  pub order : AreRanked ranking.policy w.rows.entries.items
 
 -- a wheel of the entries of a ranking, before the releases of its cycle
 pub record IsTurnedFor (ranking : Ranking) (w : Wheel) : Type 0 where
   pub turned : IsTurned w
   pub of_ranking : IsOfRanking ranking w
 
--- what a releasing and a planning leave as it is
+-- what a releasing and a planning leave as it is: the entries, the policy, and that the rows are kept
 pub record IsSameTable (old new : Wheel) : Type 0 where
-  pub entries : new.entries.items ≡ old.entries.items
-  pub policy : new.policy ≡ old.policy
-  pub turns : new.turns ≡ old.turns
+  pub entries : new.rows.entries.items ≡ old.rows.entries.items
+  pub others : new ≡ record old { quiet = new.quiet; cycle = new.cycle; rows = new.rows; dues = new.dues }
 
 -- the releases of a cycle are made, before which these slots were pending in a planning
 pub record IsReady (ranking : Ranking) (pending : ℕ) (w : Wheel) : Type 0 where
@@ -297,44 +296,43 @@ pub record IsReady (ranking : Ranking) (pending : ℕ) (w : Wheel) : Type 0 wher
 -- the cycle of a wheel is planned, and the wheel stands before the releases of the next one
 pub record IsPlannedOn (ranking : Ranking) (window pending : ℕ) (old new : Wheel) (mask width : ℕ) : Type 0 where
   pub planned : IsPlanned (planning_of ranking window old.cycle pending) old.cycle (contains_slot pending) mask width
-      new.slots
+      new.dues.waiting.slots
   pub next : new.cycle ≡ old.cycle + 1
   pub turned : IsTurned new
   pub table : IsSameTable old new
 
 -- the rows that are left are not in their last cycle, and none of them is before `soonest`
 pub record AreInTime (w : Wheel) (left soonest : ℕ) : Type 0 where
-  pub not_always : (row : ℕ) → has_row left row ≡ true → has_row w.always row ≡ false
-  pub later : (row : ℕ) → has_row left row ≡ true → w.cycle < get_or w.lasts.items row 0
-  pub soonest_is : (row : ℕ) → has_row left row ≡ true → soonest ≤ get_or w.lasts.items row 0
+  pub not_always : (row : ℕ) → has_row left row ≡ true → has_row w.dues.always.rows row ≡ false
+  pub later : (row : ℕ) → has_row left row ≡ true → w.cycle < get_or w.rows.lasts.items row 0
+  pub soonest_is : (row : ℕ) → has_row left row ≡ true → soonest ≤ get_or w.rows.lasts.items row 0
 
--- a wheel has room for so many rows
-pub record HasRoomFor (count : ℕ) (w : Wheel) : Type 0 where
+-- rows have room for so many
+pub record HasRoomFor (count : ℕ) (rows : Rows) : Type 0 where
   pub few : count ≤ 128
-  pub entries : count ≤ vec_capacity w.entries
-  pub nexts : count ≤ vec_capacity w.nexts
-  pub lasts : count ≤ vec_capacity w.lasts
-  pub places : length w.places.items ≡ 64
+  pub entries : count ≤ vec_capacity rows.entries
+  pub nexts : count ≤ vec_capacity rows.nexts
+  pub lasts : count ≤ vec_capacity rows.lasts
+  pub places : length rows.places.items ≡ 64
 
--- the first `n` rows are filled in
-pub record IsFilledTo (entries : List Placed) (n : ℕ) (w : Wheel) : Type 0 where
-  pub room : HasRoom n w
-  pub size : length w.entries.items ≡ length entries
-  pub same : (row : ℕ) → row < n → get_or w.entries.items row no_entry ≡ get_or entries row no_entry
-  pub stands : (row : ℕ) → row < n → StandsAt w w.cycle row
-  pub waits : (row : ℕ) → row < n → WaitsAt w (contains_slot w.slots) w.cycle row
+-- the first `n` rows are filled in, at a cycle before which these slots are pending
+pub record IsFilledTo (entries : List Placed) (n c pending : ℕ) (rows : Rows) (dues : Dues) : Type 0 where
+  pub room : HasRoom n rows dues
+  pub size : length rows.entries.items ≡ length entries
+  pub same : (row : ℕ) → row < n → get_or rows.entries.items row no_entry ≡ get_or entries row no_entry
+  pub each : (row : ℕ) → row < n → TurnedAt rows dues (contains_slot pending) c row
 
--- all but the rows is as it was
-pub record IsSameState (old new : Wheel) : Type 0 where
-  pub policy : new.policy ≡ old.policy
-  pub turns : new.turns ≡ old.turns
-  pub cycle : new.cycle ≡ old.cycle
-  pub slots : new.slots ≡ old.slots
-  pub quiet : new.quiet ≡ old.quiet
+-- the entries of a ranking are filled in, in its order, at a cycle before which these slots are pending
+pub record AreFilled (ranking : Ranking) (c pending : ℕ) (rows : Rows) (dues : Dues) : Type 0 where
+  pub room : HasRoom (length rows.entries.items) rows dues
+  pub each : (row : ℕ) → row < length rows.entries.items → TurnedAt rows dues (contains_slot pending) c row
+  pub slots : dues.waiting.slots ≡ pending
+  pub same : IsPermutation ranking.placed rows.entries.items
+  pub order : AreRanked ranking.policy rows.entries.items
 
 -- where a planner stands
 pub record IsKept (ranking : Ranking) (w : Wheel) : Type 0 where
   pub near : w.cycle ≤ cycles_end
-  pub valid : IsValid ranking.placed w.cycle w.slots
+  pub valid : IsValid ranking.placed w.cycle w.dues.waiting.slots
   pub plain : w.turns ≡ false → w.quiet ≡ 0
   pub turned : w.turns ≡ true → IsTurnedFor ranking w

@@ -33,7 +33,7 @@ impl<'a> Model for Ahead<'a> {
 
     ghost Value = { Standing };
 
-    ghost view = { λ a. record { ranking = a.ranked.now; cycle = a.wheel.cycle; pending = a.wheel.slots } };
+    ghost view = { λ a. record { ranking = a.ranked.now; cycle = a.wheel.cycle; pending = a.wheel.dues.waiting.slots } };
 
     ghost invariant = { λ a. IsStanding a.ranked.now a.near a.wheel };
 }
@@ -80,7 +80,7 @@ impl<'a> Ahead<'a> {
     {
         PlanState {
             cycle: self.wheel.cycle,
-            pending: self.wheel.slots,
+            pending: self.wheel.dues.waiting.slots,
         }
     }
 
@@ -152,7 +152,7 @@ impl<'a> Ahead<'a> {
         ensures passed { (c : ℕ) → self.old.cycle ≤ c → c < self.new.cycle
             → LeavesSame (planning_of self.old.ranking w c self.old.pending) }
     {
-        if until <= self.wheel.cycle || self.wheel.slots.bits() != 0 {
+        if until <= self.wheel.cycle || self.wheel.dues.waiting.slots.bits() != 0 {
             self.pass();
             return;
         }

@@ -5,61 +5,51 @@ ghost use Rattle.profile.specs.Limits.{cycles_end};
 ghost use Rattle.planner_policies.specs.Plan.{IsValid, Ranking};
 ghost use Rattle.release_wheel.specs.Wheel.{IsKept};
 
+use crate::dues::Dues;
+use crate::rows::{Rows, no_rows};
 use crate::wheel::Wheel;
-use requirement_table::Mask;
 use std::alloc::{AllocError, Global};
 
 /// The same wheel, in memory of its own. It stands over all entries over which the first one stands.
 pub fn copy_of(alloc: Global, wheel: &Wheel) -> Result<Wheel, AllocError>
     ensures kept { (ranking : Ranking) → IsKept ranking wheel.now → IfOk result (IsKept ranking) }
     ensures cycle { IfOk result (λ copy. copy.cycle ≡ wheel.now.cycle) }
-    ensures slots { IfOk result (λ copy. copy.slots ≡ wheel.now.slots) }
+    ensures slots { IfOk result (λ copy. copy.dues.waiting.slots ≡ wheel.now.dues.waiting.slots) }
 {
-    let entries = Vec::from_slice(alloc, wheel.entries.as_slice())?;
-    let nexts = Vec::from_slice(alloc, wheel.nexts.as_slice())?;
-    let lasts = Vec::from_slice(alloc, wheel.lasts.as_slice())?;
-    let places = Vec::from_slice(alloc, wheel.places.as_slice())?;
+    let rows = &wheel.rows;
+    let entries = Vec::from_slice(alloc, rows.entries.as_slice())?;
+    let nexts = Vec::from_slice(alloc, rows.nexts.as_slice())?;
+    let lasts = Vec::from_slice(alloc, rows.lasts.as_slice())?;
+    let places = Vec::from_slice(alloc, rows.places.as_slice())?;
     Ok(Wheel {
         policy: wheel.policy,
-        cycle: wheel.cycle,
-        slots: wheel.slots,
         turns: wheel.turns,
         quiet: wheel.quiet,
-        entries,
-        nexts,
-        lasts,
-        places,
-        always: wheel.always,
-        always_slots: wheel.always_slots,
-        always_cost: wheel.always_cost,
-        waiting: wheel.waiting,
-        cost: wheel.cost,
-        soonest: wheel.soonest,
+        cycle: wheel.cycle,
+        rows: Rows {
+            entries,
+            nexts,
+            lasts,
+            places,
+        },
+        dues: wheel.dues,
     })
 }
 
 /// A wheel in the same state that has no rows, without memory: each cycle is planned plainly.
 pub fn without_rows(alloc: Global, wheel: &Wheel) -> Wheel
     requires near { wheel.now.cycle ≤ cycles_end }
-    ensures kept { (ranking : Ranking) → IsValid ranking.placed wheel.now.cycle wheel.now.slots → IsKept ranking result }
+    ensures kept { (ranking : Ranking) → IsValid ranking.placed wheel.now.cycle wheel.now.dues.waiting.slots
+        → IsKept ranking result }
     ensures cycle { result.cycle ≡ wheel.now.cycle }
-    ensures slots { result.slots ≡ wheel.now.slots }
+    ensures slots { result.dues.waiting.slots ≡ wheel.now.dues.waiting.slots }
 {
     Wheel {
         policy: wheel.policy,
-        cycle: wheel.cycle,
-        slots: wheel.slots,
         turns: false,
         quiet: 0,
-        entries: Vec::new(alloc),
-        nexts: Vec::new(alloc),
-        lasts: Vec::new(alloc),
-        places: Vec::new(alloc),
-        always: 0,
-        always_slots: Mask::empty(),
-        always_cost: 0,
-        waiting: 0,
-        cost: 0,
-        soonest: u64::MAX,
+        cycle: wheel.cycle,
+        rows: no_rows(alloc),
+        dues: Dues::of_slots(wheel.dues.waiting.slots),
     }
 }

@@ -93,14 +93,14 @@ fn end_before(p: &Placed, until: u64) -> u64
 /// pending.
 pub fn pass_fitting(near: &mut Option<Near>, wheel: &mut Wheel, ranked: &Ranked, w: u32, until: u64)
     requires until { until ≤ cycles_end }
-    requires empty { wheel.old.slots ≡ 0 }
+    requires empty { wheel.old.dues.waiting.slots ≡ 0 }
     requires fits { (c : ℕ) → wheel.old.cycle ≤ c → c < until → demand_in ranked.now.placed c ≤ w }
     ensures standing { IsStanding ranked.now near.new wheel.new }
     ensures cycle { wheel.new.cycle ≡ until }
-    ensures slots { wheel.new.slots ≡ wheel.old.slots }
-    ensures valid { (c : ℕ) → IsValid ranked.now.placed c wheel.old.slots }
+    ensures slots { wheel.new.dues.waiting.slots ≡ wheel.old.dues.waiting.slots }
+    ensures valid { (c : ℕ) → IsValid ranked.now.placed c wheel.old.dues.waiting.slots }
     ensures passed { (c : ℕ) → wheel.old.cycle ≤ c → c < until
-        → LeavesSame (planning_of ranked.now w c wheel.old.slots) }
+        → LeavesSame (planning_of ranked.now w c wheel.old.dues.waiting.slots) }
 {
     ranked.placed();
     forget(near);

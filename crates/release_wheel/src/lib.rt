@@ -8,12 +8,14 @@
 mod ahead;
 mod copying;
 mod demand;
+mod dues;
 mod filling;
 mod near;
 mod picking;
 mod planner;
 mod releases;
 mod row_set;
+mod rows;
 mod taking;
 mod wheel;
 

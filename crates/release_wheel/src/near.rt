@@ -82,7 +82,7 @@ pub fn go_to(near: &mut Option<Near>, wheel: &mut Wheel, ranked: &Ranked, state:
     requires valid { IsValid ranked.now.placed state.now.cycle state.now.pending }
     ensures standing { IsStanding ranked.now near.new wheel.new }
     ensures cycle { wheel.new.cycle ≡ state.now.cycle }
-    ensures slots { wheel.new.slots ≡ state.now.pending }
+    ensures slots { wheel.new.dues.waiting.slots ≡ state.now.pending }
 {
     forget(near);
     fill(wheel, ranked, state);
@@ -107,14 +107,14 @@ pub fn step_near(
 ) -> Result<CyclePlan, Miss>
     requires cycle { wheel.old.cycle < cycles_end }
     requires standing { IsStanding ranked.now near.old wheel.old }
-    ensures planned { let plan = planning_of ranked.now w wheel.old.cycle wheel.old.slots in IfOk result
-        (λ r. IsPlanned plan wheel.old.cycle (contains_slot wheel.old.slots) r.mask r.width wheel.new.slots) }
+    ensures planned { let plan = planning_of ranked.now w wheel.old.cycle wheel.old.dues.waiting.slots in IfOk result
+        (λ r. IsPlanned plan wheel.old.cycle (contains_slot wheel.old.dues.waiting.slots) r.mask r.width wheel.new.dues.waiting.slots) }
     ensures next { IfOk result (λ _. wheel.new.cycle ≡ wheel.old.cycle + 1) }
-    ensures missed { let plan = planning_of ranked.now w wheel.old.cycle wheel.old.slots in IfErr result
-        (λ miss. IsMissIn plan wheel.old.cycle (contains_slot wheel.old.slots) miss.slot miss.release) }
+    ensures missed { let plan = planning_of ranked.now w wheel.old.cycle wheel.old.dues.waiting.slots in IfErr result
+        (λ miss. IsMissIn plan wheel.old.cycle (contains_slot wheel.old.dues.waiting.slots) miss.slot miss.release) }
     ensures missed_cycle { IfErr result (λ miss. miss.cycle ≡ wheel.old.cycle) }
     ensures same_cycle { IfErr result (λ _. wheel.new.cycle ≡ wheel.old.cycle) }
-    ensures same_slots { IfErr result (λ _. wheel.new.slots ≡ wheel.old.slots) }
+    ensures same_slots { IfErr result (λ _. wheel.new.dues.waiting.slots ≡ wheel.old.dues.waiting.slots) }
     ensures standing { IsStanding ranked.now near.new wheel.new }
 {
     ranked.placed();
@@ -126,11 +126,11 @@ pub fn step_near(
 pub fn pass_near(near: &Option<Near>, wheel: &mut Wheel, ranked: &Ranked)
     requires standing { IsStanding ranked.now near.now wheel.old }
     ensures onward { wheel.old.cycle ≤ wheel.new.cycle }
-    ensures slots { wheel.new.slots ≡ wheel.old.slots }
+    ensures slots { wheel.new.dues.waiting.slots ≡ wheel.old.dues.waiting.slots }
     ensures valid { (c : ℕ) → wheel.old.cycle ≤ c → c ≤ wheel.new.cycle
-        → IsValid ranked.now.placed c wheel.old.slots }
+        → IsValid ranked.now.placed c wheel.old.dues.waiting.slots }
     ensures passed { (window c : ℕ) → wheel.old.cycle ≤ c → c < wheel.new.cycle
-        → IsPassed (planning_of ranked.now window c wheel.old.slots) }
+        → IsPassed (planning_of ranked.now window c wheel.old.dues.waiting.slots) }
     ensures standing { IsStanding ranked.now near.now wheel.new }
 {
     ranked.placed();
@@ -150,7 +150,7 @@ fn come_near(near: &mut Option<Near>, wheel: &mut Wheel, ranked: &Ranked)
     ensures rows { HasRows ranked.now near.new wheel.new }
     ensures kept { IsKept (at_wheel near.new ranked.now wheel.new.cycle) wheel.new }
     ensures cycle { wheel.new.cycle ≡ wheel.old.cycle }
-    ensures slots { wheel.new.slots ≡ wheel.old.slots }
+    ensures slots { wheel.new.dues.waiting.slots ≡ wheel.old.dues.waiting.slots }
 {
     if wheel.cycle < until(near) {
         return;
@@ -165,17 +165,17 @@ fn come_near(near: &mut Option<Near>, wheel: &mut Wheel, ranked: &Ranked)
 #[inline(never)]
 fn refill(near: &mut Near, wheel: &mut Wheel, ranked: &Ranked)
     requires cycle { wheel.old.cycle ≤ cycles_end }
-    requires valid { IsValid ranked.now.placed wheel.old.cycle wheel.old.slots }
+    requires valid { IsValid ranked.now.placed wheel.old.cycle wheel.old.dues.waiting.slots }
     requires reached { near.old.until ≤ wheel.old.cycle }
     ensures rows { HasRows ranked.now (Some near.new) wheel.new }
     ensures kept { IsKept (at_wheel (Some near.new) ranked.now wheel.new.cycle) wheel.new }
     ensures cycle { wheel.new.cycle ≡ wheel.old.cycle }
-    ensures slots { wheel.new.slots ≡ wheel.old.slots }
+    ensures slots { wheel.new.dues.waiting.slots ≡ wheel.old.dues.waiting.slots }
 {
     entries_that_are_near();
     let state = PlanState {
         cycle: wheel.cycle,
-        pending: wheel.slots,
+        pending: wheel.dues.waiting.slots,
     };
     let until = soon(ranked.rows(), wheel.cycle);
     if wheel.cycle < until && near.ranked.take_near(ranked, wheel.cycle, until) {

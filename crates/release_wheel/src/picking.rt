@@ -4,73 +4,23 @@
 //! window has most often room for a few of them.
 
 ghost use Rattle.std.specs.Prelude.{◌≡◌, ◌≢◌, ℕ, ◌+◌, ◌-◌, ◌<◌, ◌≤◌, true, get_or, length, if◌then◌else◌};
-ghost use Rattle.planner_policies.specs.declared.Fill.TheVariants.{Prefix, Skip};
 ghost use Rattle.release_wheel.specs.Taking.{AreDistinct, AreDue, IsFirstRow, IsSoonest, IsTaking, IsTook, goes_by, last_of};
 ghost use Rattle.release_wheel.specs.Wheel.{HasRoom, IsBelow, has_row, rows_left};
 
 use crate::row_set::{
-    Rest, common, first, first_left, next_word, rest_of, with, without, without_first,
+    Rest, both, common, first, first_left, next_word, rest_of, with, without, without_first,
 };
-use crate::taking::Took;
+use crate::taking::{Took, stops};
 use crate::wheel::Wheel;
 use planner_policies::Fill;
 use requirement_table::{Mask, cost};
 
 /// What the filling takes of these rows, by their last cycles, in a window of `w` bit times, and what it leaves.
 pub fn pick_rows(wheel: &Wheel, fill: Fill, due: u128, w: u32) -> Took
-    requires room { HasRoom (length wheel.now.entries.items) wheel.now }
+    requires room { HasRoom (length wheel.now.rows.entries.items) wheel.now.rows wheel.now.dues }
     requires due { AreDue wheel.now due }
-    requires distinct { AreDistinct wheel.now.entries.items due }
-    ensures took { IsTook fill w (goes_by (last_of wheel.now)) wheel.now.entries.items due result.left result.mask
-        result.width }
-{
-    match fill {
-        Fill::Prefix => pick_front(wheel, due, w),
-        Fill::Skip => pick_each(wheel, due, w),
-    }
-}
-
-/// What the filling `Prefix` takes of these rows, by their last cycles, in a window of `w` bit times, and what it leaves.
-fn pick_front(wheel: &Wheel, due: u128, w: u32) -> Took
-    requires room { HasRoom (length wheel.now.entries.items) wheel.now }
-    requires due { AreDue wheel.now due }
-    requires distinct { AreDistinct wheel.now.entries.items due }
-    ensures took { IsTook Prefix w (goes_by (last_of wheel.now)) wheel.now.entries.items due result.left result.mask
-        result.width }
-{
-    let mut rest = due;
-    let mut mask = Mask::empty();
-    let mut width = 0;
-    while rest != 0 {
-        let row = first_due(wheel, rest);
-        let entry = wheel.entries[row].entry;
-        let cost = cost(entry.length);
-        if cost > w - width {
-            mask.known();
-            return Took {
-                left: rest,
-                mask,
-                width,
-            };
-        }
-        rest = without(rest, row);
-        width += cost;
-        mask = mask.with(entry.slot);
-    }
-    mask.known();
-    Took {
-        left: 0,
-        mask,
-        width,
-    }
-}
-
-/// What the filling `Skip` takes of these rows, by their last cycles, in a window of `w` bit times, and what it leaves.
-fn pick_each(wheel: &Wheel, due: u128, w: u32) -> Took
-    requires room { HasRoom (length wheel.now.entries.items) wheel.now }
-    requires due { AreDue wheel.now due }
-    requires distinct { AreDistinct wheel.now.entries.items due }
-    ensures took { IsTook Skip w (goes_by (last_of wheel.now)) wheel.now.entries.items due result.left result.mask
+    requires distinct { AreDistinct wheel.now.rows.entries.items due }
+    ensures took { IsTook fill w (goes_by (last_of wheel.now)) wheel.now.rows.entries.items due result.left result.mask
         result.width }
 {
     let mut rest = due;
@@ -79,13 +29,21 @@ fn pick_each(wheel: &Wheel, due: u128, w: u32) -> Took
     let mut width = 0;
     while rest != 0 {
         let row = first_due(wheel, rest);
-        let entry = wheel.entries[row].entry;
+        let entry = wheel.rows.entries[row].entry;
         let cost = cost(entry.length);
-        rest = without(rest, row);
         if cost <= w - width {
+            rest = without(rest, row);
             width += cost;
             mask = mask.with(entry.slot);
+        } else if stops(fill) {
+            mask.known();
+            return Took {
+                left: both(rest, left),
+                mask,
+                width,
+            };
         } else {
+            rest = without(rest, row);
             left = with(left, row);
         }
     }
@@ -99,24 +57,24 @@ fn pick_each(wheel: &Wheel, due: u128, w: u32) -> Took
 /// in its last cycle too.
 fn first_due(wheel: &Wheel, rest: u128) -> usize
     requires some { 0 < rest }
-    requires room { HasRoom (length wheel.now.entries.items) wheel.now }
+    requires room { HasRoom (length wheel.now.rows.entries.items) wheel.now.rows wheel.now.dues }
     requires due { AreDue wheel.now rest }
     ensures first { IsFirstRow (goes_by (last_of wheel.now)) (has_row rest) result }
 {
-    let always = common(rest, wheel.always);
+    let always = common(rest, wheel.dues.always.rows);
     if always == 0 {
-        return soonest_row(wheel.lasts.as_slice(), rest);
+        return soonest_row(wheel.rows.lasts.as_slice(), rest);
     }
     let own = first(always);
-    let waiting = common(rest, wheel.waiting);
+    let waiting = common(rest, wheel.dues.waiting.rows);
     if waiting == 0 {
         return own;
     }
-    if wheel.cycle < wheel.soonest {
+    if wheel.cycle < wheel.dues.soonest {
         return own;
     }
-    let row = soonest_row(wheel.lasts.as_slice(), waiting);
-    if wheel.cycle < wheel.lasts[row] {
+    let row = soonest_row(wheel.rows.lasts.as_slice(), waiting);
+    if wheel.cycle < wheel.rows.lasts[row] {
         return own;
     }
     if own < row {

@@ -42,7 +42,7 @@ impl Model for Planner {
 
     ghost Value = { Standing };
 
-    ghost view = { λ p. record { ranking = p.ranked; cycle = p.wheel.cycle; pending = p.wheel.slots } };
+    ghost view = { λ p. record { ranking = p.ranked; cycle = p.wheel.cycle; pending = p.wheel.dues.waiting.slots } };
 
     ghost invariant = { λ p. IsStanding p.ranked p.near p.wheel };
 }
@@ -72,7 +72,7 @@ impl Planner {
     {
         PlanState {
             cycle: self.wheel.cycle,
-            pending: self.wheel.slots,
+            pending: self.wheel.dues.waiting.slots,
         }
     }
 
@@ -156,7 +156,7 @@ impl Planner {
         self.ranked.drop_over(cycle);
         let state = PlanState {
             cycle: self.wheel.cycle,
-            pending: self.wheel.slots,
+            pending: self.wheel.dues.waiting.slots,
         };
         if self.ranked.rows().len() <= MOST_ROWS {
             self.near = None;

@@ -1,6 +1,6 @@
 //! What a filling takes of rows in a window, and what it leaves.
 
-ghost use Rattle.std.specs.Prelude.{◌≡◌, ℕ, ◌-◌, ◌<◌, ◌≤◌, List, [], get_or, length, nat_le};
+ghost use Rattle.std.specs.Prelude.{◌≡◌, ℕ, ◌-◌, ◌<◌, ◌≤◌, true, false, List, [], get_or, length, nat_le};
 ghost use Rattle.planner_policies.specs.declared.Fill.TheVariants.{Prefix, Skip};
 ghost use Rattle.planner_policies.specs.declared.due.Due.{Due};
 ghost use Rattle.planner_policies.specs.Due.{taken_of};
@@ -8,7 +8,7 @@ ghost use Rattle.requirement_table.specs.Table.{IsInRange};
 ghost use Rattle.release_wheel.specs.Taking.{AreDistinct, AreOfRows, IsLineOfRows, IsTaking, IsTook};
 ghost use Rattle.release_wheel.specs.Wheel.{IsBelow, has_row, no_entry, rows_left};
 
-use crate::row_set::{Rest, first_left, next_word, of_words, rest_of, with, without_first};
+use crate::row_set::{Rest, both, first_left, next_word, of_words, rest_of, with, without_first};
 use planner_policies::Fill;
 use requirement_table::{Mask, Placed, cost};
 
@@ -31,119 +31,37 @@ pub fn take_rows(entries: &[Placed], fill: Fill, due: u128, w: u32) -> Took
     requires distinct { AreDistinct entries.now due }
     ensures took { IsTook fill w nat_le entries.now due result.left result.mask result.width }
 {
-    match fill {
-        Fill::Prefix => take_front(entries, due, w),
-        Fill::Skip => take_each(entries, due, w),
-    }
-}
-
-/// What the filling `Prefix` takes of these rows in a window of `w` bit times, and what it leaves.
-fn take_front(entries: &[Placed], due: u128, w: u32) -> Took
-    requires in_range { (row : ℕ) → row < length entries.now → IsInRange (get_or entries.now row no_entry) }
-    requires within { IsBelow (length entries.now) due }
-    requires distinct { AreDistinct entries.now due }
-    ensures took { IsTook Prefix w nat_le entries.now due result.left result.mask result.width }
-{
-    let start = Front {
-        rest: rest_of(due),
-        mask: Mask::empty(),
-        width: 0,
-    };
-    let low = take_front_word(entries, due, start, w);
-    if low.rest.word != 0 {
-        low.mask.known();
-        return Took {
-            left: of_words(low.rest.word, low.rest.behind),
-            mask: low.mask,
-            width: low.width,
-        };
-    }
-    let middle = Front {
-        rest: next_word(low.rest),
-        mask: low.mask,
-        width: low.width,
-    };
-    let high = take_front_word(entries, due, middle, w);
-    high.mask.known();
-    Took {
-        left: of_words(0, high.rest.word),
-        mask: high.mask,
-        width: high.width,
-    }
-}
-
-/// A filling `Prefix` that goes on.
-#[derive(Clone, Copy)]
-struct Front {
-    /// The rows that are still to be looked at.
-    rest: Rest,
-    /// The slots of the rows that are taken.
-    mask: Mask,
-    /// What these cost together, in bit times.
-    width: u32,
-}
-
-/// Goes on with the filling `Prefix` of these rows in a window of `w` bit times, to the end of the present word or to the
-/// first row that does not fit.
-#[inline(always)]
-fn take_front_word(entries: &[Placed], due: u128, front: Front, w: u32) -> Front
-    requires in_range { (row : ℕ) → row < length entries.now → IsInRange (get_or entries.now row no_entry) }
-    requires within { IsBelow (length entries.now) due }
-    requires distinct { AreDistinct entries.now due }
-    requires taking { IsTaking Prefix w nat_le entries.now due (rows_left front.rest) 0 front.mask front.width }
-    ensures taking { IsTaking Prefix w nat_le entries.now due (rows_left result.rest) 0 result.mask result.width }
-    ensures stops { 0 < result.rest.word → (dues : ℕ → Due) (line : List Due) → AreOfRows entries.now nat_le dues
-        → IsLineOfRows dues (has_row (rows_left result.rest)) line → taken_of Prefix (w - result.width) line ≡ [] }
-    ensures base { result.rest.base ≡ front.rest.base }
-    ensures behind { result.rest.behind ≡ front.rest.behind }
-{
-    let mut rest = front.rest;
-    let mut mask = front.mask;
-    let mut width = front.width;
-    while rest.word != 0 {
-        let entry = entries[first_left(rest)].entry;
-        let cost = cost(entry.length);
-        if cost > w - width {
-            return Front { rest, mask, width };
-        }
-        rest = without_first(rest);
-        width += cost;
-        mask = mask.with(entry.slot);
-    }
-    Front { rest, mask, width }
-}
-
-/// What the filling `Skip` takes of these rows in a window of `w` bit times, and what it leaves.
-fn take_each(entries: &[Placed], due: u128, w: u32) -> Took
-    requires in_range { (row : ℕ) → row < length entries.now → IsInRange (get_or entries.now row no_entry) }
-    requires few { length entries.now ≤ 128 }
-    requires within { IsBelow (length entries.now) due }
-    requires distinct { AreDistinct entries.now due }
-    ensures took { IsTook Skip w nat_le entries.now due result.left result.mask result.width }
-{
     let start = Taking {
         rest: rest_of(due),
         left: 0,
         mask: Mask::empty(),
         width: 0,
     };
-    let low = take_each_word(entries, due, start, w);
+    let low = take_word(entries, fill, due, start, w);
+    if low.rest.word != 0 {
+        low.mask.known();
+        return Took {
+            left: both(of_words(low.rest.word, low.rest.behind), low.left),
+            mask: low.mask,
+            width: low.width,
+        };
+    }
     let middle = Taking {
         rest: next_word(low.rest),
         left: low.left,
         mask: low.mask,
         width: low.width,
     };
-    let high = take_each_word(entries, due, middle, w);
+    let high = take_word(entries, fill, due, middle, w);
     high.mask.known();
     Took {
-        left: high.left,
+        left: both(of_words(0, high.rest.word), high.left),
         mask: high.mask,
         width: high.width,
     }
 }
 
-/// A filling `Skip` that goes on.
+/// A filling that goes on.
 #[derive(Clone, Copy)]
 struct Taking {
     /// The rows that are still to be looked at.
@@ -156,16 +74,18 @@ struct Taking {
     width: u32,
 }
 
-/// Goes on with the filling `Skip` of these rows in a window of `w` bit times, to the end of the present word.
+/// Goes on with the filling of these rows in a window of `w` bit times, to the end of the present word or to the first
+/// row with which it stops.
 #[inline(always)]
-fn take_each_word(entries: &[Placed], due: u128, taking: Taking, w: u32) -> Taking
+fn take_word(entries: &[Placed], fill: Fill, due: u128, taking: Taking, w: u32) -> Taking
     requires in_range { (row : ℕ) → row < length entries.now → IsInRange (get_or entries.now row no_entry) }
     requires few { length entries.now ≤ 128 }
     requires within { IsBelow (length entries.now) due }
     requires distinct { AreDistinct entries.now due }
-    requires taking { IsTaking Skip w nat_le entries.now due (rows_left taking.rest) taking.left taking.mask taking.width }
-    ensures taking { IsTaking Skip w nat_le entries.now due (rows_left result.rest) result.left result.mask result.width }
-    ensures done { result.rest.word ≡ 0 }
+    requires taking { IsTaking fill w nat_le entries.now due (rows_left taking.rest) taking.left taking.mask taking.width }
+    ensures taking { IsTaking fill w nat_le entries.now due (rows_left result.rest) result.left result.mask result.width }
+    ensures stops { 0 < result.rest.word → (dues : ℕ → Due) (line : List Due) → AreOfRows entries.now nat_le dues
+        → IsLineOfRows dues (has_row (rows_left result.rest)) line → taken_of fill (w - result.width) line ≡ [] }
     ensures base { result.rest.base ≡ taking.rest.base }
     ensures behind { result.rest.behind ≡ taking.rest.behind }
 {
@@ -176,12 +96,20 @@ fn take_each_word(entries: &[Placed], due: u128, taking: Taking, w: u32) -> Taki
     while rest.word != 0 {
         let row = first_left(rest);
         let entry = entries[row].entry;
-        rest = without_first(rest);
         let cost = cost(entry.length);
         if cost <= w - width {
+            rest = without_first(rest);
             width += cost;
             mask = mask.with(entry.slot);
+        } else if stops(fill) {
+            return Taking {
+                rest,
+                left,
+                mask,
+                width,
+            };
         } else {
+            rest = without_first(rest);
             left = with(left, row);
         }
     }
@@ -190,5 +118,17 @@ fn take_each_word(entries: &[Placed], due: u128, taking: Taking, w: u32) -> Taki
         left,
         mask,
         width,
+    }
+}
+
+/// Whether the filling stops with the first row that does not fit.
+#[inline(always)]
+pub fn stops(fill: Fill) -> bool
+    ensures prefix { result ≡ true → fill ≡ Prefix }
+    ensures skip { result ≡ false → fill ≡ Skip }
+{
+    match fill {
+        Fill::Prefix => true,
+        Fill::Skip => false,
     }
 }

@@ -15,53 +15,35 @@ ghost use Rattle.requirement_table.specs.Table.{IsWellPlaced};
 ghost use Rattle.release_wheel.specs.Passed.{IsPassed};
 ghost use Rattle.release_wheel.specs.Wheel.{AreInTime, HasRoom, IsBelow, IsKept, IsPart, IsPlannedOn, IsReady, has_row};
 
+use crate::dues::{Dues, Sum};
 use crate::filling::fill;
 use crate::picking::{pick_rows, soonest_row};
 use crate::planner::CyclePlan;
 use crate::releases::release;
 use crate::row_set::{MOST_ROWS, both, common};
+use crate::rows::{PLACES, Rows, rows_of};
 use crate::taking::{Took, take_rows};
 use planner_policies::{Miss, PlanState, Policy, Ranked, plan_with_width};
 use profile::CYCLES_END;
-use requirement_table::{Mask, Placed};
+use requirement_table::Mask;
 use slot_sets::{difference, union};
 use std::alloc::{AllocError, Global};
-
-/// The places of a wheel.
-pub const PLACES: usize = 64;
 
 /// Where a planning stands, and the rows that it looks at.
 #[derive(Drop, Debug)]
 pub struct Wheel {
     /// The policy that orders the instances.
     pub policy: Policy,
-    /// The cycle that is planned next.
-    pub cycle: u64,
-    /// The slots of the rows that wait.
-    pub slots: Mask,
     /// Whether the rows are kept. Where they are not, each cycle is planned plainly.
     pub turns: bool,
     /// Before this cycle nothing is released and nothing waits, where it is after the next cycle.
     pub quiet: u64,
+    /// The cycle that is planned next.
+    pub cycle: u64,
     /// The rows, in the order of the policy.
-    pub entries: Vec<Placed>,
-    /// The next release of each row, as if it had no end.
-    pub nexts: Vec<u64>,
-    /// The last cycle of the instance of each row that waits.
-    pub lasts: Vec<u64>,
-    /// The rows at each place of the wheel.
-    pub places: Vec<u128>,
-    /// The rows that have an instance in each cycle from now on, their slots, and what they cost together, in bit
-    /// times.
-    pub always: u128,
-    pub always_slots: Mask,
-    pub always_cost: u32,
-    /// The rows with an instance that was released and is not planned yet.
-    pub waiting: u128,
-    /// What these cost together, in bit times.
-    pub cost: u32,
-    /// A cycle that is not above the last cycle of any of these.
-    pub soonest: u64,
+    pub rows: Rows,
+    /// What they have to send.
+    pub dues: Dues,
 }
 
 /// The wheel of these entries at a valid state. All memory is taken here: for 128 rows where there are more entries.
@@ -70,26 +52,17 @@ pub fn wheel_of(alloc: Global, ranked: &Ranked, state: &PlanState) -> Result<Whe
     requires valid { IsValid ranked.now.placed state.now.cycle state.now.pending }
     ensures kept { IfOk result (λ wheel. IsKept ranked.now wheel) }
     ensures cycle { IfOk result (λ wheel. wheel.cycle ≡ state.now.cycle) }
-    ensures slots { IfOk result (λ wheel. wheel.slots ≡ state.now.pending) }
+    ensures slots { IfOk result (λ wheel. wheel.dues.waiting.slots ≡ state.now.pending) }
 {
     let rows = ranked.rows();
     let count = rows.len().min(MOST_ROWS);
     let mut wheel = Wheel {
         policy: ranked.policy(),
-        cycle: state.cycle,
-        slots: state.pending,
         turns: false,
         quiet: 0,
-        entries: Vec::from_slice(alloc, &rows[..count])?,
-        nexts: vec![in alloc; 0; count]?,
-        lasts: vec![in alloc; 0; count]?,
-        places: vec![in alloc; 0; PLACES]?,
-        always: 0,
-        always_slots: Mask::empty(),
-        always_cost: 0,
-        waiting: 0,
-        cost: 0,
-        soonest: u64::MAX,
+        cycle: state.cycle,
+        rows: rows_of(alloc, &rows[..count])?,
+        dues: Dues::of_slots(state.pending),
     };
     fill(&mut wheel, ranked, state);
     Ok(wheel)
@@ -99,19 +72,19 @@ pub fn wheel_of(alloc: Global, ranked: &Ranked, state: &PlanState) -> Result<Whe
 pub fn step(wheel: &mut Wheel, ranked: &Ranked, w: u32) -> Result<CyclePlan, Miss>
     requires cycle { wheel.old.cycle < cycles_end }
     requires kept { IsKept ranked.now wheel.old }
-    ensures planned { let plan = planning_of ranked.now w wheel.old.cycle wheel.old.slots in IfOk result
-        (λ r. IsPlanned plan wheel.old.cycle (contains_slot wheel.old.slots) r.mask r.width wheel.new.slots) }
+    ensures planned { let plan = planning_of ranked.now w wheel.old.cycle wheel.old.dues.waiting.slots in IfOk result
+        (λ r. IsPlanned plan wheel.old.cycle (contains_slot wheel.old.dues.waiting.slots) r.mask r.width wheel.new.dues.waiting.slots) }
     ensures next { IfOk result (λ _. wheel.new.cycle ≡ wheel.old.cycle + 1) }
-    ensures missed { let plan = planning_of ranked.now w wheel.old.cycle wheel.old.slots in IfErr result
-        (λ miss. IsMissIn plan wheel.old.cycle (contains_slot wheel.old.slots) miss.slot miss.release) }
+    ensures missed { let plan = planning_of ranked.now w wheel.old.cycle wheel.old.dues.waiting.slots in IfErr result
+        (λ miss. IsMissIn plan wheel.old.cycle (contains_slot wheel.old.dues.waiting.slots) miss.slot miss.release) }
     ensures missed_cycle { IfErr result (λ miss. miss.cycle ≡ wheel.old.cycle) }
     ensures same_cycle { IfErr result (λ _. wheel.new.cycle ≡ wheel.old.cycle) }
-    ensures same_slots { IfErr result (λ _. wheel.new.slots ≡ wheel.old.slots) }
+    ensures same_slots { IfErr result (λ _. wheel.new.dues.waiting.slots ≡ wheel.old.dues.waiting.slots) }
     ensures kept { IsKept ranked.now wheel.new }
 {
     let state = PlanState {
         cycle: wheel.cycle,
-        pending: wheel.slots,
+        pending: wheel.dues.waiting.slots,
     };
     ranked.placed();
     if wheel.cycle < wheel.quiet {
@@ -133,15 +106,15 @@ fn pass(wheel: &mut Wheel, ranked: &Ranked) -> CyclePlan
     requires kept { IsKept ranked.now wheel.old }
     requires well { IsWellPlaced ranked.now.placed }
     requires quiet { wheel.old.cycle < wheel.old.quiet }
-    ensures planned { (window : ℕ) → IsPlanned (planning_of ranked.now window wheel.old.cycle wheel.old.slots)
-        wheel.old.cycle (contains_slot wheel.old.slots) result.mask result.width wheel.new.slots }
+    ensures planned { (window : ℕ) → IsPlanned (planning_of ranked.now window wheel.old.cycle wheel.old.dues.waiting.slots)
+        wheel.old.cycle (contains_slot wheel.old.dues.waiting.slots) result.mask result.width wheel.new.dues.waiting.slots }
     ensures next { wheel.new.cycle ≡ wheel.old.cycle + 1 }
     ensures same { wheel.new.quiet ≡ wheel.old.quiet }
-    ensures empty { (wheel.new.slots ≡ 0) × (result.mask ≡ 0) }
+    ensures empty { (wheel.new.dues.waiting.slots ≡ 0) × (result.mask ≡ 0) }
     ensures kept { IsKept ranked.now wheel.new }
 {
     wheel.cycle += 1;
-    wheel.slots = Mask::empty();
+    wheel.dues.waiting.slots = Mask::empty();
     CyclePlan {
         mask: Mask::empty(),
         width: 0,
@@ -154,15 +127,15 @@ pub fn pass_quiet(wheel: &mut Wheel, ranked: &Ranked, until: u64)
     requires kept { IsKept ranked.now wheel.old }
     ensures until { wheel.old.cycle ≤ until → wheel.new.cycle ≤ until }
     ensures onward { wheel.old.cycle ≤ wheel.new.cycle }
-    ensures slots { wheel.new.slots ≡ wheel.old.slots }
+    ensures slots { wheel.new.dues.waiting.slots ≡ wheel.old.dues.waiting.slots }
     ensures valid { (c : ℕ) → wheel.old.cycle ≤ c → c ≤ wheel.new.cycle
-        → IsValid ranked.now.placed c wheel.old.slots }
+        → IsValid ranked.now.placed c wheel.old.dues.waiting.slots }
     ensures passed { (window c : ℕ) → wheel.old.cycle ≤ c → c < wheel.new.cycle
-        → IsPassed (planning_of ranked.now window c wheel.old.slots) }
+        → IsPassed (planning_of ranked.now window c wheel.old.dues.waiting.slots) }
     ensures kept { IsKept ranked.now wheel.new }
 {
     ranked.placed();
-    if wheel.slots.bits() != 0 {
+    if wheel.dues.waiting.slots.bits() != 0 {
         return;
     }
     let end = wheel.quiet.min(until).min(CYCLES_END);
@@ -174,10 +147,10 @@ pub fn pass_quiet(wheel: &mut Wheel, ranked: &Ranked, until: u64)
 /// Goes to another cycle, where nothing is pending. The rows are not kept: the next cycle is planned plainly.
 pub fn set_plain(wheel: &mut Wheel, cycle: u64)
     requires cycle { cycle ≤ cycles_end }
-    requires empty { wheel.old.slots ≡ 0 }
+    requires empty { wheel.old.dues.waiting.slots ≡ 0 }
     ensures kept { (ranking : Ranking) → IsKept ranking wheel.new }
     ensures cycle { wheel.new.cycle ≡ cycle }
-    ensures slots { wheel.new.slots ≡ wheel.old.slots }
+    ensures slots { wheel.new.dues.waiting.slots ≡ wheel.old.dues.waiting.slots }
 {
     wheel.cycle = cycle;
     wheel.turns = false;
@@ -192,7 +165,7 @@ fn take(wheel: &mut Wheel, ranked: &Ranked, state: &PlanState, w: u32) -> Option
         (λ r. IsPlannedOn ranked.now w state.now.pending wheel.old wheel.new r.mask r.width) }
     ensures none { result ≡ None → wheel.new ≡ wheel.old }
 {
-    if wheel.cost + wheel.always_cost <= w {
+    if wheel.dues.waiting.cost + wheel.dues.always.cost <= w {
         return Some(take_all(wheel, ranked, state, w));
     }
     take_some(wheel, ranked, state, w)
@@ -208,13 +181,13 @@ fn plan_plainly(
     requires cycle { state.now.cycle < cycles_end }
     requires valid { IsValid ranked.now.placed state.now.cycle state.now.pending }
     ensures planned { let plan = planning_of ranked.now w state.now.cycle state.now.pending in IfOk result
-        (λ r. IsPlanned plan state.now.cycle (contains_slot state.now.pending) r.mask r.width wheel.new.slots) }
+        (λ r. IsPlanned plan state.now.cycle (contains_slot state.now.pending) r.mask r.width wheel.new.dues.waiting.slots) }
     ensures next { IfOk result (λ _. wheel.new.cycle ≡ state.now.cycle + 1) }
     ensures missed { let plan = planning_of ranked.now w state.now.cycle state.now.pending in IfErr result
         (λ miss. IsMissIn plan state.now.cycle (contains_slot state.now.pending) miss.slot miss.release) }
     ensures missed_cycle { IfErr result (λ miss. miss.cycle ≡ state.now.cycle) }
     ensures same_cycle { IfErr result (λ _. wheel.new.cycle ≡ state.now.cycle) }
-    ensures same_slots { IfErr result (λ _. wheel.new.slots ≡ state.now.pending) }
+    ensures same_slots { IfErr result (λ _. wheel.new.dues.waiting.slots ≡ state.now.pending) }
     ensures kept { IsKept ranked.now wheel.new }
 {
     match plan_with_width(ranked, w, state) {
@@ -236,20 +209,22 @@ fn plan_plainly(
 fn take_all(wheel: &mut Wheel, ranked: &Ranked, state: &PlanState, w: u32) -> CyclePlan
     requires cycle { wheel.old.cycle < cycles_end }
     requires ready { IsReady ranked.now state.now.pending wheel.old }
-    requires fits { wheel.old.cost + wheel.old.always_cost ≤ w }
+    requires fits { wheel.old.dues.waiting.cost + wheel.old.dues.always.cost ≤ w }
     ensures planned { IsPlannedOn ranked.now w state.now.pending wheel.old wheel.new result.mask result.width }
 {
     let plan = CyclePlan {
-        mask: union(wheel.slots, wheel.always_slots),
-        width: wheel.cost + wheel.always_cost,
+        mask: union(wheel.dues.waiting.slots, wheel.dues.always.slots),
+        width: wheel.dues.waiting.cost + wheel.dues.always.cost,
     };
     plan.mask.known();
     wheel.cycle += 1;
-    wheel.slots = Mask::empty();
-    wheel.waiting = 0;
-    wheel.cost = 0;
-    wheel.soonest = u64::MAX;
-    wheel.quiet = quiet_until(wheel.places.as_slice(), wheel.always, wheel.cycle);
+    wheel.dues.waiting = Sum::none();
+    wheel.dues.soonest = u64::MAX;
+    wheel.quiet = quiet_until(
+        wheel.rows.places.as_slice(),
+        wheel.dues.always.rows,
+        wheel.cycle,
+    );
     plan
 }
 
@@ -283,14 +258,17 @@ fn take_some(wheel: &mut Wheel, ranked: &Ranked, state: &PlanState, w: u32) -> O
 {
     let took = take_due(wheel, ranked, state, w);
     let soonest = in_time(wheel, took.left)?;
-    let pending = difference(union(wheel.slots, wheel.always_slots), took.mask);
+    let all = union(wheel.dues.waiting.slots, wheel.dues.always.slots);
+    let pending = difference(all, took.mask);
     pending.known();
     wheel.cycle += 1;
     wheel.quiet = 0;
-    wheel.waiting = took.left;
-    wheel.cost = wheel.cost + wheel.always_cost - took.width;
-    wheel.slots = pending;
-    wheel.soonest = soonest;
+    wheel.dues.waiting = Sum {
+        rows: took.left,
+        slots: pending,
+        cost: wheel.dues.waiting.cost + wheel.dues.always.cost - took.width,
+    };
+    wheel.dues.soonest = soonest;
     Some(CyclePlan {
         mask: took.mask,
         width: took.width,
@@ -304,7 +282,7 @@ fn take_due(wheel: &Wheel, ranked: &Ranked, state: &PlanState, w: u32) -> Took
     ensures took { IsPart (planning_of ranked.now w wheel.now.cycle state.now.pending) (contains_slot state.now.pending)
         wheel.now result.left result.mask result.width }
 {
-    let due = both(wheel.waiting, wheel.always);
+    let due = both(wheel.dues.waiting.rows, wheel.dues.always.rows);
     match wheel.policy {
         Policy::Edf => take_by_deadline(wheel, ranked, state, due, w),
         _ => take_by_row(wheel, ranked, state, due, w),
@@ -314,12 +292,12 @@ fn take_due(wheel: &Wheel, ranked: &Ranked, state: &PlanState, w: u32) -> Took
 /// What the filling takes of these rows, in the order of the rows, within a window of `w` bit times.
 fn take_by_row(wheel: &Wheel, ranked: &Ranked, state: &PlanState, due: u128, w: u32) -> Took
     requires ready { IsReady ranked.now state.now.pending wheel.now }
-    requires rows { (row : ℕ) → has_row due row ≡ (has_row wheel.now.waiting row || has_row wheel.now.always row) }
+    requires rows { (row : ℕ) → has_row due row ≡ (has_row wheel.now.dues.waiting.rows row || has_row wheel.now.dues.always.rows row) }
     requires order { wheel.now.policy ≢ Edf }
     ensures took { IsPart (planning_of ranked.now w wheel.now.cycle state.now.pending) (contains_slot state.now.pending)
         wheel.now result.left result.mask result.width }
 {
-    take_rows(wheel.entries.as_slice(), ranked.fill(), due, w)
+    take_rows(wheel.rows.entries.as_slice(), ranked.fill(), due, w)
 }
 
 /// What the filling takes of these rows, in the order of their deadlines, within a window of `w` bit times. It is not
@@ -327,7 +305,7 @@ fn take_by_row(wheel: &Wheel, ranked: &Ranked, state: &PlanState, due: u128, w: 
 #[inline(never)]
 fn take_by_deadline(wheel: &Wheel, ranked: &Ranked, state: &PlanState, due: u128, w: u32) -> Took
     requires ready { IsReady ranked.now state.now.pending wheel.now }
-    requires rows { (row : ℕ) → has_row due row ≡ (has_row wheel.now.waiting row || has_row wheel.now.always row) }
+    requires rows { (row : ℕ) → has_row due row ≡ (has_row wheel.now.dues.waiting.rows row || has_row wheel.now.dues.always.rows row) }
     requires order { wheel.now.policy ≡ Edf }
     ensures took { IsPart (planning_of ranked.now w wheel.now.cycle state.now.pending) (contains_slot state.now.pending)
         wheel.now result.left result.mask result.width }
@@ -337,20 +315,20 @@ fn take_by_deadline(wheel: &Wheel, ranked: &Ranked, state: &PlanState, due: u128
 
 /// Where none of the rows that are left is in its last cycle, a cycle that is not above the last cycle of any of them.
 fn in_time(wheel: &Wheel, left: u128) -> Option<u64>
-    requires room { HasRoom (length wheel.now.entries.items) wheel.now }
+    requires room { HasRoom (length wheel.now.rows.entries.items) wheel.now.rows wheel.now.dues }
     requires known { (row : ℕ) → has_row left row ≡ true
-        → (has_row wheel.now.waiting row || has_row wheel.now.always row) ≡ true }
-    requires soonest { (row : ℕ) → has_row wheel.now.waiting row ≡ true
-        → wheel.now.soonest ≤ get_or wheel.now.lasts.items row 0 }
+        → (has_row wheel.now.dues.waiting.rows row || has_row wheel.now.dues.always.rows row) ≡ true }
+    requires soonest { (row : ℕ) → has_row wheel.now.dues.waiting.rows row ≡ true
+        → wheel.now.dues.soonest ≤ get_or wheel.now.rows.lasts.items row 0 }
     ensures in_time { IfSome result (λ soonest. AreInTime wheel.now left soonest) }
 {
-    if common(left, wheel.always) != 0 {
+    if common(left, wheel.dues.always.rows) != 0 {
         return None;
     }
-    if wheel.cycle < wheel.soonest {
-        return Some(wheel.soonest);
+    if wheel.cycle < wheel.dues.soonest {
+        return Some(wheel.dues.soonest);
     }
-    let soonest = least_last(wheel.lasts.as_slice(), left);
+    let soonest = least_last(wheel.rows.lasts.as_slice(), left);
     if soonest <= wheel.cycle {
         return None;
     }

@@ -10,8 +10,8 @@ returns-clause-standing c =
     record { end = kept.near; valid = kept.valid; rows = rows-of-all all c.forget.new.near wheel c.forget.ensures.none kept }
 
 pub returns-clause-valid : goal.returns-clause-valid
-returns-clause-valid c = λ at. none-valid c.args.ranked.now.placed at c.args.wheel.now.slots c.requires.empty
+returns-clause-valid c = λ at. none-valid c.args.ranked.now.placed at c.args.wheel.now.dues.waiting.slots c.requires.empty
 
 pub returns-clause-passed : goal.returns-clause-passed
 returns-clause-passed c = λ at from to.
-    leaves-none c.args.ranked.now c.args.w at c.args.wheel.now.slots c.placed.ensures.well_placed c.requires.empty (c.requires.fits at from to)
+    leaves-none c.args.ranked.now c.args.w at c.args.wheel.now.dues.waiting.slots c.placed.ensures.well_placed c.requires.empty (c.requires.fits at from to)

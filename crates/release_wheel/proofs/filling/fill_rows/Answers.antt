@@ -1,50 +1,57 @@
-use Rattle.std.proofs.Common.{◌≡◌, ◌+◌, ℕ, suc, refl, sym, subst, ◌∙◌, arith, get_or, length}
+use Rattle.std.proofs.Common.{◌≡◌, ◌+◌, ℕ, suc, sym, subst, ap, ◌∙◌, arith, get_or, length, refl}
 use Rattle.std.proofs.lemmas.List.Sorted.{length_permutation}
-use Rattle.planner_policies.specs.Plan.{IsValid}
+use Rattle.requirement_table.specs.Slots.{contains_slot}
+use Rattle.requirement_table.proofs.Shared.{contains_slot-none}
 use Rattle.release_wheel.specs.Wheel.{HasRoomFor, IsFilledTo, no_entry}
-use Rattle.release_wheel.proofs.RowFilling.{filled-more, filled-whole}
+use Rattle.release_wheel.proofs.RowFilling.{filled-more, filled-start, filled-whole}
+use Rattle.release_wheel.proofs.RowSums.{sum-none}
 use Rattle.release_wheel.proofs.filling.fill_rows.Goals as goal
 
 pub clear-requires : goal.clear-requires
 clear-requires c =
-    let P : ℕ → Type 0 = λ n. HasRoomFor n c.args.wheel.now in
-    record { room = subst P (sym (length_permutation c.args.ranked.now.placed c.rows-rows.result.now c.rows-rows.ensures.same)) c.requires.room }
+    let P : ℕ → Type 0 = λ n. HasRoomFor n c.args.rows.now in
+    record { room = subst P (sym (length_permutation c.args.ranked.now.placed c.rows-entries.result.now c.rows-entries.ensures.same)) c.requires.room }
+
+pub loop-row-init : goal.loop-row-init
+loop-row-init c =
+    let list = c.rows-entries.result.now in
+    let rows = c.clear.new.rows in
+    let made = c.clear.ensures in
+    let none = c.of_slots-dues.ensures in
+    let size = length_permutation c.args.ranked.now.placed list c.rows-entries.ensures.same in
+    let few = c.requires.room.few in
+    filled-start list c.args.state.now.cycle c.args.state.now.pending rows c.of_slots-dues.result (omega arith) (omega (arith, made.entries))
+    (omega (arith, made.nexts)) (omega (arith, made.lasts)) made.places made.empty
+    (sum-none rows.entries.items c.of_slots-dues.result.waiting none.rows (λ slot. ap (λ m. contains_slot m slot) none.slots ∙ c.empty.ensures.slots slot) none.cost)
+    (sum-none rows.entries.items c.of_slots-dues.result.always (ap (λ s. s.rows) none.always)
+    (λ slot. ap (λ s. contains_slot s.slots slot) none.always ∙ contains_slot-none slot) (ap (λ s. s.cost) none.always))
 
 pub loop-row-preserved : goal.loop-row-preserved
 loop-row-preserved c =
     let l = c.loop-row in
-    let rows = c.rows-rows.result.now in
-    let set = c.set_row.ensures.set in
-    let f = l.invariant.filled in
-    let same = l.invariant.same in
+    let list = c.rows-entries.result.now in
+    let cycle = c.args.state.now.cycle in
+    let pending = c.args.state.now.pending in
+    let f = l.invariant in
     let size = f.size in
     let within = c.loop-row-test.true in
-    let P : ℕ → Type 0 = λ n. IsFilledTo rows n c.set_row.new.wheel in
+    let P : ℕ → Type 0 = λ n. IsFilledTo list n cycle pending c.set_row-dues.new.rows c.set_row-dues.result in
     let next : suc l.row ≡ l.row + 1 = omega arith in
-    record {
-      filled = subst P next
-          (filled-more rows l.row l.wheel c.set_row.new.wheel (get_or rows l.row no_entry) f set (omega arith)
-          (c.rows-rows.ensures.in_range l.row no_entry within) refl);
-      same = record {
-        policy = set.policy ∙ same.policy;
-        turns = set.turns ∙ same.turns;
-        cycle = set.cycle ∙ same.cycle;
-        slots = set.slots ∙ same.slots;
-        quiet = set.quiet ∙ same.quiet;
-      };
-    }
+    subst P next
+    (filled-more list l.row cycle pending l.rows c.set_row-dues.new.rows l.dues c.set_row-dues.result (get_or list l.row no_entry) f
+    c.set_row-dues.ensures.set (omega arith) (c.rows-entries.ensures.in_range l.row no_entry within) refl)
 
-pub returns-clause-turned : goal.returns-clause-turned
-returns-clause-turned c =
+pub returns : goal.returns
+returns c =
     let l = c.loop-row in
-    let rows = c.rows-rows.result.now in
+    let list = c.rows-entries.result.now in
+    let cycle = c.args.state.now.cycle in
+    let pending = c.args.state.now.pending in
     let ended = c.loop-row-test.false in
     let end = l.auto.row-end in
-    let P : ℕ → Type 0 = λ n. IsFilledTo rows n l.wheel in
-    let whole : l.row ≡ length rows = omega arith in
-    let same = l.invariant.same in
-    let Q : ℕ → Type 0 = λ at. IsValid c.args.ranked.now.placed at c.args.wheel.now.slots in
-    let R : ℕ → Type 0 = λ slots. IsValid c.args.ranked.now.placed l.wheel.cycle slots in
-    let valid = subst R (sym same.slots) (subst Q (sym same.cycle) c.requires.valid) in
-    filled-whole c.args.ranked.now rows l.wheel (subst P whole l.invariant.filled) c.rows-rows.ensures.well_placed c.rows-rows.ensures.same valid
-    (same.quiet ∙ c.requires.quiet) (same.policy ∙ c.requires.policy) c.rows-rows.ensures.order
+    let P : ℕ → Type 0 = λ n. IsFilledTo list n cycle pending l.rows l.dues in
+    let whole : l.row ≡ length list = omega arith in
+    record {
+      filled = filled-whole c.args.ranked.now list cycle pending l.rows l.dues (subst P whole l.invariant) c.rows-entries.ensures.well_placed
+          c.rows-entries.ensures.same c.requires.valid c.rows-entries.ensures.order;
+    }

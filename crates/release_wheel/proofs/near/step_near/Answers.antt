@@ -28,8 +28,8 @@ returns-clause-standing c =
     let new = c.step.new.wheel in
     let well = c.placed.ensures.well_placed in
     let made = c.step.ensures in
-    let valid : IsValid all.placed mid.cycle mid.slots = subst (λ s. IsValid all.placed mid.cycle s) (sym came.slots)
-    (subst (λ at. IsValid all.placed at old.slots) (sym came.cycle) c.requires.standing.valid) in
+    let valid : IsValid all.placed mid.cycle mid.dues.waiting.slots = subst (λ s. IsValid all.placed mid.cycle s) (sym came.slots)
+    (subst (λ at. IsValid all.placed at old.dues.waiting.slots) (sym came.cycle) c.requires.standing.valid) in
     let planned = stepped-planned all c.at_wheel.result.now near c.args.w mid mid new c.step.result well refl refl c.at_wheel.ensures.entries came.rows made.planned in
     record {
       end = made.kept.near;

@@ -27,9 +27,9 @@ pub returns-then-waiting-eq0 : goal.returns-then-waiting-eq0
 returns-then-waiting-eq0 c =
     let w = c.args.wheel.now in
     let own = c.first-own in
-    let none : (i : ℕ) → has_row c.args.rest i ≡ true → has_row w.waiting i ≡ true → ⊥
+    let none : (i : ℕ) → has_row c.args.rest i ≡ true → has_row w.dues.waiting.rows i ≡ true → ⊥
     = λ i in' wait. both_ways (has_row c.common-waiting.result i) (ap (λ m. has_row m i) c.if-waiting-eq0.true ∙ has-none i)
-    (c.common-waiting.ensures.rows i ∙ and_from (has_row c.args.rest i) (has_row w.waiting i) in' wait) in
+    (c.common-waiting.ensures.rows i ∙ and_from (has_row c.args.rest i) (has_row w.dues.waiting.rows i) in' wait) in
     record {
       first = own-first w c.args.rest c.common-always.result c.requires.due c.common-always.ensures.rows own.result own.ensures.stands own.ensures.none_before
           (λ i in' wait. absurd (none i in' wait));
@@ -51,7 +51,7 @@ soonest_row-row-requires-clause-within c =
     let P : List ℕ → Type 0 = λ lasts. IsBelow (length lasts) c.common-waiting.result in
     let Q : ℕ → Type 0 = λ n. IsBelow n c.common-waiting.result in
     subst P (sym c.as_slice-2.ensures.value) (subst Q (sym c.requires.room.lasts)
-    (λ row in'. c.requires.room.waiting row (and_parts (has_row c.args.rest row) (has_row w.waiting row) (sym (c.common-waiting.ensures.rows row) ∙ in')).1))
+    (λ row in'. c.requires.room.waiting.below row (and_parts (has_row c.args.rest row) (has_row w.dues.waiting.rows row) (sym (c.common-waiting.ensures.rows row) ∙ in')).1))
 
 -- the row of least last cycle of those that wait
 pub returns-then-wheel-index : goal.returns-then-wheel-index
@@ -61,11 +61,11 @@ returns-then-wheel-index c =
     let row = c.soonest_row-row in
     let P : List ℕ → Type 0 = λ lasts. IsFirstRow (goes_by (λ row. get_or lasts row 0)) (has_row c.common-waiting.result) row.result in
     let sooner = c.if-wheel-index.true in
-    let within = c.requires.room.waiting row.result
-    (and_parts (has_row c.args.rest row.result) (has_row w.waiting row.result) (sym (c.common-waiting.ensures.rows row.result) ∙ row.ensures.first.stands)).1 in
+    let within = c.requires.room.waiting.below row.result
+    (and_parts (has_row c.args.rest row.result) (has_row w.dues.waiting.rows row.result) (sym (c.common-waiting.ensures.rows row.result) ∙ row.ensures.first.stands)).1 in
     let size = c.requires.room.lasts in
-    let read : c.index.result.now ≡ get_or w.lasts.items row.result 0
-    = c.index.ensures ∙ sym (same-read w.lasts.items row.result 0 c.index.result.now (omega arith)) in
+    let read : c.index.result.now ≡ get_or w.rows.lasts.items row.result 0
+    = c.index.ensures ∙ sym (same-read w.rows.lasts.items row.result 0 c.index.result.now (omega arith)) in
     record {
       first = own-sooner w c.args.rest c.common-always.result c.requires.due c.common-always.ensures.rows own.result own.ensures.stands own.ensures.none_before
           c.common-waiting.result row.result c.common-waiting.ensures.rows (subst P c.as_slice-2.ensures.value row.ensures.first) (omega arith);
@@ -78,11 +78,11 @@ returns-then-own-row c =
     let row = c.soonest_row-row in
     let P : List ℕ → Type 0 = λ lasts. IsFirstRow (goes_by (λ row. get_or lasts row 0)) (has_row c.common-waiting.result) row.result in
     let later = c.if-wheel-index.false in
-    let within = c.requires.room.waiting row.result
-    (and_parts (has_row c.args.rest row.result) (has_row w.waiting row.result) (sym (c.common-waiting.ensures.rows row.result) ∙ row.ensures.first.stands)).1 in
+    let within = c.requires.room.waiting.below row.result
+    (and_parts (has_row c.args.rest row.result) (has_row w.dues.waiting.rows row.result) (sym (c.common-waiting.ensures.rows row.result) ∙ row.ensures.first.stands)).1 in
     let size = c.requires.room.lasts in
-    let read : c.index.result.now ≡ get_or w.lasts.items row.result 0
-    = c.index.ensures ∙ sym (same-read w.lasts.items row.result 0 c.index.result.now (omega arith)) in
+    let read : c.index.result.now ≡ get_or w.rows.lasts.items row.result 0
+    = c.index.ensures ∙ sym (same-read w.rows.lasts.items row.result 0 c.index.result.now (omega arith)) in
     record {
       first = own-before w c.args.rest c.common-always.result c.requires.due c.common-always.ensures.rows own.result own.ensures.stands own.ensures.none_before
           c.common-waiting.result row.result c.common-waiting.ensures.rows (subst P c.as_slice-2.ensures.value row.ensures.first) (omega arith) c.if-own-row.true;
@@ -96,11 +96,11 @@ returns c =
     let P : List ℕ → Type 0 = λ lasts. IsFirstRow (goes_by (λ row. get_or lasts row 0)) (has_row c.common-waiting.result) row.result in
     let later = c.if-wheel-index.false in
     let before = c.if-own-row.false in
-    let within = c.requires.room.waiting row.result
-    (and_parts (has_row c.args.rest row.result) (has_row w.waiting row.result) (sym (c.common-waiting.ensures.rows row.result) ∙ row.ensures.first.stands)).1 in
+    let within = c.requires.room.waiting.below row.result
+    (and_parts (has_row c.args.rest row.result) (has_row w.dues.waiting.rows row.result) (sym (c.common-waiting.ensures.rows row.result) ∙ row.ensures.first.stands)).1 in
     let size = c.requires.room.lasts in
-    let read : c.index.result.now ≡ get_or w.lasts.items row.result 0
-    = c.index.ensures ∙ sym (same-read w.lasts.items row.result 0 c.index.result.now (omega arith)) in
+    let read : c.index.result.now ≡ get_or w.rows.lasts.items row.result 0
+    = c.index.ensures ∙ sym (same-read w.rows.lasts.items row.result 0 c.index.result.now (omega arith)) in
     record {
       first = row-first w c.args.rest c.common-always.result c.requires.due c.common-always.ensures.rows own.result own.ensures.stands own.ensures.none_before
           c.common-waiting.result row.result c.common-waiting.ensures.rows (subst P c.as_slice-2.ensures.value row.ensures.first) (omega arith) (omega arith);

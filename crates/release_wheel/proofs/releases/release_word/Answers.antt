@@ -1,7 +1,7 @@
 use Rattle.std.proofs.Common.{◌∙◌}
 use Rattle.requirement_table.specs.Slots.{contains_slot}
 use Rattle.release_wheel.specs.Wheel.{rows_left}
-use Rattle.release_wheel.proofs.Releasing.{row-within, same_table-on}
+use Rattle.release_wheel.proofs.Releasing.{row-within}
 use Rattle.release_wheel.proofs.releases.release_word.Goals as goal
 
 pub loop-left-preserved : goal.loop-left-preserved
@@ -12,8 +12,7 @@ loop-left-preserved c =
     record {
       going = c.look_at.ensures.next (contains_slot c.args.pending) (rows_left l.left) (rows_left less.result) l.invariant.going first.ensures.stands
           (less.ensures.rows first.result first.ensures.stands first.ensures.none_before);
-      table = same_table-on c.args.wheel.now l.wheel c.look_at.new.wheel l.invariant.table c.look_at.ensures.table;
-      cycle = c.look_at.ensures.cycle ∙ l.invariant.cycle;
+      entries = c.look_at.ensures.entries ∙ l.invariant.entries;
       base = less.ensures.base ∙ l.invariant.base;
       behind = less.ensures.behind ∙ l.invariant.behind;
     }
@@ -21,7 +20,7 @@ loop-left-preserved c =
 pub look_at-requires-clause-row : goal.look_at-requires-clause-row
 look_at-requires-clause-row c =
     let l = c.loop-left in
-    row-within (contains_slot c.args.pending) (rows_left l.left) c.first_left-row.result l.wheel l.invariant.going c.first_left-row.ensures.stands
+    row-within (contains_slot c.args.pending) c.args.cycle (rows_left l.left) c.first_left-row.result l.rows l.dues l.invariant.going c.first_left-row.ensures.stands
 
 pub look_at-requires-clause-room : goal.look_at-requires-clause-room
 look_at-requires-clause-room c = c.loop-left.invariant.going.room

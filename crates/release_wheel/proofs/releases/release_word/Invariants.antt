@@ -1,13 +1,12 @@
 use Rattle.std.proofs.Common.{◌≡◌}
 use Rattle.requirement_table.specs.Slots.{contains_slot}
-use Rattle.release_wheel.specs.Wheel.{IsReleasing, IsSameTable, rows_left}
+use Rattle.release_wheel.specs.Wheel.{IsReleasing, rows_left}
 use Rattle.release_wheel.proofs.releases.release_word.Given as goal
 
 abbrev pub invariant-loop-left : goal.invariant-loop-left
 invariant-loop-left l = record {
-  going : IsReleasing (contains_slot l.fn.pending) (rows_left l.left) l.wheel;
-  table : IsSameTable l.fn.wheel l.wheel;
-  cycle : l.wheel.cycle ≡ l.fn.wheel.cycle;
+  going : IsReleasing (contains_slot l.fn.pending) l.cycle (rows_left l.left) l.rows l.dues;
+  entries : l.rows.entries.items ≡ l.fn.rows.entries.items;
   base : l.left.base ≡ l.fn.rest.base;
   behind : l.left.behind ≡ l.fn.rest.behind;
 }

@@ -23,12 +23,12 @@ returns-clause-planned c = λ window.
     let less = c.requires.quiet in
     let on = turns-on ranking w kept less in
     let turned = (kept.turned on).turned in
-    let ready : IsReady ranking w.slots w = record { released = quiet-released w turned less; of_ranking = (kept.turned on).of_ranking; well = c.requires.well; valid = kept.valid } in
+    let ready : IsReady ranking w.dues.waiting.slots w = record { released = quiet-released w turned less; of_ranking = (kept.turned on).of_ranking; well = c.requires.well; valid = kept.valid } in
     let cost = quiet-cost w turned less in
     let number = c.empty.ensures.number in
-    let P : ℕ → Type 0 = λ width. IsPlanned (planning_of ranking window w.cycle w.slots) w.cycle (contains_slot w.slots) c.empty.result width c.empty-wheel.result in
+    let P : ℕ → Type 0 = λ width. IsPlanned (planning_of ranking window w.cycle w.dues.waiting.slots) w.cycle (contains_slot w.dues.waiting.slots) c.empty.result width c.empty-wheel.result in
     subst P cost
-    (planned-all ranking w.slots window w ready c.empty.result (omega arith) (λ slot. c.empty.ensures.slots slot ∙ sym (quiet-slots w slot turned less)) (omega arith)
+    (planned-all ranking w.dues.waiting.slots window w ready c.empty.result (omega arith) (λ slot. c.empty.ensures.slots slot ∙ sym (quiet-slots w slot turned less)) (omega arith)
     c.empty-wheel.result c.empty-wheel.ensures.number)
 
 pub returns-clause-kept : goal.returns-clause-kept

@@ -28,7 +28,7 @@ loop-wheel-init c =
       onward = omega arith;
       valid = λ n from to.
           let here : w.cycle ≡ n = omega arith in
-          subst (λ m. IsValid c.args.ranked.now.placed m w.slots) here kept.valid;
+          subst (λ m. IsValid c.args.ranked.now.placed m w.dues.waiting.slots) here kept.valid;
       until = λ from. from;
       passed = λ window n from to. absurd (omega arith);
     }
@@ -48,12 +48,12 @@ loop-wheel-preserved c =
     let l = c.loop-wheel in
     let inv = l.invariant in
     let ranking = c.args.ranked.now in
-    let slots = c.args.wheel.now.slots in
+    let slots = c.args.wheel.now.dues.waiting.slots in
     let made = c.pass.ensures in
     let next = made.next in
     let onward = inv.onward in
     let kept = made.kept in
-    let still : c.pass.new.wheel.slots ≡ slots = made.empty.0 ∙ sym inv.empty in
+    let still : c.pass.new.wheel.dues.waiting.slots ≡ slots = made.empty.0 ∙ sym inv.empty in
     record {
       kept = kept;
       quiet = made.same ∙ inv.quiet;
@@ -73,8 +73,8 @@ loop-wheel-preserved c =
           (λ (less : n < l.wheel.cycle). inv.passed window n from less)
           (λ (last : l.wheel.cycle ≤ n).
           let here : l.wheel.cycle ≡ n = omega arith in
-          let at : IsPassed (planning_of ranking window l.wheel.cycle l.wheel.slots) =
-          passed-at ranking window l.wheel.cycle l.wheel.slots c.pass.result.mask c.pass.result.width c.pass.new.wheel.slots (made.planned window)
+          let at : IsPassed (planning_of ranking window l.wheel.cycle l.wheel.dues.waiting.slots) =
+          passed-at ranking window l.wheel.cycle l.wheel.dues.waiting.slots c.pass.result.mask c.pass.result.width c.pass.new.wheel.dues.waiting.slots (made.planned window)
           made.empty.1 (still ∙ sym inv.slots) in
           subst (λ m. IsPassed (planning_of ranking window m slots)) here
           (subst (λ q. IsPassed (planning_of ranking window l.wheel.cycle q)) inv.slots at))

@@ -9,13 +9,13 @@ abbrev pub invariant-loop-wheel : goal.invariant-loop-wheel
 invariant-loop-wheel l = record {
   kept : IsKept l.ranked l.wheel;
   quiet : l.wheel.quiet ≡ l.fn.wheel.quiet;
-  slots : l.wheel.slots ≡ l.fn.wheel.slots;
-  empty : l.fn.wheel.slots ≡ 0;
+  slots : l.wheel.dues.waiting.slots ≡ l.fn.wheel.dues.waiting.slots;
+  empty : l.fn.wheel.dues.waiting.slots ≡ 0;
   onward : l.fn.wheel.cycle ≤ l.wheel.cycle;
-  valid : (c : ℕ) → l.fn.wheel.cycle ≤ c → c ≤ l.wheel.cycle → IsValid l.ranked.placed c l.fn.wheel.slots;
+  valid : (c : ℕ) → l.fn.wheel.cycle ≤ c → c ≤ l.wheel.cycle → IsValid l.ranked.placed c l.fn.wheel.dues.waiting.slots;
   until : l.fn.wheel.cycle ≤ l.until → l.wheel.cycle ≤ l.until;
   passed : (window c : ℕ) → l.fn.wheel.cycle ≤ c → c < l.wheel.cycle
-      → IsPassed (planning_of l.ranked window c l.fn.wheel.slots);
+      → IsPassed (planning_of l.ranked window c l.fn.wheel.dues.waiting.slots);
 }
 
 abbrev pub decreases-loop-wheel : goal.decreases-loop-wheel

@@ -16,7 +16,7 @@ pub returns : goal.returns
 returns c =
     let w = c.args.wheel.now in
     let result = c.pick_rows.result in
-    let Q : Fill → Type 0 = λ fill. IsTook fill c.args.w (goes_by (last_of w)) w.entries.items c.args.due result.left result.mask result.width in
+    let Q : Fill → Type 0 = λ fill. IsTook fill c.args.w (goes_by (last_of w)) w.rows.entries.items c.args.due result.left result.mask result.width in
     record {
       took = part-by-last c.args.ranked.now c.args.state.now.pending c.args.w w c.requires.ready c.args.due result.left result.mask result.width
           c.requires.rows (subst Q c.fill.ensures.value c.pick_rows.ensures.took) c.requires.order;

@@ -17,7 +17,7 @@ returns c =
     let w = c.args.wheel.now in
     let result = c.take_rows.result in
     let P : List Placed → Type 0 = λ entries. IsTook c.fill.result c.args.w nat_le entries c.args.due result.left result.mask result.width in
-    let Q : Fill → Type 0 = λ fill. IsTook fill c.args.w nat_le w.entries.items c.args.due result.left result.mask result.width in
+    let Q : Fill → Type 0 = λ fill. IsTook fill c.args.w nat_le w.rows.entries.items c.args.due result.left result.mask result.width in
     let took = subst Q c.fill.ensures.value (subst P c.as_slice.ensures.value c.take_rows.ensures.took) in
     record {
       took = part-by-row c.args.ranked.now c.args.state.now.pending c.args.w w c.requires.ready c.args.due result.left result.mask result.width

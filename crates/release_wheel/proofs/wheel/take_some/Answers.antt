@@ -1,11 +1,14 @@
-use Rattle.std.proofs.Common.{◌+◌, ◌-◌, ◌&&◌, not, ap, ◌∙◌, arith}
+use Rattle.std.proofs.Common.{◌+◌, ◌-◌, ◌&&◌, not, ap, ◌∙◌, length, arith}
 use Rattle.requirement_table.specs.Slots.{contains_slot}
 use Rattle.release_wheel.proofs.RowCycles.{some-on}
-use Rattle.release_wheel.proofs.RowSums.{costs-bound}
+use Rattle.release_wheel.proofs.RowSums.{costs-small}
 use Rattle.release_wheel.proofs.wheel.take_some.Goals as goal
 
 pub overflow_add-wheel-2 : goal.overflow_add-wheel-2
-overflow_add-wheel-2 c = omega (arith, costs-bound c.args.wheel.now c.requires.ready.released.room)
+overflow_add-wheel-2 c =
+    let w = c.args.wheel.now in
+    let small = costs-small (length w.rows.entries.items) w.rows w.dues c.requires.ready.released.room in
+    omega (arith, small.0, small.1)
 
 pub overflow_sub-wheel : goal.overflow_sub-wheel
 overflow_sub-wheel c = let parts = c.take_due-took.ensures.took.cost in omega arith
@@ -19,5 +22,5 @@ returns-clause-planned c =
     let parts = part.cost in
     some-on c.args.ranked.now pending c.args.w w c.requires.ready part.line part.whole part.due result.left result.mask result.width
     c.difference-pending.result part.due_is part.left_is part.mask_is part.width_is part.fits c.known.ensures.below
-    (λ slot. c.difference-pending.ensures.slots slot ∙ ap (λ b. b && not (contains_slot result.mask slot)) (c.union.ensures.slots slot))
-    c.in_ok-soonest.soonest (w.cost + w.always_cost - result.width) c.in_ok-soonest.ensures.in_time (omega arith)
+    (λ slot. c.difference-pending.ensures.slots slot ∙ ap (λ b. b && not (contains_slot result.mask slot)) (c.union-all.ensures.slots slot))
+    c.in_ok-soonest.soonest (w.dues.waiting.cost + w.dues.always.cost - result.width) c.in_ok-soonest.ensures.in_time (omega arith)

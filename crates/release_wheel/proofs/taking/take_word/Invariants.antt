@@ -1,12 +1,11 @@
 use Rattle.std.proofs.Common.{nat_le, ◌≡◌}
-use Rattle.planner_policies.specs.declared.Fill.TheVariants.{Skip}
 use Rattle.release_wheel.specs.Taking.{IsTaking}
 use Rattle.release_wheel.specs.Wheel.{rows_left}
-use Rattle.release_wheel.proofs.taking.take_each_word.Given as goal
+use Rattle.release_wheel.proofs.taking.take_word.Given as goal
 
 abbrev pub invariant-loop-rest : goal.invariant-loop-rest
 invariant-loop-rest l = record {
-  taking : IsTaking Skip l.w nat_le l.entries l.due (rows_left l.rest) l.left l.mask l.width;
+  taking : IsTaking l.fill l.w nat_le l.entries l.due (rows_left l.rest) l.left l.mask l.width;
   base : l.rest.base ≡ l.fn.taking.rest.base;
   behind : l.rest.behind ≡ l.fn.taking.rest.behind;
 }

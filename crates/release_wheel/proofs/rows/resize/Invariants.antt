@@ -1,6 +1,6 @@
 use Rattle.std.proofs.Common.{◌≡◌, ◌-◌, ◌≤◌, length, vec_capacity}
 use Rattle.std.specs.Vec.{vec_len}
-use Rattle.release_wheel.proofs.filling.resize.Given as goal
+use Rattle.release_wheel.proofs.rows.resize.Given as goal
 
 abbrev pub invariant-loop-item : goal.invariant-loop-item
 invariant-loop-item g l = record {

@@ -1,0 +1,54 @@
+use Rattle.std.proofs.Common.{nat_le, ◌≡◌, ◌≢◌, ◌-◌, ◌||◌, ◌∙◌, ap, sym, subst, ℕ, ⊎_elim, arith, length}
+use Rattle.std.proofs.lemmas.Bool.{cases_eq}
+use Rattle.release_wheel.specs.Taking.{IsTaking}
+use Rattle.release_wheel.specs.Wheel.{has_row, rows_left}
+use Rattle.release_wheel.proofs.RowSums.{cost-both}
+use Rattle.release_wheel.proofs.RowTaking.{nothing-left, taking-start, took}
+use Rattle.release_wheel.proofs.RowWords.{high-set, low-set, none-left}
+use Rattle.release_wheel.proofs.taking.take_rows.Goals as goal
+
+pub take_word-low-requires-clause-taking : goal.take_word-low-requires-clause-taking
+take_word-low-requires-clause-taking c =
+    let P : ℕ → Type 0 = λ rest. IsTaking c.args.fill c.args.w nat_le c.args.entries.now c.args.due rest 0 c.empty.result 0 in
+    subst P (sym c.rest_of.ensures.rows) (taking-start c.args.fill c.args.w nat_le c.args.entries.now c.args.due c.empty.result c.empty.ensures.slots)
+
+pub take_word-high-requires-clause-taking : goal.take_word-high-requires-clause-taking
+take_word-high-requires-clause-taking c =
+    let low = c.take_word-low.result in
+    let P : ℕ → Type 0 = λ rest. IsTaking c.args.fill c.args.w nat_le c.args.entries.now c.args.due rest low.left low.mask low.width in
+    subst P (sym c.next_word.ensures.rows) c.take_word-low.ensures.taking
+
+pub returns-then-low-ne0 : goal.returns-then-low-ne0
+returns-then-low-ne0 c =
+    let last = c.take_word-low.result in
+    let ends = c.take_word-low.ensures in
+    let entries = c.args.entries.now in
+    let rest = rows_left last.rest in
+    let some = c.if-low-ne0.true in
+    let is = c.of_words.ensures.set ∙ low-set last.rest (ends.base ∙ c.rest_of.ensures.low) in
+    let rows : (i : ℕ) → has_row c.both.result i ≡ (has_row rest i || has_row last.left i)
+    = λ i. c.both.ensures.rows i ∙ ap (λ set'. has_row set' i || has_row last.left i) is in
+    record {
+      took = took c.args.fill c.args.w nat_le entries c.args.due rest last.left last.mask last.width c.both.result ends.taking (ends.stops (omega arith)) rows
+          (cost-both entries (length entries) rest last.left c.both.result ends.taking.apart rows) c.known.ensures.below;
+    }
+
+pub returns : goal.returns
+returns c =
+    let last = c.take_word-high.result in
+    let ends = c.take_word-high.ensures in
+    let entries = c.args.entries.now in
+    let rest = rows_left last.rest in
+    let behind = ends.behind ∙ c.next_word.ensures.last in
+    let is = c.of_words-2.ensures.set ∙ high-set last.rest (ends.base ∙ c.next_word.ensures.high) behind in
+    let rows : (i : ℕ) → has_row c.both-2.result i ≡ (has_row rest i || has_row last.left i)
+    = λ i. c.both-2.ensures.rows i ∙ ap (λ set'. has_row set' i || has_row last.left i) is in
+    record {
+      took = took c.args.fill c.args.w nat_le entries c.args.due rest last.left last.mask last.width c.both-2.result ends.taking
+          (λ dues back of is.
+          ⊎_elim
+          (λ (none : last.rest.word ≡ 0). nothing-left c.args.fill (c.args.w - last.width) rest dues back (none-left last.rest none behind) is)
+          (λ (some : last.rest.word ≢ 0). ends.stops (omega arith) dues back of is)
+          (cases_eq last.rest.word 0))
+          rows (cost-both entries (length entries) rest last.left c.both-2.result ends.taking.apart rows) c.known-2.ensures.below;
+    }
