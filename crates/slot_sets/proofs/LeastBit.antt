@@ -1,9 +1,10 @@
 -- A set of slots without the least one of them: a number and one less have the same bits above the lowest 1.
 use Rattle.std.proofs.Common.{◌≡◌, ℕ, zero, suc, ◌+◌, ◌-◌, ◌*◌, ◌/◌, ◌%◌, ◌^◌, ◌<◌, ◌&&◌, true, not, nat_eq, None, Some, bit_and, min, inl, inr, sym, ap, ◌∙◌, subst, arith}
 use Rattle.std.specs.Int.{bit_at}
+use Rattle.std.specs.Int.Bits.{and_self}
 use Rattle.std.proofs.lemmas.Bool.{cases_eq, cases_lt}
 use Rattle.std.proofs.lemmas.Bool.Decides.{nat_tests}
-use Rattle.std.proofs.lemmas.Nat.{div-mul-add, mod-pow-add, pow_pos, shr-shr, shr_split}
+use Rattle.std.proofs.lemmas.Nat.{and_block, div-mul-add, mod-pow-add, pow_pos, shr-shr, shr_split}
 use Rattle.std.proofs.lemmas.Nat.Bits.{bit_at-lt, bit_at-zero, bit_at_and}
 use Rattle.std.proofs.Math.Nat.{div-div-eq-div-mul, pow-succ'}
 use Rattle.requirement_table.specs.Slots.{contains_slot, most_slots}
@@ -70,6 +71,18 @@ contains_slot-less result n t s is least =
             grind (arith, nat_tests)
       ]
     ]
+
+-- one less leaves the words above the lowest one that is not 0 as they are
+pub less-low : (n low : ℕ) → low ≡ n % 2 ^ 64 → 0 < low → n / 2 ^ 64 * 2 ^ 64 + bit_and low (low - 1) ≡ bit_and n (n - 1)
+less-low n low is some =
+    let high = n / 2 ^ 64 in
+    let whole : n ≡ high * 2 ^ 64 + low = sym (shr_split n 64) ∙ ap (λ m. high * 2 ^ 64 + m) (sym is) in
+    let less : n - 1 ≡ high * 2 ^ 64 + (low - 1) = omega (arith, whole, some) in
+    let block : bit_and (high * 2 ^ 64 + low) (high * 2 ^ 64 + (low - 1)) ≡ bit_and high high * 2 ^ 64 + bit_and low (low - 1)
+    = and_block 64 high high low (low - 1) (omega (arith, is)) (omega (arith, is)) in
+    let same : bit_and high high ≡ high = and_self high in
+    ap (λ m. m * 2 ^ 64 + bit_and low (low - 1)) (sym same) ∙ sym block ∙ ap (bit_and (high * 2 ^ 64 + low)) (sym less)
+    ∙ ap (λ m. bit_and m (n - 1)) (sym whole)
 
 -- a set with a slot is no empty one
 pub some-least : (n t : ℕ) → least_where most_slots (contains_slot n) ≡ Some t → 0 < n

@@ -1,10 +1,11 @@
 -- The least slot with a property, and sets of slots bit by bit.
-use Rattle.std.proofs.Common.{◌≡◌, ℕ, zero, suc, ◌^◌, ◌<◌, ◌≤◌, Bool, true, false, not, nat_eq, is_some, if◌then◌else◌, Option, Some, None, refl, sym, ap, ◌∙◌, arith, ⊎_elim}
+use Rattle.std.proofs.Common.{◌≡◌, ℕ, zero, suc, ◌/◌, ◌%◌, ◌^◌, ◌<◌, ◌≤◌, Bool, true, false, not, nat_eq, is_some, if◌then◌else◌, Option, Some, None, refl, sym, ap, ◌∙◌, arith, ⊎_elim}
 use Rattle.std.specs.Bool.{then_some}
-use Rattle.std.specs.Int.{trailing_zeros, w128}
+use Rattle.std.specs.Int.{bit_at, trailing_zeros, w64, w128}
 use Rattle.std.proofs.lemmas.Bool.{cases_lt}
 use Rattle.std.proofs.lemmas.Bool.Decides.{nat_tests}
-use Rattle.std.proofs.lemmas.Nat.Bits.{bit_at-zero, bit_at_above, bit_at-trailing_zeros}
+use Rattle.std.proofs.lemmas.Nat.{shr_split}
+use Rattle.std.proofs.lemmas.Nat.Bits.{bit_at-zero, bit_at_above, bit_at_cat_low, bit_at-trailing_zeros}
 use Rattle.requirement_table.specs.Slots.{contains_slot}
 use Rattle.slot_sets.specs.Least.{least_where}
 
@@ -64,6 +65,23 @@ least_where-lowest n mask few some below small =
     (λ (high : n ≤ trailing_zeros w128 mask). let none = bit_at_above mask n (trailing_zeros w128 mask) below high in absurd (omega (arith, lowest.1)))
     (cases_lt (trailing_zeros w128 mask) n) in
     least_where-found n (contains_slot mask) (trailing_zeros w128 mask) within (rw lowest.1 refl) (λ i before. rw (lowest.2 i before) refl)
+
+-- a number has the bits of its low word below the end of that word
+low-word : (bits low : ℕ) → low ≡ bits % 2 ^ 64 → (i : ℕ) → i < 64 → bit_at low i ≡ bit_at bits i
+low-word bits low is i within =
+    ap (λ m. bit_at m i) is ∙ sym (bit_at_cat_low (bits / 2 ^ 64) 64 (bits % 2 ^ 64) i within) ∙ ap (λ m. bit_at m i) (shr_split bits 64)
+
+-- the lowest bit of the low word is that of the number, where the word has one
+pub least_where-low : (n mask bits low : ℕ) → bits ≡ mask → low ≡ bits % 2 ^ 64 → 64 ≤ n → 0 < low
+    → Some (trailing_zeros w64 low) ≡ least_where n (contains_slot mask)
+least_where-low n mask bits low is part many some =
+    let lowest = bit_at-trailing_zeros w64 low some (omega (arith, part)) in
+    let place = trailing_zeros w64 low in
+    let one : bit_at bits place ≡ 1 = sym (low-word bits low part place lowest.0) ∙ lowest.1 in
+    let none : (i : ℕ) → i < place → bit_at bits i ≡ 0
+    = λ i before. sym (low-word bits low part i (omega (arith, before, lowest.0))) ∙ lowest.2 i before in
+    sym (least_where-found n (contains_slot bits) place (omega (arith, lowest.0, many)) (rw one refl) (λ i before. rw (none i before) refl))
+    ∙ ap (λ set. least_where n (contains_slot set)) is
 
 pub least_where-word : (n mask bits : ℕ) → bits ≡ mask → n ≤ 128 → bits < 2 ^ n → bits < 2 ^ 128
     → then_some (not (nat_eq bits 0)) (trailing_zeros w128 bits) ≡ least_where n (contains_slot mask)

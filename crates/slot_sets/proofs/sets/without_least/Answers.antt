@@ -1,6 +1,6 @@
 -- One less clears the lowest bit, and sets those below it.
-use Rattle.std.proofs.Common.{bit_and, refl, sym, ap, ◌∙◌, arith}
-use Rattle.slot_sets.proofs.LeastBit.{contains_slot-less, none-least, some-least}
+use Rattle.std.proofs.Common.{◌≡◌, ◌-◌, ◌<◌, bit_and, refl, sym, ap, ◌∙◌, arith}
+use Rattle.slot_sets.proofs.LeastBit.{contains_slot-less, less-low, none-least, some-least}
 use Rattle.slot_sets.proofs.sets.without_least.Goals as goal
 
 pub returns : goal.returns
@@ -9,11 +9,28 @@ returns c = record {
       let n = c.bits-bits.result in
       let there = rw (← c.bits-bits.ensures.number) at is in
       let some = some-least n least there in
-      let less = c.from_bits.ensures.number ∙ ap (bit_and n) (omega (arith, some, c.bits-bits.type_inv)) in
-      rw (← c.bits-bits.ensures.number) (contains_slot-less c.from_bits.result n least slot less there);
+      let less = c.from_bits-2.ensures.number ∙ ap (bit_and n) (omega (arith, some, c.bits-bits.type_inv)) in
+      rw (← c.bits-bits.ensures.number) (contains_slot-less c.from_bits-2.result n least slot less there);
   none = λ least.
       let n = c.bits-bits.result in
       let there = rw (← c.bits-bits.ensures.number) at least in
       let empty = none-least n c.bits-bits.ensures.below there in
-      c.from_bits.ensures.number ∙ rw empty refl ∙ sym empty ∙ c.bits-bits.ensures.number;
+      c.from_bits-2.ensures.number ∙ rw empty refl ∙ sym empty ∙ c.bits-bits.ensures.number;
 }
+
+pub returns-then-low-ne0 : goal.returns-then-low-ne0
+returns-then-low-ne0 c =
+    let n = c.bits-bits.result in
+    let low = c.low_word-low.result in
+    let some : 0 < low = omega arith in
+    let less : c.from_bits.result ≡ bit_and n (n - 1)
+    = omega (arith, c.from_bits.ensures.number, c.from.ensures, less-low n low c.low_word-low.ensures.word some) in
+    record {
+      slots = λ least is slot.
+          let there = rw (← c.bits-bits.ensures.number) at is in
+          rw (← c.bits-bits.ensures.number) (contains_slot-less c.from_bits.result n least slot less there);
+      none = λ least.
+          let there = rw (← c.bits-bits.ensures.number) at least in
+          let empty = none-least n c.bits-bits.ensures.below there in
+          absurd (omega (arith, empty, c.low_word-low.ensures.word, some));
+    }
