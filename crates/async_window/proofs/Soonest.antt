@@ -374,6 +374,13 @@ module _ (layout : CycleLayout) (l : ℕ) (ids : List ℕ) (boxes : List Mail) (
       ])
       found.2
 
+-- a time at which the longest frame may start
+pub earliest-whole : (opened closed at soonest : ℕ) (found : Option ℕ)
+    → IsLeastWith (λ later. (at < later) × (soonest ≤ later) × (opened ≤ later) × (later + worst 8 ≤ closed)) found
+    → IfSome found (λ next. (opened ≤ next) × (next + worst 8 ≤ closed))
+earliest-whole opened closed at soonest None least = tt
+earliest-whole opened closed at soonest (Some next) least = (least.0.2, least.0.3)
+
 -- when the next first request may start, by the soonest arrival and the least length of all
 module _ (boxes : List Mail) (opened closed at : ℕ) (wide : closed < 2 ^ 64) where
   starts-soon : (unsent : List Request) (time : ℕ) → CanStart opened closed at unsent time → time < never

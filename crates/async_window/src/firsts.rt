@@ -5,6 +5,7 @@ ghost use Rattle.std.specs.Prelude.{◌≡◌, ℕ, ◌+◌, ◌<◌, ◌≤◌,
 ghost use Rattle.std.specs.Prelude.{false, true, length, slice_index_or};
 ghost use Rattle.std.specs.Option.{option_to_list};
 ghost use Rattle.profile.specs.Limits.{times_end};
+ghost use Rattle.stuff_bound.specs.Stuffing.{worst};
 ghost use Rattle.async_window.specs.Mailbox.{IsLeastWith, Mail, least_of};
 ghost use Rattle.async_window.specs.Tournament.{CanStart, IsSoonest, Notes, Tell, TellFirsts};
 ghost use Rattle.async_window.specs.Tournament.{arrival_within, first_length, never};
@@ -144,11 +145,12 @@ impl Firsts {
     }
 
     /// The same time, where the longest frame may start at the soonest arrival: then no other request starts sooner.
-    fn next_of_any(&self, window: Window, at: u64) -> Option<u64>
+    pub fn next_of_any(&self, window: Window, at: u64) -> Option<u64>
         requires time { at < times_end }
         ensures next { (boxes : List Mail) → TellFirsts (length boxes) boxes self.now.arrivals self.now.lengths
             → IfSome result (λ next.
             IsSoonest boxes window.opened window.closed at (length boxes) (Some next)) }
+        ensures whole { IfSome result (λ next. (window.opened ≤ next) × (next + worst 8 ≤ window.closed)) }
     {
         window.earliest(at, self.arrivals.least(), MOST_BYTES)
     }

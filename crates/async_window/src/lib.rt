@@ -12,5 +12,5 @@ mod request;
 mod tournament;
 mod window;
 
-pub use mailboxes::{Mailboxes, Offer};
+pub use mailboxes::{Mailboxes, Offer, Soon};
 pub use request::{Owner, Request};

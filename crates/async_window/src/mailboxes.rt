@@ -14,12 +14,13 @@ ghost use Rattle.async_window.specs.Tournament.{first_bytes};
 ghost use Rattle.stuff_bound.specs.Stuffing.{worst};
 
 use crate::firsts::Firsts;
-use crate::mailbox::Mailbox;
+use crate::mailbox::{MOST_BYTES, Mailbox};
 use crate::places::{IDENTIFIERS, in_order, place_of, places};
 use crate::request::Request;
 use crate::window::{Window, window_in};
 use can_frame::Frame;
 use cycle_layout::Layout;
+use profile::TIMES_END;
 use std::alloc::{AllocError, Global};
 use std::marker::Model;
 
@@ -30,6 +31,15 @@ pub struct Offer {
     pub id: u16,
     /// A time up to which it is offered, in bit times.
     pub until: u64,
+}
+
+/// What mailboxes offer next.
+#[derive(Clone, Copy, PartialEq, Eq, Debug)]
+pub struct Soon {
+    /// The first time at which they offer something, in bit times.
+    pub from: u64,
+    /// What they offer then.
+    pub offer: Offer,
 }
 
 /// The unsent requests of some identifiers. Contracts see a list of identifiers, each with its unsent requests in their
@@ -223,6 +233,33 @@ impl Mailboxes {
             return None;
         }
         self.firsts.next(boxes, window, at)
+    }
+
+    /// What `offer_until` gives at the time that `wake_in` gives, where the request that arrives soonest may start as soon
+    /// as it has arrived, whatever its length. Then the window is looked at once, and one path of a tree is gone down.
+    #[inline(always)]
+    pub fn soon(&self, layout: &Layout, cycle: u64, at: u64, l: u32) -> Option<Soon>
+        requires window { l ≤ layout.now.window }
+        requires time { at < times_end }
+        requires cycle { cycle ≡ at / layout.now.cycle }
+        ensures next { IfSome result (λ soon. IsNextInCycle layout.now.cycle at
+            (λ later. IsSome (mail_offer layout.now l self.now later)) (Some soon.from)) }
+        ensures stays { IfSome result (λ soon.
+            StaysUntil layout.now l self.now soon.from soon.offer.id soon.offer.until) }
+    {
+        let window = window_in(layout, cycle, at, l);
+        let boxes = self.boxes.as_slice();
+        let from = self.firsts.next_of_any(window, at)?;
+        if TIMES_END <= from {
+            return None;
+        }
+        match self.firsts.first(boxes, MOST_BYTES, from) {
+            Some(first) => Some(Soon {
+                from,
+                offer: offer_of(&boxes[first.place], &window, first.sooner),
+            }),
+            None => None,
+        }
     }
 
     /// The number of requests that are not sent.

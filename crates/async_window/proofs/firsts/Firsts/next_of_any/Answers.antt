@@ -1,6 +1,6 @@
 use Rattle.std.proofs.Common.{◌<◌, ◌^◌, rules}
 use Rattle.async_window.specs.Tournament.{arrival_within}
-use Rattle.async_window.proofs.Soonest.{IsSoonest-any}
+use Rattle.async_window.proofs.Soonest.{IsSoonest-any, earliest-whole}
 use Rattle.async_window.proofs.Telling.{least-told, some-told}
 use Rattle.async_window.proofs.firsts.Firsts.next_of_any.Goals as goal
 
@@ -14,4 +14,5 @@ returns c =
           c.earliest.result
           (some-told (arrival_within 8) boxes c.args.self.now.arrivals tell.arrive c.least.result c.least.ensures.least c.least.ensures.some)
           c.earliest.ensures.earliest;
+      whole = earliest-whole c.args.window.opened c.args.window.closed c.args.at c.least.result c.earliest.result c.earliest.ensures.earliest;
     }
