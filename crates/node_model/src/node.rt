@@ -206,7 +206,7 @@ impl Node {
             self.noted = trigger;
         } else {
             self.open_next(trigger);
-            self.ahead = self.search_ahead(last_bit(heard));
+            self.look_ahead(last_bit(heard));
         }
     }
 
@@ -223,7 +223,7 @@ impl Node {
         self.count();
         let trigger = self.joined(second);
         self.open_next(trigger);
-        self.ahead = self.search_ahead(last_bit(heard));
+        self.look_ahead(last_bit(heard));
     }
 
     /// Hears a frame that is none of the trigger frames, without a look ahead. The answer is whether the frame is
@@ -268,40 +268,64 @@ impl Node {
     }
 
     /// Keeps what the node offers next behind a time, so that it need not look again before that time comes or
-    /// something changes.
+    /// something changes. That is often the request that arrives soonest, which needs no search.
+    #[inline(never)]
     fn look_ahead(&mut self, at: u64)
+        ensures same { self.new ≡ self.old }
+    {
+        if TIMES_END <= at {
+            self.ahead = None;
+            return;
+        }
+        if let Some(next) = self.soon(at) {
+            self.ahead = Some(Ahead {
+                since: at,
+                next: Some(next),
+            });
+            return;
+        }
+        self.search_ahead(at);
+    }
+
+    /// What the node offers next behind a time, where the mailboxes tell it without a search.
+    #[inline(always)]
+    fn soon(&self, at: u64) -> Option<Next>
+        requires time { at < times_end }
+        ensures next { IfSome result (λ next. IsNextOffer self.now.state at (Some next.from)) }
+        ensures stays { IfSome result (λ next. Stays self.now.state next.from next.offer) }
+    {
+        if self.mailboxes.left() == 0 {
+            return None;
+        }
+        let open_cycle = self.open_at(at)?;
+        let layout = &self.layout;
+        match self
+            .mailboxes
+            .soon(layout, open_cycle.cycle, at, open_cycle.width)
+        {
+            Some(soon) => Some(Next {
+                from: soon.from,
+                offer: soon.offer,
+            }),
+            None => None,
+        }
+    }
+
+    /// The same by a search.
+    #[inline(never)]
+    fn search_ahead(&mut self, at: u64)
+        requires time { at < times_end }
         ensures same { self.new ≡ self.old }
     {
         self.ahead = self.find_ahead(at);
     }
 
-    /// What the node offers next behind a time. Behind a frame of its own that is often something at once, which needs
-    /// no search.
-    fn find_ahead(&self, at: u64) -> Option<Ahead>
-        ensures ahead { IfSome result (IsAhead self.now.state) }
-    {
-        if TIMES_END - 1 <= at {
-            return None;
-        }
-        if let Some(offer) = self.find_offer(at + 1) {
-            let from = at + 1;
-            return Some(Ahead {
-                since: at,
-                next: Some(Next { from, offer }),
-            });
-        }
-        self.search_ahead(at)
-    }
-
-    /// The same by a search. Right behind a trigger nothing is offered, so that nothing is looked for there first. A node
-    /// that offers nothing more in its cycle makes no call.
+    /// What a search finds that the node offers next behind a time.
     #[inline(always)]
-    fn search_ahead(&self, at: u64) -> Option<Ahead>
+    fn find_ahead(&self, at: u64) -> Option<Ahead>
+        requires time { at < times_end }
         ensures ahead { IfSome result (IsAhead self.now.state) }
     {
-        if TIMES_END <= at {
-            return None;
-        }
         match self.find_next_offer(at) {
             Some(from) => self.ahead_to(at, from),
             None => Some(Ahead {
