@@ -7,6 +7,7 @@ use Rattle.std.proofs.lemmas.List.{drop_all, drop-append-le, drop-drop}
 use Rattle.std.proofs.Math.Seq.{drop-cons}
 use Rattle.stuff_bound.proofs.Shared.{are_entries, entry-is}
 use Rattle.text_fields.specs.DecimalPairs.{decimal_digit_at}
+use Rattle.text_fields.specs.Hexadecimal.{hex_digits}
 use Rattle.text_fields.specs.declared.decimal_pairs.TheConstants.{DECIMAL_PAIRS}
 
 -- The table of pairs
@@ -86,6 +87,11 @@ place-put f bytes xs row later place d within first rest =
     ∙ ap (λ l. f (get_or bytes place d) ++ l) (rest ∙ ap (λ n. flat_map f (drop n bytes) ++ xs) next)
     ∙ sym (append_assoc (f (get_or bytes place d)) (flat_map f (drop (suc place) bytes)) xs)
     ∙ ap (λ l. flat_map f l ++ xs) (sym (drop-cons bytes place d within))
+
+-- the digits of a byte that is 0
+pub zero-digits : (byte : ℕ) (later : List ℕ) → byte ≡ 0 → 48 ∷ 48 ∷ later ≡ hex_digits 2 byte ++ later
+unfolding hex_digits
+zero-digits byte later is = rw is refl
 
 pub none-stand : (bytes xs : List ℕ) (place : ℕ) → length bytes ≤ place → xs ≡ drop place bytes ++ xs
 none-stand bytes xs place all = ap (λ l. l ++ xs) (sym (drop_all place bytes all))
