@@ -9,7 +9,7 @@ ghost use Rattle.can_frame.specs.Begun.{HasBegun, HaveOneFront, IsKnown};
 ghost use Rattle.can_frame.specs.Wire.{wire_length};
 
 use crate::data_frame::Frame;
-use crate::sending::{Begun, begin, len_after};
+use crate::sending::{Begun, begin_anew, len_after};
 use crate::wire_bits::wire_len;
 use std::marker::Model;
 use stuff_bound::Sender;
@@ -52,7 +52,7 @@ impl KnownFront {
         ensures frame { result.frame ≡ frame.now }
         ensures known { IsKnown result }
     {
-        let Begun { sum, sender } = begin(frame, usize::from(frame.dlc()) - 1);
+        let Begun { sum, sender } = begin_anew(frame, usize::from(frame.dlc()) - 1);
         KnownFront {
             frame: *frame,
             sum,

@@ -41,6 +41,7 @@ impl Begun {
 /// What is known of a frame once the bits before its data and its first `count` data bytes were gone through.
 ///
 /// The 19 bits before the data go to the sender as 3, 8 and 8 bits, so that each data byte goes in as it is.
+#[inline(always)]
 pub fn begin(frame: &Frame, count: usize) -> Begun
     requires within { count ≤ length frame.now.bytes }
     ensures begun { HasBegun frame.now count result.sum result.sender }
@@ -59,6 +60,16 @@ pub fn begin(frame: &Frame, count: usize) -> Begun
         begun = begun.then(behind, *byte);
     }
     begun
+}
+
+/// The same by a call, for where it is rarely asked.
+#[cold]
+#[inline(never)]
+pub fn begin_anew(frame: &Frame, count: usize) -> Begun
+    requires within { count ≤ length frame.now.bytes }
+    ensures begun { HasBegun frame.now count result.sum result.sender }
+{
+    begin(frame, count)
 }
 
 /// What is known of a frame of eight data bytes, as each trigger is, once all of them were gone through: without a loop.
