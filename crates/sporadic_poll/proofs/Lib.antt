@@ -2,6 +2,7 @@ mod Carried
 mod Carry
 mod Fates
 mod FirstOf
+mod Held
 mod InTime
 mod Linking
 mod OneRide

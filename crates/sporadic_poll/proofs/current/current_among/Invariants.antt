@@ -1,6 +1,6 @@
 use Rattle.std.proofs.Common.{◌≡◌, drop}
 use Rattle.requirement_table.specs.Table.{instance_in}
-use Rattle.sporadic_poll.proofs.current.current_in.Given as goal
+use Rattle.sporadic_poll.proofs.current.current_among.Given as goal
 
 -- the entries before hold none
 abbrev pub invariant-loop-p : goal.invariant-loop-p
