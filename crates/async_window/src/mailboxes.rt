@@ -128,8 +128,8 @@ impl Mailboxes {
         }
     }
 
-    /// The same, together with how long it is offered: until its frame would end too late, or a mailbox of a lesser
-    /// identifier has a first request that may start.
+    /// The same, together with a time up to which it is offered: at the latest that from which its frame would end too
+    /// late, or a mailbox of a lesser identifier has a first request that may start.
     pub fn offer_until(&self, layout: &Layout, cycle: u64, at: u64, l: u32) -> Option<Offer>
         requires window { l ≤ layout.now.window }
         requires time { at < times_end }

@@ -52,7 +52,7 @@ fn hex_lanes(bytes: &[u8]) -> usize
     first_set(others.to_bitmask())
 }
 
-/// How many decimal digits the bytes begin with, up to 16; 0 where there are fewer bytes.
+/// So many of the first 16 bytes are decimal digits, from the first on; 0 where there are fewer bytes.
 #[inline(always)]
 pub fn decimal_run(bytes: &[u8]) -> usize
     ensures few { result ≤ 16 }
@@ -65,7 +65,7 @@ pub fn decimal_run(bytes: &[u8]) -> usize
     decimal_lanes(bytes)
 }
 
-/// How many hexadecimal digits in lower case the bytes begin with, up to 16; 0 where there are fewer bytes.
+/// So many of the first 16 bytes are hexadecimal digits in lower case, from the first on; 0 where there are fewer bytes.
 #[inline(always)]
 pub fn hex_run(bytes: &[u8]) -> usize
     ensures few { result ≤ 16 }

@@ -141,7 +141,7 @@ impl<'a> Ahead<'a> {
     /// next on: as many of them as are known, which may be none. So many steps would lead there too.
     ///
     /// In each cycle before `until` what is released fits the window. Where nothing is pending it is then planned at once,
-    /// so all these cycles are passed. In other states those are passed that `pass` passes.
+    /// so all these cycles may be passed. In other states those may be passed that `pass` passes.
     pub fn pass_fitting(&mut self, w: u32, until: u64)
         requires until { until ≤ cycles_end }
         requires fits { (c : ℕ) → self.old.cycle ≤ c → c < until → demand_in self.old.ranking.placed c ≤ w }

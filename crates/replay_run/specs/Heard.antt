@@ -60,7 +60,7 @@ module _ {O : Type 0} (told_bytes : O → Option (List ℕ)) (faults : O → ℕ
 abbrev pub rows_held : Tail → List ℕ
 rows_held tail = tail.older.text.items ++ tail.newer.text.items
 
--- it holds the last rows of this text, so many; the older ones are whole rows, and the newer ones are as many as it counts
+-- it holds the last rows of this text, so many; the older ones are whole rows, and the newer ones are at least as many as it counts
 pub record HoldsLast (text : List ℕ) (tail : Tail) : Type 0 where
   pub last : IsTailOf text tail.most (rows_held tail)
   pub older : AreRows tail.older.text.items

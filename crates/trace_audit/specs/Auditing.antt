@@ -71,7 +71,7 @@ is_end (row.Open cycle mask l) = false
 is_end (row.Frame timed) = false
 is_end (row.End next) = true
 
--- the steps are answered by these events: all acts of each operator, and as many openings as all counts ask for
+-- the steps are answered by these events: all acts of each operator
 abbrev pub AnswersAll : List Step → List Event → Type 0
 AnswersAll steps history = (operator : ℕ) → 1 ≤ operator → operator ≤ 8
     → count_by (is_called_by operator) history ≡ length (acts_of operator steps)
