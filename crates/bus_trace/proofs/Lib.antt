@@ -9,4 +9,5 @@ mod RowEnds
 mod RowLemmas
 mod RowsTold
 pub mod Shared
+mod TextBegins
 mod Width

@@ -12,8 +12,8 @@ use Rattle.admission.specs.declared.verdict.Verdict.TheVariants.{Malformed, Pass
 use Rattle.master_core.specs.declared.event.Event.{Event}
 use Rattle.master_core.specs.declared.event.Event.TheVariants.{Submit, Look, Open}
 use Rattle.master_core.specs.History.{next_of, placed_of}
-use Rattle.bus_trace.specs.Log.{event_rows, events_rows, frame_row, hex_digits, last_field, log_text, look_row, mask_digits, plan_row, plan_rows, started_in, submit_row, until_of, verdict_fields}
-use Rattle.bus_trace.specs.EventRows.{opened_row}
+use Rattle.bus_trace.specs.Log.{end_row, event_rows, events_rows, frame_row, hex_digits, last_field, log_text, look_row, mask_digits, plan_row, plan_rows, started_in, submit_row, until_of, verdict_fields}
+use Rattle.bus_trace.specs.EventRows.{opened_row, rows_at, told_at}
 use Rattle.bus_trace.specs.LogRows.{event_told, events_told, log_rows, plan_told, verdict_told}
 use Rattle.log_reader.specs.Row.{field_of_until, fields_of_verdict, row_text, text_of_rows}
 use Rattle.log_reader.specs.declared.row.LogRow.TheVariants as row
@@ -85,15 +85,26 @@ frames-told [] = refl
 frames-told (sent ∷ later) =
     ap (λ l. l ++ text_of_rows (map row.Frame later)) (frame-text sent) ∙ ap (λ l. frame_row sent ++ l) (frames-told later)
 
-event-told : (trace : List TimedFrame) (before : List Event) (event : Event) → text_of_rows (event_told trace before event) ≡ event_rows trace before event
-event-told trace before (Submit caller change from verdict trail) =
+-- the rows of an event and of frames
+pub rows-told : (width : ℕ) (event : Event) (frames : List TimedFrame) → text_of_rows (told_at width event frames) ≡ rows_at width event frames
+rows-told width (Submit caller change from verdict trail) frames =
     ap (λ l. l ++ text_of_rows (plan_told from trail)) (submit-text caller from verdict)
     ∙ ap (λ l. submit_row caller from verdict ++ l) (plan-told from trail)
-event-told trace before (Look caller next) = append-nil (row_text (row.Look caller next)) ∙ look-text caller next
+rows-told width (Look caller next) frames = append-nil (row_text (row.Look caller next)) ∙ look-text caller next
+rows-told width (Open cycle mask) frames =
+    ap (λ l. l ++ text_of_rows (map row.Frame frames)) (open-text cycle mask width)
+    ∙ ap (λ l. opened_row cycle mask width ++ l) (frames-told frames)
+
+-- the last row
+pub end-told : (next : ℕ) → text_of_rows (row.End next ∷ []) ≡ end_row next
+end-told next = append-nil (row_text (row.End next))
+
+event-told : (trace : List TimedFrame) (before : List Event) (event : Event) → text_of_rows (event_told trace before event) ≡ event_rows trace before event
+event-told trace before (Submit caller change from verdict trail) = rows-told 0 (Submit caller change from verdict trail) []
+event-told trace before (Look caller next) = rows-told 0 (Look caller next) []
 event-told trace before (Open cycle mask) =
     let width = width_of (record { cycle = cycle; mask = mask; placed = placed_of before }) in
-    ap (λ l. l ++ text_of_rows (map row.Frame (started_in cycle 0 trace))) (open-text cycle mask width)
-    ∙ ap (λ l. opened_row cycle mask width ++ l) (frames-told (started_in cycle 0 trace))
+    rows-told width (Open cycle mask) (started_in cycle 0 trace)
 
 events-told : (trace : List TimedFrame) (before events : List Event) → text_of_rows (events_told trace before events) ≡ events_rows trace before events
 events-told trace before [] = refl
@@ -106,5 +117,5 @@ pub log-told : (history : List Event) (trace : List TimedFrame) → text_of_rows
 log-told history trace =
     let last = row.End (next_of history) in
     flat_map-append row_text (events_told trace [] history) (last ∷ [])
-    ∙ ap (λ l. text_of_rows (events_told trace [] history) ++ l) (append-nil (row_text last))
-    ∙ ap (λ l. l ++ row_text last) (events-told trace [] history)
+    ∙ ap (λ l. text_of_rows (events_told trace [] history) ++ l) (end-told (next_of history))
+    ∙ ap (λ l. l ++ end_row (next_of history)) (events-told trace [] history)

@@ -1,3 +1,4 @@
+pub mod Compared
 pub mod EventRows
 pub mod LastRows
 pub mod Log

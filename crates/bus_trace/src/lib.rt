@@ -3,6 +3,7 @@
 //! Cycles are elementary cycles, counted from 0; times are bit times.
 #![tactic(auto)]
 
+mod comparing;
 mod entries;
 mod frames;
 mod gathering;
@@ -12,6 +13,7 @@ mod recent;
 mod rows;
 mod streaming;
 
+pub use comparing::{behind_end, behind_event};
 pub use gathering::Gathered;
 pub use log::log_text;
 pub use recent::{Recent, last_from, least_rows, row_len};

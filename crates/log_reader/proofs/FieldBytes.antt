@@ -141,6 +141,12 @@ open-text a b c rest =
     ∙ ap (λ l. codes "open," ++ l) (append_assoc a (44 ∷ (b ++ 44 ∷ c)) (10 ∷ rest)
     ∙ ap (λ l. a ++ 44 ∷ l) (append_assoc b (44 ∷ c) (10 ∷ rest)))
 
+plan-text : (a b rest : List ℕ) → (join_with_byte 44 (codes "plan" ∷ a ∷ b ∷ []) ++ 10 ∷ []) ++ rest
+    ≡ codes "plan," ++ (a ++ 44 ∷ (b ++ 10 ∷ rest))
+plan-text a b rest =
+    append_assoc (join_with_byte 44 (codes "plan" ∷ a ∷ b ∷ [])) (10 ∷ []) rest
+    ∙ ap (λ l. codes "plan," ++ l) (append_assoc a (44 ∷ b) (10 ∷ rest))
+
 -- what the parts of a row say, each behind the one before it
 abbrev pub IsNumberBehind : ℕ → ℕ → List ℕ → List ℕ → Type 0
 IsNumberBehind most byte bytes rest = (n : ℕ) × (n < 10 ^ most) × (bytes ≡ decimal n ++ byte ∷ rest)
@@ -152,8 +158,8 @@ abbrev pub IsDataBehind : List ℕ → List ℕ → Type 0
 IsDataBehind bytes rest =
     (content : List ℕ) × (length content ≤ 8) × All (λ byte. byte < 256) content × (bytes ≡ flat_map (hex_digits 2) content ++ 10 ∷ rest)
 
-abbrev pub IsMaskBehind : List ℕ → List ℕ → Type 0
-IsMaskBehind bytes rest = (mask : ℕ) × (mask < 2 ^ 96) × (bytes ≡ mask_digits mask ++ 44 ∷ rest)
+abbrev pub IsMaskBehind : ℕ → List ℕ → List ℕ → Type 0
+IsMaskBehind byte bytes rest = (mask : ℕ) × (mask < 2 ^ 96) × (bytes ≡ mask_digits mask ++ byte ∷ rest)
 
 pub frame-row : (bytes len id later rest : List ℕ) → IsNumberBehind 16 44 bytes len → IsNumberBehind 9 44 len id
     → IsIdentifierBehind id later → IsDataBehind later rest → BeginsWithRow (codes "frame," ++ bytes) rest
@@ -165,7 +171,7 @@ frame-row bytes len id later rest (start, early, one) (size, short, two) (identi
       ∙ sym (frame-text (decimal start) (decimal size) (hex_digits 3 identifier) (flat_map (hex_digits 2) content) rest);
 }
 
-pub open-row : (bytes slots width rest : List ℕ) → IsNumberBehind 16 44 bytes slots → IsMaskBehind slots width
+pub open-row : (bytes slots width rest : List ℕ) → IsNumberBehind 16 44 bytes slots → IsMaskBehind 44 slots width
     → IsNumberBehind 9 10 width rest → BeginsWithRow (codes "open," ++ bytes) rest
 open-row bytes slots width rest (cycle, early, one) (mask, wide, two) (l, short, three) = record {
   row = row.Open cycle mask l;
@@ -173,3 +179,18 @@ open-row bytes slots width rest (cycle, early, one) (mask, wide, two) (l, short,
   written = ap (λ x. codes "open," ++ x) (one ∙ ap (λ x. decimal cycle ++ 44 ∷ x) (two ∙ ap (λ x. mask_digits mask ++ 44 ∷ x) three))
       ∙ sym (open-text (decimal cycle) (mask_digits mask) (decimal l) rest);
 }
+
+pub plan-row : (bytes slots rest : List ℕ) → IsNumberBehind 16 44 bytes slots → IsMaskBehind 10 slots rest
+    → BeginsWithRow (codes "plan," ++ bytes) rest
+plan-row bytes slots rest (cycle, early, one) (mask, wide, two) = record {
+  row = row.Plan cycle mask;
+  legal = (omega (arith, early), wide);
+  written = ap (λ x. codes "plan," ++ x) (one ∙ ap (λ x. decimal cycle ++ 44 ∷ x) two)
+      ∙ sym (plan-text (decimal cycle) (mask_digits mask) rest);
+}
+
+-- the digits of any set, and the byte behind them
+pub wide-mask-behind : (mask byte : ℕ) (bytes digits later rest : List ℕ) → mask < 2 ^ 96 → digits ≡ mask_digits mask
+    → digits ++ later ≡ bytes → later ≡ byte ∷ rest → IsMaskBehind byte bytes rest
+wide-mask-behind mask byte bytes digits later rest small are all is =
+    (mask, small, sym all ∙ ap (λ l. digits ++ l) is ∙ ap (λ l. l ++ byte ∷ rest) are)

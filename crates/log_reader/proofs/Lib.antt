@@ -1,4 +1,5 @@
 mod FieldBytes
+mod JoinedFields
 mod LaneBits
 mod Readings
 mod RowForms

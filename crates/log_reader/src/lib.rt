@@ -3,7 +3,6 @@
 //! Cycles are elementary cycles, counted from 0; times are bit times.
 #![tactic(auto)]
 
-mod ahead;
 mod lanes;
 pub mod laws;
 mod log_fault;
@@ -19,4 +18,4 @@ pub use log_fault::LogFault;
 pub use log_reading::{check_log, read_log};
 pub use reader::LogReader;
 pub use row::{LogRow, LogVerdict};
-pub use written::{behind_row, next_written};
+pub use written::strip_prefix;

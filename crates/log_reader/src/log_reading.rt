@@ -44,6 +44,7 @@ pub fn read_log(alloc: Global, bytes: &[u8]) -> Result<Vec<LogRow>, LogFault>
 }
 
 /// What stands behind the rows in the form in which they are written with which a text begins, and how many these are.
+#[inline(never)]
 fn behind_rows(alloc: Global, bytes: &[u8]) -> (&[u8], u64)
     ensures rows { BeginsWithRows bytes.now result.0.now result.1 }
 {

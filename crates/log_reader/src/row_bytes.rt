@@ -1,7 +1,7 @@
-//! The rows of frames and of opened cycles, told by their bytes alone: no row is made of them.
+//! The rows of frames and of opened and planned cycles, told by their bytes alone: no row is made of them.
 //!
 //! These are nearly all rows of a log. Only their common forms are told: numbers of up to 16 digits, lengths of up to nine,
-//! sets of slots below 40, and rows with 16 bytes at least behind each number.
+//! and rows with 16 bytes at least behind each number.
 
 ghost use Rattle.std.specs.Prelude.{◌≡◌, ◌^◌, ◌<◌, ◌≤◌, ◌++◌, ◌∷◌, All, IfSome, List, codes, drop, get_or, length, true, ℕ};
 ghost use Rattle.std.specs.Fmt.{decimal};
@@ -12,6 +12,7 @@ ghost use Rattle.text_fields.specs.MaskText.{mask_digits};
 ghost use Rattle.log_reader.specs.RowBytes.{BeginsWithRow};
 
 use crate::lanes::{decimal_run, hex_run};
+use text_fields::read_mask;
 
 /// The most digits of a time or of a cycle's number.
 const NUMBER_DIGITS: usize = 16;
@@ -25,6 +26,9 @@ const ID_DIGITS: usize = 3;
 /// The number of digits of a set of slots below 40.
 const MASK_DIGITS: usize = 10;
 
+/// The number of digits of any other set of slots.
+const WIDE_MASK_DIGITS: usize = 24;
+
 /// Whether a byte is a hexadecimal digit in lower case.
 #[inline(always)]
 fn is_hex(byte: u8) -> bool
@@ -35,7 +39,7 @@ fn is_hex(byte: u8) -> bool
 
 /// What stands behind so many bytes and this one, where this one stands there.
 #[inline(always)]
-fn behind_at(bytes: &[u8], count: usize, byte: u8) -> Option<&[u8]>
+pub fn behind_at(bytes: &[u8], count: usize, byte: u8) -> Option<&[u8]>
     requires within { count ≤ length bytes.now }
     ensures rest { IfSome result (λ rest. drop count bytes.now ≡ byte ∷ rest.now) }
 {
@@ -113,17 +117,33 @@ fn behind_data(bytes: &[u8]) -> Option<&[u8]>
     None
 }
 
-/// What stands behind a set of slots below 40 and a comma.
-#[inline(always)]
-fn behind_mask(bytes: &[u8]) -> Option<&[u8]>
+/// What stands behind a set of slots that are not all below 40, and a byte.
+#[inline(never)]
+fn behind_wide_mask(bytes: &[u8], byte: u8) -> Option<&[u8]>
     ensures mask { IfSome result (λ rest. (mask : ℕ) × (mask < 2 ^ 96)
-        × (bytes.now ≡ mask_digits mask ++ 44 ∷ rest.now)) }
+        × (bytes.now ≡ mask_digits mask ++ byte ∷ rest.now)) }
+{
+    if bytes.len() < WIDE_MASK_DIGITS {
+        return None;
+    }
+    let (digits, later) = bytes.split_at(WIDE_MASK_DIGITS);
+    match read_mask(digits) {
+        Some(_mask) => behind_at(later, 0, byte),
+        None => None,
+    }
+}
+
+/// What stands behind a set of slots and a byte.
+#[inline(always)]
+fn behind_mask(bytes: &[u8], byte: u8) -> Option<&[u8]>
+    ensures mask { IfSome result (λ rest. (mask : ℕ) × (mask < 2 ^ 96)
+        × (bytes.now ≡ mask_digits mask ++ byte ∷ rest.now)) }
 {
     let count = hex_run(bytes);
     if count == MASK_DIGITS {
-        return behind_at(bytes, count, b',');
+        return behind_at(bytes, count, byte);
     }
-    None
+    behind_wide_mask(bytes, byte)
 }
 
 /// What stands behind the fields of a frame.
@@ -149,7 +169,7 @@ fn behind_open(bytes: &[u8]) -> Option<&[u8]>
     ensures row { IfSome result (λ rest. BeginsWithRow (codes "open," ++ bytes.now) rest.now) }
 {
     match behind_number(bytes, NUMBER_DIGITS, b',') {
-        Some(mask) => match behind_mask(mask) {
+        Some(mask) => match behind_mask(mask, b',') {
             Some(width) => behind_number(width, LENGTH_DIGITS, b'\n'),
             None => None,
         },
@@ -157,13 +177,27 @@ fn behind_open(bytes: &[u8]) -> Option<&[u8]>
     }
 }
 
-/// What stands behind the row of a frame or of an opened cycle, where the bytes begin with one in its common form.
+/// What stands behind the fields of a planned cycle.
+#[inline(always)]
+fn behind_plan(bytes: &[u8]) -> Option<&[u8]>
+    ensures row { IfSome result (λ rest. BeginsWithRow (codes "plan," ++ bytes.now) rest.now) }
+{
+    match behind_number(bytes, NUMBER_DIGITS, b',') {
+        Some(mask) => behind_mask(mask, b'\n'),
+        None => None,
+    }
+}
+
+/// What stands behind the row of a frame, or of an opened or a planned cycle, where the bytes begin with one in its common
+/// form.
+#[inline(always)]
 pub fn behind_common(bytes: &[u8]) -> Option<&[u8]>
     ensures row { IfSome result (λ rest. BeginsWithRow bytes.now rest.now) }
 {
     match bytes {
         [b'f', b'r', b'a', b'm', b'e', b',', rest @ ..] => behind_frame(rest),
         [b'o', b'p', b'e', b'n', b',', rest @ ..] => behind_open(rest),
+        [b'p', b'l', b'a', b'n', b',', rest @ ..] => behind_plan(rest),
         _ => None,
     }
 }

@@ -19,6 +19,7 @@ mod runs;
 pub use answering::answer;
 pub use asked::asked_table;
 pub use bus::{Bus, fresh_nodes, in_ranges};
+pub use counting::count_plain_calls;
 pub use cut::Cut;
 pub use driver::{Driven, drive};
 pub use listener::{Listener, ToSink};

@@ -1,7 +1,6 @@
 mod Acts
 mod Behind
 mod Bringing
-mod Comparisons
 mod Ending
 mod Events
 mod Fronts

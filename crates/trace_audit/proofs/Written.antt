@@ -12,7 +12,7 @@ use Rattle.master_core.proofs.Shared.{OneVerdict}
 use Rattle.kept_run.proofs.Shared.{Promises}
 use Rattle.steps_file.specs.declared.steps.Step.{Step}
 use Rattle.system_file.specs.declared.system.System.{System}
-use Rattle.trace_audit.specs.Compared.{BeginsWith}
+use Rattle.bus_trace.specs.Compared.{BeginsWith}
 use Rattle.bus_trace.specs.EventRows.{told_at}
 use Rattle.bus_trace.specs.LogRows.{plan_told, verdict_told}
 use Rattle.log_reader.specs.Row.{row_text, text_of_rows}

@@ -7,6 +7,7 @@ use Rattle.master_core.specs.History.{IsLegal, next_of}
 use Rattle.steps_file.specs.StepsFile.{count_of}
 use Rattle.steps_file.specs.declared.steps.Step.{Step}
 use Rattle.system_file.specs.declared.system.System.{System}
+use Rattle.bus_trace.specs.Compared.{BeginsWith}
 use Rattle.bus_trace.specs.LogRows.{events_told}
 use Rattle.log_reader.specs.Row.{IsLogRow, text_of_rows}
 use Rattle.log_reader.specs.declared.row.LogRow.{LogRow}
@@ -15,7 +16,6 @@ use Rattle.live_master.specs.Callers.{is_called_by}
 use Rattle.live_steps.specs.Live.{acts_of}
 use Rattle.trace_audit.specs.Again.{IsAgain}
 use Rattle.trace_audit.specs.Ahead.{IsAhead}
-use Rattle.trace_audit.specs.Compared.{BeginsWith}
 use Rattle.trace_audit.specs.Audit.{AllStand, CanStand, IsAudited}
 use Rattle.trace_audit.specs.Reading.{IsHistoryOf}
 use Rattle.trace_audit.specs.declared.auditor.Auditor.{Auditor}

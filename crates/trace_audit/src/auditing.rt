@@ -15,6 +15,7 @@ ghost use Rattle.trace_audit.specs.Auditing.{IsWrittenLog};
 use crate::audit_fault::AuditFault;
 use crate::log_audit::LogAudit;
 use async_window::Request;
+use bus_trace::Gathered;
 use log_reader::laws::{one_log, written_rows};
 use log_reader::{LogFault, LogReader, LogRow};
 use std::alloc::{AllocError, Global};
@@ -95,9 +96,10 @@ fn is_written_log(
     ensures yes { IfOk result (λ yes. yes ≡ true → IsWrittenLog system.now steps.now requests.now text.now) }
 {
     let mut audit = LogAudit::begin(alloc, system, steps, requests)?;
+    let mut room = Gathered::behind(Vec::new(alloc));
     let mut rest = text;
     while !rest.is_empty() {
-        match audit.take_written(alloc, steps, rest)? {
+        match audit.take_written(alloc, steps, &mut room, rest)? {
             Some(later) => rest = later,
             None => return Ok(false),
         }

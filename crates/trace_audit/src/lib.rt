@@ -9,7 +9,6 @@ mod asked;
 mod audit_fault;
 mod auditing;
 mod auditor;
-mod comparing;
 mod event_rows;
 pub mod laws;
 mod log_audit;

@@ -15,10 +15,10 @@ ghost use Rattle.trace_audit.specs.Auditing.{CanHear, Hears, IsHeard, TakesWritt
 use crate::asked::{Asked, asked_ahead};
 use crate::audit_fault::AuditFault;
 use crate::auditor::Auditor;
-use crate::comparing::behind_end;
 use admission::laws::one_verdict;
 use async_window::Request;
 use bus_trace::laws::frames_by_cycle;
+use bus_trace::{Gathered, behind_end};
 use kept_run::laws::{promise, triggers_count_cycles};
 use log_reader::LogRow;
 use replay_run::laws::legal_runs;
@@ -113,6 +113,7 @@ impl LogAudit {
         alloc: Global,
         steps: &[Step],
         asked: Asked,
+        room: &mut Gathered,
         text: &'a [u8],
     ) -> Result<Option<&'a [u8]>, AllocError>
         requires steps { AreLegalSteps steps.now }
@@ -127,11 +128,11 @@ impl LogAudit {
         if !self.auditor.rerun.follow_asked(alloc, steps, asked)? {
             return Ok(None);
         }
-        Ok(self.auditor.rerun.behind_rows(text))
+        Ok(self.auditor.rerun.behind_rows(room, text))
     }
 
     /// Takes the last row of a log, where a text begins with it and it can stand there: what stands after it.
-    fn take_end_written<'a>(&mut self, text: &'a [u8]) -> Option<&'a [u8]>
+    fn take_end_written<'a>(&mut self, room: &mut Gathered, text: &'a [u8]) -> Option<&'a [u8]>
         requires going_on { self.old.ended ≡ false }
         ensures on { IfSome result (λ rest. (steps : List Step)
             → TakesWritten steps self.old self.new text.now rest.now) }
@@ -140,11 +141,11 @@ impl LogAudit {
         if !self.take_end(next) {
             return None;
         }
-        behind_end(text, next)
+        behind_end(room, text, next)
     }
 
     /// Takes the rows of the event, or the last row, with which a text begins, where they are in the form in which they are
-    /// written and can stand there: what stands after them. No row of the text is read.
+    /// written and can stand there: what stands after them. No row of the text is read. The rows are gathered in `room`.
     ///
     /// # Errors
     ///
@@ -153,6 +154,7 @@ impl LogAudit {
         &mut self,
         alloc: Global,
         steps: &[Step],
+        room: &mut Gathered,
         text: &'a [u8],
     ) -> Result<Option<&'a [u8]>, AllocError>
         requires steps { AreLegalSteps steps.now }
@@ -167,8 +169,8 @@ impl LogAudit {
             return Ok(None);
         }
         match asked_ahead(text) {
-            Some(Asked::End) => Ok(self.take_end_written(text)),
-            Some(asked) => self.take_event_written(alloc, steps, asked, text),
+            Some(Asked::End) => Ok(self.take_end_written(room, text)),
+            Some(asked) => self.take_event_written(alloc, steps, asked, room, text),
             None => Ok(None),
         }
     }

@@ -20,19 +20,20 @@ ghost use Rattle.log_reader.specs.declared.row.LogRow.TheVariants as row;
 ghost use Rattle.log_reader.specs.declared.row.LogVerdict.{LogVerdict};
 ghost use Rattle.trace_audit.specs.Ahead.{IsAhead};
 ghost use Rattle.trace_audit.specs.Again.{Asks, CanGoOn, EndsIn, EndsNear, IsAgain, IsBroughtOn, IsOpened};
-ghost use Rattle.trace_audit.specs.Compared.{BeginsWith};
+ghost use Rattle.cycle_engine.specs.Nodes.{CanLearn, states_of};
+ghost use Rattle.bus_trace.specs.Compared.{BeginsWith};
 ghost use Rattle.trace_audit.specs.States.{KeepsStates};
 
 use crate::ahead::Ahead;
 use crate::asked::Asked;
-use crate::comparing::behind_event;
 use crate::event_rows::rows_of;
 use crate::states::{States, keep_answered};
 use crate::step_acts::act_at;
 use async_window::Request;
 use bus_trace::laws::frames_by_cycle;
+use bus_trace::{Gathered, behind_event};
 use change_protocol::{Act, Change};
-use cycle_engine::{Nodes, Segment, run_cycle};
+use cycle_engine::{Nodes, Segment, run_cycle_in};
 use kept_run::laws::{
     beginning, calls_between, cycles_run, one_call_more, orders, requests_of_owners,
     triggers_count_cycles,
@@ -40,8 +41,9 @@ use kept_run::laws::{
 use log_reader::LogRow;
 use master_core::laws::legal_histories;
 use master_core::{Event, Master, plan_apart};
-use replay_run::fresh_nodes;
 use replay_run::laws::legal_runs;
+use replay_run::{count_plain_calls, fresh_nodes};
+use requirement_table::Order;
 use std::alloc::{AllocError, Global};
 use steps_file::Step;
 use system_file::System;
@@ -61,6 +63,30 @@ pub struct Rerun {
     pub width: u32,
     /// The frames of that cycle.
     pub sent: Segment,
+}
+
+/// Makes the nodes able to learn the list of an order without memory, where there is one.
+fn make_spare(nodes: &mut Nodes, alloc: Global, order: &Order) -> Result<(), AllocError>
+    ensures room { OnOk result (CanLearn order.now.learned nodes.new.nodes) }
+    ensures same { states_of nodes.new.nodes ≡ states_of nodes.old.nodes }
+    ensures layout { nodes.new.layout ≡ nodes.old.layout }
+{
+    match &order.learned {
+        Some(list) => nodes.reserve(alloc, list.as_slice().len()),
+        None => Ok(()),
+    }
+}
+
+/// A master that has answered no call. Memory for so many events is taken at once, where there is any: a hint, without
+/// which the history grows as it needs.
+fn fresh_master(alloc: Global, system: &System, events: usize) -> Result<Master, AllocError>
+    requires system { IsSystem system.now }
+    ensures rules { IfOk result (λ master. master.rules ≡ system.now.rules) }
+    ensures history { IfOk result (λ master. master.history ≡ []) }
+{
+    let mut master = Master::new(alloc, system.rules)?;
+    let _ = master.reserve(alloc, events);
+    Ok(master)
 }
 
 impl Rerun {
@@ -85,8 +111,9 @@ impl Rerun {
         beginning();
         requests_of_owners();
         let nodes = fresh_nodes(alloc, system, requests)?;
-        let master = Master::new(alloc, system.rules)?;
-        let states = States::of(alloc, master.state())?;
+        let events = count_plain_calls(steps).saturating_add(steps.len());
+        let master = fresh_master(alloc, system, events)?;
+        let states = States::of(alloc, master.state(), events)?;
         let ahead = Ahead::of(steps);
         let sent = Segment::new(alloc, &system.layout)?;
         Ok(Rerun {
@@ -136,7 +163,7 @@ impl Rerun {
         snapshot.state = state;
         let planned = plan_apart(alloc, &snapshot, change)?;
         let verdict = self.master.settle(alloc, caller, change, planned)?;
-        keep_answered(&mut self.states, alloc, verdict, self.master.state())?;
+        keep_answered(&mut self.states, verdict, self.master.state())?;
         Ok(true)
     }
 
@@ -180,10 +207,10 @@ impl Rerun {
         frames_by_cycle();
         self.master.reserve(alloc, 1)?;
         let order = self.master.open();
-        let segment = run_cycle(alloc, &order, &mut self.nodes)?;
+        make_spare(&mut self.nodes, alloc, &order)?;
+        run_cycle_in(&order, &mut self.nodes, &mut self.sent);
         self.states.push(self.master.state())?;
         self.width = order.l;
-        self.sent = segment;
         Ok(())
     }
 
@@ -210,13 +237,20 @@ impl Rerun {
         rows_of(alloc, self.last_event(), self.width, self.sent.frames())
     }
 
-    /// What stands after these rows, where a text begins with them.
-    pub fn behind_rows<'a>(&self, text: &'a [u8]) -> Option<&'a [u8]>
+    /// What stands after these rows, where a text begins with them: nothing where it does not, or where there is no memory
+    /// for them. They are gathered in `room`.
+    pub fn behind_rows<'a>(&self, room: &mut Gathered, text: &'a [u8]) -> Option<&'a [u8]>
         requires near { EndsNear self.now.master.history }
         ensures rows { IfSome result (λ rest. (event : Event) → EndsIn self.now.master.history event
             → BeginsWith text.now (told_at self.now.width event self.now.sent) rest.now) }
     {
-        behind_event(text, self.last_event(), self.width, self.sent.frames())
+        behind_event(
+            room,
+            text,
+            self.last_event(),
+            self.width,
+            self.sent.frames(),
+        )
     }
 
     /// Answers the change that operator `caller` asks next, where it was planned from the cycle `from`: whether no legal

@@ -22,15 +22,27 @@ pub struct States {
 }
 
 impl States {
-    /// That before the next cycle alone.
-    pub fn of(alloc: Global, state: PlanState) -> Result<States, AllocError>
+    /// That before the next cycle alone. Where there is memory for it, there is room for so many more.
+    pub fn of(alloc: Global, state: PlanState, more: usize) -> Result<States, AllocError>
         ensures since { IfOk result (λ states. states.since ≡ state.cycle) }
         ensures one { IfOk result (λ states. states.before.items ≡ state ∷ []) }
     {
         let since = state.cycle;
         let mut before = Vec::new(alloc);
+        let _ = before.reserve_exact(more.saturating_add(1));
         before.push(state)?;
         Ok(States { since, before })
+    }
+
+    /// Keeps that before the next cycle alone. Its room stays.
+    fn restart(&mut self, state: PlanState) -> Result<(), AllocError>
+        ensures since { OnOk result (self.new.since ≡ state.cycle) }
+        ensures one { OnOk result (self.new.before.items ≡ state ∷ []) }
+    {
+        self.since = state.cycle;
+        self.before.clear();
+        self.before.push(state)?;
+        Ok(())
     }
 
     /// With the state before one cycle more.
@@ -61,7 +73,6 @@ impl States {
 /// Keeps the states behind an answer with this verdict, where this is the state before the next cycle.
 pub fn keep_answered(
     states: &mut States,
-    alloc: Global,
     verdict: Verdict,
     state: PlanState,
 ) -> Result<(), AllocError>
@@ -73,6 +84,5 @@ pub fn keep_answered(
     if !verdict.is_accepted() {
         return Ok(());
     }
-    *states = States::of(alloc, state)?;
-    Ok(())
+    states.restart(state)
 }

@@ -7,5 +7,5 @@ pub returns-then-count-eq-MASK_DIGITS : goal.returns-then-count-eq-MASK_DIGITS
 returns-then-count-eq-MASK_DIGITS c = record {
   mask = some-by c.behind_at.result c.behind_at.ensures.rest (λ rest is.
       mask-behind c.args.bytes.now c.hex_run-count.result c.hex_run-count.ensures.within c.hex_run-count.ensures.few
-      44 rest.now (grind (arith, nat_tests)) c.hex_run-count.ensures.digits is);
+      c.args.byte rest.now (grind (arith, nat_tests)) c.hex_run-count.ensures.digits is);
 }

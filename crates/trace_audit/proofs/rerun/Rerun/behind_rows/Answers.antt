@@ -1,5 +1,5 @@
 use Rattle.std.proofs.Common.{subst}
-use Rattle.trace_audit.specs.Compared.{BeginsWith}
+use Rattle.bus_trace.specs.Compared.{BeginsWith}
 use Rattle.bus_trace.specs.EventRows.{told_at}
 use Rattle.trace_audit.proofs.Bringing.{some-by}
 use Rattle.trace_audit.proofs.rerun.Rerun.behind_rows.Goals as goal

@@ -2,6 +2,7 @@ use Rattle.std.proofs.Common.{◌≡◌, ◌++◌, ◌∷◌, [], refl, sym, ap,
 use Rattle.cycle_engine.specs.Cycle.{cycle_of}
 use Rattle.master_core.specs.Orders.{IsOrder}
 use Rattle.master_core.specs.declared.event.Event.TheVariants.{Open}
+use Rattle.replay_run.proofs.Shared.{ran-by}
 use Rattle.trace_audit.specs.States.{KeepsStates, state_of}
 use Rattle.trace_audit.proofs.Bringing.{opened-with, state-is}
 use Rattle.trace_audit.proofs.Rows.{TraceLaws}
@@ -36,19 +37,21 @@ returns-clause-opened c = λ system requests trace again.
     (subst (λ r. KeepsStates r (old.master.history ++ event ∷ []) c.push.new.self) (sym rules) kept) in
     opened-with system requests trace old (record {
       master = master;
-      nodes = c.run_cycle.new.nodes;
+      nodes = c.run_cycle_in.new.nodes;
       states = c.push.new.self;
       ahead = old.ahead;
       width = order.l;
-      sent = c.in_ok-segment.segment;
+      sent = c.run_cycle_in.new.segment;
     }) again
     laws
     (record { before = c.orders.ensures.before; under_way = c.cycles_run.ensures.under_way; ready = c.cycles_run.ensures.ready })
     order ordered
+    (ran-by order c.run_cycle_in.new.nodes c.run_cycle_in.new.segment c.make_spare.new.nodes old.nodes
+    c.make_spare.ensures.layout c.make_spare.ensures.same
     (record {
-      layout = c.run_cycle.ensures.layout;
-      heard = c.in_ok-segment.ensures.heard;
-      runs = c.in_ok-segment.ensures.runs;
-      stand = c.in_ok-segment.ensures.stand;
-    })
+      layout = c.run_cycle_in.ensures.layout;
+      heard = c.run_cycle_in.ensures.heard;
+      runs = c.run_cycle_in.ensures.runs;
+      stand = c.run_cycle_in.ensures.stand;
+    }))
     refl rules history states
