@@ -1,9 +1,10 @@
 -- Fields by their bytes: the numbers, identifiers, sets of slots and data bytes that digits write, and rows of them.
-use Rattle.std.proofs.Common.{◌≡◌, ℕ, ◌+◌, ◌%◌, ◌^◌, ◌<◌, ◌≤◌, ◌==◌, Bool, true, List, [], ◌∷◌, ◌++◌, All, codes, drop, get_or, length, nat_le, take, Option, Some, None, IfSome, refl, sym, ap, ◌∙◌, arith, append_assoc, inl, inr}
+use Rattle.std.proofs.Common.{◌≡◌, ℕ, ◌+◌, ◌%◌, ◌^◌, ◌<◌, ◌≤◌, ◌==◌, Bool, true, List, [], ◌∷◌, ◌++◌, All, codes, drop, get_or, length, nat_le, take, Option, Some, None, IfSome, refl, sym, ap, ◌∙◌, arith, append_assoc, inl, inr, subst}
 use Rattle.std.proofs.lemmas.Bool.{and_from, cases_lt, eq-eqb}
 use Rattle.std.proofs.lemmas.Bool.Decides.{nat_tests}
 use Rattle.std.proofs.lemmas.Fmt.{decimal-digits_value}
-use Rattle.std.proofs.lemmas.List.{get_or-take, length-take, take-append-drop}
+use Rattle.std.proofs.lemmas.List.{drop-drop, get_or-drop, get_or-take, length-drop, length-take, take-append-drop}
+use Rattle.std.proofs.Math.Seq.{drop-cons}
 use Rattle.std.proofs.lemmas.List.Elements.{All-from_get_or}
 use Rattle.std.proofs.lemmas.List.Sums.{list_all-from_AllPass}
 use Rattle.std.proofs.lemmas.Str.Parse.{IsNumeralModel, digits_value_short, numerals_by_value, tells_by_index}
@@ -16,7 +17,7 @@ use Rattle.text_fields.specs.ByteText.{bytes_written, data_of}
 use Rattle.text_fields.specs.Hexadecimal.{hex_digits, hex_of, is_hex_digit}
 use Rattle.text_fields.specs.MaskText.{mask_digits, mask_of}
 use Rattle.text_fields.proofs.Shared.{data-read, digits-of_hex, digits-of_mask}
-use Rattle.log_reader.specs.RowBytes.{BeginsWithRow}
+use Rattle.log_reader.specs.RowBytes.{BeginsWithBody, BeginsWithRow}
 use Rattle.log_reader.specs.declared.row.LogRow.TheVariants as row
 
 -- what holds of what is found
@@ -88,6 +89,20 @@ module _ (bytes : List ℕ) (run : ℕ) (within : run ≤ length bytes) (few : r
       let read : mask_of digits ≡ Some (digits_value 16 digits) = rw (size, all-run is_hex_digit each) refl in
       let (are, small) = digits-of_mask digits (digits_value 16 digits) read in
       (digits_value 16 digits, small, split byte rest is ∙ ap (λ l. l ++ byte ∷ rest) are)
+
+-- bytes that are known one by one are those of the word of a frame's row and a comma
+pub word-is : (bytes : List ℕ) → 6 ≤ length bytes → get_or bytes 0 0 ≡ 102 → get_or bytes 1 0 ≡ 114 → get_or bytes 2 0 ≡ 97
+    → get_or bytes 3 0 ≡ 109 → get_or bytes 4 0 ≡ 101 → get_or bytes 5 0 ≡ 44 → bytes ≡ codes "frame," ++ drop 6 bytes
+word-is [] enough a b c d e f = absurd (omega (arith, enough))
+word-is (one ∷ []) enough a b c d e f = absurd (omega (arith, enough))
+word-is (one ∷ two ∷ []) enough a b c d e f = absurd (omega (arith, enough))
+word-is (one ∷ two ∷ three ∷ []) enough a b c d e f = absurd (omega (arith, enough))
+word-is (one ∷ two ∷ three ∷ four ∷ []) enough a b c d e f = absurd (omega (arith, enough))
+word-is (one ∷ two ∷ three ∷ four ∷ five ∷ []) enough a b c d e f = absurd (omega (arith, enough))
+word-is (one ∷ two ∷ three ∷ four ∷ five ∷ six ∷ rest) enough a b c d e f =
+    ap (λ x. x ∷ two ∷ three ∷ four ∷ five ∷ six ∷ rest) a ∙ ap (λ x. 102 ∷ x ∷ three ∷ four ∷ five ∷ six ∷ rest) b
+    ∙ ap (λ x. 102 ∷ 114 ∷ x ∷ four ∷ five ∷ six ∷ rest) c ∙ ap (λ x. 102 ∷ 114 ∷ 97 ∷ x ∷ five ∷ six ∷ rest) d
+    ∙ ap (λ x. 102 ∷ 114 ∷ 97 ∷ 109 ∷ x ∷ six ∷ rest) e ∙ ap (λ x. 102 ∷ 114 ∷ 97 ∷ 109 ∷ 101 ∷ x ∷ rest) f
 
 -- Identifiers
 
@@ -161,15 +176,62 @@ IsDataBehind bytes rest =
 abbrev pub IsMaskBehind : ℕ → List ℕ → List ℕ → Type 0
 IsMaskBehind byte bytes rest = (mask : ℕ) × (mask < 2 ^ 96) × (bytes ≡ mask_digits mask ++ byte ∷ rest)
 
-pub frame-row : (bytes len id later rest : List ℕ) → IsNumberBehind 16 44 bytes len → IsNumberBehind 9 44 len id
-    → IsIdentifierBehind id later → IsDataBehind later rest → BeginsWithRow (codes "frame," ++ bytes) rest
-frame-row bytes len id later rest (start, early, one) (size, short, two) (identifier, named, three) (content, few, all, four) = record {
-  row = row.Frame (record { start = start; len = size; frame = record { identifier = identifier; bytes = content } });
-  legal = (omega (arith, early), omega (arith, short), record { identifier = named; few = few; bytes = all });
-  written = ap (λ l. codes "frame," ++ l) (one ∙ ap (λ l. decimal start ++ 44 ∷ l) (two ∙ ap (λ l. decimal size ++ 44 ∷ l)
-      (three ∙ ap (λ l. hex_digits 3 identifier ++ 44 ∷ l) four)))
-      ∙ sym (frame-text (decimal start) (decimal size) (hex_digits 3 identifier) (flat_map (hex_digits 2) content) rest);
+-- what follows the start in the row of a frame, part by part
+pub body-of : (bytes id later rest : List ℕ) → IsNumberBehind 9 44 bytes id → IsIdentifierBehind id later → IsDataBehind later rest
+    → BeginsWithBody bytes rest
+body-of bytes id later rest (len, short, one) (identifier, named, two) (content, few, each, three) = record {
+  len = len;
+  short = short;
+  identifier = identifier;
+  named = named;
+  content = content;
+  few = few;
+  each = each;
+  written = one ∙ ap (λ l. decimal len ++ 44 ∷ l) (two ∙ ap (λ l. hex_digits 3 identifier ++ 44 ∷ l) three);
 }
+
+-- the same of bytes that are known one by one
+pub body-full : (bytes : List ℕ) → 25 ≤ length bytes → 49 ≤ get_or bytes 0 0
+    → ((i : ℕ) → i < 3 → is_ascii_digit (get_or bytes i 0) ≡ true) → get_or bytes 3 0 ≡ 44
+    → 48 ≤ get_or bytes 4 0 → get_or bytes 4 0 ≤ 54 → ((i : ℕ) → 5 ≤ i → i < 7 → is_hex_digit (get_or bytes i 0) ≡ true)
+    → get_or bytes 7 0 ≡ 44 → ((i : ℕ) → 8 ≤ i → i < 24 → is_hex_digit (get_or bytes i 0) ≡ true) → get_or bytes 24 0 ≡ 10
+    → BeginsWithBody bytes (drop 25 bytes)
+body-full bytes enough first digits comma least most later second each feed =
+    let id = drop 4 bytes in
+    let after = drop 8 bytes in
+    let behind_len : drop 3 bytes ≡ 44 ∷ id = drop-cons bytes 3 0 (omega (arith, enough)) ∙ ap (λ b. b ∷ id) comma in
+    let behind_id : drop 3 id ≡ 44 ∷ after =
+    drop-drop 3 4 bytes ∙ drop-cons bytes 7 0 (omega (arith, enough)) ∙ ap (λ b. b ∷ after) second in
+    let behind_data : drop 16 after ≡ 10 ∷ drop 25 bytes =
+    drop-drop 16 8 bytes ∙ drop-cons bytes 24 0 (omega (arith, enough)) ∙ ap (λ b. b ∷ drop 25 bytes) feed in
+    let size = length-drop 4 bytes in
+    let more = length-drop 8 bytes in
+    let high = get_or-drop 4 bytes 0 0 in
+    let run : ℕ = 3 in
+    let no_zero : get_or bytes 0 0 ≡ 48 → run ≡ 1 = λ zero. absurd (omega (arith, first, zero)) in
+    let not_last : get_or id 0 0 ≡ 55 → get_or id 1 0 < 102 = λ seven. absurd (omega (arith, most, high, seven)) in
+    body-of bytes id after (drop 25 bytes)
+    (number-behind bytes 3 (omega (arith, enough)) (omega arith) 9 44 id (omega arith) (omega arith) (omega arith) no_zero digits behind_len)
+    (identifier-behind id after (omega (arith, enough, size)) (omega (arith, least, high)) (omega (arith, most, high))
+    (ap is_hex_digit (get_or-drop 4 bytes 1 0) ∙ later 5 (omega arith) (omega arith))
+    (ap is_hex_digit (get_or-drop 4 bytes 2 0) ∙ later 6 (omega arith) (omega arith)) not_last behind_id)
+    (data-behind after 16 (omega (arith, enough, more)) (omega arith) 10 (drop 25 bytes) refl
+    (λ i before. ap is_hex_digit (get_or-drop 8 bytes i 0) ∙ each (8 + i) (omega arith) (omega (arith, before))) behind_data)
+
+pub frame-row : (bytes body rest : List ℕ) → IsNumberBehind 16 44 bytes body → BeginsWithBody body rest
+    → BeginsWithRow (codes "frame," ++ bytes) rest
+frame-row bytes body rest (start, early, one) is = record {
+  row = row.Frame (record { start = start; len = is.len; frame = record { identifier = is.identifier; bytes = is.content } });
+  legal = (omega (arith, early), omega (arith, is.short), record { identifier = is.named; few = is.few; bytes = is.each });
+  written = ap (λ l. codes "frame," ++ l) (one ∙ ap (λ l. decimal start ++ 44 ∷ l) is.written)
+      ∙ sym (frame-text (decimal start) (decimal is.len) (hex_digits 3 is.identifier) (flat_map (hex_digits 2) is.content) rest);
+}
+
+pub frame-begun : (bytes body rest : List ℕ)
+    → ((start : ℕ) × (start < 10 ^ 16) × (bytes ≡ codes "frame," ++ (decimal start ++ 44 ∷ body)))
+    → BeginsWithBody body rest → BeginsWithRow bytes rest
+frame-begun bytes body rest (start, early, one) is =
+    subst (λ b. BeginsWithRow b rest) (sym one) (frame-row (decimal start ++ 44 ∷ body) body rest (start, early, refl) is)
 
 pub open-row : (bytes slots width rest : List ℕ) → IsNumberBehind 16 44 bytes slots → IsMaskBehind 44 slots width
     → IsNumberBehind 9 10 width rest → BeginsWithRow (codes "open," ++ bytes) rest

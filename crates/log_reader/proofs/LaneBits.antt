@@ -1,12 +1,12 @@
 -- From the bits of a comparison of 16 lanes to the bytes that pass a test.
-use Rattle.std.proofs.Common.{◌≡◌, ℕ, ◌+◌, ◌-◌, ◌/◌, ◌%◌, ◌^◌, ◌<◌, ◌≤◌, ◌==◌, Bool, true, false, cond, not, ◌||◌, List, map, length, get_or, Fits, w8, refl, sym, ap, ◌∙◌, subst, arith, inl, inr}
-use Rattle.std.proofs.lemmas.Bool.{agree_below, agree_below_at, not-true, cases_eq, eq-eqb, eqb-true, ne_eqb, cond-true, cond-false}
+use Rattle.std.proofs.Common.{◌≡◌, ℕ, ◌+◌, ◌-◌, ◌/◌, ◌%◌, ◌^◌, ◌<◌, ◌≤◌, ◌==◌, Bool, true, false, cond, not, ◌&&◌, ◌||◌, ltb, leb, bit_and, List, map, length, get_or, Fits, w8, refl, sym, ap, ◌∙◌, subst, arith, inl, inr}
+use Rattle.std.proofs.lemmas.Bool.{agree_below, agree_below_at, and_parts, not-true, cases_eq, cases_lt, eq-eqb, eqb-true, le-leb, le-ltb, lt-ltb, ne_eqb, cond-true, cond-false, or_left, or_right, true≢false}
 use Rattle.std.proofs.lemmas.Simd.{map-map, mask_l-mod, length-chunk, get_or-chunk, leading_from_mask_l, trailing_mask_l, bit_mask_l, get_or-zip2, length-zip2, tops_compared}
 use Rattle.std.proofs.lemmas.List.{length-map}
 use Rattle.std.proofs.lemmas.List.Sums.{prefix_len-le-length, prefix_len_passes}
 use Rattle.std.specs.List.{prefix_len}
 use lib.Lanes.{chunk, mask_l, top, zip2}
-use Rattle.log_reader.specs.RowBytes.{first_set}
+use Rattle.log_reader.specs.RowBytes.{first_set, is_among}
 
 -- the lowest bit that is set is how many lanes come before the first that passes
 before-first : (p : ℕ → Bool) (lanes : List ℕ) → length lanes ≡ 16 → first_set (mask_l (map p lanes)) ≡ prefix_len (λ x. not (p x)) lanes
@@ -45,6 +45,52 @@ module _ (test : ℕ → Bool) (bytes : List ℕ) (run : ℕ) (lanes : List ℕ)
       (not-true _ (prefix_len_passes (λ x. not (ends x)) (chunk 0 16 bytes) i 0 (omega (arith, counted, before)))) in
       sym (ap (λ b. b || test (get_or bytes i 0)) goes_on)
       ∙ agree_below_at (λ x. ends x || test x) (λ _. true) 256 (get_or bytes i 0) all (fits i).fits
+
+-- Bytes by their places
+
+-- the run ends at the first lane whose top bit is set: before it none is
+pub none-set : (run : ℕ) (lanes : List ℕ) → length lanes ≡ 16 → run ≡ first_set (mask_l (map (top 7) lanes) % 2 ^ 64)
+    → (run ≤ 16) × ((i : ℕ) → i < run → top 7 (get_or lanes i 0) ≡ false)
+none-set run lanes long found =
+    let goes_on : ℕ → Bool = λ x. not (top 7 x) in
+    let counted : run ≡ prefix_len goes_on lanes =
+    found ∙ ap first_set (mask_l-mod (map (top 7) lanes) 64 (omega (arith, length-map lanes (top 7), long))) ∙ before-first (top 7) lanes long in
+    let bound = prefix_len-le-length goes_on lanes in
+    (omega (arith, counted, bound, long), λ i before. not-true _ (prefix_len_passes goes_on lanes i 0 (omega (arith, counted, before))))
+
+-- a lane whose top bit two comparisons leave unset passes one of them
+pub one-passes : (x count y letters : ℕ) → top 7 (bit_and (cond (leb count x) 255 0) (cond (leb letters y) 255 0)) ≡ false
+    → (ltb x count || ltb y letters) ≡ true
+one-passes x count y letters is = elim (cases_lt x count) [
+  | inl below ↦ or_left _ _ (lt-ltb x count below)
+  | inr above ↦ elim (cases_lt y letters) [
+    | inl few ↦ or_right _ _ (lt-ltb y letters few)
+    | inr many ↦
+        let both : top 7 (bit_and 255 255) ≡ false = subst (λ b. top 7 (bit_and 255 (cond b 255 0)) ≡ false) (le-leb letters y many)
+        (subst (λ b. top 7 (bit_and (cond b 255 0) (cond (leb letters y) 255 0)) ≡ false) (le-leb count x above) is) in
+        absurd (true≢false both)
+  ]
+]
+
+-- bytes that are among those of their places pass a test, where these pass it and are the same from one place up to another
+module _ (first count letters bytes : List ℕ) (run : ℕ) (fits : (i : ℕ) → Fits w8 (get_or bytes i 0))
+    (each : (i : ℕ) → i < run → is_among (get_or first i 0) (get_or count i 0) (get_or letters i 0) (get_or bytes i 0) ≡ true) where
+  pub by-places : (from to one two three : ℕ) (test : ℕ → Bool)
+      → agree_below (λ k. ltb k from || ((get_or first k 0 == one) && ((get_or count k 0 == two) && (get_or letters k 0 == three)))) (λ _. true) to ≡ true
+      → agree_below (λ x. not (is_among one two three x) || test x) (λ _. true) 256 ≡ true
+      → (i : ℕ) → from ≤ i → i < to → i < run → test (get_or bytes i 0) ≡ true
+  by-places from to one two three test places pass i after before within =
+      let byte = get_or bytes i 0 in
+      let here = agree_below_at (λ k. ltb k from || ((get_or first k 0 == one) && ((get_or count k 0 == two) && (get_or letters k 0 == three)))) (λ _. true) to i places before in
+      let same = sym (ap (λ b. b || ((get_or first i 0 == one) && ((get_or count i 0 == two) && (get_or letters i 0 == three)))) (le-ltb i from after)) ∙ here in
+      let (a, later) = and_parts _ _ same in
+      let (b, c) = and_parts _ _ later in
+      let among : is_among one two three byte ≡ true =
+      subst (λ n. is_among one two n byte ≡ true) (eqb-true _ _ c)
+      (subst (λ n. is_among one n (get_or letters i 0) byte ≡ true) (eqb-true _ _ b)
+      (subst (λ n. is_among n (get_or count i 0) (get_or letters i 0) byte ≡ true) (eqb-true _ _ a) (each i within))) in
+      sym (ap (λ t. not t || test byte) among)
+      ∙ agree_below_at (λ x. not (is_among one two three x) || test x) (λ _. true) 256 byte pass (fits i).fits
 
 -- Two texts
 

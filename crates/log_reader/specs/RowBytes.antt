@@ -1,12 +1,32 @@
 -- Words for contracts inside the crate: where digits end, and rows by their bytes.
-use Rattle.std.specs.Prelude.{◌≡◌, ◌≢◌, ℕ, ◌==◌, if◌then◌else◌, All, List, ◌++◌, get_or, length}
+use Rattle.std.specs.Prelude.{◌≡◌, ◌≢◌, ℕ, ◌+◌, ◌-◌, ◌%◌, ◌^◌, ◌<◌, ◌≤◌, ◌==◌, ◌||◌, Bool, if◌then◌else◌, nat_lt}
+use Rattle.std.specs.Prelude.{All, List, ◌∷◌, ◌++◌, get_or, length}
+use Rattle.std.specs.Fmt.{decimal}
 use Rattle.std.specs.Int.{w64, trailing_zeros}
+use Rattle.std.specs.List.{flat_map}
+use Rattle.profile.specs.Limits.{greatest_identifier}
+use Rattle.text_fields.specs.Hexadecimal.{hex_digits}
 use Rattle.log_reader.specs.Row.{IsLogRow, row_text, text_of_rows}
 use Rattle.log_reader.specs.declared.row.LogRow.{LogRow}
 
 -- the place of the lowest bit that is set; 16 where none is
 abbrev pub first_set : ℕ → ℕ
 first_set mask = if mask == 0 then 16 else trailing_zeros w64 mask
+
+-- the byte is one of so many from the first one on, counted round, or one of so many letters from `a` on
+abbrev pub is_among : ℕ → ℕ → ℕ → ℕ → Bool
+is_among first count letters byte = nat_lt ((byte + (256 - first)) % 256) count || nat_lt ((byte + (256 - 97)) % 256) letters
+
+-- the bytes begin with what follows the start in the row of a frame, behind which this is left
+pub record BeginsWithBody (bytes rest : List ℕ) : Type 0 where
+  pub len : ℕ
+  pub short : len < 10 ^ 9
+  pub identifier : ℕ
+  pub named : identifier ≤ greatest_identifier
+  pub content : List ℕ
+  pub few : length content ≤ 8
+  pub each : All (λ byte. byte < 256) content
+  pub written : bytes ≡ decimal len ++ 44 ∷ (hex_digits 3 identifier ++ 44 ∷ (flat_map (hex_digits 2) content ++ 10 ∷ rest))
 
 -- the text begins with that of a row of a log, behind which this is left
 pub record BeginsWithRow (text rest : List ℕ) : Type 0 where

@@ -9,9 +9,9 @@ ghost use Rattle.std.specs.List.{flat_map};
 ghost use Rattle.profile.specs.Limits.{greatest_identifier};
 ghost use Rattle.text_fields.specs.Hexadecimal.{hex_digits, is_hex_digit};
 ghost use Rattle.text_fields.specs.MaskText.{mask_digits};
-ghost use Rattle.log_reader.specs.RowBytes.{BeginsWithRow};
+ghost use Rattle.log_reader.specs.RowBytes.{BeginsWithBody, BeginsWithRow};
 
-use crate::lanes::{decimal_run, hex_run};
+use crate::lanes::{FULL, are_full, bytes_from, decimal_run, frame_run, hex_run};
 use text_fields::read_mask;
 
 /// The most digits of a time or of a cycle's number.
@@ -19,6 +19,9 @@ const NUMBER_DIGITS: usize = 16;
 
 /// The most digits of the length of a frame or of a window.
 const LENGTH_DIGITS: usize = 9;
+
+/// The number of bytes of the word of a frame's row and its comma.
+const WORD_BYTES: usize = 6;
 
 /// The number of digits of an identifier.
 const ID_DIGITS: usize = 3;
@@ -59,7 +62,7 @@ fn are_number(bytes: &[u8], count: usize, most: usize) -> bool
     ensures few { result ≡ true → count ≤ most }
     ensures no_zero { result ≡ true → get_or bytes.now 0 0 ≡ 48 → count ≡ 1 }
 {
-    count == 1 || (0 < count && count <= most && bytes[0] != b'0')
+    0 < count && count <= most && (bytes[0] != b'0' || count == 1)
 }
 
 /// What stands behind a number of up to so many digits and a byte, where the bytes begin with them.
@@ -146,19 +149,38 @@ fn behind_mask(bytes: &[u8], byte: u8) -> Option<&[u8]>
     behind_wide_mask(bytes, byte)
 }
 
+/// What stands behind the length, the identifier and the data bytes of a frame, field by field.
+#[inline(always)]
+fn behind_parts(bytes: &[u8]) -> Option<&[u8]>
+    ensures body { IfSome result (λ rest. BeginsWithBody bytes.now rest.now) }
+{
+    match behind_number(bytes, LENGTH_DIGITS, b',') {
+        Some(id) => match behind_identifier(id) {
+            Some(data) => behind_data(data),
+            None => None,
+        },
+        None => None,
+    }
+}
+
+/// What stands behind the length, the identifier and the data bytes of a frame.
+#[inline(always)]
+fn behind_body(bytes: &[u8]) -> Option<&[u8]>
+    ensures body { IfSome result (λ rest. BeginsWithBody bytes.now rest.now) }
+{
+    if are_full(bytes) {
+        return Some(bytes_from(bytes, FULL));
+    }
+    behind_parts(bytes)
+}
+
 /// What stands behind the fields of a frame.
 #[inline(always)]
 fn behind_frame(bytes: &[u8]) -> Option<&[u8]>
     ensures row { IfSome result (λ rest. BeginsWithRow (codes "frame," ++ bytes.now) rest.now) }
 {
     match behind_number(bytes, NUMBER_DIGITS, b',') {
-        Some(len) => match behind_number(len, LENGTH_DIGITS, b',') {
-            Some(id) => match behind_identifier(id) {
-                Some(data) => behind_data(data),
-                None => None,
-            },
-            None => None,
-        },
+        Some(len) => behind_body(len),
         None => None,
     }
 }
@@ -188,10 +210,26 @@ fn behind_plan(bytes: &[u8]) -> Option<&[u8]>
     }
 }
 
-/// What stands behind the row of a frame, or of an opened or a planned cycle, where the bytes begin with one in its common
-/// form.
+/// What stands behind the word and the start in the row of a frame, where the start has up to ten digits.
 #[inline(always)]
-pub fn behind_common(bytes: &[u8]) -> Option<&[u8]>
+fn behind_start(bytes: &[u8]) -> Option<&[u8]>
+    ensures start { IfSome result (λ rest. (start : ℕ) × (start < 10 ^ 16)
+        × (bytes.now ≡ codes "frame," ++ (decimal start ++ 44 ∷ rest.now))) }
+{
+    let run = frame_run(bytes);
+    if run <= WORD_BYTES {
+        return None;
+    }
+    let digits = bytes_from(bytes, WORD_BYTES);
+    if are_number(digits, run - WORD_BYTES, NUMBER_DIGITS) {
+        return behind_at(digits, run - WORD_BYTES, b',');
+    }
+    None
+}
+
+/// What stands behind the row of a frame, or of an opened or a planned cycle, where the bytes begin with one.
+#[inline(always)]
+fn behind_by_word(bytes: &[u8]) -> Option<&[u8]>
     ensures row { IfSome result (λ rest. BeginsWithRow bytes.now rest.now) }
 {
     match bytes {
@@ -199,5 +237,17 @@ pub fn behind_common(bytes: &[u8]) -> Option<&[u8]>
         [b'o', b'p', b'e', b'n', b',', rest @ ..] => behind_open(rest),
         [b'p', b'l', b'a', b'n', b',', rest @ ..] => behind_plan(rest),
         _ => None,
+    }
+}
+
+/// What stands behind the row of a frame, or of an opened or a planned cycle, where the bytes begin with one in its common
+/// form. Most rows are those of frames.
+#[inline(always)]
+pub fn behind_common(bytes: &[u8]) -> Option<&[u8]>
+    ensures row { IfSome result (λ rest. BeginsWithRow bytes.now rest.now) }
+{
+    match behind_start(bytes) {
+        Some(body) => behind_body(body),
+        None => behind_by_word(bytes),
     }
 }

@@ -1,0 +1,8 @@
+use Rattle.log_reader.proofs.FieldBytes.{frame-begun, some-by}
+use Rattle.log_reader.proofs.row_bytes.behind_common.Goals as goal
+
+pub returns-in-Some : goal.returns-in-Some
+returns-in-Some c = record {
+  row = some-by c.behind_body.result c.behind_body.ensures.body (λ rest is.
+      frame-begun c.args.bytes.now c.in-Some.body.now rest.now c.in-Some.ensures.start is);
+}
