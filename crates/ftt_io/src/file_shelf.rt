@@ -6,7 +6,14 @@ use std::alloc::Global;
 use std::io::{ErrorKind, Read};
 use std::marker::Model;
 use std::rt::Files;
+use std::fs::OpenFile;
 use std::{fs, io};
+
+/// So many bytes are read at a time.
+const PIECE: usize = 2_048;
+
+/// So many reads are made for each byte at most, since a signal may end one before it has read any.
+const TRIES: u64 = 16;
 
 /// The system's files, by their paths. It is seen as its counts.
 #[derive(Drop)]
@@ -46,12 +53,35 @@ impl<'a, R: Files> FileShelf<'a, R> {
     }
 }
 
-/// Reads the file, at most one byte past the limit.
+/// The length that the system tells of an open file, in bytes, and 0 where it tells none.
+fn told_len<F: OpenFile>(file: &F) -> u64 {
+    match file.metadata() {
+        Ok(told) => told.len(),
+        Err(_) => 0,
+    }
+}
+
+/// Reads the file, at most one byte past the limit, piece by piece. Memory for the length that the system tells is taken
+/// at once, where there is any: a hint, without which the list of bytes grows as it needs.
 fn read_past<R: Files>(rt: &R, alloc: Global, name: &str, limit: usize) -> io::Result<Vec<u8>> {
-    let mut file = fs::open(rt, name)?.take((limit as u64).saturating_add(1));
+    let most = (limit as u64).saturating_add(1);
+    let opened = fs::open(rt, name)?;
     let mut bytes = Vec::new(alloc);
-    file.read_to_end(&mut bytes)?;
-    Ok(bytes)
+    let _ = bytes.reserve_exact(told_len(&opened).min(most) as usize);
+    let mut file = opened.take(most);
+    let mut piece = [0; PIECE];
+    for _ in 0..most.saturating_mul(TRIES) {
+        match file.read(&mut piece) {
+            Ok(0) => return Ok(bytes),
+            Ok(count) => bytes.extend_from_slice(&piece[..count])?,
+            Err(error) => {
+                if error.kind() != ErrorKind::Interrupted {
+                    return Err(error);
+                }
+            }
+        }
+    }
+    Err(io::Error::from(ErrorKind::Interrupted))
 }
 
 /// Whether the allocator refused memory. Where the system lacks memory, its error has a number.

@@ -5,8 +5,6 @@ use Rattle.std.proofs.lemmas.Bool.Decides.{nat_tests}
 use Rattle.std.proofs.lemmas.Fmt.{decimal-digits_value}
 use Rattle.std.proofs.lemmas.List.{drop-drop, get_or-drop, get_or-take, length-drop, length-take, take-append-drop}
 use Rattle.std.proofs.Math.Seq.{drop-cons}
-use Rattle.std.proofs.lemmas.List.Elements.{All-from_get_or}
-use Rattle.std.proofs.lemmas.List.Sums.{list_all-from_AllPass}
 use Rattle.std.proofs.lemmas.Str.Parse.{IsNumeralModel, digits_value_short, numerals_by_value, tells_by_index}
 use Rattle.std.specs.Char.{digit_value, is_ascii_digit}
 use Rattle.std.specs.Fmt.{decimal}
@@ -16,7 +14,7 @@ use Rattle.std.specs.Str.Parse.{digits_value}
 use Rattle.text_fields.specs.ByteText.{bytes_written, data_of}
 use Rattle.text_fields.specs.Hexadecimal.{hex_digits, hex_of, is_hex_digit}
 use Rattle.text_fields.specs.MaskText.{mask_digits, mask_of}
-use Rattle.text_fields.proofs.Shared.{data-read, digits-of_hex, digits-of_mask}
+use Rattle.text_fields.proofs.Shared.{all-run, data-read, digits-of_hex, digits-of_mask}
 use Rattle.log_reader.specs.RowBytes.{BeginsWithBody, BeginsWithRow}
 use Rattle.log_reader.specs.declared.row.LogRow.TheVariants as row
 
@@ -42,12 +40,6 @@ module _ (bytes : List ℕ) (run : ℕ) (within : run ≤ length bytes) (few : r
 
   split : (byte : ℕ) (rest : List ℕ) → drop run bytes ≡ byte ∷ rest → bytes ≡ take run bytes ++ byte ∷ rest
   split byte rest is = sym (take-append-drop run bytes) ∙ ap (λ l. take run bytes ++ l) is
-
-  all-run : (test : ℕ → Bool) → ((i : ℕ) → i < run → test (get_or bytes i 0) ≡ true) → list_all test (take run bytes) ≡ true
-  all-run test each = list_all-from_AllPass test (take run bytes) (All-from_get_or (λ x. test x ≡ true) (take run bytes) 0
-      (λ i inside.
-      let before : i < run = omega (arith, inside, long) in
-      ap test (get_or-take run bytes i 0 before) ∙ each i before))
 
   -- digits without a zero before others are those of a number
   pub number-behind : (most byte : ℕ) (rest : List ℕ) → most ≤ 16 → run ≤ most → 0 < run → (get_or bytes 0 0 ≡ 48 → run ≡ 1)
@@ -75,7 +67,7 @@ module _ (bytes : List ℕ) (run : ℕ) (within : run ≤ length bytes) (few : r
       let digits = take run bytes in
       let most : nat_le (length digits) 16 ≡ true = grind (arith, nat_tests, long, few) in
       let half : length digits % 2 ≡ 0 = ap (λ n. n % 2) long ∙ even in
-      let read : data_of digits ≡ Some (bytes_written digits) = rw (most, eq-eqb _ _ half, all-run is_hex_digit each) refl in
+      let read : data_of digits ≡ Some (bytes_written digits) = rw (most, eq-eqb _ _ half, all-run bytes run within is_hex_digit each) refl in
       let (are, short, all) = data-read digits (bytes_written digits) read in
       (bytes_written digits, short, all, split byte rest is ∙ ap (λ l. l ++ byte ∷ rest) are)
 
@@ -86,7 +78,7 @@ module _ (bytes : List ℕ) (run : ℕ) (within : run ≤ length bytes) (few : r
   mask-behind byte rest ten each is =
       let digits = take run bytes in
       let size : (length digits == 10) ≡ true = eq-eqb _ _ (long ∙ ten) in
-      let read : mask_of digits ≡ Some (digits_value 16 digits) = rw (size, all-run is_hex_digit each) refl in
+      let read : mask_of digits ≡ Some (digits_value 16 digits) = rw (size, all-run bytes run within is_hex_digit each) refl in
       let (are, small) = digits-of_mask digits (digits_value 16 digits) read in
       (digits_value 16 digits, small, split byte rest is ∙ ap (λ l. l ++ byte ∷ rest) are)
 

@@ -2,16 +2,11 @@
 use Rattle.std.specs.Prelude.{◌≡◌, ◌≢◌, ℕ, ◌+◌, ◌-◌, ◌%◌, ◌^◌, ◌<◌, ◌≤◌, ◌==◌, ◌||◌, Bool, if◌then◌else◌, nat_lt}
 use Rattle.std.specs.Prelude.{All, List, ◌∷◌, ◌++◌, get_or, length}
 use Rattle.std.specs.Fmt.{decimal}
-use Rattle.std.specs.Int.{w64, trailing_zeros}
 use Rattle.std.specs.List.{flat_map}
 use Rattle.profile.specs.Limits.{greatest_identifier}
 use Rattle.text_fields.specs.Hexadecimal.{hex_digits}
 use Rattle.log_reader.specs.Row.{IsLogRow, row_text, text_of_rows}
 use Rattle.log_reader.specs.declared.row.LogRow.{LogRow}
-
--- the place of the lowest bit that is set; 16 where none is
-abbrev pub first_set : ℕ → ℕ
-first_set mask = if mask == 0 then 16 else trailing_zeros w64 mask
 
 -- the byte is one of so many from the first one on, counted round, or one of so many letters from `a` on
 abbrev pub is_among : ℕ → ℕ → ℕ → ℕ → Bool

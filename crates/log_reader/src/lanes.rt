@@ -4,30 +4,16 @@
 ghost use Rattle.std.specs.Prelude.{◌≡◌, ℕ, ◌+◌, ◌++◌, ◌<◌, ◌≤◌, codes, drop, get_or, length, true};
 ghost use Rattle.std.specs.Char.{is_ascii_digit};
 ghost use Rattle.text_fields.specs.Hexadecimal.{is_hex_digit};
-ghost use Rattle.log_reader.specs.RowBytes.{first_set, is_among};
+ghost use Rattle.log_reader.specs.RowBytes.{is_among};
 
 use std::simd::prelude::*;
-
-/// So many bytes are looked at together.
-const LANES: usize = 16;
+use text_fields::{LANES, first_set};
 
 /// So many bytes stand behind the start in the row of a frame with a length of three digits and eight data bytes.
 pub const FULL: usize = 25;
 
 /// A bit for each of them.
 const ALL_LANES: u64 = 0xFFFF;
-
-/// The place of the lowest bit that is set; the number of bytes where none is.
-#[inline(always)]
-fn first_set(mask: u64) -> usize
-    ensures place { result ≡ first_set mask }
-{
-    if mask == 0 {
-        LANES
-    } else {
-        mask.trailing_zeros() as usize
-    }
-}
 
 /// How many of the first 16 bytes are decimal digits, up to the first that is none.
 #[inline(always)]

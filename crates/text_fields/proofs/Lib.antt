@@ -5,6 +5,7 @@ mod DigitValues
 mod HexDigits
 mod HexNumbers
 mod ByteDigits
+mod LaneBits
 mod LineFeeds
 mod LowDigits
 mod MaskDigits

@@ -7,6 +7,7 @@ pub mod DigitTable
 pub mod Hexadecimal
 pub mod HexPairs
 pub mod KeptDigits
+pub mod Lanes
 pub mod Lines
 pub mod MaskText
 pub mod PlainRows

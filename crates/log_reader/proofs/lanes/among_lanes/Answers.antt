@@ -2,7 +2,8 @@ use Rattle.std.proofs.Common.{◌≡◌, ℕ, List, ◌+◌, ◌-◌, ◌%◌, �
 use Rattle.std.specs.Prelude.{replicate}
 use Rattle.std.proofs.lemmas.Simd.{get_or-chunk, get_or-replicate, get_or-zip2, length-chunk, length-replicate, length-zip2}
 use lib.Lanes.{chunk, top, zip2}
-use Rattle.log_reader.proofs.LaneBits.{none-set, one-passes}
+use Rattle.text_fields.proofs.Shared.{none-set}
+use Rattle.log_reader.proofs.LaneBits.{one-passes}
 use Rattle.log_reader.proofs.lanes.among_lanes.Goals as goal
 
 pub returns : goal.returns

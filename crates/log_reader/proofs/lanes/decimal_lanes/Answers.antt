@@ -2,7 +2,7 @@ use Rattle.std.proofs.Common.{ℕ, leb, cond, refl}
 use Rattle.std.proofs.lemmas.Simd.{length-chunk, splat_is_map, zip2_of_maps, zip2_splat}
 use Rattle.std.specs.Char.{is_ascii_digit}
 use lib.Lanes.{chunk}
-use Rattle.log_reader.proofs.LaneBits.{run-few, run-passes}
+use Rattle.text_fields.proofs.Shared.{run-few, run-passes}
 use Rattle.log_reader.proofs.lanes.decimal_lanes.Goals as goal
 
 pub returns : goal.returns

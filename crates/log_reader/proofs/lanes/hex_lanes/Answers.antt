@@ -2,7 +2,7 @@ use Rattle.std.proofs.Common.{ℕ, leb, cond, bit_and, refl}
 use Rattle.std.proofs.lemmas.Simd.{length-chunk, splat_is_map, zip2_of_maps, zip2_splat}
 use lib.Lanes.{chunk}
 use Rattle.text_fields.specs.Hexadecimal.{is_hex_digit}
-use Rattle.log_reader.proofs.LaneBits.{run-few, run-passes}
+use Rattle.text_fields.proofs.Shared.{run-few, run-passes}
 use Rattle.log_reader.proofs.lanes.hex_lanes.Goals as goal
 
 pub returns : goal.returns
