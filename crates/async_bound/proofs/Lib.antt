@@ -3,4 +3,5 @@ mod Longest
 mod Sums
 mod Room
 mod Row
+pub mod Shared
 mod Steps

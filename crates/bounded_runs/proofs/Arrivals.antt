@@ -10,7 +10,7 @@ use Rattle.async_bound.specs.declared.stream.Stream.{Stream}
 use Rattle.async_bound.specs.Streams.{AreStreams, IsStream, arrivals}
 use Rattle.async_window.specs.Waiting.{requests_of}
 use Rattle.bounded_runs.specs.Requests.{AreOfStreams, IsApart, arrive_within}
-use Rattle.bounded_runs.proofs.Lists.{AllPairs-head, AllPairs-tail}
+use Rattle.async_bound.proofs.Shared.{AllPairs-head, AllPairs-tail}
 
 abbrev pub early : ℕ → Request → ℕ
 early at request = cond (nat_lt request.at at) 1 0

@@ -7,7 +7,7 @@ use Rattle.std.proofs.lemmas.List.Elements.{All-head, All-tail}
 use Rattle.can_frame.specs.declared.data_frame.TimedFrame.{TimedFrame}
 use Rattle.async_window.specs.Waiting.{frames_with}
 use Rattle.bus_line.specs.Trace.{end_of, started_before}
-use Rattle.bounded_runs.proofs.Lists.{AllPairs-head, AllPairs-tail, Contains-here, Contains-later, Contains-cases, Contains-nil}
+use Rattle.async_bound.proofs.Shared.{AllPairs-head, AllPairs-tail, Contains-here, Contains-later, Contains-cases, Contains-nil}
 
 module _ (id : ℕ) where
   abbrev pub begun : ℕ → List TimedFrame → ℕ

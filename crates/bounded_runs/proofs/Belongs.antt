@@ -15,7 +15,7 @@ use Rattle.bounded_runs.specs.Requests.{AreOfStreams, IsApart, IsOfStream}
 use Rattle.bounded_runs.specs.Strays.{Allows, Follows, IsCloseTo, Strays, arrivals_of, streams_of}
 use Rattle.bounded_runs.specs.declared.of_streams.StrayWhy.{StrayWhy}
 use Rattle.bounded_runs.specs.declared.of_streams.StrayWhy.TheVariants.{Unknown, Long, Early, Close}
-use Rattle.bounded_runs.proofs.Lists.{Contains-any, Contains-filter, Contains-nil}
+use Rattle.async_bound.proofs.Shared.{Contains-any, Contains-filter, Contains-nil}
 use Rattle.bounded_runs.proofs.Kept.{AllPairs-front, Contains-place, get-front, get-last, kept-of, kept-passes}
 
 abbrev pub at_of : Request → ℕ

@@ -5,7 +5,7 @@ use Rattle.can_frame.specs.declared.data_frame.TimedFrame.{TimedFrame}
 use Rattle.async_window.specs.declared.request.Request.{Request}
 use Rattle.async_window.specs.Waiting.{requests_of}
 use Rattle.async_bound.specs.declared.stream.Stream.{Stream}
-use Rattle.bounded_runs.proofs.Lists.{Contains-here, Contains-later, Contains-cases, Contains-nil}
+use Rattle.async_bound.proofs.Shared.{Contains-here, Contains-later, Contains-cases, Contains-nil}
 use Rattle.bounded_runs.proofs.Begun.{begun}
 use Rattle.bounded_runs.proofs.Arrivals.{arrived, arrived-zero}
 

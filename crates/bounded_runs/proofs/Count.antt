@@ -6,7 +6,7 @@ use Rattle.can_frame.specs.declared.data_frame.TimedFrame.{TimedFrame}
 use Rattle.bus_line.specs.Trace.{end_of}
 use Rattle.async_bound.specs.Room.{count_below}
 use Rattle.bounded_runs.specs.Runs.{time_of}
-use Rattle.bounded_runs.proofs.Lists.{Contains-cases, Contains-nil}
+use Rattle.async_bound.proofs.Shared.{Contains-cases, Contains-nil}
 
 module _ (passes : TimedFrame → Bool) where
   -- the bit times below `at` of a frame that passes

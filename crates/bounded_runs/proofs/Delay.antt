@@ -24,7 +24,7 @@ use Rattle.bounded_runs.proofs.Arrivals.{Rise, arrived, earlier, few-arrive, fir
 use Rattle.bounded_runs.proofs.Begun.{begun, begun-le, begun-next, crossing}
 use Rattle.bounded_runs.proofs.Clear.{IsBehind, IsClearOf, last-clear}
 use Rattle.bounded_runs.proofs.Demand.{begun-split, inside, is_own, own-time, time-demand}
-use Rattle.bounded_runs.proofs.Sums.{sum-le-two}
+use Rattle.async_bound.proofs.Shared.{sum-le-two}
 use Rattle.bounded_runs.proofs.Fills.{IsFilled, fills}
 use Rattle.bounded_runs.proofs.Requests.{begun-arrived, of-request, some-long}
 

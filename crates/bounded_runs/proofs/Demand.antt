@@ -12,7 +12,7 @@ use Rattle.async_bound.specs.Bound.{demand}
 use Rattle.async_bound.specs.Streams.{arrivals}
 use Rattle.bounded_runs.specs.Runs.{is_ahead, is_inside, time_of}
 use Rattle.bounded_runs.proofs.Begun.{begun, begun-cons, mark, of_id}
-use Rattle.bounded_runs.proofs.Sums.{sum-le, sum-le-one}
+use Rattle.async_bound.proofs.Shared.{sum-le, sum-le-one}
 
 module _ (low high : ℕ) (order : low ≤ high) where
   -- how many frames of an identifier start from one time to the other

@@ -17,7 +17,7 @@ use Rattle.bus_line.specs.Trace.{IsLeastOffered, end_of, started_before}
 use Rattle.cycle_engine.specs.Offered.{offered_with}
 use Rattle.async_bound.specs.Room.{count_below, is_usable}
 use Rattle.bounded_runs.specs.Runs.{EndSoon, IsPressed, IsRunOf, WaitsAt, is_ahead, is_inside, time_of}
-use Rattle.bounded_runs.proofs.Lists.{Contains-any}
+use Rattle.async_bound.proofs.Shared.{Contains-any}
 use Rattle.bounded_runs.proofs.Count.{IsCovered, covered-times}
 use Rattle.bounded_runs.proofs.Free.{free-at, is-request}
 

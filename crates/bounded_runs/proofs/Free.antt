@@ -17,7 +17,7 @@ use Rattle.bus_line.specs.Trace.{end_of}
 use Rattle.node_model.specs.Opening.{start_of}
 use Rattle.cycle_engine.specs.Cycle.{IsRequestFrame, IsSlotFrame, RunsCycleWith, cycle_of, frames_in}
 use Rattle.bounded_runs.specs.Runs.{IsRunOf}
-use Rattle.bounded_runs.proofs.Lists.{Contains-here, Contains-cases, Contains-nil, Contains-filter, Contains-map}
+use Rattle.async_bound.proofs.Shared.{Contains-here, Contains-cases, Contains-nil, Contains-filter, Contains-map}
 
 -- the trigger part has room for one frame, and for two where there are two
 part-least : (b : Bool) → 135 ≤ cond b 1 2 * worst 8

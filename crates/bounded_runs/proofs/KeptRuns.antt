@@ -22,7 +22,7 @@ use Rattle.node_model.specs.Opening.{end_of_cycle, start_of}
 use Rattle.cycle_engine.specs.Offered.{SendsWhole, offered_in_with, offered_with}
 use Rattle.kept_run.specs.Kept.{KeptWith}
 use Rattle.kept_run.specs.Progress.{IsSetting, IsUnderWayWith, Setting}
-use Rattle.bounded_runs.proofs.Lists.{Contains-here}
+use Rattle.async_bound.proofs.Shared.{Contains-here}
 use Rattle.bounded_runs.proofs.Cut.{cut, free_after-least, free_after-most}
 
 -- what the laws of runs and of traces say that is used here

@@ -1,10 +1,8 @@
-mod Lists
 mod Count
 mod Free
 mod Fills
 mod Begun
 mod Arrivals
-mod Sums
 mod Demand
 mod Requests
 mod Clear

@@ -14,7 +14,7 @@ use Rattle.master_core.specs.Openings.{opening_of, openings_after, openings_of}
 use Rattle.cycle_engine.specs.Cycle.{FitsWindow}
 use Rattle.kept_run.specs.Progress.{IsSetting, IsUnderWayWith, Setting}
 use Rattle.bounded_runs.specs.Runs.{IsRunOf}
-use Rattle.bounded_runs.proofs.Lists.{Contains-here, Contains-later, Contains-cases, Contains-nil}
+use Rattle.async_bound.proofs.Shared.{Contains-here, Contains-later, Contains-cases, Contains-nil}
 
 module _ {X Y : Type 0} (f : X → Y) where
   from_map : (xs : List X) (y : Y) → Contains (map f xs) y → (x : X) × Contains xs x × (f x ≡ y)
